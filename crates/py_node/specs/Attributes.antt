@@ -1,0 +1,17 @@
+-- Names with values, in the order in which the names came.
+use Rattle.std.specs.Prelude.{◌≡◌, ℕ, Bool, cond, eqb, List, [], ◌∷◌, Option, Some, None}
+use Rattle.py_node.specs.declared.refs.PyStrInterned.{PyStrInterned}
+
+-- the value of the first name that passes the test
+abbrev pub value_of : {K V : Type 0} → (K → Bool) → List (K × V) → Option V
+value_of test [] = None
+value_of test (a ∷ attrs) = cond (test a.0) (Some a.1) (value_of test attrs)
+
+-- the names with a value for one of them: in its place, or at the end
+abbrev pub with_value : {K V : Type 0} → (K → K → Bool) → List (K × V) → K → V → List (K × V)
+with_value same [] n v = (n, v) ∷ []
+with_value same (a ∷ attrs) n v = cond (same a.0 n) ((a.0, v) ∷ attrs) (a ∷ with_value same attrs n v)
+
+-- whether two names have one number
+abbrev pub is_same_name : PyStrInterned → PyStrInterned → Bool
+is_same_name a b = eqb a.0 b.0

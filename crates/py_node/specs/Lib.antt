@@ -1,0 +1,7 @@
+pub mod Slots
+pub mod Natives
+pub mod Faults
+pub mod Tree
+pub mod Replies
+pub mod Attributes
+pub mod Texts

@@ -1,0 +1,9 @@
+// Nodes of the machine: names, flags, slots, expressions, tasks and faults, as plain types.
+#![tactic(auto)]
+
+pub mod entry;
+pub mod expr;
+pub mod memory;
+pub mod raised;
+pub mod refs;
+pub mod reply;
