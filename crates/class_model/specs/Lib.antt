@@ -1,0 +1,6 @@
+pub mod Order
+pub mod Class
+pub mod Layout
+pub mod Slot
+pub mod Change
+pub mod BuiltIn

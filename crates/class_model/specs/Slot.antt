@@ -1,0 +1,119 @@
+-- What a class has in a slot, and what is read there.
+use Rattle.std.specs.Prelude.{ℕ, suc, Bool, true, false, cond, not, ◌&&◌, ◌||◌, eqb, List, [], ◌∷◌, map, Option, Some, None, slice_get, option_map, option_and_then, is_some}
+use Rattle.py_node.specs.declared.refs.PyObjectRef.{PyObjectRef}
+use Rattle.py_node.specs.declared.entry.SlotId.{SlotId}
+use Rattle.py_node.specs.declared.entry.SlotId.TheVariants.{Hash, New, Repr}
+use Rattle.py_node.specs.declared.entry.NativeEntry.{NativeEntry}
+use Rattle.py_node.specs.declared.entry.SlotEntry.{SlotEntry}
+use Rattle.py_node.specs.declared.entry.SlotEntry.TheVariants.{Native, Wrapper, Unhashable}
+use Rattle.py_node.specs.Slots.{Sort, ByItself, BySequence, ByMapping, Nearest, place_of, names_of, all_slots, sort_of}
+use Rattle.py_node.specs.Natives.{is_same_entry}
+use Rattle.class_model.specs.Class.{Class, Classes, is_heap, lin, is_sub, own_of, or_else, first_along, along, past_first}
+
+-- how classes name their attributes: whether two keys are one, and the key of each special name by its place
+pub record Keys (K : Type 0) : Type 0 where
+  pub same : K → K → Bool
+  pub special : ℕ → K
+
+-- the natives that fill the slots of a built-in class
+abbrev pub Natives : Type 0
+Natives = ℕ → SlotId → Option NativeEntry
+
+abbrev pub is_one_of : {K : Type 0} → (K → K → Bool) → List K → K → Bool
+is_one_of same [] k = false
+is_one_of same (n ∷ ns) k = same k n || is_one_of same ns k
+
+-- whether a key is a special name of the slot
+abbrev pub is_name_of : {K : Type 0} → Keys K → SlotId → K → Bool
+is_name_of keys s k = is_one_of keys.same (map keys.special (names_of s)) k
+
+abbrev pub is_slot : SlotId → SlotId → Bool
+is_slot s u = eqb (place_of s) (place_of u)
+
+-- None, as an object
+abbrev pub is_none : PyObjectRef → Bool
+is_none r = eqb r.0 23
+
+-- the wrapper of a slot, where one of its names was found. `__hash__` that is None forbids the hash
+abbrev pub wrapped : SlotId → Option PyObjectRef → Option SlotEntry
+wrapped s None = None
+wrapped s (Some v) = Some (cond (is_slot s Hash && is_none v) Unhashable (Wrapper s))
+
+-- of a heap class: the names of the slot along its linearisation, but `__new__` in the class alone
+abbrev pub heap_entry : {K : Type 0} → Keys K → Classes K → ℕ → List ℕ → SlotId → Option SlotEntry
+heap_entry keys t c line s =
+    wrapped s (cond (is_slot s New) (own_of (is_name_of keys s) (slice_get t c)) (along (is_name_of keys s) t line))
+
+-- of a built-in or static class: its native
+abbrev pub native_entry : Natives → ℕ → SlotId → Option SlotEntry
+native_entry natives c s = option_map (λ n. Native n) (natives c s)
+
+abbrev pub is_heap_at : {K : Type 0} → Option (Class K) → Bool
+is_heap_at None = false
+is_heap_at (Some k) = is_heap k
+
+-- what a class has itself, given each class's linearisation
+abbrev pub given_entry : {K : Type 0} → Keys K → Natives → Classes K → SlotId → ℕ → Option SlotEntry
+given_entry keys natives t s c =
+    cond (is_heap_at (slice_get t c)) (option_and_then (λ line. heap_entry keys t c line s) (lin t c)) (native_entry natives c s)
+
+abbrev pub is_by_itself : Sort → Bool
+is_by_itself ByItself = true
+is_by_itself BySequence = false
+is_by_itself ByMapping = false
+is_by_itself Nearest = false
+
+-- the own entry of a slot. Where a built-in or static class lacks a number slot or `repr`, it is that of the nearest class along its linearisation
+abbrev pub entry : {K : Type 0} → Keys K → Natives → Classes K → ℕ → SlotId → Option SlotEntry
+entry keys natives t c s =
+    cond (not (is_heap_at (slice_get t c)) && is_by_itself (sort_of s))
+    (option_and_then (first_along (given_entry keys natives t s)) (lin t c))
+    (given_entry keys natives t s c)
+
+-- all own entries of a class, in the slots' order
+abbrev pub entries : {K : Type 0} → Keys K → Natives → Classes K → ℕ → List (Option SlotEntry)
+entries keys natives t c = map (entry keys natives t c) all_slots
+
+-- slots that stand in one table with another
+abbrev pub is_sort : Sort → Sort → Bool
+is_sort ByItself ByItself = true
+is_sort BySequence BySequence = true
+is_sort ByMapping ByMapping = true
+is_sort Nearest Nearest = true
+is_sort _ _ = false
+
+abbrev pub has_table : (SlotId → Option SlotEntry) → Sort → List SlotId → Bool
+has_table own sort [] = false
+has_table own sort (s ∷ ss) = (is_sort (sort_of s) sort && is_some (own s)) || has_table own sort ss
+
+-- the first class along a line that has a table
+abbrev pub first_with : (ℕ → Bool) → List ℕ → Option ℕ
+first_with test [] = None
+first_with test (c ∷ cs) = cond (test c) (Some c) (first_with test cs)
+
+-- how a slot is read, given the own entries of each class and the linearisation
+abbrev pub read_along : (ℕ → SlotId → Option SlotEntry) → Sort → ℕ → List ℕ → SlotId → Option SlotEntry
+read_along own ByItself c line s = own c s
+read_along own BySequence c line s = option_and_then (λ d. own d s) (first_with (λ d. has_table (own d) BySequence all_slots) line)
+read_along own ByMapping c line s = option_and_then (λ d. own d s) (first_with (λ d. has_table (own d) ByMapping all_slots) line)
+read_along own Nearest c line s = first_along (λ d. own d s) line
+
+-- the slot as it is read for a class
+abbrev pub slot : {K : Type 0} → Keys K → Natives → Classes K → ℕ → SlotId → Option SlotEntry
+slot keys natives t c s = option_and_then (λ line. read_along (entry keys natives t) (sort_of s) c line s) (lin t c)
+
+-- the candidates of an operator, from the left slot of the first operand's class and the right slot of the second's: the right one is left out where the classes or the entries are the same, and comes first where the second class derives from the first
+abbrev pub without_same : Option SlotEntry → Option SlotEntry → Option SlotEntry
+without_same (Some l) (Some r) = cond (is_same_entry l r) None (Some r)
+without_same l r = r
+
+abbrev pub in_turn : Bool → Option SlotEntry → Option SlotEntry → List SlotEntry
+in_turn derived None None = []
+in_turn derived (Some l) None = l ∷ []
+in_turn derived None (Some r) = r ∷ []
+in_turn derived (Some l) (Some r) = cond derived (r ∷ l ∷ []) (l ∷ r ∷ [])
+
+abbrev pub candidates_of : {K : Type 0} → Keys K → Natives → Classes K → SlotId → SlotId → ℕ → ℕ → List SlotEntry
+candidates_of keys natives t left right c d =
+    let l = slot keys natives t c left in
+    in_turn (is_sub t d c) l (cond (eqb c d) None (without_same l (slot keys natives t d right)))
