@@ -1,0 +1,6 @@
+pub mod Plain
+pub mod World
+pub mod Show
+pub mod Row
+pub mod Answer
+pub mod Rows

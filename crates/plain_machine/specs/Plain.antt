@@ -1,0 +1,94 @@
+-- The plain world, the tasks, and what their rows say. Texts and trees stand where the code has numbers.
+use Rattle.std.specs.Prelude.{ℕ, ℤ, Bool, List, Option, Result}
+use Rattle.py_node.specs.declared.refs.PyObjectRef.{PyObjectRef}
+use Rattle.py_node.specs.declared.raised.Raised.{Raised as Fault}
+use Rattle.py_node.specs.declared.entry.IntNative.{IntNative}
+use Rattle.py_node.specs.declared.entry.NativeEntry.{NativeEntry}
+use Rattle.py_node.specs.declared.entry.SlotEntry.{SlotEntry}
+use Rattle.py_node.specs.declared.task.Answer.{Answer}
+use Rattle.py_node.specs.declared.task.PyNumberBinaryOp.{PyNumberBinaryOp}
+use Rattle.py_node.specs.declared.task.LaterTask.{LaterTask}
+use Rattle.py_node.specs.Tree.{Text, Tree}
+use Rattle.py_node.specs.Replies.{Started}
+use Rattle.class_model.specs.Class.{Classes}
+
+-- what a node holds beside its class, its dict and its members
+pub data Datum : Type 0 where
+  AnObject : Datum
+  AClass : ℕ → Datum
+  ANumber : ℤ → Datum
+  AText : Text → Datum
+  ATuple : List PyObjectRef → Datum
+  ADict : List (PyObjectRef × PyObjectRef) → Datum
+  -- its name, its parameters, whether the last takes the rest, its body, and the class that defines it
+  AFunction : Text → List Text → Bool → Tree → Option ℕ → Datum
+  -- what it is bound to, and the function
+  AMethod : PyObjectRef → PyObjectRef → Datum
+  ANativeFunction : Text → NativeEntry → Option PyObjectRef → Datum
+  ABuiltinMethod : Text → NativeEntry → PyObjectRef → Datum
+  -- its class, its name, its native and its flags
+  AMethodDescriptor : ℕ → Text → NativeEntry → ℕ → Datum
+  -- its class, its name, and the natives that read and set it
+  AGetSet : ℕ → Text → Option NativeEntry → Option NativeEntry → Datum
+  AClassMethod : PyObjectRef → Datum
+
+-- an object: its class, the node of its dict, its members by solid class and index, and the rest
+pub record Node : Type 0 where
+  pub class : ℕ
+  pub dict : Option PyObjectRef
+  pub members : List ((ℕ × ℕ) × PyObjectRef)
+  pub datum : Datum
+
+abbrev pub Bindings : Type 0
+Bindings = List (Text × PyObjectRef)
+
+-- a running body: its function, and its variables
+pub record Scope : Type 0 where
+  pub func : PyObjectRef
+  pub vars : Bindings
+
+-- the plain world: nodes, classes, variables, a scope for each running body, and the bodies that were started in this command. There is no linearisation, no slot and no best base in it
+pub record PlainWorld : Type 0 where
+  pub nodes : List Node
+  pub classes : Classes Text
+  pub vars : Bindings
+  pub scopes : List Scope
+  pub calls : List Started
+
+-- the tasks, in the groups of the code
+
+pub data EvalJob : Type 0 where
+  DoEval : Tree → EvalJob
+
+pub data OperatorJob : Type 0 where
+  DoAdd : PyObjectRef → PyObjectRef → OperatorJob
+  DoBinOp1 : PyNumberBinaryOp → PyObjectRef → PyObjectRef → OperatorJob
+  DoEnter : SlotEntry → PyObjectRef → PyObjectRef → OperatorJob
+  DoInt : IntNative → List PyObjectRef → Bindings → OperatorJob
+
+pub data PlainTask : Type 0 where
+  ToEval : EvalJob → PlainTask
+  ToOperator : OperatorJob → PlainTask
+  ToLater : LaterTask → PlainTask
+
+-- how a row ends
+abbrev pub Ended : Type 0
+Ended = Result Answer Fault
+
+-- what a row has learnt: the answer to what it asked, the node that it made, or a list that it read once
+pub data Fact : Type 0 where
+  Answered : Ended → Fact
+  Made : PyObjectRef → Fact
+  Read : List SlotEntry → Fact
+
+abbrev pub Told : Type 0
+Told = List Fact
+
+-- what a row does next, and the world then: it asks a task, having learnt something, or it ends
+pub data Said : Type 0 where
+  Asks : PlainWorld → Told → PlainTask → Said
+  Ends : PlainWorld → Ended → Said
+
+-- what the rows of some tasks say in the world as it is, given what they have learnt so far
+abbrev pub Saying : Type 0 → Type 0
+Saying J = PlainWorld → J → Told → Said

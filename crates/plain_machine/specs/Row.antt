@@ -1,0 +1,66 @@
+-- The words that rows are written in.
+use Rattle.std.specs.Prelude.{ℕ, List, [], ◌∷◌, Result, Ok, Err}
+use Rattle.py_node.specs.declared.refs.PyObjectRef.{PyObjectRef}
+use Rattle.py_node.specs.declared.raised.Raised.{Raised as Fault}
+use Rattle.py_node.specs.declared.raised.Kind.{Kind}
+use Rattle.py_node.specs.declared.raised.Cause.{Cause}
+use Rattle.py_node.specs.declared.entry.SlotEntry.{SlotEntry}
+use Rattle.py_node.specs.declared.task.Answer.{Answer}
+use Rattle.py_node.specs.declared.task.Answer.TheVariants.{Value, Done}
+use Rattle.py_node.specs.Tree.{Tree, Trees, no_trees, tree}
+use Rattle.plain_machine.specs.Plain.{Datum, PlainWorld, EvalJob, DoEval, PlainTask, ToEval, Ended, Answered, Made, Read, Told, Said, Asks, Ends}
+use Rattle.plain_machine.specs.World.{with_node, next_node}
+
+-- a row, at a point where it has learnt nothing that follows
+abbrev pub Row : Type 0
+Row = Told → Said
+
+-- does this, and goes on with the answer to what it asked
+abbrev pub start : Said → (Ended → Row) → Row
+start said go [] = said
+start said go (Answered r ∷ more) = go r more
+start said go (Made r ∷ more) = said
+start said go (Read ss ∷ more) = said
+
+abbrev pub ask : PlainWorld → PlainTask → (Ended → Row) → Row
+ask w task go = start (Asks w [] task) go
+
+abbrev pub end : PlainWorld → Ended → Row
+end w r told = Ends w r
+
+abbrev pub value : PyObjectRef → Ended
+value r = Ok (Value r)
+
+abbrev pub fault : Kind → Cause → Ended
+fault kind cause = Err (record { kind = kind; cause = cause })
+
+-- goes on with a value, and passes all else on
+abbrev pub on_value : PlainWorld → Ended → (PyObjectRef → Row) → Row
+on_value w (Ok (Value r)) go = go r
+on_value w (Ok Done) go = end w (Ok Done)
+on_value w (Err x) go = end w (Err x)
+
+-- goes on unless there was a fault
+abbrev pub on_done : PlainWorld → Ended → Row → Row
+on_done w (Ok a) go = go
+on_done w (Err x) go = end w (Err x)
+
+-- ends with a new node of a class
+abbrev pub make : PlainWorld → ℕ → Datum → Row
+make w c d = end (with_node w c d) (value (next_node w c))
+
+-- keeps in mind a list that is read but once
+abbrev pub noting : List SlotEntry → Said → Said
+noting ss (Asks w learnt task) = Asks w (Read ss ∷ learnt) task
+noting ss (Ends w r) = Ends w r
+
+abbrev pub read_once : List SlotEntry → (List SlotEntry → Row) → Row
+read_once ss go [] = noting ss (go ss [])
+read_once ss go (Read us ∷ more) = go us more
+read_once ss go (Answered r ∷ more) = go ss (Answered r ∷ more)
+read_once ss go (Made r ∷ more) = go ss (Made r ∷ more)
+
+-- evaluates expressions in order, and goes on with their values
+abbrev pub evaluate : PlainWorld → Trees → (List PyObjectRef → Row) → Row
+evaluate w no_trees go = go []
+evaluate w (tree e es) go = ask w (ToEval (DoEval e)) (λ r. on_value w r (λ v. evaluate w es (λ vs. go (v ∷ vs))))

@@ -1,0 +1,109 @@
+-- How the plain world is read and changed.
+use Rattle.std.specs.Prelude.{ℕ, suc, ◌+◌, ◌-◌, ◌^◌, Bool, true, false, eqb, cond, List, [], ◌∷◌, ◌++◌, Option, Some, None, length, take, slice_get, option_map, option_and_then, is_some}
+use Rattle.std.specs.Cmp.Lexicographic.{pointwise}
+use Rattle.py_node.specs.declared.refs.PyObjectRef.{PyObjectRef}
+use Rattle.py_node.specs.declared.entry.SlotId.{SlotId}
+use Rattle.py_node.specs.declared.entry.SlotEntry.{SlotEntry}
+use Rattle.py_node.specs.Attributes.{value_of, with_value}
+use Rattle.py_node.specs.Slots.{special_names}
+use Rattle.py_node.specs.Tree.{Text}
+use Rattle.py_node.specs.Replies.{Started}
+use Rattle.class_model.specs.Class.{Class, Classes, has_flag}
+use Rattle.class_model.specs.Slot.{Keys, slot, candidates_of}
+use Rattle.class_model.specs.BuiltIn.{natives_of}
+use Rattle.plain_machine.specs.Plain.{Datum, AnObject, ADict, Node, Bindings, Scope, PlainWorld}
+
+-- whether two texts are one
+abbrev pub is_text : Text → Text → Bool
+is_text = pointwise eqb
+
+abbrev pub or_empty : Option Text → Text
+or_empty None = []
+or_empty (Some x) = x
+
+-- the plain world's classes name their attributes by texts
+abbrev pub text_keys : Keys Text
+text_keys = record { same = is_text; special = λ k. or_empty (slice_get special_names k) }
+
+-- a node by its number
+abbrev pub ref : ℕ → PyObjectRef
+ref n = record { 0 = n }
+
+abbrev pub node_at : PlainWorld → PyObjectRef → Option Node
+node_at w r = slice_get w.nodes r.0
+
+abbrev pub datum_at : PlainWorld → PyObjectRef → Option Datum
+datum_at w r = option_map (λ n. n.datum) (node_at w r)
+
+abbrev pub class_at : PlainWorld → PyObjectRef → Option ℕ
+class_at w r = option_map (λ n. n.class) (node_at w r)
+
+-- a slot as it is read for an object's class
+abbrev pub slot_at : PlainWorld → PyObjectRef → SlotId → Option SlotEntry
+slot_at w r s = option_and_then (λ c. slot text_keys natives_of w.classes c s) (class_at w r)
+
+-- the candidates of an operator, for two objects
+abbrev pub candidates_at : PlainWorld → SlotId → SlotId → Option ℕ → Option ℕ → List SlotEntry
+candidates_at w left right None d = []
+candidates_at w left right (Some c) None = []
+candidates_at w left right (Some c) (Some d) = candidates_of text_keys natives_of w.classes left right c d
+
+-- the nine changes
+
+abbrev pub has_dict : PlainWorld → ℕ → Bool
+has_dict w c = elim (slice_get w.classes c) [ None ↦ false | Some k ↦ has_flag (2 ^ 40) k ]
+
+-- the class of dicts
+abbrev pub the_dict : ℕ
+the_dict = 9
+
+abbrev pub push_node : PlainWorld → ℕ → Option PyObjectRef → Datum → PlainWorld
+push_node w c dict d = record w { nodes = w.nodes ++ record { class = c; dict = dict; members = []; datum = d } ∷ [] }
+
+-- a new node, after its dict where its class gives it one
+abbrev pub with_node : PlainWorld → ℕ → Datum → PlainWorld
+with_node w c d =
+    cond (has_dict w c) (push_node (push_node w the_dict None (ADict [])) c (Some (ref (length w.nodes))) d) (push_node w c None d)
+
+-- the number that the new node gets
+abbrev pub next_node : PlainWorld → ℕ → PyObjectRef
+next_node w c = ref (cond (has_dict w c) (length w.nodes + 1) (length w.nodes))
+
+-- a variable of the running body, or else of the machine, is bound
+abbrev pub bound : List Scope → Bindings → Text → PyObjectRef → Bindings
+bound [] vars x r = with_value is_text vars x r
+bound (s ∷ ss) vars x r = vars
+
+-- the last of some scopes gets a variable
+abbrev pub bound_last : List Scope → Text → PyObjectRef → List Scope
+bound_last [] x r = []
+bound_last (s ∷ []) x r = record s { vars = with_value is_text s.vars x r } ∷ []
+bound_last (s ∷ (u ∷ ss)) x r = s ∷ bound_last (u ∷ ss) x r
+
+abbrev pub with_binding : PlainWorld → Text → PyObjectRef → PlainWorld
+with_binding w x r = record w { vars = bound w.scopes w.vars x r; scopes = bound_last w.scopes x r }
+
+-- a body begins, and its start is noted
+abbrev pub with_scope : PlainWorld → Scope → Started → PlainWorld
+with_scope w s start = record w { scopes = w.scopes ++ s ∷ []; calls = w.calls ++ start ∷ [] }
+
+-- the last body's scope is taken away
+abbrev pub without_scope : PlainWorld → PlainWorld
+without_scope w = record w { scopes = take (length w.scopes - 1) w.scopes }
+
+-- a command is over: no scope is left, and no start is noted
+abbrev pub at_rest : PlainWorld → PlainWorld
+at_rest w = record w { scopes = []; calls = [] }
+
+-- a variable, in the running body or else in the machine
+abbrev pub in_last : List Scope → Text → Option PyObjectRef
+in_last [] x = None
+in_last (s ∷ []) x = value_of (λ y. is_text y x) s.vars
+in_last (s ∷ (u ∷ ss)) x = in_last (u ∷ ss) x
+
+abbrev pub or_else_var : Option PyObjectRef → Option PyObjectRef → Option PyObjectRef
+or_else_var None other = other
+or_else_var (Some r) other = Some r
+
+abbrev pub variable : PlainWorld → Text → Option PyObjectRef
+variable w x = or_else_var (in_last w.scopes x) (value_of (λ y. is_text y x) w.vars)
