@@ -1,5 +1,5 @@
 -- Names with values, in the order in which the names came.
-use Rattle.std.specs.Prelude.{◌≡◌, ℕ, Bool, cond, eqb, List, [], ◌∷◌, Option, Some, None}
+use Rattle.std.specs.Prelude.{Bool, cond, eqb, List, [], ◌∷◌, Option, Some, None}
 use Rattle.py_node.specs.declared.refs.PyStrInterned.{PyStrInterned}
 
 -- the value of the first name that passes the test

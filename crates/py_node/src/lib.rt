@@ -4,6 +4,7 @@
 pub mod entry;
 pub mod expr;
 pub mod memory;
+pub mod names;
 pub mod raised;
 pub mod refs;
 pub mod reply;
