@@ -1,6 +1,7 @@
 // Nodes of the machine: names, flags, slots, expressions, tasks and faults, as plain types.
 #![tactic(auto)]
 
+pub mod attributes;
 pub mod entry;
 pub mod expr;
 pub mod memory;
