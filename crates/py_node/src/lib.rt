@@ -1,10 +1,12 @@
 // Nodes of the machine: names, flags, slots, expressions, tasks and faults, as plain types.
 #![tactic(auto)]
 
+pub mod attributes;
 pub mod built_in;
 pub mod entry;
 pub mod expr;
 pub mod memory;
+pub mod names;
 pub mod payload;
 pub mod raised;
 pub mod refs;
