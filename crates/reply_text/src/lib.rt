@@ -1,0 +1,7 @@
+// The lines that answer a script: the bodies that were started, values, faults and classes.
+#![tactic(auto)]
+
+pub mod write;
+
+#[cfg(test)]
+mod tests;
