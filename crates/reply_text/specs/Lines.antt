@@ -32,9 +32,3 @@ reply_lines reply = flat_map call_line reply.calls ++ answer_line reply.answer
 
 abbrev pub replies_text : List PlainReply → Text
 replies_text replies = flat_map reply_lines replies
-
--- a class: the names along its linearisation, and the printed names of its filled slots
-abbrev pub class_lines : Text → List Text → List Text → Text
-class_lines name line slots =
-    codes "class " ++ escaped name ++ codes ": " ++ joined (codes ", ") (map escaped line) ++ end_of_line
-    ++ codes "slots " ++ escaped name ++ codes ":" ++ flat_map (λ slot. codes " " ++ slot) slots ++ end_of_line

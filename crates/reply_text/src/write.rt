@@ -1,15 +1,13 @@
 // The lines of replies, as they are written.
 
-ghost use Rattle.std.specs.Prelude.{◌≡◌, ◌++◌, ◌<◌, List, map, codes, OnOk, IfOk, string_bytes};
-ghost use Rattle.std.specs.Char.{digit_char};
-ghost use Rattle.std.specs.List.{flat_map};
+ghost use Rattle.std.specs.Prelude.{◌≡◌, ◌++◌, map, codes, OnOk, IfOk, string_bytes};
 ghost use Rattle.py_node.specs.Replies.{reply_of, told_of, started_of};
-ghost use Rattle.reply_text.specs.Escapes.{escaped, escaped_byte};
 ghost use Rattle.reply_text.specs.Lines.{joined, call_line, answer_line, reply_lines, replies_text};
 
-use std::alloc::Global;
+use crate::escape::push_escaped;
 use py_node::memory::OutOfMemory;
 use py_node::reply::{BodyCall, Reply, ReplyAnswer};
+use std::alloc::Global;
 
 /// The text of replies, one after another.
 pub fn write_replies(alloc: Global, replies: &[Reply]) -> Result<Vec<u8>, OutOfMemory>
@@ -77,38 +75,4 @@ fn push_answer(out: &mut Vec<u8>, answer: &ReplyAnswer) -> Result<(), OutOfMemor
     }
     out.push(b'\n')?;
     Ok(())
-}
-
-/// Writes a text as names are written.
-pub fn push_escaped(out: &mut Vec<u8>, text: &[u8]) -> Result<(), OutOfMemory>
-    ensures { OnOk result (out.new.items ≡ out.old.items ++ escaped text.now) }
-{
-    for byte in text {
-        push_escaped_byte(out, *byte)?;
-    }
-    Ok(())
-}
-
-#[tactic(auto, unfolding(crate::specs::Escapes::escaped_byte))]
-fn push_escaped_byte(out: &mut Vec<u8>, byte: u8) -> Result<(), OutOfMemory>
-    ensures { OnOk result (out.new.items ≡ out.old.items ++ escaped_byte byte) }
-{
-    match byte {
-        b'"' => out.extend_from_slice(b"\\\"")?,
-        b'\\' => out.extend_from_slice(b"\\\\")?,
-        b'\n' => out.extend_from_slice(b"\\n")?,
-        b'\r' => out.extend_from_slice(b"\\r")?,
-        b'\t' => out.extend_from_slice(b"\\t")?,
-        0..32 => out.extend_from_slice(&[b'\\', b'x', hex_digit(byte / 16), hex_digit(byte % 16)])?,
-        _ => out.push(byte)?,
-    }
-    Ok(())
-}
-
-// The lower-case hexadecimal digit.
-fn hex_digit(digit: u8) -> u8
-    requires { digit < 16 }
-    ensures { result ≡ digit_char digit }
-{
-    if digit < 10 { b'0' + digit } else { b'a' + (digit - 10) }
 }
