@@ -1,5 +1,5 @@
 -- Names and texts as they are written, each on one line.
-use Rattle.std.specs.Prelude.{ℕ, ◌/◌, ◌%◌, List, [], ◌∷◌, ◌++◌, ◌==◌, nat_lt, if◌then◌else◌}
+use Rattle.std.specs.Prelude.{ℕ, ◌/◌, ◌%◌, [], ◌∷◌, ◌++◌, ◌==◌, nat_lt, if◌then◌else◌}
 use Rattle.std.specs.Char.{digit_char}
 use Rattle.std.specs.List.{flat_map}
 use Rattle.py_node.specs.Tree.{Text}

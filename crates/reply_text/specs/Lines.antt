@@ -1,5 +1,5 @@
 -- What is written for the replies to a script.
-use Rattle.std.specs.Prelude.{ℕ, List, [], ◌∷◌, ◌++◌, map, codes}
+use Rattle.std.specs.Prelude.{List, [], ◌∷◌, ◌++◌, codes}
 use Rattle.std.specs.List.{flat_map}
 use Rattle.py_node.specs.Tree.{Text}
 use Rattle.py_node.specs.Faults.{kind_word, cause_word}

@@ -3,7 +3,6 @@
 
 pub mod class;
 pub mod escape;
-pub mod write;
-
 #[cfg(test)]
 mod tests;
+pub mod write;
