@@ -1,28 +1,12 @@
 -- The text of an object, as replies show it.
-use Rattle.std.specs.Prelude.{ℕ, zero, suc, ◌+◌, ◌/◌, ◌%◌, ℤ, Bool, true, false, cond, eqb, nat_lt, List, [], ◌∷◌, ◌++◌, codes, Option, Some, None, slice_get, option_map, if◌then◌else◌, ◌==◌}
+use Rattle.std.specs.Prelude.{ℕ, List, [], ◌++◌, codes, Option, Some, None, slice_get, if◌then◌else◌, ◌==◌}
 use Rattle.std.specs.Fmt.{signed_decimal}
 use Rattle.py_node.specs.declared.refs.PyObjectRef.{PyObjectRef}
 use Rattle.py_node.specs.Tree.{Text}
+use Rattle.reply_text.specs.Escapes.{escaped, quoted}
 use Rattle.class_model.specs.Class.{Class}
 use Rattle.plain_machine.specs.Plain.{Datum, AnObject, AClass, ANumber, AText, ATuple, ADict, AFunction, AMethod, ANativeFunction, ABuiltinMethod, AMethodDescriptor, AGetSet, AClassMethod, Node, PlainWorld}
 use Rattle.plain_machine.specs.World.{node_at}
-
--- a digit of base 16, in lower case
-abbrev pub hex_digit : ℕ → ℕ
-hex_digit n = if nat_lt n 10 then 48 + n else 87 + n
-
--- one byte of a text, escaped
-unfoldable pub escaped_byte : ℕ → Text
-escaped_byte b =
-    if b == 34 then codes "\\\"" else if b == 92 then codes "\\\\" else if b == 10 then codes "\\n" else if b == 13 then codes "\\r" else if b == 9 then codes "\\t"
-    else if nat_lt b 32 then 92 ∷ 120 ∷ hex_digit (b / 16) ∷ hex_digit (b % 16) ∷ [] else b ∷ []
-
-abbrev pub escaped : Text → Text
-escaped [] = []
-escaped (b ∷ bs) = escaped_byte b ++ escaped bs
-
-abbrev pub quoted : Text → Text
-quoted x = 34 ∷ escaped x ++ 34 ∷ []
 
 -- the name of a class, escaped
 abbrev pub class_name : PlainWorld → ℕ → Text

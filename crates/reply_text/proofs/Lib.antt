@@ -1,0 +1,2 @@
+pub mod EscapesUtf8
+pub mod Members

@@ -1,0 +1,34 @@
+-- What is written for the replies to a script.
+use Rattle.std.specs.Prelude.{List, [], ◌∷◌, ◌++◌, codes}
+use Rattle.std.specs.List.{flat_map}
+use Rattle.py_node.specs.Tree.{Text}
+use Rattle.py_node.specs.Faults.{kind_word, cause_word}
+use Rattle.py_node.specs.Replies.{PlainReply, Started, Told, ToldValue, ToldRaise, ToldBudget}
+use Rattle.reply_text.specs.Escapes.{escaped}
+
+-- an end of line
+abbrev pub end_of_line : Text
+end_of_line = 10 ∷ []
+
+-- texts joined by a separator: it stands before each but the first
+abbrev pub joined : Text → List Text → Text
+joined between [] = []
+joined between (text ∷ texts) = text ++ flat_map (λ next. between ++ next) texts
+
+-- a body that was started
+abbrev pub call_line : Started → Text
+call_line call =
+    codes "call " ++ escaped call.name ++ codes "(" ++ joined (codes ", ") call.args ++ codes ")" ++ end_of_line
+
+-- how a command ended
+abbrev pub answer_line : Told → Text
+answer_line (ToldValue object text) = codes "= " ++ text ++ end_of_line
+answer_line (ToldRaise fault) = codes "! " ++ kind_word fault.kind ++ codes " " ++ cause_word fault.cause ++ end_of_line
+answer_line ToldBudget = codes "? Budget" ++ end_of_line
+
+-- the bodies that a command started, in order, and how it ended
+abbrev pub reply_lines : PlainReply → Text
+reply_lines reply = flat_map call_line reply.calls ++ answer_line reply.answer
+
+abbrev pub replies_text : List PlainReply → Text
+replies_text replies = flat_map reply_lines replies

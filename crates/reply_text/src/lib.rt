@@ -1,0 +1,8 @@
+// The lines that answer a script: the bodies that were started, values, faults and classes.
+#![tactic(auto)]
+
+pub mod class;
+pub mod escape;
+#[cfg(test)]
+mod tests;
+pub mod write;
