@@ -5,3 +5,5 @@ pub mod OneBase
 pub mod Linear
 pub mod Depth
 pub mod Rule
+pub mod Changed
+pub mod Subclasses
