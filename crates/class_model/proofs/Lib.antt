@@ -7,3 +7,6 @@ pub mod Depth
 pub mod Rule
 pub mod Changed
 pub mod Subclasses
+pub mod Agreed
+pub mod Slots
+pub mod Solid

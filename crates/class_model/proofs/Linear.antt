@@ -91,3 +91,17 @@ all_some-holds f (b ∷ bs) ls l e h = go (f b) refl (all_some-holds f bs) e
     go : (o : Option (List ℕ)) → f b ≡ o → ((ms : List (List ℕ)) (w : List ℕ) → all_some (map f bs) ≡ Some ms → Holds ms w → (x : ℕ) × Holds bs x × (f x ≡ Some w)) → all_some (o ∷ map f bs) ≡ Some ls → (x : ℕ) × Holds (b ∷ bs) x × (f x ≡ Some l)
     go None q more e = cc
     go (Some m) q more e = push m q (all_some (map f bs)) more e
+
+-- each base has a line
+pub all_some-has : (f : ℕ → Option (List ℕ)) (bs : List ℕ) (ls : List (List ℕ)) (b : ℕ) → all_some (map f bs) ≡ Some ls → Holds bs b → (l : List ℕ) × Holds ls l × (f b ≡ Some l)
+all_some-has f [] ls b e h = absurd h
+all_some-has f (x ∷ bs) ls b e h = go (f x) refl (λ ms. all_some-has f bs ms b) e h
+  where
+    push : (l : List ℕ) → f x ≡ Some l → (r : Option (List (List ℕ))) → ((ms : List (List ℕ)) → r ≡ Some ms → Holds bs b → (k : List ℕ) × Holds ms k × (f b ≡ Some k)) → option_map (λ xs. l ∷ xs) r ≡ Some ls → Holds (x ∷ bs) b → (k : List ℕ) × Holds ls k × (f b ≡ Some k)
+    push l q None more e h = cc
+    push l q (Some ms) more e (inl i) = let s : l ∷ ms ≡ ls = cc in let P : List (List ℕ) → Type 0 = λ w. Holds w l in (l, subst P s (inl refl), ap f (sym i) ∙ q)
+    push l q (Some ms) more e (inr h) = let s : l ∷ ms ≡ ls = cc in let r = more ms refl h in let P : List (List ℕ) → Type 0 = λ w. Holds w r.0 in (r.0, subst P s (inr r.1), r.2)
+
+    go : (o : Option (List ℕ)) → f x ≡ o → ((ms : List (List ℕ)) → all_some (map f bs) ≡ Some ms → Holds bs b → (k : List ℕ) × Holds ms k × (f b ≡ Some k)) → all_some (o ∷ map f bs) ≡ Some ls → Holds (x ∷ bs) b → (k : List ℕ) × Holds ls k × (f b ≡ Some k)
+    go None q more e h = cc
+    go (Some l) q more e h = push l q (all_some (map f bs)) more e h
