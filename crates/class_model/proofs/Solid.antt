@@ -8,7 +8,7 @@ use Rattle.class_model.specs.Class.{Class, Classes, bases_of, lin, is_sub, is_al
 use Rattle.class_model.specs.Change.{with_class, with_class_attr}
 use Rattle.class_model.specs.Layout.{built_ins, has_members, is_solid, derives_all, first_best, solid_within, solid, best_of, base}
 use Rattle.class_model.proofs.Linear.{linear-made, linear-zero, all_some-has}
-use Rattle.class_model.proofs.Rule.{lin-itself, lin-member, lin-within, lin-bases, lin-held}
+use Rattle.class_model.proofs.Rule.{lin-itself, lin-member, lin-inside, lin-within, lin-bases, lin-held}
 use Rattle.class_model.proofs.Changed.{get-before, get-last, get-changed, length-changed, bases_of-before, bases_of-last, lin-push, lin-attr}
 use Rattle.class_model.proofs.Agreed.{bind-agrees}
 
@@ -93,3 +93,95 @@ module _ {K L : Type 0} (t : Classes K) (u : Classes L) (At : ℕ → Type 0) (i
   pub base-agrees : (c : ℕ) → At c → ((b : ℕ) → At b → solid t b ≡ solid u b) → base t c ≡ base u c
   base-agrees c p same =
       bind-agrees (best_of t) (best_of u) (bases_of t c) (bases_of u c) (alike c p) (λ bs e. first_best-agrees (solid t) (solid u) bs bs (λ b h. same b (inside c bs b p e h)) (λ b d h k. solid_within-at t At inside (length t) b d (inside c bs b p e h) k) (λ b h. h))
+
+-- the first best of one base
+best-one : {K : Type 0} (u : Classes K) (f : ℕ → Option ℕ) (b : ℕ) → ((d : ℕ) → f b ≡ Some d → is_sub u d d ≡ true) → option_and_then f (first_best u f (b ∷ []) (b ∷ [])) ≡ f b
+best-one u f b h = go (f b) refl
+  where
+    go : (o : Option ℕ) → f b ≡ o → option_and_then f (cond (derives_all u o (o ∷ [])) (Some b) None) ≡ f b
+    go None e = sym e
+    go (Some d) e = ap (λ w. option_and_then f (cond (w && true) (Some b) None)) (h d e)
+
+best-one_some : {K : Type 0} (u : Classes K) (f : ℕ → Option ℕ) (b d : ℕ) → f b ≡ Some d → is_sub u d d ≡ true → first_best u f (b ∷ []) (b ∷ []) ≡ Some b
+best-one_some u f b d e h = ap (λ o. cond (derives_all u o (o ∷ [])) (Some b) None) e ∙ ap (λ w. cond (w && true) (Some b) None) h
+
+module _ {K : Type 0} where
+  Lined : Classes K → ℕ → Type 0
+  Lined t x = (l : List ℕ) × (lin t x ≡ Some l)
+
+  lined-inside : (t : Classes K) (x : ℕ) (bs : List ℕ) (b : ℕ) → Lined t x → bases_of t x ≡ Some bs → Holds bs b → Lined t b
+  unfolding Lined
+  lined-inside t x bs b r e h = lin-member t x r.0 b r.1 (lin-bases t x r.0 bs b r.1 e h)
+
+  -- the solid class of a class is along its linearisation
+  pub solid-held : (t : Classes K) (c : ℕ) (line : List ℕ) (d : ℕ) → lin t c ≡ Some line → solid t c ≡ Some d → Holds line d
+  solid-held t c line d e h =
+      solid_within-at t (λ x. Holds line x) (λ x bs b p k q. let r = lin-member t c line x e p in lin-inside t c line x r.0 b e p r.1 (lin-bases t x r.0 bs b r.1 k q)) (length t) c d (lin-held t c line e) h
+
+  pub is_solid-push : (t : Classes K) (k : Class K) (c : ℕ) → c < length t → is_solid (with_class t k) c ≡ is_solid t c
+  is_solid-push t k c l = ap (λ o. nat_lt c built_ins || has_members o) (get-before t k c l)
+
+  pub is_solid-last : (t : Classes K) (k : Class K) → is_solid (with_class t k) (length t) ≡ nat_lt (length t) built_ins || has_members (Some k)
+  is_solid-last t k = ap (λ o. nat_lt (length t) built_ins || has_members o) (get-last t k)
+
+  size-push : (t : Classes K) (k : Class K) → length (with_class t k) ≡ suc (length t)
+  size-push t k = omega (arith, length-append t (k ∷ []))
+
+  -- enough depth in the larger table
+  push-deep : (t : Classes K) (k : Class K) (m c : ℕ) (line : List ℕ) → length t ≤ m → lin t c ≡ Some line → solid t c ≡ solid_within (with_class t k) m c
+  unfolding Lined
+  push-deep t k m c line l e =
+      solid_within-grows t (with_class t k) (Lined t) (lined-inside t) (λ x r. sym (bases_of-before t k x (lin-within t x r.0 r.1))) (λ x r. r.1 ∙ sym (lin-push t k x r.0 r.1)) (λ x r. sym (is_solid-push t k x (lin-within t x r.0 r.1))) (length t) m c line l e (line, e)
+
+  pub solid-push : (t : Classes K) (k : Class K) (c : ℕ) (line : List ℕ) → lin t c ≡ Some line → solid (with_class t k) c ≡ solid t c
+  solid-push t k c line e = sym (push-deep t k (length (with_class t k)) c line (omega (arith, size-push t k)) e)
+
+  pub base-push : (t : Classes K) (k : Class K) (c : ℕ) (line : List ℕ) → lin t c ≡ Some line → base (with_class t k) c ≡ base t c
+  unfolding Lined
+  base-push t k c line e =
+      sym (base-agrees t (with_class t k) (Lined t) (lined-inside t) (λ x r. sym (bases_of-before t k x (lin-within t x r.0 r.1))) (λ x r. r.1 ∙ sym (lin-push t k x r.0 r.1)) (λ x r. sym (is_solid-push t k x (lin-within t x r.0 r.1))) c (line, e) (λ b r. sym (solid-push t k b r.0 r.1)))
+
+  -- a solid class derives from itself, also in the larger table
+  solid-itself : (t : Classes K) (k : Class K) (b : ℕ) (line : List ℕ) (d : ℕ) → lin t b ≡ Some line → solid t b ≡ Some d → is_sub (with_class t k) d d ≡ true
+  solid-itself t k b line d e h =
+      let r = lin-member t b line d e (solid-held t b line d e h) in
+      ap (is_along d) (lin-push t k d r.0 r.1) ∙ lin-itself t d r.0 r.1
+
+  solid-last : (t : Classes K) (k : Class K) (bs : List ℕ) → k.bases ≡ bs → solid (with_class t k) (length t) ≡ cond (is_solid (with_class t k) (length t)) (Some (length t)) (option_and_then (solid_within (with_class t k) (length t)) (first_best (with_class t k) (solid_within (with_class t k) (length t)) bs bs))
+  unfolding solid_within
+  solid-last t k bs e =
+      let u = with_class t k in
+      let f = solid_within (with_class t k) (length t) in
+      ap (λ n. solid_within u n (length t)) (size-push t k) ∙ ap (λ o. cond (is_solid u (length t)) (Some (length t)) (option_and_then (λ bs. option_and_then f (first_best u f bs bs)) o)) (bases_of-last t k bs e)
+
+  pub solid-one_base : (t : Classes K) (k : Class K) (b : ℕ) (line : List ℕ) → k.bases ≡ b ∷ [] → lin t b ≡ Some line → solid (with_class t k) (length t) ≡ cond (is_solid (with_class t k) (length t)) (Some (length t)) (solid t b)
+  solid-one_base t k b line e h =
+      let u = with_class t k in
+      let f = solid_within (with_class t k) (length t) in
+      let deep : solid t b ≡ f b = push-deep t k (length t) b line (omega arith) h in
+      solid-last t k (b ∷ []) e ∙ ap (cond (is_solid u (length t)) (Some (length t))) (best-one u f b (λ d q. solid-itself t k b line d h (deep ∙ q)) ∙ sym deep)
+
+  pub solid-root : (t : Classes K) (k : Class K) → k.bases ≡ [] → solid (with_class t k) (length t) ≡ cond (is_solid (with_class t k) (length t)) (Some (length t)) None
+  solid-root t k e = solid-last t k [] e
+
+  pub base-one_base : (t : Classes K) (k : Class K) (b : ℕ) (line : List ℕ) (d : ℕ) → k.bases ≡ b ∷ [] → lin t b ≡ Some line → solid t b ≡ Some d → base (with_class t k) (length t) ≡ Some b
+  base-one_base t k b line d e h q =
+      ap (option_and_then (best_of (with_class t k))) (bases_of-last t k (b ∷ []) e) ∙ best-one_some (with_class t k) (solid (with_class t k)) b d (solid-push t k b line h ∙ q) (solid-itself t k b line d h q)
+
+  pub base-root : (t : Classes K) (k : Class K) → k.bases ≡ [] → base (with_class t k) (length t) ≡ None
+  base-root t k e = ap (option_and_then (best_of (with_class t k))) (bases_of-last t k [] e)
+
+  module _ (same : K → K → Bool) (t : Classes K) (c : ℕ) (n : K) (v : PyObjectRef) where
+    bases_of-attr : (x : ℕ) → bases_of (with_class_attr same t c n v) x ≡ bases_of t x
+    bases_of-attr x = get-changed (λ k. record k { attrs = with_value same k.attrs n v }) (option_map (λ (k : Class K). k.bases)) (λ k. refl) t c x
+
+    pub is_solid-attr : (d : ℕ) → is_solid (with_class_attr same t c n v) d ≡ is_solid t d
+    is_solid-attr d = ap (λ w. nat_lt d built_ins || w) (get-changed (λ k. record k { attrs = with_value same k.attrs n v }) has_members (λ k. refl) t c d)
+
+    pub solid-attr : (d : ℕ) → solid (with_class_attr same t c n v) d ≡ solid t d
+    solid-attr d =
+        solid_within-same (with_class_attr same t c n v) t (λ x. Unit {0}) (λ x bs b p e h. tt) (λ x p. bases_of-attr x) (λ x p. lin-attr same t c n v x) (λ x p. is_solid-attr x) (length (with_class_attr same t c n v)) d tt ∙ ap (λ m. solid_within t m d) (length-changed (λ k. record k { attrs = with_value same k.attrs n v }) t c)
+
+    pub base-attr : (d : ℕ) → base (with_class_attr same t c n v) d ≡ base t d
+    base-attr d =
+        base-agrees (with_class_attr same t c n v) t (λ x. Unit {0}) (λ x bs b p e h. tt) (λ x p. bases_of-attr x) (λ x p. lin-attr same t c n v x) (λ x p. is_solid-attr x) d tt (λ b p. solid-attr b)
