@@ -10,3 +10,5 @@ pub mod Subclasses
 pub mod Agreed
 pub mod Slots
 pub mod Solid
+pub mod Names
+pub mod Renamed
