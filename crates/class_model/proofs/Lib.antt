@@ -12,3 +12,4 @@ pub mod Slots
 pub mod Solid
 pub mod Names
 pub mod Renamed
+mod Checks
