@@ -1,13 +1,12 @@
 -- Tables that give a class the same attributes and slots.
-use Rattle.std.proofs.Common.{◌≡◌, ℕ, Bool, true, false, cond, not, ◌&&◌, List, [], ◌∷◌, map, Option, Some, None, inl, inr, refl, sym, ap, ◌∙◌}
-use Rattle.std.specs.Prelude.{slice_get, option_map, option_and_then}
-use Rattle.py_node.specs.declared.refs.PyObjectRef.{PyObjectRef}
+use Rattle.std.proofs.Common.{◌≡◌, ℕ, Bool, true, false, cond, not, ◌&&◌, List, [], ◌∷◌, Option, Some, None, inl, inr, refl, ap, ◌∙◌}
+use Rattle.std.specs.Prelude.{slice_get, option_and_then}
 use Rattle.py_node.specs.declared.entry.SlotId.{SlotId}
 use Rattle.py_node.specs.declared.entry.SlotId.TheVariants.{New}
 use Rattle.py_node.specs.declared.entry.SlotEntry.{SlotEntry}
 use Rattle.py_node.specs.Slots.{Sort, ByItself, BySequence, ByMapping, Nearest, all_slots, sort_of}
 use Rattle.class_model.specs.Order.{Holds}
-use Rattle.class_model.specs.Class.{Classes, lin, own_of, or_else, first_along, along, found_by}
+use Rattle.class_model.specs.Class.{Classes, lin, own_of, first_along, along}
 use Rattle.class_model.specs.Slot.{Keys, Natives, is_name_of, is_slot, wrapped, heap_entry, native_entry, is_heap_at, given_entry, is_by_itself, entry, has_table, first_with, read_along}
 
 pub bind-agrees : {A B : Type 0} (f g : A → Option B) (o p : Option A) → o ≡ p → ((x : A) → o ≡ Some x → f x ≡ g x) → option_and_then f o ≡ option_and_then g p

@@ -1,12 +1,12 @@
 -- How deep bases go does not matter: as many steps as there are classes are enough.
-use Rattle.std.proofs.Common.{◌≡◌, ℕ, zero, suc, ◌≤◌, Bool, true, false, List, [], ◌∷◌, map, length, Option, Some, None, inl, inr, refl, sym, ap, subst, ◌∙◌, arith}
+use Rattle.std.proofs.Common.{◌≡◌, ℕ, zero, suc, ◌≤◌, Bool, true, false, List, [], ◌∷◌, length, Option, Some, inl, inr, refl, sym, ap, subst, ◌∙◌, arith}
 use Rattle.std.specs.List.{flat_map}
 use Rattle.std.proofs.lemmas.Bool.{false≢true}
-use Rattle.class_model.specs.Order.{has, all_some, linear, Holds, IsOrder}
+use Rattle.class_model.specs.Order.{has, linear, Holds}
 use Rattle.class_model.proofs.Held.{Holds-equal, Holds-flat_map, from_flat_map, Subsequence-holds, Subsequence-rest, Subsequence-length}
 use Rattle.class_model.proofs.Tests.{Decides-has}
 use Rattle.class_model.proofs.Arranged.{least_order-order}
-use Rattle.class_model.proofs.Linear.{Made, linear-made, linear-from, linear-zero, linear-grows, linear-order, all_some-at, all_some-holds}
+use Rattle.class_model.proofs.Linear.{linear-made, linear-from, linear-zero, linear-grows, linear-order, all_some-at, all_some-holds}
 
 module _ (bases : ℕ → Option (List ℕ)) where
   -- each class along a linearisation has one, no deeper

@@ -1,10 +1,8 @@
 -- Linearisations by depth: what they are made of, and what they depend on.
 use Rattle.std.proofs.Common.{◌≡◌, ℕ, zero, suc, ◌≤◌, List, [], ◌∷◌, map, Option, Some, None, inl, inr, refl, sym, ap, subst, ◌∙◌, arith}
 use Rattle.std.specs.Prelude.{option_map, option_and_then}
-use Rattle.class_model.specs.Order.{least_order, all_some, linear, Holds, Distinct, BeginsWith, IsOrder}
-use Rattle.class_model.proofs.Held.{from_flat_map, Holds-flat_map, Subsequence-holds}
+use Rattle.class_model.specs.Order.{least_order, all_some, linear, Holds, Distinct, BeginsWith}
 use Rattle.class_model.proofs.Arranged.{least_order-order}
-use Rattle.class_model.proofs.OneBase.{least_order-one_base, least_order-no_base}
 
 -- where a linearisation comes from
 pub record Made (bases : ℕ → Option (List ℕ)) (n c : ℕ) (xs : List ℕ) : Type 0 where

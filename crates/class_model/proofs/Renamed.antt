@@ -1,5 +1,5 @@
 -- Other keys change nothing.
-use Rattle.std.proofs.Common.{◌≡◌, ℕ, zero, suc, ◌<◌, Bool, cond, not, ◌&&◌, ◌||◌, eqb, List, [], ◌∷◌, ◌++◌, map, length, Option, Some, None, inl, inr, refl, ap, ◌∙◌}
+use Rattle.std.proofs.Common.{◌≡◌, ℕ, zero, suc, ◌<◌, Bool, cond, not, ◌||◌, eqb, List, [], ◌∷◌, ◌++◌, map, length, Option, Some, None, inl, inr, refl, ap, ◌∙◌}
 use Rattle.std.specs.Prelude.{nat_lt, slice_get, option_map, option_and_then}
 use Rattle.std.proofs.lemmas.List.{length-map}
 use Rattle.py_node.specs.declared.refs.PyObjectRef.{PyObjectRef}
@@ -8,7 +8,7 @@ use Rattle.py_node.specs.declared.entry.SlotEntry.{SlotEntry}
 use Rattle.py_node.specs.Attributes.{value_of}
 use Rattle.py_node.specs.Slots.{names_of, all_slots, sort_of}
 use Rattle.class_model.specs.Order.{has, linear, Holds}
-use Rattle.class_model.specs.Class.{Class, Classes, bases_of, lin, is_along, is_sub, own_of, first_along, along, found_by, found, past_first, found_past, subclasses_from, subclasses, rekeyed, renamed}
+use Rattle.class_model.specs.Class.{Class, Classes, bases_of, lin, is_along, is_sub, own_of, along, found_by, found, past_first, found_past, subclasses_from, subclasses, rekeyed, renamed}
 use Rattle.class_model.specs.Layout.{built_ins, is_empty, has_members, is_solid, solid_within, solid, base, layout_along, layout, member_count, is_place}
 use Rattle.class_model.specs.Slot.{Keys, Natives, is_one_of, is_name_of, is_heap_at, entry, entries, read_along, slot, without_same, in_turn, candidates_of}
 use Rattle.class_model.proofs.Names.{names-low}

@@ -1,9 +1,10 @@
 -- The solid class and the best base of a class, after one more class and after an attribute was set.
 use Rattle.std.proofs.Common.{◌≡◌, ℕ, zero, suc, ◌<◌, ◌≤◌, Bool, true, false, cond, ◌&&◌, ◌||◌, List, [], ◌∷◌, map, length, Option, Some, None, inl, inr, refl, sym, ap, subst, ◌∙◌, arith, length-append}
-use Rattle.std.specs.Prelude.{nat_lt, slice_get, option_map, option_and_then}
+use Rattle.std.proofs.lemmas.Bool.{lt-ltb}
+use Rattle.std.specs.Prelude.{nat_lt, option_map, option_and_then}
 use Rattle.py_node.specs.declared.refs.PyObjectRef.{PyObjectRef}
 use Rattle.py_node.specs.Attributes.{with_value}
-use Rattle.class_model.specs.Order.{all_some, linear, Holds}
+use Rattle.class_model.specs.Order.{linear, Holds}
 use Rattle.class_model.specs.Class.{Class, Classes, bases_of, lin, is_sub, is_along}
 use Rattle.class_model.specs.Change.{with_class, with_class_attr}
 use Rattle.class_model.specs.Layout.{built_ins, has_members, is_solid, derives_all, first_best, solid_within, solid, best_of, base}
@@ -163,6 +164,14 @@ module _ {K : Type 0} where
 
   pub solid-root : (t : Classes K) (k : Class K) → k.bases ≡ [] → solid (with_class t k) (length t) ≡ cond (is_solid (with_class t k) (length t)) (Some (length t)) None
   solid-root t k e = solid-last t k [] e
+
+  -- a class that is solid itself, whatever its bases
+  pub solid-own : (t : Classes K) (k : Class K) → is_solid (with_class t k) (length t) ≡ true → solid (with_class t k) (length t) ≡ Some (length t)
+  solid-own t k e =
+      solid-last t k k.bases refl ∙ ap (λ w. cond w (Some (length t)) (option_and_then (solid_within (with_class t k) (length t)) (first_best (with_class t k) (solid_within (with_class t k) (length t)) k.bases k.bases))) e
+
+  pub solid-built_in : (t : Classes K) (k : Class K) → length t < built_ins → solid (with_class t k) (length t) ≡ Some (length t)
+  solid-built_in t k l = solid-own t k (is_solid-last t k ∙ ap (λ w. w || has_members (Some k)) (lt-ltb (length t) built_ins l))
 
   pub base-one_base : (t : Classes K) (k : Class K) (b : ℕ) (line : List ℕ) (d : ℕ) → k.bases ≡ b ∷ [] → lin t b ≡ Some line → solid t b ≡ Some d → base (with_class t k) (length t) ≡ Some b
   base-one_base t k b line d e h q =
