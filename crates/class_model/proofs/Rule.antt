@@ -1,0 +1,82 @@
+-- Linearisations in a table of classes, with no depth in what is said.
+use Rattle.std.proofs.Common.{◌≡◌, ℕ, zero, suc, ◌<◌, true, List, [], ◌∷◌, map, length, Option, Some, None, inl, inr, refl, sym, ◌∙◌, arith}
+use Rattle.std.specs.Prelude.{slice_get, option_map, option_and_then}
+use Rattle.std.proofs.lemmas.Option.{slice_get_within}
+use Rattle.class_model.specs.Order.{has, least_order, all_some, linear, Holds, Distinct, BeginsWith}
+use Rattle.class_model.specs.Class.{Class, Classes, bases_of, lin}
+use Rattle.class_model.proofs.Held.{Holds-flat_map, distinct-below}
+use Rattle.class_model.proofs.Tests.{Decides-has}
+use Rattle.class_model.proofs.Arranged.{least_order-order}
+use Rattle.class_model.proofs.Linear.{linear-made, linear-from, linear-zero, linear-grows, linear-order, all_some-at}
+use Rattle.class_model.proofs.Depth.{linear-member, linear-known, linear-bases, linear-length, linear-inside}
+
+-- it depends on the bases of the classes along it alone
+pub linear-along : (f g : ℕ → Option (List ℕ)) (n c : ℕ) (xs : List ℕ) → linear f n c ≡ Some xs → ((x : ℕ) → Holds xs x → f x ≡ g x) → linear g n c ≡ Some xs
+linear-along f g zero c xs e h = absurd (linear-zero f c xs e)
+linear-along f g (suc n) c xs e h =
+    let made = linear-made f n c xs e in
+    let o = least_order-order c made.direct made.lines xs made.is in
+    let here : g c ≡ Some made.direct = sym (h c (o.all_members c (inl refl))) ∙ made.of_class in
+    linear-from g n c xs made.direct made.lines here (all_some-at (linear f n) (linear g n) made.direct made.lines (λ b l p k q. linear-along f g n b l q (λ x r. h x (o.all_members x (inr (Holds-flat_map (λ l. l) made.lines l x k r))))) made.of_bases) made.is
+
+BeginsWith-holds : (c : ℕ) (line : List ℕ) → BeginsWith c line → Holds line c
+BeginsWith-holds c [] h = absurd h
+BeginsWith-holds c (x ∷ line) h = inl h
+
+module _ {K : Type 0} where
+  pub bases_of-get : (t : Classes K) (c : ℕ) (bs : List ℕ) → bases_of t c ≡ Some bs → (k : Class K) × (slice_get t c ≡ Some k) × (k.bases ≡ bs)
+  bases_of-get t c bs e = go (slice_get t c) refl e
+    where
+      go : (o : Option (Class K)) → slice_get t c ≡ o → option_map (λ k. k.bases) o ≡ Some bs → (k : Class K) × (slice_get t c ≡ Some k) × (k.bases ≡ bs)
+      go None h e = cc
+      go (Some k) h e = (k, h, cc)
+
+  pub lin-begins : (t : Classes K) (c : ℕ) (line : List ℕ) → lin t c ≡ Some line → BeginsWith c line
+  lin-begins t c line e = (linear-order (bases_of t) (length t) c line e).0
+
+  pub lin-distinct : (t : Classes K) (c : ℕ) (line : List ℕ) → lin t c ≡ Some line → Distinct line
+  lin-distinct t c line e = (linear-order (bases_of t) (length t) c line e).1
+
+  pub lin-held : (t : Classes K) (c : ℕ) (line : List ℕ) → lin t c ≡ Some line → Holds line c
+  lin-held t c line e = BeginsWith-holds c line (lin-begins t c line e)
+
+  pub lin-itself : (t : Classes K) (c : ℕ) (line : List ℕ) → lin t c ≡ Some line → has line c ≡ true
+  lin-itself t c line e = (Decides-has line c).1 (lin-held t c line e)
+
+  pub lin-member : (t : Classes K) (c : ℕ) (line : List ℕ) (x : ℕ) → lin t c ≡ Some line → Holds line x → (l : List ℕ) × (lin t x ≡ Some l)
+  lin-member t c line x e h = linear-member (bases_of t) (length t) c line x e h
+
+  pub lin-inside : (t : Classes K) (c : ℕ) (line : List ℕ) (x : ℕ) (l : List ℕ) (y : ℕ) → lin t c ≡ Some line → Holds line x → lin t x ≡ Some l → Holds l y → Holds line y
+  lin-inside t c line x l y e h f k = linear-inside (bases_of t) (length t) c line x l y e h f k
+
+  -- the class itself is in the table
+  pub lin-there : (t : Classes K) (c : ℕ) (line : List ℕ) → lin t c ≡ Some line → (k : Class K) × (slice_get t c ≡ Some k)
+  lin-there t c line e = let r = linear-known (bases_of t) (length t) c line e in let g = bases_of-get t c r.0 r.1 in (g.0, g.1)
+
+  pub lin-within : (t : Classes K) (c : ℕ) (line : List ℕ) → lin t c ≡ Some line → c < length t
+  lin-within t c line e = let r = lin-there t c line e in slice_get_within t c r.0 r.1
+
+  pub lin-below : (t : Classes K) (c : ℕ) (line : List ℕ) (x : ℕ) → lin t c ≡ Some line → Holds line x → x < length t
+  lin-below t c line x e h = let r = lin-member t c line x e h in lin-within t x r.0 r.1
+
+  pub lin-bases : (t : Classes K) (c : ℕ) (line bs : List ℕ) (x : ℕ) → lin t c ≡ Some line → bases_of t c ≡ Some bs → Holds bs x → Holds line x
+  lin-bases t c line bs x e h k = linear-bases (bases_of t) (length t) c line bs x e h k
+
+  -- however deep it was found, it is the linearisation
+  pub lin-from : (t : Classes K) (n c : ℕ) (line : List ℕ) → linear (bases_of t) n c ≡ Some line → lin t c ≡ Some line
+  lin-from t n c line e =
+      linear-length (bases_of t) n c line (length t) e (distinct-below (length t) line (linear-order (bases_of t) n c line e).1 (λ x h. let r = linear-member (bases_of t) n c line x e h in let q = linear-known (bases_of t) n x r.0 r.1 in let k = bases_of-get t x q.0 q.1 in slice_get_within t x k.0 k.1))
+
+  -- the least order over the linearisations of the bases
+  pub lin-rule : (t : Classes K) (c : ℕ) → lin t c ≡ option_and_then (λ bs. option_and_then (least_order c bs) (all_some (map (lin t) bs))) (bases_of t c)
+  unfolding linear
+  lin-rule t c = go (lin t c) refl (linear (bases_of t) (suc (length t)) c) refl
+    where
+      go : (r : Option (List ℕ)) → lin t c ≡ r → (q : Option (List ℕ)) → linear (bases_of t) (suc (length t)) c ≡ q → r ≡ q
+      go None e None f = refl
+      go None e (Some ys) f = sym e ∙ lin-from t (suc (length t)) c ys f
+      go (Some xs) e q f = sym (linear-grows (bases_of t) (bases_of t) (λ d bs p. p) (length t) (suc (length t)) (omega arith) c xs e) ∙ f
+
+  -- tables that give a class's whole line the same bases give it the same linearisation
+  pub lin-along : (t u : Classes K) (c : ℕ) (line : List ℕ) → lin t c ≡ Some line → ((x : ℕ) → Holds line x → bases_of t x ≡ bases_of u x) → lin u c ≡ Some line
+  lin-along t u c line e h = lin-from u (length t) c line (linear-along (bases_of t) (bases_of u) (length t) c line e h)
