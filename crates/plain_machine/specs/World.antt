@@ -1,5 +1,5 @@
 -- How the plain world is read and changed.
-use Rattle.std.specs.Prelude.{ℕ, suc, ◌+◌, ◌-◌, ◌^◌, Bool, true, false, eqb, cond, List, [], ◌∷◌, ◌++◌, Option, Some, None, length, take, slice_get, option_map, option_and_then, is_some}
+use Rattle.std.specs.Prelude.{ℕ, ℤ, suc, ◌+◌, ◌-◌, ◌^◌, Bool, true, false, eqb, cond, List, [], ◌∷◌, ◌++◌, Option, Some, None, length, take, slice_get, option_map, option_and_then, is_some}
 use Rattle.std.specs.Cmp.Lexicographic.{pointwise}
 use Rattle.py_node.specs.declared.refs.PyObjectRef.{PyObjectRef}
 use Rattle.py_node.specs.declared.entry.SlotId.{SlotId}
@@ -11,7 +11,7 @@ use Rattle.py_node.specs.Replies.{Started}
 use Rattle.class_model.specs.Class.{Class, Classes, has_flag}
 use Rattle.class_model.specs.Slot.{Keys, slot, candidates_of}
 use Rattle.class_model.specs.BuiltIn.{natives_of}
-use Rattle.plain_machine.specs.Plain.{Datum, AnObject, ADict, Node, Bindings, Scope, PlainWorld}
+use Rattle.plain_machine.specs.Plain.{Datum, AnObject, ADict, ANumber, Node, Bindings, Scope, PlainWorld}
 
 -- whether two texts are one
 abbrev pub is_text : Text → Text → Bool
@@ -38,6 +38,11 @@ datum_at w r = option_map (λ n. n.datum) (node_at w r)
 abbrev pub class_at : PlainWorld → PyObjectRef → Option ℕ
 class_at w r = option_map (λ n. n.class) (node_at w r)
 
+-- the number that a node holds
+abbrev pub number_of : Option Datum → Option ℤ
+number_of (Some (ANumber z)) = Some z
+number_of _ = None
+
 -- a slot as it is read for an object's class
 abbrev pub slot_at : PlainWorld → PyObjectRef → SlotId → Option SlotEntry
 slot_at w r s = option_and_then (λ c. slot text_keys natives_of w.classes c s) (class_at w r)
@@ -50,8 +55,13 @@ candidates_at w left right (Some c) (Some d) = candidates_of text_keys natives_o
 
 -- the nine changes
 
+abbrev pub flag_in : Option (Class Text) → Bool
+flag_in None = false
+flag_in (Some k) = has_flag (2 ^ 40) k
+
+-- whether a class gives its objects a dict
 abbrev pub has_dict : PlainWorld → ℕ → Bool
-has_dict w c = elim (slice_get w.classes c) [ None ↦ false | Some k ↦ has_flag (2 ^ 40) k ]
+has_dict w c = flag_in (slice_get w.classes c)
 
 -- the class of dicts
 abbrev pub the_dict : ℕ
