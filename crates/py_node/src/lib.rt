@@ -2,6 +2,7 @@
 #![tactic(auto)]
 
 pub mod attributes;
+pub mod clone;
 pub mod entry;
 pub mod expr;
 pub mod memory;
