@@ -5,6 +5,7 @@ pub mod attributes;
 pub mod clone;
 pub mod entry;
 pub mod expr;
+pub mod flags;
 pub mod memory;
 pub mod names;
 pub mod raised;
