@@ -11,3 +11,5 @@ pub mod names;
 pub mod raised;
 pub mod refs;
 pub mod reply;
+#[cfg(test)]
+mod tests;
