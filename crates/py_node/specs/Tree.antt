@@ -69,3 +69,7 @@ tree_step (Expr-F.Class x es fs) = TClass (string_bytes x) (trees_of es.items) (
 -- the tree that an expression of the code stands for
 abbrev pub tree_of : Expr → Tree
 tree_of = fold-Expr Tree tree_step
+
+-- a name's text, with the tree that its expression stands for
+abbrev pub part_of : String Global × Expr → Text × Tree
+part_of p = (string_bytes p.0, tree_of p.1)

@@ -3,8 +3,10 @@
 
 pub mod attributes;
 pub mod built_in;
+pub mod clone;
 pub mod entry;
 pub mod expr;
+pub mod flags;
 pub mod memory;
 pub mod names;
 pub mod payload;
@@ -12,3 +14,5 @@ pub mod raised;
 pub mod refs;
 pub mod reply;
 pub mod task;
+#[cfg(test)]
+mod tests;
