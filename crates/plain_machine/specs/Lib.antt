@@ -4,3 +4,4 @@ pub mod Show
 pub mod Row
 pub mod Answer
 pub mod Rows
+pub mod Start
