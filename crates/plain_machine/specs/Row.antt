@@ -7,7 +7,7 @@ use Rattle.py_node.specs.declared.raised.Cause.{Cause}
 use Rattle.py_node.specs.declared.entry.SlotEntry.{SlotEntry}
 use Rattle.py_node.specs.declared.task.Answer.{Answer}
 use Rattle.py_node.specs.declared.task.Answer.TheVariants.{Value, Done}
-use Rattle.py_node.specs.Tree.{Tree, Trees, no_trees, tree}
+use Rattle.py_node.specs.Tree.{Tree}
 use Rattle.plain_machine.specs.Plain.{Datum, PlainWorld, EvalJob, DoEval, PlainTask, ToEval, Ended, Answered, Made, Read, Told, Said, Asks, Ends}
 use Rattle.plain_machine.specs.World.{with_node, next_node}
 
@@ -61,6 +61,6 @@ read_once ss go (Answered r ∷ more) = go ss (Answered r ∷ more)
 read_once ss go (Made r ∷ more) = go ss (Made r ∷ more)
 
 -- evaluates expressions in order, and goes on with their values
-abbrev pub evaluate : PlainWorld → Trees → (List PyObjectRef → Row) → Row
-evaluate w no_trees go = go []
-evaluate w (tree e es) go = ask w (ToEval (DoEval e)) (λ r. on_value w r (λ v. evaluate w es (λ vs. go (v ∷ vs))))
+abbrev pub evaluate : PlainWorld → List Tree → (List PyObjectRef → Row) → Row
+evaluate w [] go = go []
+evaluate w (e ∷ es) go = ask w (ToEval (DoEval e)) (λ r. on_value w r (λ v. evaluate w es (λ vs. go (v ∷ vs))))

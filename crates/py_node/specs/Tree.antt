@@ -41,6 +41,16 @@ abbrev pub trees_of : List Tree → Trees
 trees_of [] = no_trees
 trees_of (e ∷ es) = tree e (trees_of es)
 
+-- the trees, as a list
+abbrev pub list_of : Trees → List Tree
+list_of no_trees = []
+list_of (tree e es) = e ∷ list_of es
+
+-- the trees of entries, as a list
+abbrev pub entry_trees : Entries → List Tree
+entry_trees no_entries = []
+entry_trees (entry x e es) = e ∷ entry_trees es
+
 abbrev pub entries_of : List (String Global × Tree) → Entries
 entries_of [] = no_entries
 entries_of (e ∷ es) = entry (string_bytes e.0) e.1 (entries_of es)
