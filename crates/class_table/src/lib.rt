@@ -1,0 +1,7 @@
+// A table of classes: each with its linearisation, its slots and its subclasses, kept up to date.
+#![tactic(auto)]
+
+pub mod natives;
+pub mod special;
+pub mod stored;
+pub mod entries;
