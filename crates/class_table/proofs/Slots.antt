@@ -3,6 +3,7 @@ use Rattle.std.proofs.Common.{◌≡◌, ℕ, zero, suc, ◌+◌, Bool, true, fa
 use Rattle.std.specs.Prelude.{slice_get}
 use Rattle.py_node.specs.declared.entry.SlotId.{SlotId}
 use Rattle.py_node.specs.declared.entry.SlotId.TheVariants.{Add, RightAdd, InplaceAdd, Subtract, RightSubtract, InplaceSubtract, Multiply, RightMultiply, InplaceMultiply, Remainder, RightRemainder, InplaceRemainder, Divmod, RightDivmod, Power, RightPower, InplacePower, Lshift, RightLshift, InplaceLshift, Rshift, RightRshift, InplaceRshift, And, RightAnd, InplaceAnd, Xor, RightXor, InplaceXor, Or, RightOr, InplaceOr, FloorDivide, RightFloorDivide, InplaceFloorDivide, TrueDivide, RightTrueDivide, InplaceTrueDivide, MatrixMultiply, RightMatrixMultiply, InplaceMatrixMultiply, Int, Index, Float, Negative, Positive, Absolute, Invert, Boolean, SeqLength, SeqItem, SeqAssItem, SeqContains, SeqConcat, SeqRepeat, SeqInplaceConcat, SeqInplaceRepeat, MapLength, MapSubscript, MapAssSubscript, Hash, Call, Repr, Getattro, Setattro, Richcompare, Iter, Iternext, DescrGet, DescrSet, Init, New, Del}
+use Rattle.std.proofs.lemmas.Bool.{eqb-true}
 use Rattle.py_node.specs.Slots.{place_of, names_of, all_slots}
 use Rattle.class_model.specs.Slot.{is_slot}
 
@@ -239,3 +240,34 @@ names-below DescrSet = refl
 names-below Init = refl
 names-below New = refl
 names-below Del = refl
+
+abbrev counted : ℕ → List SlotId → Bool
+counted n [] = true
+counted n (s ∷ ss) = eqb (place_of s) n && counted (suc n) ss
+
+counted-all : counted 0 all_slots ≡ true
+unfolding place_of all_slots
+counted-all = refl
+
+both : (a b : Bool) → (a && b) ≡ true → (a ≡ true) × (b ≡ true)
+both true b e = (refl, e)
+both false b e = cc
+
+place-from : (n : ℕ) (ss : List SlotId) (i : ℕ) (s : SlotId) → counted n ss ≡ true → slice_get ss i ≡ Some s → place_of s ≡ n + i
+place-from n [] i s h e = cc
+place-from n (u ∷ ss) zero s h e =
+    let p = both (eqb (place_of u) n) (counted (suc n) ss) h in
+    let q : place_of u ≡ n = eqb-true (place_of u) n p.0 in
+    let same : u ≡ s = cc in
+    ap place_of (sym same) ∙ q ∙ omega arith
+place-from n (u ∷ ss) (suc i) s h e =
+    let p = both (eqb (place_of u) n) (counted (suc n) ss) h in
+    place-from (suc n) ss i s p.1 e ∙ omega arith
+
+-- the slot at a place
+pub place-at : (i : ℕ) (s : SlotId) → slice_get all_slots i ≡ Some s → place_of s ≡ i
+place-at i s e = place-from 0 all_slots i s counted-all e ∙ omega arith
+
+pub length-all : length all_slots ≡ 73
+unfolding all_slots
+length-all = refl

@@ -15,6 +15,8 @@ pub record Kept : Type 0 where
   pub flags : ℕ
   pub mro : List ℕ
   pub slots : List (Option SlotEntry)
+  pub base : Option ℕ
+  pub solid : Option ℕ
   pub subclasses : List ℕ
 
 -- the class itself, without what follows from it

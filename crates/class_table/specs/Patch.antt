@@ -1,5 +1,5 @@
 -- Slots that are found anew.
-use Rattle.std.specs.Prelude.{◌≡◌, ℕ, Bool, false, cond, List, Some, length, slice_get}
+use Rattle.std.specs.Prelude.{◌≡◌, ℕ, Bool, true, false, cond, List, Some, length, slice_get}
 use Rattle.py_node.specs.declared.refs.PyStrInterned.{PyStrInterned}
 use Rattle.py_node.specs.declared.entry.SlotId.{SlotId}
 use Rattle.py_node.specs.Slots.{place_of}
@@ -17,7 +17,7 @@ pub record IsNear (t : Classes PyStrInterned) (name : PyStrInterned) (c : ℕ) (
 
 -- the same of each class that has a class along its linearisation
 abbrev pub AreNear : PyStrInterned → ℕ → List Kept → Type 0
-AreNear name class kept = (i : ℕ) (k : Kept) → slice_get kept i ≡ Some k → IsNear (plain kept) name i k
+AreNear name class kept = (i : ℕ) (k : Kept) → slice_get kept i ≡ Some k → has k.mro class ≡ true → IsNear (plain kept) name i k
 
 -- a class with the slots of its definition
 abbrev pub settled : Classes PyStrInterned → ℕ → Kept → Kept

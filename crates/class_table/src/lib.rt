@@ -5,3 +5,4 @@ pub mod natives;
 pub mod special;
 pub mod stored;
 pub mod entries;
+pub mod refresh;

@@ -6,7 +6,7 @@ ghost use Rattle.py_node.specs.Slots.{place_of};
 ghost use Rattle.class_model.specs.Order.{has};
 ghost use Rattle.class_model.specs.Class.{is_heap};
 ghost use Rattle.class_table.specs.Kept.{Kept, class_of};
-ghost use Rattle.class_table.specs.Keys.{numbers};
+ghost use Rattle.class_table.specs.Keys.{numbers, number};
 
 use py_node::attributes::PyAttributes;
 use py_node::entry::{SlotEntry, SlotId};
@@ -37,17 +37,19 @@ pub(crate) struct Stored {
     pub(crate) flags: PyTypeFlags,
     pub(crate) mro: Vec<PyTypeRef>,
     pub(crate) slots: Vec<Option<SlotEntry>>,
+    pub(crate) base: Option<PyTypeRef>,
+    pub(crate) solid: Option<PyTypeRef>,
     pub(crate) subclasses: Vec<PyTypeRef>,
 }
 
 impl Model for Stored {
     ghost use Rattle.std.specs.Prelude.{string_bytes};
-    ghost use Rattle.class_table.specs.Keys.{numbers};
+    ghost use Rattle.class_table.specs.Keys.{numbers, number};
     ghost use Rattle.class_table.specs.Kept.{Kept};
 
     ghost Value = { Kept };
 
-    ghost view = { λ a. record { name = string_bytes a.name; node = a.node; bases = numbers a.bases.items; attrs = a.attrs; members = a.members.items; flags = a.flags.0; mro = numbers a.mro.items; slots = a.slots.items; subclasses = numbers a.subclasses.items } };
+    ghost view = { λ a. record { name = string_bytes a.name; node = a.node; bases = numbers a.bases.items; attrs = a.attrs; members = a.members.items; flags = a.flags.0; mro = numbers a.mro.items; slots = a.slots.items; base = number a.base; solid = number a.solid; subclasses = numbers a.subclasses.items } };
 }
 
 impl Stored {
