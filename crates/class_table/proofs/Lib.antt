@@ -2,3 +2,4 @@ pub mod Slots
 pub mod Places
 pub mod Along
 pub mod Refreshed
+pub mod Changed

@@ -46,3 +46,12 @@ same-maps f (x ∷ xs) (y ∷ ys) n h =
     let e : f y ≡ f x = let s : y ≡ r.0 = let p = r.1 in cc in ap f s ∙ r.2 in
     let rest = same-maps f xs ys (omega arith) (λ i z p. h (suc i) z p) in
     cc (e, rest)
+
+pub same-lists : {A : Type 0} (xs ys : List A) → length ys ≡ length xs → ((i : ℕ) (x : A) → slice_get xs i ≡ Some x → slice_get ys i ≡ Some x) → ys ≡ xs
+same-lists [] [] n h = refl
+same-lists [] (y ∷ ys) n h = absurd (omega arith)
+same-lists (x ∷ xs) [] n h = absurd (omega arith)
+same-lists (x ∷ xs) (y ∷ ys) n h =
+    let e : y ≡ x = let p = h 0 x refl in cc in
+    let rest = same-lists xs ys (omega arith) (λ i z p. h (suc i) z p) in
+    cc (e, rest)

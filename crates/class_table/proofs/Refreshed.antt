@@ -17,8 +17,9 @@ use Rattle.class_table.specs.Keys.{table_keys}
 use Rattle.class_table.specs.Kept.{Kept, class_of, plain}
 use Rattle.class_table.specs.Coherent.{HasLines}
 use Rattle.class_table.specs.Patch.{IsNear, AreNear, IsRefreshed, settled, refreshed_one}
-use Rattle.class_table.proofs.Slots.{place-at, length-all}
-use Rattle.class_table.proofs.Places.{get-set_cases, get-set_at, get-set_away, below-apart, same-maps}
+use Rattle.class_table.proofs.Slots.{place-at, length-all, no_special}
+use Rattle.py_node.specs.declared.entry.SlotId.TheVariants.{Add}
+use Rattle.class_table.proofs.Places.{get-set_cases, get-set_at, get-set_away, below-apart, same-maps, same-lists}
 
 -- a write that does not change the class itself
 pub plain-set : (kept : List Kept) (b : ℕ) (k x : Kept) → b < length kept → k ≡ get_or kept b k → class_of x ≡ class_of k → plain (set kept b x) ≡ plain kept
@@ -44,7 +45,7 @@ lines-set kept b k x ok l e h m = record {
 abbrev pub part : Classes PyStrInterned → ℕ → ℕ → Kept → Kept
 part t c i k = record k { slots = take i (entries table_keys natives_of t c) ++ drop i k.slots }
 
-length-entries : (t : Classes PyStrInterned) (c : ℕ) → length (entries table_keys natives_of t c) ≡ 73
+pub length-entries : (t : Classes PyStrInterned) (c : ℕ) → length (entries table_keys natives_of t c) ≡ 73
 length-entries t c = length-map all_slots (entry table_keys natives_of t c) ∙ length-all
 
 pub entries-at : (t : Classes PyStrInterned) (c i : ℕ) (s : SlotId) → slice_get all_slots i ≡ Some s → slice_get (entries table_keys natives_of t c) i ≡ Some (entry table_keys natives_of t c s)
@@ -181,3 +182,27 @@ plain-refreshed_one t class i k false = refl
 pub plain-refreshed : (class : ℕ) (old new : List Kept) → IsRefreshed class old new → plain new ≡ plain old
 plain-refreshed class old new r =
     same-maps class_of old new r.count (λ i k e. (refreshed_one (plain old) class i k, r.at i k e, plain-refreshed_one (plain old) class i k (has k.mro class)))
+
+-- where every slot is near its definition, all are as defined
+pub settled-near : (t : Classes PyStrInterned) (name : PyStrInterned) (c : ℕ) (k : Kept) → 70 ≤ name.0 → IsNear t name c k → k.slots ≡ entries table_keys natives_of t c
+settled-near t name c k l near = same-lists (entries table_keys natives_of t c) k.slots (near.count ∙ sym (length-entries t c)) at
+  where
+    at : (i : ℕ) (e : Option SlotEntry) → slice_get (entries table_keys natives_of t c) i ≡ Some e → slice_get k.slots i ≡ Some e
+    at i e is =
+        let m = slice_get_within (entries table_keys natives_of t c) i e is in
+        let n = length-entries t c in
+        let a = length-all in
+        let s = get_or all_slots i Add in
+        let h : slice_get all_slots i ≡ Some s = slice_get-get_or all_slots i Add (omega arith) in
+        ap (slice_get k.slots) (sym (place-at i s h)) ∙ near.others s (no_special s name l) ∙ sym (entries-at t c i s h) ∙ is
+
+refreshed-one-same : (t : Classes PyStrInterned) (class i : ℕ) (k : Kept) (b : Bool) → (b ≡ true → k.slots ≡ entries table_keys natives_of t i) → k ≡ cond b (settled t i k) k
+refreshed-one-same t class i k true h = ap (λ (ys : List (Option SlotEntry)). record k { slots = ys }) (h refl)
+refreshed-one-same t class i k false h = refl
+
+-- a name that is no special name leaves all as it is
+pub refreshed-none : (class : ℕ) (name : PyStrInterned) (kept : List Kept) → 70 ≤ name.0 → AreNear name class kept → IsRefreshed class kept kept
+refreshed-none class name kept l near = record {
+  count = refl;
+  at = λ i k e. e ∙ ap Some (refreshed-one-same (plain kept) class i k (has k.mro class) (λ h. settled-near (plain kept) name i k l (near i k e h)));
+}

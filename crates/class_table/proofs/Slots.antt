@@ -1,11 +1,14 @@
 -- Facts about each slot, by cases.
-use Rattle.std.proofs.Common.{◌≡◌, ℕ, zero, suc, ◌+◌, Bool, true, false, ◌&&◌, eqb, ltb, List, [], ◌∷◌, length, Some, refl, ap, ◌∙◌, sym, arith}
+use Rattle.std.proofs.Common.{◌≡◌, ℕ, zero, suc, ◌+◌, ◌≤◌, Bool, true, false, ◌&&◌, ◌||◌, map, eqb, ltb, List, [], ◌∷◌, length, Some, refl, ap, ◌∙◌, sym, arith}
 use Rattle.std.specs.Prelude.{slice_get}
 use Rattle.py_node.specs.declared.entry.SlotId.{SlotId}
 use Rattle.py_node.specs.declared.entry.SlotId.TheVariants.{Add, RightAdd, InplaceAdd, Subtract, RightSubtract, InplaceSubtract, Multiply, RightMultiply, InplaceMultiply, Remainder, RightRemainder, InplaceRemainder, Divmod, RightDivmod, Power, RightPower, InplacePower, Lshift, RightLshift, InplaceLshift, Rshift, RightRshift, InplaceRshift, And, RightAnd, InplaceAnd, Xor, RightXor, InplaceXor, Or, RightOr, InplaceOr, FloorDivide, RightFloorDivide, InplaceFloorDivide, TrueDivide, RightTrueDivide, InplaceTrueDivide, MatrixMultiply, RightMatrixMultiply, InplaceMatrixMultiply, Int, Index, Float, Negative, Positive, Absolute, Invert, Boolean, SeqLength, SeqItem, SeqAssItem, SeqContains, SeqConcat, SeqRepeat, SeqInplaceConcat, SeqInplaceRepeat, MapLength, MapSubscript, MapAssSubscript, Hash, Call, Repr, Getattro, Setattro, Richcompare, Iter, Iternext, DescrGet, DescrSet, Init, New, Del}
-use Rattle.std.proofs.lemmas.Bool.{eqb-true}
+use Rattle.std.proofs.lemmas.Bool.{eqb-true, ltb-true, ne_eqb}
 use Rattle.py_node.specs.Slots.{place_of, names_of, all_slots}
-use Rattle.class_model.specs.Slot.{is_slot}
+use Rattle.class_model.specs.Slot.{is_slot, is_one_of, is_name_of}
+use Rattle.py_node.specs.declared.refs.PyStrInterned.{PyStrInterned}
+use Rattle.py_node.specs.Attributes.{is_same_name}
+use Rattle.class_table.specs.Keys.{table_keys}
 
 -- the slot stands at its place
 pub slot-at_place : (s : SlotId) → slice_get all_slots (place_of s) ≡ Some s
@@ -271,3 +274,14 @@ place-at i s e = place-from 0 all_slots i s counted-all e ∙ omega arith
 pub length-all : length all_slots ≡ 73
 unfolding all_slots
 length-all = refl
+
+none-of : (ks : List ℕ) (n : PyStrInterned) → 70 ≤ n.0 → below_all 70 ks ≡ true → is_one_of is_same_name (map table_keys.special ks) n ≡ false
+none-of [] n l h = refl
+none-of (k ∷ ks) n l h =
+    let p = both (ltb k 70) (below_all 70 ks) h in
+    let b = ltb-true k 70 p.0 in
+    ap (λ t. t || is_one_of is_same_name (map table_keys.special ks) n) (ne_eqb k n.0 (λ e. omega arith)) ∙ none-of ks n l p.1
+
+-- a name past the special ones is none of a slot's
+pub no_special : (s : SlotId) (n : PyStrInterned) → 70 ≤ n.0 → is_name_of table_keys s n ≡ false
+no_special s n l = none-of (names_of s) n l (names-below s)

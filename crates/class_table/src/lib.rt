@@ -2,6 +2,7 @@
 #![tactic(auto)]
 
 pub mod natives;
+pub mod put;
 pub mod special;
 pub mod stored;
 pub mod entries;
