@@ -1,5 +1,7 @@
 -- Names with values, in the order in which the names came.
-use Rattle.std.specs.Prelude.{◌≡◌, ℕ, Bool, cond, eqb, List, [], ◌∷◌, Option, Some, None}
+use Rattle.std.specs.Prelude.{Bool, cond, eqb, List, [], ◌∷◌, Option, Some, None}
+use Rattle.std.specs.List.{IsDistinct}
+use Rattle.std.specs.Map.{keys_of}
 use Rattle.py_node.specs.declared.refs.PyStrInterned.{PyStrInterned}
 
 -- the value of the first name that passes the test
@@ -15,3 +17,7 @@ with_value same (a ∷ attrs) n v = cond (same a.0 n) ((a.0, v) ∷ attrs) (a �
 -- whether two names have one number
 abbrev pub is_same_name : PyStrInterned → PyStrInterned → Bool
 is_same_name a b = eqb a.0 b.0
+
+-- no name stands twice
+abbrev pub AreNamesDistinct : {V : Type 0} → List (PyStrInterned × V) → Type 0
+AreNamesDistinct attrs = IsDistinct is_same_name (keys_of attrs)

@@ -1,5 +1,5 @@
 -- When two natives, or two entries of slots, are the same.
-use Rattle.std.specs.Prelude.{ℕ, Bool, true, false, eqb}
+use Rattle.std.specs.Prelude.{ℕ, Bool, false, eqb}
 use Rattle.py_node.specs.declared.entry.ObjectNative.{ObjectNative}
 use Rattle.py_node.specs.declared.entry.TypeNative.{TypeNative}
 use Rattle.py_node.specs.declared.entry.IntNative.{IntNative}
@@ -13,7 +13,7 @@ use Rattle.py_node.specs.declared.entry.IntNative.TheVariants as int
 use Rattle.py_node.specs.declared.entry.CallableNative.TheVariants as callable
 use Rattle.py_node.specs.declared.entry.Property.TheVariants as property
 use Rattle.py_node.specs.declared.entry.NativeEntry.TheVariants.{OfObject, OfType, OfInt, OfCallable, Getter, Setter}
-use Rattle.py_node.specs.declared.entry.SlotEntry.TheVariants.{Native, Wrapper, Unhashable}
+use Rattle.py_node.specs.declared.entry.SlotEntry.TheVariants.{Native, Wrapper}
 use Rattle.py_node.specs.Slots.{place_of}
 
 -- where it stands among its like

@@ -1,5 +1,5 @@
 -- The slots, in their order, with their special names.
-use Rattle.std.specs.Prelude.{ℕ, Bool, true, false, List, [], ◌∷◌, codes}
+use Rattle.std.specs.Prelude.{ℕ, List, [], ◌∷◌, codes}
 use Rattle.py_node.specs.declared.entry.SlotId.{SlotId}
 use Rattle.py_node.specs.declared.entry.SlotId.TheVariants.{Add, RightAdd, InplaceAdd, Subtract, RightSubtract, InplaceSubtract, Multiply, RightMultiply, InplaceMultiply, Remainder, RightRemainder, InplaceRemainder, Divmod, RightDivmod, Power, RightPower, InplacePower, Lshift, RightLshift, InplaceLshift, Rshift, RightRshift, InplaceRshift, And, RightAnd, InplaceAnd, Xor, RightXor, InplaceXor, Or, RightOr, InplaceOr, FloorDivide, RightFloorDivide, InplaceFloorDivide, TrueDivide, RightTrueDivide, InplaceTrueDivide, MatrixMultiply, RightMatrixMultiply, InplaceMatrixMultiply, Int, Index, Float, Negative, Positive, Absolute, Invert, Boolean, SeqLength, SeqItem, SeqAssItem, SeqContains, SeqConcat, SeqRepeat, SeqInplaceConcat, SeqInplaceRepeat, MapLength, MapSubscript, MapAssSubscript, Hash, Call, Repr, Getattro, Setattro, Richcompare, Iter, Iternext, DescrGet, DescrSet, Init, New, Del}
 

@@ -1,7 +1,6 @@
 -- The expressions of scripts, as trees, with texts for the strings of the code.
 use Rattle.std.specs.Prelude.{ℕ, ℤ, List, [], ◌∷◌, map, String, string_bytes}
 use Rattle.std.specs.declared.alloc.Global.{Global}
-use Rattle.std.specs.Global.{Vec}
 use Rattle.py_node.specs.declared.expr.Constant.{Constant}
 use Rattle.py_node.specs.declared.expr.Constant.TheVariants.{None, False, True, Int, Str}
 use Rattle.py_node.specs.declared.expr.Word.{Word}
@@ -70,3 +69,7 @@ tree_step (Expr-F.Class x es fs) = TClass (string_bytes x) (trees_of es.items) (
 -- the tree that an expression of the code stands for
 abbrev pub tree_of : Expr → Tree
 tree_of = fold-Expr Tree tree_step
+
+-- a name's text, with the tree that its expression stands for
+abbrev pub part_of : String Global × Expr → Text × Tree
+part_of p = (string_bytes p.0, tree_of p.1)

@@ -1,0 +1,9 @@
+use Rattle.std.proofs.Common.{◌≡◌, take, map}
+use Rattle.py_node.specs.Tree.{tree_of, part_of}
+use Rattle.py_node.proofs.+copy.Given as goal
+
+abbrev pub invariant-clone::copy_all-loop-expr : goal.invariant-clone::copy_all-loop-expr
+invariant-clone::copy_all-loop-expr l = map tree_of l.copies.items ≡ map tree_of (take l.expr-index l.expr-items)
+
+abbrev pub invariant-clone::copy_entries-loop-name : goal.invariant-clone::copy_entries-loop-name
+invariant-clone::copy_entries-loop-name l = map part_of l.copies.items ≡ map part_of (take l.name-index l.name-items)

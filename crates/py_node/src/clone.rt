@@ -1,0 +1,176 @@
+// Copies of expressions, commands and replies, which stand for the same trees and replies.
+
+ghost use Rattle.std.specs.Prelude.{◌≡◌, map, string_bytes, IfOk};
+ghost use Rattle.py_node.specs.Tree.{literal_of, texts_of, tree_of, part_of};
+ghost use Rattle.py_node.specs.Replies.{reply_of, started_of, told_of};
+
+use crate::expr::{Command, Constant, Expr};
+use crate::memory::OutOfMemory;
+use crate::reply::{BodyCall, Reply, ReplyAnswer};
+use std::alloc::Global;
+
+impl Constant {
+    /// The same constant, unless memory runs out.
+    pub fn try_clone(&self, alloc: Global) -> Result<Constant, OutOfMemory>
+        ensures { IfOk result (λ k. literal_of k ≡ literal_of self.now) }
+    {
+        match self {
+            Constant::None => Ok(Constant::None),
+            Constant::False => Ok(Constant::False),
+            Constant::True => Ok(Constant::True),
+            Constant::Int(value) => Ok(Constant::Int(*value)),
+            Constant::Str(text) => Ok(Constant::Str(copy_text(alloc, text)?)),
+        }
+    }
+}
+
+impl Expr {
+    /// The same expression, unless memory runs out.
+    #[cycle(copy)]
+    pub fn try_clone(&self, alloc: Global) -> Result<Expr, OutOfMemory>
+        ensures { IfOk result (λ e. tree_of e ≡ tree_of self.now) }
+    {
+        match self {
+            Expr::Const(constant) => Ok(Expr::Const(constant.try_clone(alloc)?)),
+            Expr::Name(name) => Ok(Expr::Name(copy_text(alloc, name)?)),
+            Expr::Bind(name, value) => {
+                let name = copy_text(alloc, name)?;
+                Ok(Expr::Bind(name, copy_box(alloc, value)?))
+            }
+            Expr::Func(name, params, body) => {
+                let name = copy_text(alloc, name)?;
+                let params = copy_texts(alloc, params)?;
+                Ok(Expr::Func(name, params, copy_box(alloc, body)?))
+            }
+            Expr::SetAttr(object, name, value) => {
+                let object = copy_box(alloc, object)?;
+                let name = copy_text(alloc, name)?;
+                Ok(Expr::SetAttr(object, name, copy_box(alloc, value)?))
+            }
+            Expr::Call(function, args) => {
+                let function = copy_box(alloc, function)?;
+                Ok(Expr::Call(function, copy_all(alloc, args)?))
+            }
+            Expr::Op(word, operands) => Ok(Expr::Op(*word, copy_all(alloc, operands)?)),
+            Expr::Class(name, bases, entries) => {
+                let name = copy_text(alloc, name)?;
+                let bases = copy_all(alloc, bases)?;
+                Ok(Expr::Class(name, bases, copy_entries(alloc, entries)?))
+            }
+        }
+    }
+}
+
+// The same expression, in a box of its own.
+#[cycle(copy)]
+fn copy_box(alloc: Global, expr: &Box<Expr>) -> Result<Box<Expr>, OutOfMemory>
+    ensures { IfOk result (λ e. tree_of e.value ≡ tree_of expr.now.value) }
+{
+    let copy = expr.as_ref().try_clone(alloc)?;
+    Ok(Box::new(alloc, copy)?)
+}
+
+// The same expressions, in order.
+#[cycle(copy)]
+fn copy_all(alloc: Global, exprs: &Vec<Expr>) -> Result<Vec<Expr>, OutOfMemory>
+    ensures { IfOk result (λ es. map tree_of es.items ≡ map tree_of exprs.now.items) }
+{
+    let mut copies = Vec::with_capacity(alloc, exprs.len())?;
+    for expr in exprs {
+        copies.push(expr.try_clone(alloc)?)?;
+    }
+    Ok(copies)
+}
+
+// The same names with the same expressions, in order.
+#[cycle(copy)]
+fn copy_entries(
+    alloc: Global,
+    entries: &Vec<(String, Expr)>,
+) -> Result<Vec<(String, Expr)>, OutOfMemory>
+    ensures { IfOk result (λ es. map part_of es.items ≡ map part_of entries.now.items) }
+{
+    let mut copies = Vec::with_capacity(alloc, entries.len())?;
+    for (name, expr) in entries {
+        let name = copy_text(alloc, name)?;
+        copies.push((name, expr.try_clone(alloc)?))?;
+    }
+    Ok(copies)
+}
+
+impl Command {
+    /// The same command, unless memory runs out.
+    pub fn try_clone(&self, alloc: Global) -> Result<Command, OutOfMemory>
+        ensures { IfOk result (λ c. tree_of c.expr ≡ tree_of self.now.expr) }
+    {
+        Ok(Command {
+            expr: self.expr.try_clone(alloc)?,
+        })
+    }
+}
+
+impl BodyCall {
+    /// The same call, unless memory runs out.
+    pub fn try_clone(&self, alloc: Global) -> Result<BodyCall, OutOfMemory>
+        ensures { IfOk result (λ c. started_of c ≡ started_of self.now) }
+    {
+        let name = copy_text(alloc, &self.name)?;
+        let args = copy_texts(alloc, &self.args)?;
+        Ok(BodyCall { name, args })
+    }
+}
+
+impl ReplyAnswer {
+    /// The same answer, unless memory runs out.
+    pub fn try_clone(&self, alloc: Global) -> Result<ReplyAnswer, OutOfMemory>
+        ensures { IfOk result (λ a. told_of a ≡ told_of self.now) }
+    {
+        match self {
+            ReplyAnswer::Value(value, text) => {
+                Ok(ReplyAnswer::Value(*value, copy_text(alloc, text)?))
+            }
+            ReplyAnswer::Raised(fault) => Ok(ReplyAnswer::Raised(*fault)),
+            ReplyAnswer::Budget => Ok(ReplyAnswer::Budget),
+        }
+    }
+}
+
+impl Reply {
+    /// The same reply, unless memory runs out.
+    pub fn try_clone(&self, alloc: Global) -> Result<Reply, OutOfMemory>
+        ensures { IfOk result (λ r. reply_of r ≡ reply_of self.now) }
+    {
+        let answer = self.answer.try_clone(alloc)?;
+        let calls = copy_calls(alloc, &self.calls)?;
+        Ok(Reply { answer, calls })
+    }
+}
+
+// The same calls, in order.
+fn copy_calls(alloc: Global, calls: &Vec<BodyCall>) -> Result<Vec<BodyCall>, OutOfMemory>
+    ensures { IfOk result (λ cs. map started_of cs.items ≡ map started_of calls.now.items) }
+{
+    let mut copies = Vec::with_capacity(alloc, calls.len())?;
+    for call in calls {
+        copies.push(call.try_clone(alloc)?)?;
+    }
+    Ok(copies)
+}
+
+// The same text.
+fn copy_text(alloc: Global, text: &String) -> Result<String, OutOfMemory>
+    ensures { IfOk result (λ s. string_bytes s ≡ string_bytes text.now) }
+{
+    Ok(String::from_str(alloc, text.as_str())?)
+}
+
+// The same texts, in order.
+fn copy_texts(alloc: Global, texts: &Vec<String>) -> Result<Vec<String>, OutOfMemory>
+    ensures { IfOk result (λ ss. texts_of ss.items ≡ texts_of texts.now.items) }
+{
+    let mut copies = Vec::with_capacity(alloc, texts.len())?;
+    for text in texts {
+        copies.push(copy_text(alloc, text)?)?;
+    }
+    Ok(copies)
+}
