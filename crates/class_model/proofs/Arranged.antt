@@ -1,5 +1,5 @@
 -- All orders are among the arrangements, so that the least of them is found.
-use Rattle.std.proofs.Common.{◌≡◌, ℕ, zero, suc, ◌≤◌, Bool, true, false, cond, List, [], ◌∷◌, map, filter, length, Option, Some, None, inl, inr, refl, sym, ap, subst, arith}
+use Rattle.std.proofs.Common.{◌≡◌, ℕ, zero, suc, ◌≤◌, Bool, true, false, cond, List, [], ◌∷◌, map, filter, length, Option, Some, None, inl, inr, refl, sym, ap, arith}
 use Rattle.class_model.specs.Order.{members_of, is_order, ranks, is_lexicographic, without, unique, arrangements, all_arrangements, lesser, least, least_order, Holds, Distinct, IsOrder}
 use Rattle.class_model.proofs.Held.{Holds-equal, Holds-flat_map, Holds-map, Holds-filter, from_filter, Holds-without, from_without, Holds-unique, from_unique, distinct-fewer}
 use Rattle.class_model.proofs.Tests.{Decides-order}

@@ -7,3 +7,9 @@ pub mod Depth
 pub mod Rule
 pub mod Changed
 pub mod Subclasses
+pub mod Agreed
+pub mod Slots
+pub mod Solid
+pub mod Names
+pub mod Renamed
+mod Checks

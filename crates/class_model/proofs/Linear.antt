@@ -1,10 +1,8 @@
 -- Linearisations by depth: what they are made of, and what they depend on.
 use Rattle.std.proofs.Common.{◌≡◌, ℕ, zero, suc, ◌≤◌, List, [], ◌∷◌, map, Option, Some, None, inl, inr, refl, sym, ap, subst, ◌∙◌, arith}
 use Rattle.std.specs.Prelude.{option_map, option_and_then}
-use Rattle.class_model.specs.Order.{least_order, all_some, linear, Holds, Distinct, BeginsWith, IsOrder}
-use Rattle.class_model.proofs.Held.{from_flat_map, Holds-flat_map, Subsequence-holds}
+use Rattle.class_model.specs.Order.{least_order, all_some, linear, Holds, Distinct, BeginsWith}
 use Rattle.class_model.proofs.Arranged.{least_order-order}
-use Rattle.class_model.proofs.OneBase.{least_order-one_base, least_order-no_base}
 
 -- where a linearisation comes from
 pub record Made (bases : ℕ → Option (List ℕ)) (n c : ℕ) (xs : List ℕ) : Type 0 where
@@ -91,3 +89,17 @@ all_some-holds f (b ∷ bs) ls l e h = go (f b) refl (all_some-holds f bs) e
     go : (o : Option (List ℕ)) → f b ≡ o → ((ms : List (List ℕ)) (w : List ℕ) → all_some (map f bs) ≡ Some ms → Holds ms w → (x : ℕ) × Holds bs x × (f x ≡ Some w)) → all_some (o ∷ map f bs) ≡ Some ls → (x : ℕ) × Holds (b ∷ bs) x × (f x ≡ Some l)
     go None q more e = cc
     go (Some m) q more e = push m q (all_some (map f bs)) more e
+
+-- each base has a line
+pub all_some-has : (f : ℕ → Option (List ℕ)) (bs : List ℕ) (ls : List (List ℕ)) (b : ℕ) → all_some (map f bs) ≡ Some ls → Holds bs b → (l : List ℕ) × Holds ls l × (f b ≡ Some l)
+all_some-has f [] ls b e h = absurd h
+all_some-has f (x ∷ bs) ls b e h = go (f x) refl (λ ms. all_some-has f bs ms b) e h
+  where
+    push : (l : List ℕ) → f x ≡ Some l → (r : Option (List (List ℕ))) → ((ms : List (List ℕ)) → r ≡ Some ms → Holds bs b → (k : List ℕ) × Holds ms k × (f b ≡ Some k)) → option_map (λ xs. l ∷ xs) r ≡ Some ls → Holds (x ∷ bs) b → (k : List ℕ) × Holds ls k × (f b ≡ Some k)
+    push l q None more e h = cc
+    push l q (Some ms) more e (inl i) = let s : l ∷ ms ≡ ls = cc in let P : List (List ℕ) → Type 0 = λ w. Holds w l in (l, subst P s (inl refl), ap f (sym i) ∙ q)
+    push l q (Some ms) more e (inr h) = let s : l ∷ ms ≡ ls = cc in let r = more ms refl h in let P : List (List ℕ) → Type 0 = λ w. Holds w r.0 in (r.0, subst P s (inr r.1), r.2)
+
+    go : (o : Option (List ℕ)) → f x ≡ o → ((ms : List (List ℕ)) → all_some (map f bs) ≡ Some ms → Holds bs b → (k : List ℕ) × Holds ms k × (f b ≡ Some k)) → all_some (o ∷ map f bs) ≡ Some ls → Holds (x ∷ bs) b → (k : List ℕ) × Holds ls k × (f b ≡ Some k)
+    go None q more e h = cc
+    go (Some l) q more e h = push l q (all_some (map f bs)) more e h

@@ -1,14 +1,14 @@
 -- Linearisations in a table of classes, with no depth in what is said.
-use Rattle.std.proofs.Common.{◌≡◌, ℕ, zero, suc, ◌<◌, ◌≤◌, true, List, [], ◌∷◌, map, length, Option, Some, None, ◌⊎◌, inl, inr, refl, sym, ap, ◌∙◌, arith}
+use Rattle.std.proofs.Common.{◌≡◌, ℕ, zero, suc, ◌<◌, true, List, [], ◌∷◌, map, length, Option, Some, None, inl, inr, refl, sym, ◌∙◌, arith}
 use Rattle.std.specs.Prelude.{slice_get, option_map, option_and_then}
 use Rattle.std.proofs.lemmas.Option.{slice_get_within}
 use Rattle.class_model.specs.Order.{has, least_order, all_some, linear, Holds, Distinct, BeginsWith}
 use Rattle.class_model.specs.Class.{Class, Classes, bases_of, lin}
-use Rattle.class_model.proofs.Held.{Holds-equal, Holds-flat_map, distinct-below}
+use Rattle.class_model.proofs.Held.{Holds-flat_map, distinct-below}
 use Rattle.class_model.proofs.Tests.{Decides-has}
 use Rattle.class_model.proofs.Arranged.{least_order-order}
 use Rattle.class_model.proofs.Linear.{linear-made, linear-from, linear-zero, linear-grows, linear-order, all_some-at}
-use Rattle.class_model.proofs.Depth.{linear-member, linear-known, linear-bases, linear-length}
+use Rattle.class_model.proofs.Depth.{linear-member, linear-known, linear-bases, linear-length, linear-inside}
 
 -- it depends on the bases of the classes along it alone
 pub linear-along : (f g : ℕ → Option (List ℕ)) (n c : ℕ) (xs : List ℕ) → linear f n c ≡ Some xs → ((x : ℕ) → Holds xs x → f x ≡ g x) → linear g n c ≡ Some xs
@@ -45,6 +45,9 @@ module _ {K : Type 0} where
 
   pub lin-member : (t : Classes K) (c : ℕ) (line : List ℕ) (x : ℕ) → lin t c ≡ Some line → Holds line x → (l : List ℕ) × (lin t x ≡ Some l)
   lin-member t c line x e h = linear-member (bases_of t) (length t) c line x e h
+
+  pub lin-inside : (t : Classes K) (c : ℕ) (line : List ℕ) (x : ℕ) (l : List ℕ) (y : ℕ) → lin t c ≡ Some line → Holds line x → lin t x ≡ Some l → Holds l y → Holds line y
+  lin-inside t c line x l y e h f k = linear-inside (bases_of t) (length t) c line x l y e h f k
 
   -- the class itself is in the table
   pub lin-there : (t : Classes K) (c : ℕ) (line : List ℕ) → lin t c ≡ Some line → (k : Class K) × (slice_get t c ≡ Some k)

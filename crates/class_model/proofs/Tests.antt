@@ -4,7 +4,7 @@ use Rattle.std.specs.Bool.{Decides}
 use Rattle.std.proofs.lemmas.Bool.{eqb-true, eqb-false, false≢true}
 use Rattle.std.proofs.lemmas.Bool.Decides.{Decides-eqb, Decides-not, Decides-and, Decides-or, Decides-like}
 use Rattle.class_model.specs.Order.{has, is_within, is_distinct, is_subsequence, are_subsequences, begins_with, members_of, is_order, Holds, Distinct, Subsequence, BeginsWith, IsOrder}
-use Rattle.class_model.proofs.Held.{Subsequence-skip, Holds-equal}
+use Rattle.class_model.proofs.Held.{Subsequence-skip}
 
 pub Decides-has : (ys : List ℕ) (x : ℕ) → Decides (has ys x) (Holds ys x)
 Decides-has [] x = (λ e. absurd (false≢true e), λ h. absurd h)
