@@ -280,7 +280,7 @@ none-of [] n l h = refl
 none-of (k ∷ ks) n l h =
     let p = both (ltb k 70) (below_all 70 ks) h in
     let b = ltb-true k 70 p.0 in
-    ap (λ t. t || is_one_of is_same_name (map table_keys.special ks) n) (ne_eqb k n.0 (λ e. omega arith)) ∙ none-of ks n l p.1
+    ap (λ t. t || is_one_of is_same_name (map table_keys.special ks) n) (ne_eqb n.0 k (λ e. omega arith)) ∙ none-of ks n l p.1
 
 -- a name past the special ones is none of a slot's
 pub no_special : (s : SlotId) (n : PyStrInterned) → 70 ≤ n.0 → is_name_of table_keys s n ≡ false
