@@ -3,3 +3,4 @@ pub mod Places
 pub mod Along
 pub mod Refreshed
 pub mod Changed
+pub mod Pushed

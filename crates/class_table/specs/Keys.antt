@@ -14,5 +14,5 @@ abbrev pub numbers : List PyTypeRef → List ℕ
 numbers cs = map (λ c. c.0) cs
 
 -- the number of a class, where there is one
-abbrev pub number : Option PyTypeRef → Option ℕ
-number c = option_map (λ r. r.0) c
+abbrev pub number_of : Option PyTypeRef → Option ℕ
+number_of c = option_map (λ r. r.0) c

@@ -4,3 +4,4 @@ pub mod Coherent
 pub mod Patch
 pub mod Read
 pub mod New
+pub mod Made

@@ -1,6 +1,7 @@
 // A table of classes: each with its linearisation, its slots and its subclasses, kept up to date.
 #![tactic(auto)]
 
+pub mod add;
 pub mod natives;
 pub mod put;
 pub mod special;

@@ -61,6 +61,18 @@ fn patch(classes: &mut [Stored], class: PyTypeRef, name: PyStrInterned)
     }
 }
 
+// Finds every slot of a class.
+pub(crate) fn settle(classes: &mut [Stored], class: PyTypeRef)
+    requires lines { HasLines classes.old }
+    requires inside { class.0 < length classes.old }
+    requires full { (d : Kept) → length (slice_index_or classes.old class.0 d).slots ≡ 73 }
+    ensures { (d : Kept) → classes.new ≡ slice_set classes.old class.0 (settled (plain classes.old) class.0 (slice_index_or classes.old class.0 d)) }
+{
+    for place in 0..73 {
+        patch_slot(classes, class, slot_at(place));
+    }
+}
+
 // Finds the slots of a name anew in each class that has a class along its linearisation.
 fn patch_all(classes: &mut [Stored], class: PyTypeRef, name: PyStrInterned)
     requires lines { HasLines classes.old }

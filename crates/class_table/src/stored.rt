@@ -6,7 +6,7 @@ ghost use Rattle.py_node.specs.Slots.{place_of};
 ghost use Rattle.class_model.specs.Order.{has};
 ghost use Rattle.class_model.specs.Class.{is_heap};
 ghost use Rattle.class_table.specs.Kept.{Kept, class_of};
-ghost use Rattle.class_table.specs.Keys.{numbers, number};
+ghost use Rattle.class_table.specs.Keys.{numbers, number_of};
 
 use py_node::attributes::PyAttributes;
 use py_node::entry::{SlotEntry, SlotId};
@@ -44,12 +44,12 @@ pub(crate) struct Stored {
 
 impl Model for Stored {
     ghost use Rattle.std.specs.Prelude.{string_bytes};
-    ghost use Rattle.class_table.specs.Keys.{numbers, number};
+    ghost use Rattle.class_table.specs.Keys.{numbers, number_of};
     ghost use Rattle.class_table.specs.Kept.{Kept};
 
     ghost Value = { Kept };
 
-    ghost view = { λ a. record { name = string_bytes a.name; node = a.node; bases = numbers a.bases.items; attrs = a.attrs; members = a.members.items; flags = a.flags.0; mro = numbers a.mro.items; slots = a.slots.items; base = number a.base; solid = number a.solid; subclasses = numbers a.subclasses.items } };
+    ghost view = { λ a. record { name = string_bytes a.name; node = a.node; bases = numbers a.bases.items; attrs = a.attrs; members = a.members.items; flags = a.flags.0; mro = numbers a.mro.items; slots = a.slots.items; base = number_of a.base; solid = number_of a.solid; subclasses = numbers a.subclasses.items } };
 }
 
 impl Stored {
@@ -86,6 +86,20 @@ impl Stored {
         ensures { numbers result.now ≡ self.now.mro }
     {
         &self.mro
+    }
+
+    // The class's nearest solid class, where it has one.
+    pub(crate) fn solid(&self) -> Option<PyTypeRef>
+        ensures { number_of result ≡ self.now.solid }
+    {
+        self.solid
+    }
+
+    // The class's best base, where it has one.
+    pub(crate) fn base(&self) -> Option<PyTypeRef>
+        ensures { number_of result ≡ self.now.base }
+    {
+        self.base
     }
 
     // The class's direct subclasses.
