@@ -1,5 +1,5 @@
 -- What is found along some classes.
-use Rattle.std.proofs.Common.{◌≡◌, ℕ, ◌+◌, ◌<◌, ◌≤◌, ◌||◌, ◌&&◌, not, Bool, true, false, cond, List, [], ◌∷◌, length, get_or, drop, map, Option, Some, None, refl, sym, ap, ◌∙◌, eqb, arith}
+use Rattle.std.proofs.Common.{◌≡◌, ℕ, zero, suc, inl, inr, ◌+◌, ◌<◌, ◌≤◌, ◌||◌, ◌&&◌, not, Bool, true, false, cond, List, [], ◌∷◌, length, get_or, drop, map, Option, Some, None, refl, sym, ap, ◌∙◌, eqb, arith}
 use Rattle.std.specs.Prelude.{slice_get, option_map, option_and_then}
 use Rattle.std.proofs.lemmas.List.{drop_more}
 use Rattle.std.proofs.Math.ListN.{drop_of_length-le}
@@ -13,6 +13,7 @@ use Rattle.py_node.specs.declared.entry.SlotEntry.{SlotEntry}
 use Rattle.py_node.specs.declared.entry.SlotEntry.TheVariants.{Unhashable, Wrapper}
 use Rattle.py_node.specs.Attributes.{value_of, is_same_name}
 use Rattle.py_node.specs.Slots.{names_of, sort_of}
+use Rattle.class_model.specs.Order.{Holds}
 use Rattle.class_model.specs.Class.{Class, Classes, is_heap, lin, own_of, or_else, first_along, along}
 use Rattle.class_model.specs.Slot.{is_slot, is_none, is_one_of, is_name_of, wrapped, heap_entry, native_entry, is_heap_at, given_entry, is_by_itself, entry}
 use Rattle.class_model.specs.BuiltIn.{natives_of}
@@ -132,3 +133,8 @@ wrapped-along-found s kept line i d e l is =
     ap (wrapped s) (first_along-at (λ c. own_of (is_name_of table_keys s) (slice_get (plain kept) c)) line i d l)
     ∙ wrapped_or_else s (own_of (is_name_of table_keys s) (slice_get (plain kept) (get_or line i d).0)) (along (is_name_of table_keys s) (plain kept) (numbers (drop (i + 1) line)))
     ∙ ap (λ o. or_else o (wrapped s (along (is_name_of table_keys s) (plain kept) (numbers (drop (i + 1) line))))) (sym is)
+
+pub held-at : (line : List PyTypeRef) (i : ℕ) (d : PyTypeRef) → i < length line → Holds (numbers line) (get_or line i d).0
+held-at [] i d l = absurd (omega arith)
+held-at (c ∷ line) zero d l = inl refl
+held-at (c ∷ line) (suc i) d l = inr (held-at line i d (omega arith))

@@ -4,3 +4,4 @@ pub mod Along
 pub mod Refreshed
 pub mod Changed
 pub mod Pushed
+pub mod AsKept

@@ -5,3 +5,6 @@ pub mod Patch
 pub mod Read
 pub mod New
 pub mod Made
+pub mod Refused
+pub mod Turn
+pub mod Table

@@ -2,9 +2,14 @@
 #![tactic(auto)]
 
 pub mod add;
+pub mod candidates;
+pub mod entries;
+pub mod fault;
+pub mod heap;
 pub mod natives;
 pub mod put;
+pub mod read;
+pub mod refresh;
 pub mod special;
 pub mod stored;
-pub mod entries;
-pub mod refresh;
+pub mod table;

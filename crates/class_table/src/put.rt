@@ -28,3 +28,19 @@ pub(crate) fn put(
     refresh(classes, class, name);
     Ok(())
 }
+
+// The same, of the classes of a table.
+pub(crate) fn put_in(
+    classes: &mut Vec<Stored>,
+    class: PyTypeRef,
+    name: PyStrInterned,
+    value: PyObjectRef,
+) -> Result<(), OutOfMemory>
+    requires coherent { IsCoherent classes.old.items }
+    requires inside { class.0 < length classes.old.items }
+    ensures coherent { OnOk result (IsCoherent classes.new.items) }
+    ensures ok { OnOk result (plain classes.new.items ≡ with_class_attr is_same_name (plain classes.old.items) class.0 name value) }
+    ensures err { OnErr result (classes.new.items ≡ classes.old.items) }
+{
+    put(classes, class, name, value)
+}

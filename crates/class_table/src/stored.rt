@@ -74,6 +74,27 @@ impl Stored {
         has(&self.mro, class)
     }
 
+    // The class's name.
+    pub(crate) fn name(&self) -> &str
+        ensures { result.now ≡ self.now.name }
+    {
+        self.name.as_str()
+    }
+
+    // The object that stands for the class.
+    pub(crate) fn node(&self) -> PyObjectRef
+        ensures { result ≡ self.now.node }
+    {
+        self.node
+    }
+
+    // The class's flags.
+    pub(crate) fn flags(&self) -> PyTypeFlags
+        ensures { result.0 ≡ self.now.flags }
+    {
+        self.flags
+    }
+
     // The class's own attributes.
     pub(crate) fn attributes(&self) -> &PyAttributes
         ensures { result.now ≡ self.now.attrs }
