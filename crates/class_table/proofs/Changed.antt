@@ -93,9 +93,9 @@ module _ (kept : List Kept) (ok : IsCoherent kept) (c : ℕ) (k : Kept) (within 
   near-one d y w = record {
     count = ap length (old-slots d y w) ∙ length-entries (plain kept) d;
     others = λ s h.
-      ap (λ ys. slice_get ys (place_of s)) (old-slots d y w)
-      ∙ entries-at (plain kept) d (place_of s) s (slot-at_place s)
-      ∙ ap Some (sym (entry-attr-other table_keys natives_of (plain kept) c n v d s alike h));
+        ap (λ ys. slice_get ys (place_of s)) (old-slots d y w)
+        ∙ entries-at (plain kept) d (place_of s) s (slot-at_place s)
+        ∙ ap Some (sym (entry-attr-other table_keys natives_of (plain kept) c n v d s alike h));
   }
 
   pub near-changed : AreNear n c (set kept c (record k { attrs = with_value is_same_name k.attrs n v }))

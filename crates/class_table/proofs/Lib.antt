@@ -5,3 +5,4 @@ pub mod Refreshed
 pub mod Changed
 pub mod Pushed
 pub mod AsKept
+pub mod Heaps

@@ -112,14 +112,14 @@ module _ (kept : List Kept) (ok : IsCoherent kept) (new : Class PyStrInterned) w
         line = ap (lin (with_class (plain kept) new)) (sym size) ∙ lin-one_base (plain kept) new b.0 k.mro e l ∙ ap (λ n. Some (n ∷ k.mro)) size ∙ ap (λ (o : Option Kept). Some (length kept ∷ line_of o)) (sym h);
         base = ap (base (with_class (plain kept) new)) (sym size) ∙ base-given (plain kept) new b k.mro k.solid e l (ok.solid b.0 k h) ∙ ap (λ (o : Option Kept). base_by (Some b) (solid_in o)) (sym h);
         solid =
-          ap (solid (with_class (plain kept) new)) (sym size)
-          ∙ solid-one_base (plain kept) new b.0 k.mro e l
-          ∙ solid-by (solid (plain kept) b.0)
-          ∙ ap (solid_by (length kept) new.members) (ok.solid b.0 k h ∙ ap solid_in (sym h));
+            ap (solid (with_class (plain kept) new)) (sym size)
+            ∙ solid-one_base (plain kept) new b.0 k.mro e l
+            ∙ solid-by (solid (plain kept) b.0)
+            ∙ ap (solid_by (length kept) new.members) (ok.solid b.0 k h ∙ ap solid_in (sym h));
         within = λ a q.
-          let P : List ℕ → Type 0 = λ bs. Holds bs a in
-          let w = slice_get_within kept b.0 k h in
-          elim (subst P e q) [ inl r ↦ omega (arith, r, size) | inr r ↦ absurd r ];
+            let P : List ℕ → Type 0 = λ bs. Holds bs a in
+            let w = slice_get_within kept b.0 k h in
+            elim (subst P e q) [ inl r ↦ omega (arith, r, size) | inr r ↦ absurd r ];
       }
 
   given : (below : Option PyTypeRef) → IsBelow (length kept) below → new.bases ≡ one_base below → Given kept new below
@@ -159,11 +159,11 @@ module _ (kept : List Kept) (ok : IsCoherent kept) (new : Class PyStrInterned) (
   unfolding grown mid
   lines-attached = record {
     mro = λ i x e.
-      ap (λ t. lin t i) plain-attached
-      ∙ elim (get-push_cases mid stored i x e) [
-        | inl a ↦ old-lin i x (was d kept below (length kept) i x inside a)
-        | inr r ↦ ap (lin grown) (r.0 ∙ length-mid) ∙ fresh-lin ∙ ap (λ (z : Kept). Some z.mro) r.1
-      ];
+        ap (λ t. lin t i) plain-attached
+        ∙ elim (get-push_cases mid stored i x e) [
+          | inl a ↦ old-lin i x (was d kept below (length kept) i x inside a)
+          | inr r ↦ ap (lin grown) (r.0 ∙ length-mid) ∙ fresh-lin ∙ ap (λ (z : Kept). Some z.mro) r.1
+        ];
   }
 
   pub last : (x : Kept) → get_or (noted d kept below (length kept) ++ stored ∷ []) (length kept) x ≡ stored
@@ -199,11 +199,11 @@ module _ (kept : List Kept) (ok : IsCoherent kept) (new : Class PyStrInterned) (
         base = base-push (plain kept) new i w.old.mro e ∙ ok.base i w.old w.there ∙ w.base;
         solid = solid-push (plain kept) new i w.old.mro e ∙ ok.solid i w.old w.there ∙ w.solid;
         subclasses =
-          w.subclasses
-          ∙ ap (λ ys. ys ++ cond (has (one_base below) i) (length kept ∷ []) []) (ok.subclasses i w.old w.there)
-          ∙ ap (λ bs. subclasses (plain kept) i ++ cond (has bs i) (length kept ∷ []) []) (sym bases)
-          ∙ ap (λ n. subclasses (plain kept) i ++ cond (has new.bases i) (n ∷ []) []) (sym (length-map kept class_of))
-          ∙ sym (subclasses-push (plain kept) new i);
+            w.subclasses
+            ∙ ap (λ ys. ys ++ cond (has (one_base below) i) (length kept ∷ []) []) (ok.subclasses i w.old w.there)
+            ∙ ap (λ bs. subclasses (plain kept) i ++ cond (has bs i) (length kept ∷ []) []) (sym bases)
+            ∙ ap (λ n. subclasses (plain kept) i ++ cond (has new.bases i) (n ∷ []) []) (sym (length-map kept class_of))
+            ∙ sym (subclasses-push (plain kept) new i);
       }
 
   all-lines : (i : ℕ) → i < length (plain kept) → (l : List ℕ) × (lin (plain kept) i ≡ Some l)
@@ -222,10 +222,10 @@ module _ (kept : List Kept) (ok : IsCoherent kept) (new : Class PyStrInterned) (
         base = g.base ∙ sym fresh.base ∙ ap (λ (z : Kept). z.base) e;
         solid = g.solid ∙ sym fresh.solid ∙ ap (λ (z : Kept). z.solid) e;
         subclasses =
-          ap (λ (z : Kept). z.subclasses) (sym e)
-          ∙ fresh.subclasses
-          ∙ sym (subclasses-new (plain kept) new all-lines g.within)
-          ∙ ap (subclasses (with_class (plain kept) new)) (length-map kept class_of);
+            ap (λ (z : Kept). z.subclasses) (sym e)
+            ∙ fresh.subclasses
+            ∙ sym (subclasses-new (plain kept) new all-lines g.within)
+            ∙ ap (subclasses (with_class (plain kept) new)) (length-map kept class_of);
       }
 
   module _ (final : List Kept) (is : final ≡ set (noted d kept below (length kept) ++ stored ∷ []) (length kept) (settled (with_class (plain kept) new) (length kept) stored)) where

@@ -34,11 +34,11 @@ there kept b k l e = slice_get-get_or kept b k l ∙ ap Some (sym e)
 pub lines-set : (kept : List Kept) (b : ℕ) (k x : Kept) → HasLines kept → b < length kept → k ≡ get_or kept b k → class_of x ≡ class_of k → k.mro ≡ x.mro → HasLines (set kept b x)
 lines-set kept b k x ok l e h m = record {
   mro = λ d y p.
-    ap (λ t. lin t d) (plain-set kept b k x l e h)
-    ∙ elim (get-set_cases kept b x d y p) [
-      | inl r ↦ ap (lin (plain kept)) r.0 ∙ ok.mro b k (there kept b k l e) ∙ ap Some m ∙ ap (λ (z : Kept). Some z.mro) r.1
-      | inr r ↦ ok.mro d y r.1
-    ];
+      ap (λ t. lin t d) (plain-set kept b k x l e h)
+      ∙ elim (get-set_cases kept b x d y p) [
+        | inl r ↦ ap (lin (plain kept)) r.0 ∙ ok.mro b k (there kept b k l e) ∙ ap Some m ∙ ap (λ (z : Kept). Some z.mro) r.1
+        | inr r ↦ ok.mro d y r.1
+      ];
 }
 
 -- the first slots are found anew

@@ -21,13 +21,7 @@ pub(crate) fn without_same(left: Option<SlotEntry>, right: Option<SlotEntry>) ->
         None => right,
         Some(l) => match right {
             None => None,
-            Some(r) => {
-                if l.is_same(r) {
-                    None
-                } else {
-                    Some(r)
-                }
-            }
+            Some(r) => { if l.is_same(r) { None } else { Some(r) } }
         },
     }
 }

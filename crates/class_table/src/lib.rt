@@ -13,3 +13,5 @@ pub mod refresh;
 pub mod special;
 pub mod stored;
 pub mod table;
+#[cfg(test)]
+mod tests;

@@ -131,11 +131,7 @@ impl ClassTable {
         requires { class.0 < length self.now }
         ensures { result ≡ found is_same_name self.now class.0 name }
     {
-        value_along(
-            &self.classes,
-            self.classes[class.0 as usize].mro(),
-            name,
-        )
+        value_along(&self.classes, self.classes[class.0 as usize].mro(), name)
     }
 
     /// A class's own value of a name.
@@ -151,11 +147,7 @@ impl ClassTable {
         requires { class.0 < length self.now }
         ensures { result ≡ found_past is_same_name self.now class.0 name }
     {
-        value_past(
-            &self.classes,
-            self.classes[class.0 as usize].mro(),
-            name,
-        )
+        value_past(&self.classes, self.classes[class.0 as usize].mro(), name)
     }
 
     /// Whether a class or one along its linearisation has a name.
@@ -191,13 +183,7 @@ impl ClassTable {
     }
 
     /// The candidates of an operator, from the slots of the classes of its operands.
-    pub fn candidates(
-        &self,
-        left: SlotId,
-        right: SlotId,
-        a: PyTypeRef,
-        b: PyTypeRef,
-    ) -> Candidates
+    pub fn candidates(&self, left: SlotId, right: SlotId, a: PyTypeRef, b: PyTypeRef) -> Candidates
         requires a { a.0 < length self.now }
         requires b { b.0 < length self.now }
         ensures { list_of result ≡ candidates_of table_keys natives_of self.now left right a.0 b.0 }

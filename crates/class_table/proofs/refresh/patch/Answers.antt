@@ -29,7 +29,7 @@ loop-place-preserved c =
     ] in
     record {
       lines = let P : List Kept → Type 0 = λ ys. HasLines ys in
-      subst P (sym (is (element kept at c.requires.inside))) (part-lines kept at (get_or kept at (element kept at c.requires.inside)) c.requires.inside (same (element kept at c.requires.inside)) (i + 1) c.requires.lines);
+          subst P (sym (is (element kept at c.requires.inside))) (part-lines kept at (get_or kept at (element kept at c.requires.inside)) c.requires.inside (same (element kept at c.requires.inside)) (i + 1) c.requires.lines);
       is = is;
     }
 

@@ -12,7 +12,7 @@ use Rattle.class_table.proofs.refresh.patch_all.Goals as goal
 use Rattle.class_table.proofs.refresh.patch_all.Goals.{then-derives, else-derives}
 
 pub loop-number-init : goal.loop-number-init
-loop-number-init c = record { lines = c.requires.lines; same = refl; at = λ i k e. e ∙ sym (ap (λ b. Some (cond b (refreshed_one (plain c.args.classes.now) c.args.class.0 i k) k)) (le-ltb i 0 (omega arith))); }
+loop-number-init c = record { lines = c.requires.lines; same = refl; at = λ i k e. e ∙ sym (ap (λ b. Some (cond b (refreshed_one (plain c.args.classes.now) c.args.class.0 i k) k)) (le-ltb i 0 (omega arith))) }
 
 pub loop-number-preserved : goal.loop-number-preserved
 loop-number-preserved c =
@@ -51,15 +51,15 @@ patch-requires c =
       lines = c.loop-number.invariant.lines;
       inside = inside;
       near = λ d.
-        let P : Kept → Type 0 = λ z. IsNear (plain cur) c.args.name n z in
-        subst P (held ∙ get_or_default cur n x d inside) (near-now c.args.class.0 n c.args.classes.now cur cur c.loop-number.invariant.same c.loop-number.invariant.at c.args.name x c.requires.near c.loop-number.auto.classes (omega arith) held (ap (λ (z : Kept). has z.mro c.args.class.0) held ∙ sym c.derives.ensures ∙ c.if-derives.true));
+          let P : Kept → Type 0 = λ z. IsNear (plain cur) c.args.name n z in
+          subst P (held ∙ get_or_default cur n x d inside) (near-now c.args.class.0 n c.args.classes.now cur cur c.loop-number.invariant.same c.loop-number.invariant.at c.args.name x c.requires.near c.loop-number.auto.classes (omega arith) held (ap (λ (z : Kept). has z.mro c.args.class.0) held ∙ sym c.derives.ensures ∙ c.if-derives.true));
     }
 
 pub returns : goal.returns
 returns c = record {
   count = c.loop-number.auto.classes;
   at = λ i k e.
-    let l = slice_get_within c.args.classes.now i k e in
-    let b : i < c.loop-number.number = omega arith in
-    c.loop-number.invariant.at i k e ∙ ap (λ b. Some (cond b (refreshed_one (plain c.args.classes.now) c.args.class.0 i k) k)) (lt-ltb i c.loop-number.number b);
+      let l = slice_get_within c.args.classes.now i k e in
+      let b : i < c.loop-number.number = omega arith in
+      c.loop-number.invariant.at i k e ∙ ap (λ b. Some (cond b (refreshed_one (plain c.args.classes.now) c.args.class.0 i k) k)) (lt-ltb i c.loop-number.number b);
 }

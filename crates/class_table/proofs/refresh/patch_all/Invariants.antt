@@ -9,5 +9,5 @@ abbrev pub invariant-loop-number : goal.invariant-loop-number
 invariant-loop-number l = record {
   lines : HasLines l.classes;
   same : plain l.classes ≡ plain l.fn.classes;
-  at : (i : ℕ) (k : Kept) → slice_get l.fn.classes i ≡ Some k → slice_get l.classes i ≡ Some (cond (ltb i l.number) (refreshed_one (plain l.fn.classes) l.class.0 i k) k)
+  at : (i : ℕ) (k : Kept) → slice_get l.fn.classes i ≡ Some k → slice_get l.classes i ≡ Some (cond (ltb i l.number) (refreshed_one (plain l.fn.classes) l.class.0 i k) k);
 }
