@@ -1,0 +1,64 @@
+use Rattle.std.proofs.Common.{◌≡◌, ℕ, ◌<◌, List, ◌∷◌, [], ◌++◌, length, get_or, set, take, drop, sym, ap, subst, ◌∙◌, arith, refl}
+use Rattle.std.proofs.lemmas.List.{take_at}
+use Rattle.class_model.specs.Change.{with_class}
+use Rattle.class_table.specs.Kept.{Kept, plain}
+use Rattle.class_table.specs.Coherent.{HasLines, IsCoherent}
+use Rattle.class_table.specs.Patch.{settled}
+use Rattle.class_table.specs.New.{class_of_new}
+use Rattle.class_table.specs.Made.{IsFresh, noted}
+use Rattle.class_table.proofs.Pushed.{fresh-at, attached-at, lines-attached, last, within-attached, settled-at, plain-added, coherent-added}
+use Rattle.class_table.proofs.add.add.Goals as goal
+use Rattle.class_table.proofs.add.add.Goals.{After-deref_mut, After-classes-1}
+
+size : (c : After-deref_mut) → c.len.result ≡ length c.args.classes.now.items
+size c = let h = c.len.ensures in omega (arith, h)
+
+fresh : (c : After-deref_mut) → IsFresh c.args.classes.now.items (length c.args.classes.now.items) (class_of_new c.args.new) c.args.new.base c.in_ok-stored.stored
+fresh c = fresh-at c.args.classes.now.items c.deref.result.now c.len.result (class_of_new c.args.new) c.args.new.base c.in_ok-stored.stored (size c) c.deref.ensures.value c.in_ok-stored.ensures
+
+attached : (c : After-deref_mut) → c.deref_mut.result.now ≡ noted c.in_ok-stored.stored c.args.classes.now.items c.args.new.base (length c.args.classes.now.items) ++ c.in_ok-stored.stored ∷ []
+attached c = attached-at c.in_ok-stored.stored c.args.classes.now.items c.deref_mut.result.now c.attach.new.classes.items c.len.result c.args.new.base c.in_ok-stored.stored (size c) c.deref_mut.ensures.value (c.in_ok-attach.ensures.ok c.in_ok-stored.stored)
+
+pub settle-requires-clause-lines : goal.settle-requires-clause-lines
+settle-requires-clause-lines c =
+    let P : List Kept → Type 0 = λ ys. HasLines ys in
+    let d = c.in_ok-stored.stored in
+    subst P (sym (attached c)) (lines-attached c.args.classes.now.items c.requires.coherent (class_of_new c.args.new) c.args.new.base c.requires.base refl c.in_ok-stored.stored (fresh c) d)
+
+pub settle-requires-clause-inside : goal.settle-requires-clause-inside
+settle-requires-clause-inside c =
+    let d = c.in_ok-stored.stored in
+    let w = within-attached c.args.classes.now.items c.requires.coherent (class_of_new c.args.new) c.args.new.base c.requires.base refl c.in_ok-stored.stored (fresh c) d in
+    let a = ap length (attached c) in
+    let s = size c in
+    omega (arith, w, a, s)
+
+pub settle-requires-clause-full : goal.settle-requires-clause-full
+settle-requires-clause-full c = λ x.
+    let d = c.in_ok-stored.stored in
+    ap (λ (k : Kept). length k.slots) (ap (λ (ys : List Kept). get_or ys c.len.result x) (attached c) ∙ ap (λ (n : ℕ). get_or (noted d c.args.classes.now.items c.args.new.base (length c.args.classes.now.items) ++ c.in_ok-stored.stored ∷ []) n x) (size c) ∙ last c.args.classes.now.items c.requires.coherent (class_of_new c.args.new) c.args.new.base c.requires.base refl c.in_ok-stored.stored (fresh c) d x)
+    ∙ (fresh c).full
+
+size-then : (c : After-classes-1) → c.len.result ≡ length c.args.classes.now.items
+size-then c = let h = c.len.ensures in omega (arith, h)
+
+fresh-then : (c : After-classes-1) → IsFresh c.args.classes.now.items (length c.args.classes.now.items) (class_of_new c.args.new) c.args.new.base c.in_ok-stored.stored
+fresh-then c = fresh-at c.args.classes.now.items c.deref.result.now c.len.result (class_of_new c.args.new) c.args.new.base c.in_ok-stored.stored (size-then c) c.deref.ensures.value c.in_ok-stored.ensures
+
+attached-then : (c : After-classes-1) → c.deref_mut.result.now ≡ noted c.in_ok-stored.stored c.args.classes.now.items c.args.new.base (length c.args.classes.now.items) ++ c.in_ok-stored.stored ∷ []
+attached-then c = attached-at c.in_ok-stored.stored c.args.classes.now.items c.deref_mut.result.now c.attach.new.classes.items c.len.result c.args.new.base c.in_ok-stored.stored (size-then c) c.deref_mut.ensures.value (c.in_ok-attach.ensures.ok c.in_ok-stored.stored)
+
+final : (c : After-classes-1) → take c.attach.new.classes.len (c.settle.new.classes ++ drop (length c.settle.new.classes) c.attach.new.classes.items) ≡ set (noted c.in_ok-stored.stored c.args.classes.now.items c.args.new.base (length c.args.classes.now.items) ++ c.in_ok-stored.stored ∷ []) (length c.args.classes.now.items) (settled (with_class (plain c.args.classes.now.items) (class_of_new c.args.new)) (length c.args.classes.now.items) c.in_ok-stored.stored)
+final c =
+    let d = c.in_ok-stored.stored in
+    let same : length c.settle.new.classes ≡ c.attach.new.classes.len = let a = c.settle.auto.classes in let b = c.deref_mut.ensures.len in omega (arith, a, b) in
+    take_at c.settle.new.classes (drop (length c.settle.new.classes) c.attach.new.classes.items) c.attach.new.classes.len same
+    ∙ settled-at c.args.classes.now.items c.requires.coherent (class_of_new c.args.new) c.args.new.base c.requires.base refl d (fresh-then c) d c.deref_mut.result.now c.settle.new.classes c.len.result (attached-then c) (size-then c) c.settle.ensures
+
+pub returns-clause-coherent : goal.returns-clause-coherent
+returns-clause-coherent c =
+    coherent-added c.args.classes.now.items c.requires.coherent (class_of_new c.args.new) c.args.new.base c.requires.base refl c.in_ok-stored.stored (fresh-then c) c.in_ok-stored.stored _ (final c)
+
+pub returns-clause-added : goal.returns-clause-added
+returns-clause-added c =
+    plain-added c.args.classes.now.items c.requires.coherent (class_of_new c.args.new) c.args.new.base c.requires.base refl c.in_ok-stored.stored (fresh-then c) c.in_ok-stored.stored _ (final c)

@@ -1,0 +1,6 @@
+use Rattle.std.proofs.Common.{arith}
+use Rattle.class_table.proofs.Along.{held-at}
+use Rattle.class_table.proofs.read.nearest.Goals as goal
+
+pub own_entry-requires-clause-inside : goal.own_entry-requires-clause-inside
+own_entry-requires-clause-inside c = c.requires.inside _ (held-at c.args.line.now c.loop-class.class-index (record { 0 = 0 }) c.loop-class-test.true)

@@ -1,0 +1,9 @@
+use Rattle.std.proofs.Common.{arith}
+use Rattle.class_table.proofs.Along.{held-at}
+use Rattle.class_table.proofs.read.of_table.Goals as goal
+
+pub has_table-requires-clause-inside : goal.has_table-requires-clause-inside
+has_table-requires-clause-inside c = c.requires.inside _ (held-at c.args.line.now c.loop-class.class-index (record { 0 = 0 }) c.loop-class-test.true)
+
+pub own_entry-requires-clause-inside : goal.own_entry-requires-clause-inside
+own_entry-requires-clause-inside c = c.requires.inside _ (held-at c.args.line.now c.loop-class.class-index (record { 0 = 0 }) c.loop-class-test.true)

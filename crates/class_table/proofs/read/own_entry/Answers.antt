@@ -1,0 +1,12 @@
+use Rattle.std.proofs.Common.{sym, ap, ◌∙◌}
+use Rattle.std.specs.Prelude.{slice_get, option_and_then, Option}
+use Rattle.py_node.specs.declared.entry.SlotEntry.{SlotEntry}
+use Rattle.py_node.specs.Slots.{place_of}
+use Rattle.class_table.specs.Kept.{Kept}
+use Rattle.class_table.proofs.AsKept.{entry-kept}
+use Rattle.class_table.proofs.read.own_entry.Goals as goal
+
+pub returns : goal.returns
+returns c =
+    c.entry.ensures
+    ∙ entry-kept c.args.classes.now c.requires.coherent c.args.class.0 c.index-classes-class.result c.requires.inside c.index-classes-class.is c.args.slot

@@ -1,0 +1,12 @@
+use Rattle.std.proofs.Common.{◌∙◌}
+use Rattle.class_table.specs.Keys.{numbers}
+use Rattle.class_table.proofs.AsKept.{line-within, slot-kept}
+use Rattle.class_table.proofs.read.read.Goals as goal
+
+pub read_along-requires-clause-inside : goal.read_along-requires-clause-inside
+read_along-requires-clause-inside c =
+    line-within c.args.classes.now c.requires.coherent c.args.class.0 c.index-classes-class.result c.requires.inside c.index-classes-class.is (numbers c.mro.result.now) c.mro.ensures
+
+pub returns : goal.returns
+returns c =
+    c.read_along.ensures ∙ slot-kept c.args.classes.now c.requires.coherent c.args.class.0 c.index-classes-class.result c.requires.inside c.index-classes-class.is c.args.slot (numbers c.mro.result.now) c.mro.ensures

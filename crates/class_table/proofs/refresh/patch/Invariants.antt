@@ -1,0 +1,11 @@
+use Rattle.std.proofs.Common.{◌≡◌, get_or, set}
+use Rattle.class_table.specs.Kept.{Kept, plain}
+use Rattle.class_table.specs.Coherent.{HasLines}
+use Rattle.class_table.proofs.Refreshed.{part}
+use Rattle.class_table.proofs.refresh.patch.Given as goal
+
+abbrev pub invariant-loop-place : goal.invariant-loop-place
+invariant-loop-place l = record {
+  lines : HasLines l.classes;
+  is : (d : Kept) → l.classes ≡ set l.fn.classes l.class.0 (part (plain l.fn.classes) l.class.0 l.place (get_or l.fn.classes l.class.0 d));
+}

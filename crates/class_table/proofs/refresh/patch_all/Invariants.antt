@@ -1,0 +1,13 @@
+use Rattle.std.proofs.Common.{◌≡◌, ℕ, length, cond, ltb, Some}
+use Rattle.std.specs.Prelude.{slice_get}
+use Rattle.class_table.specs.Kept.{Kept, plain}
+use Rattle.class_table.specs.Coherent.{HasLines}
+use Rattle.class_table.specs.Patch.{refreshed_one}
+use Rattle.class_table.proofs.refresh.patch_all.Given as goal
+
+abbrev pub invariant-loop-number : goal.invariant-loop-number
+invariant-loop-number l = record {
+  lines : HasLines l.classes;
+  same : plain l.classes ≡ plain l.fn.classes;
+  at : (i : ℕ) (k : Kept) → slice_get l.fn.classes i ≡ Some k → slice_get l.classes i ≡ Some (cond (ltb i l.number) (refreshed_one (plain l.fn.classes) l.class.0 i k) k);
+}

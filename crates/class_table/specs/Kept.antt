@@ -1,0 +1,27 @@
+-- What the table keeps of a class.
+use Rattle.std.specs.Prelude.{ℕ, List, Option, map}
+use Rattle.py_node.specs.declared.refs.PyStrInterned.{PyStrInterned}
+use Rattle.py_node.specs.declared.refs.PyObjectRef.{PyObjectRef}
+use Rattle.py_node.specs.declared.entry.SlotEntry.{SlotEntry}
+use Rattle.py_node.specs.Tree.{Text}
+use Rattle.class_model.specs.Class.{Class, Classes}
+
+pub record Kept : Type 0 where
+  pub name : Text
+  pub node : PyObjectRef
+  pub bases : List ℕ
+  pub attrs : List (PyStrInterned × PyObjectRef)
+  pub members : List PyStrInterned
+  pub flags : ℕ
+  pub mro : List ℕ
+  pub slots : List (Option SlotEntry)
+  pub base : Option ℕ
+  pub solid : Option ℕ
+  pub subclasses : List ℕ
+
+-- the class itself, without what follows from it
+abbrev pub class_of : Kept → Class PyStrInterned
+class_of k = record { name = k.name; node = k.node; bases = k.bases; attrs = k.attrs; members = k.members; flags = k.flags }
+
+abbrev pub plain : List Kept → Classes PyStrInterned
+plain kept = map class_of kept

@@ -1,0 +1,18 @@
+-- How the table names attributes, and the numbers of classes.
+use Rattle.std.specs.Prelude.{ℕ, List, map, Option, option_map}
+use Rattle.py_node.specs.declared.refs.PyStrInterned.{PyStrInterned}
+use Rattle.py_node.specs.declared.refs.PyTypeRef.{PyTypeRef}
+use Rattle.py_node.specs.Attributes.{is_same_name}
+use Rattle.class_model.specs.Slot.{Keys}
+
+-- the special names have the first numbers
+abbrev pub table_keys : Keys PyStrInterned
+table_keys = record { same = is_same_name; special = λ k. record { 0 = k } }
+
+-- the numbers of some classes
+abbrev pub numbers : List PyTypeRef → List ℕ
+numbers cs = map (λ c. c.0) cs
+
+-- the number of a class, where there is one
+abbrev pub number_of : Option PyTypeRef → Option ℕ
+number_of c = option_map (λ r. r.0) c

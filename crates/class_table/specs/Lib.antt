@@ -1,0 +1,10 @@
+pub mod Keys
+pub mod Kept
+pub mod Coherent
+pub mod Patch
+pub mod Read
+pub mod New
+pub mod Made
+pub mod Refused
+pub mod Turn
+pub mod Table

@@ -1,0 +1,32 @@
+-- Slots that are found anew.
+use Rattle.std.specs.Prelude.{◌≡◌, ℕ, Bool, true, false, cond, List, Some, length, slice_get}
+use Rattle.py_node.specs.declared.refs.PyStrInterned.{PyStrInterned}
+use Rattle.py_node.specs.declared.entry.SlotId.{SlotId}
+use Rattle.py_node.specs.Slots.{place_of}
+use Rattle.class_model.specs.Order.{has}
+use Rattle.class_model.specs.Class.{Classes}
+use Rattle.class_model.specs.Slot.{is_name_of, entry, entries}
+use Rattle.class_model.specs.BuiltIn.{natives_of}
+use Rattle.class_table.specs.Keys.{table_keys}
+use Rattle.class_table.specs.Kept.{Kept, plain}
+
+-- every slot but those of a name holds what its definition says
+pub record IsNear (t : Classes PyStrInterned) (name : PyStrInterned) (c : ℕ) (k : Kept) : Type 0 where
+  pub count : length k.slots ≡ 73
+  pub others : (s : SlotId) → is_name_of table_keys s name ≡ false → slice_get k.slots (place_of s) ≡ Some (entry table_keys natives_of t c s)
+
+-- the same of each class that has a class along its linearisation
+abbrev pub AreNear : PyStrInterned → ℕ → List Kept → Type 0
+AreNear name class kept = (i : ℕ) (k : Kept) → slice_get kept i ≡ Some k → has k.mro class ≡ true → IsNear (plain kept) name i k
+
+-- a class with the slots of its definition
+abbrev pub settled : Classes PyStrInterned → ℕ → Kept → Kept
+settled t i k = record k { slots = entries table_keys natives_of t i }
+
+-- the slots are found anew where the class is along the linearisation
+abbrev pub refreshed_one : Classes PyStrInterned → ℕ → ℕ → Kept → Kept
+refreshed_one t class i k = cond (has k.mro class) (settled t i k) k
+
+pub record IsRefreshed (class : ℕ) (old new : List Kept) : Type 0 where
+  pub count : length new ≡ length old
+  pub at : (i : ℕ) (k : Kept) → slice_get old i ≡ Some k → slice_get new i ≡ Some (refreshed_one (plain old) class i k)

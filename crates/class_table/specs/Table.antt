@@ -1,0 +1,13 @@
+-- The tables of sequences and mappings.
+use Rattle.std.specs.Prelude.{Bool, false, cond, ◌||◌, is_some, List, [], ◌∷◌, Option}
+use Rattle.py_node.specs.declared.entry.SlotEntry.{SlotEntry}
+use Rattle.py_node.specs.declared.entry.SlotId.{SlotId}
+use Rattle.py_node.specs.Slots.{Sort, BySequence, ByMapping}
+
+abbrev pub table_sort : Bool → Sort
+table_sort mapping = cond mapping ByMapping BySequence
+
+-- whether any of some slots is filled
+abbrev pub any_filled : (SlotId → Option SlotEntry) → List SlotId → Bool
+any_filled own [] = false
+any_filled own (s ∷ ss) = is_some (own s) || any_filled own ss

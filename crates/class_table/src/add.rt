@@ -1,0 +1,182 @@
+// A class that is made.
+
+ghost use Rattle.std.specs.Prelude.{◌≡◌, ◌<◌, ◌++◌, ◌∷◌, [], not, ◌||◌, nat_lt, length, OnOk, OnErr, IfOk, slice_set, slice_index_or};
+ghost use Rattle.py_node.specs.Slots.{place_of};
+ghost use Rattle.class_model.specs.Change.{with_class};
+ghost use Rattle.class_model.specs.Layout.{built_ins, is_empty};
+ghost use Rattle.class_table.specs.Kept.{Kept, plain};
+ghost use Rattle.class_table.specs.Keys.{numbers, number_of};
+ghost use Rattle.class_table.specs.Coherent.{HasLines, IsCoherent};
+ghost use Rattle.class_table.specs.Patch.{settled};
+ghost use Rattle.class_table.specs.New.{IsBelow, one_base, class_of_new};
+ghost use Rattle.class_table.specs.Made.{parent, line_of, solid_in, base_by, solid_by, IsFresh, noted};
+
+use crate::refresh::settle;
+use crate::stored::{NewClass, Stored};
+use py_node::entry::SlotEntry;
+use py_node::memory::OutOfMemory;
+use py_node::refs::{PyStrInterned, PyTypeRef};
+use std::alloc::Global;
+
+// Empty slots.
+fn empty_slots(alloc: Global) -> Result<Vec<Option<SlotEntry>>, OutOfMemory>
+    ensures { IfOk result (λ v. length v.items ≡ 73) }
+{
+    let mut slots = Vec::new(alloc);
+    for _place in 0..73usize {
+        slots.push(None)?;
+    }
+    Ok(slots)
+}
+
+// The bases of a class with one base at most.
+fn bases_of(alloc: Global, base: Option<PyTypeRef>) -> Result<Vec<PyTypeRef>, OutOfMemory>
+    ensures { IfOk result (λ v. numbers v.items ≡ one_base base) }
+{
+    let mut bases = Vec::new(alloc);
+    if let Some(class) = base {
+        bases.push(class)?;
+    }
+    Ok(bases)
+}
+
+// The class, and then its base's linearisation.
+fn line(
+    classes: &[Stored],
+    alloc: Global,
+    number: PyTypeRef,
+    base: Option<PyTypeRef>,
+) -> Result<Vec<PyTypeRef>, OutOfMemory>
+    ensures { IfOk result (λ v. numbers v.items ≡ number.0 ∷ line_of (parent classes.now base)) }
+{
+    let mut mro = Vec::new(alloc);
+    mro.push(number)?;
+    if let Some(class) = base {
+        if let Some(stored) = classes.get(class.0 as usize) {
+            mro.extend_from_slice(stored.mro())?;
+        }
+    }
+    Ok(mro)
+}
+
+// The solid class of a base.
+fn inherited(classes: &[Stored], base: Option<PyTypeRef>) -> Option<PyTypeRef>
+    ensures { number_of result ≡ solid_in (parent classes.now base) }
+{
+    match base {
+        None => None,
+        Some(class) => match classes.get(class.0 as usize) {
+            None => None,
+            Some(stored) => stored.solid(),
+        },
+    }
+}
+
+fn best_base(base: Option<PyTypeRef>, solid: Option<PyTypeRef>) -> Option<PyTypeRef>
+    ensures { number_of result ≡ base_by base (number_of solid) }
+{
+    match base {
+        None => None,
+        Some(class) => match solid {
+            None => None,
+            Some(_) => Some(class),
+        },
+    }
+}
+
+fn solid_of(
+    number: PyTypeRef,
+    members: &[PyStrInterned],
+    inherited: Option<PyTypeRef>,
+) -> Option<PyTypeRef>
+    ensures { number_of result ≡ solid_by number.0 members.now (number_of inherited) }
+{
+    if number.0 < 23 || !members.is_empty() {
+        Some(number)
+    } else {
+        inherited
+    }
+}
+
+// A class as it is made, before its slots are found.
+fn build(
+    classes: &[Stored],
+    alloc: Global,
+    number: PyTypeRef,
+    new: NewClass,
+) -> Result<Stored, OutOfMemory>
+    ensures { IfOk result (λ k. IsFresh classes.now number.0 (class_of_new new) new.base k) }
+{
+    let slots = empty_slots(alloc)?;
+    let bases = bases_of(alloc, new.base)?;
+    let mro = line(classes, alloc, number, new.base)?;
+    let above = inherited(classes, new.base);
+    let solid = solid_of(number, &new.members, above);
+    Ok(Stored {
+        name: new.name,
+        node: new.node,
+        bases,
+        attrs: new.attrs,
+        members: new.members,
+        flags: new.flags,
+        mro,
+        slots,
+        base: best_base(new.base, above),
+        solid,
+        subclasses: Vec::new(alloc),
+    })
+}
+
+// Notes a class among its base's direct subclasses.
+fn note(
+    classes: &mut [Stored],
+    base: Option<PyTypeRef>,
+    number: PyTypeRef,
+) -> Result<(), OutOfMemory>
+    requires { IsBelow (length classes.old) base }
+    ensures ok { OnOk result ((d : Kept) → classes.new ≡ noted d classes.old base number.0) }
+    ensures err { OnErr result (classes.new ≡ classes.old) }
+{
+    if let Some(class) = base {
+        classes[class.0 as usize].add_subclass(number)?;
+    }
+    Ok(())
+}
+
+// Puts a class at the end, and notes it in its base.
+fn attach(
+    classes: &mut Vec<Stored>,
+    base: Option<PyTypeRef>,
+    number: PyTypeRef,
+    stored: Stored,
+) -> Result<(), OutOfMemory>
+    requires { IsBelow (length classes.old.items) base }
+    ensures ok { OnOk result ((d : Kept) → classes.new.items ≡ noted d classes.old.items base number.0 ++ stored ∷ []) }
+    ensures err { OnErr result (classes.new.items ≡ classes.old.items) }
+{
+    classes.reserve(1)?;
+    note(classes, base, number)?;
+    classes.push(stored)?;
+    Ok(())
+}
+
+// Adds a class, and finds its slots.
+pub(crate) fn add(
+    classes: &mut Vec<Stored>,
+    alloc: Global,
+    new: NewClass,
+) -> Result<PyTypeRef, OutOfMemory>
+    requires coherent { IsCoherent classes.old.items }
+    requires base { IsBelow (length classes.old.items) new.base }
+    ensures number { IfOk result (λ c. c.0 ≡ length classes.old.items) }
+    ensures coherent { OnOk result (IsCoherent classes.new.items) }
+    ensures added { OnOk result (plain classes.new.items ≡ with_class (plain classes.old.items) (class_of_new new)) }
+    ensures err { OnErr result (classes.new.items ≡ classes.old.items) }
+{
+    let number = PyTypeRef(classes.len() as u64);
+    let base = new.base;
+    let stored = build(classes, alloc, number, new)?;
+    attach(classes, base, number, stored)?;
+    settle(classes, number);
+    Ok(number)
+}

@@ -1,0 +1,167 @@
+// What a class itself has in a slot, found from the attributes and linearisations that are kept.
+
+ghost use Rattle.std.specs.Prelude.{◌≡◌, ◌<◌, ◌&&◌, not, Some, length, slice_get};
+ghost use Rattle.py_node.specs.Attributes.{value_of, is_same_name};
+ghost use Rattle.py_node.specs.Slots.{sort_of};
+ghost use Rattle.py_node.specs.declared.entry.SlotId.TheVariants.{Hash, New};
+ghost use Rattle.class_model.specs.Class.{is_heap, own_of, along, first_along};
+ghost use Rattle.class_model.specs.Slot.{is_slot, is_none, is_name_of, wrapped, heap_entry, native_entry, given_entry, is_by_itself, entry};
+ghost use Rattle.class_model.specs.BuiltIn.{natives_of};
+ghost use Rattle.class_table.specs.Kept.{Kept, class_of, plain};
+ghost use Rattle.class_table.specs.Keys.{numbers, table_keys};
+ghost use Rattle.class_table.specs.Coherent.{HasLines};
+
+use crate::natives::built_in_native;
+use crate::special::{Reading, read_as, special_names};
+use crate::stored::Stored;
+use py_node::attributes::PyAttributes;
+use py_node::entry::{SlotEntry, SlotId};
+use py_node::refs::{PyObjectRef, PyStrInterned, PyTypeRef};
+
+#[tactic(auto, unfolding(py_node::specs::Slots::place_of))]
+fn is_hash(slot: SlotId) -> bool
+    ensures { result ≡ is_slot slot Hash }
+{
+    slot.place() == 60
+}
+
+#[tactic(auto, unfolding(py_node::specs::Slots::place_of))]
+fn is_new(slot: SlotId) -> bool
+    ensures { result ≡ is_slot slot New }
+{
+    slot.place() == 71
+}
+
+// Whether an object is None.
+fn is_none(value: PyObjectRef) -> bool
+    ensures { result ≡ is_none value }
+{
+    value.0 == 23
+}
+
+// What a slot holds where one of its names has a value.
+fn wrapper(slot: SlotId, value: PyObjectRef) -> SlotEntry
+    ensures { Some result ≡ wrapped slot (Some value) }
+{
+    if is_hash(slot) && is_none(value) {
+        SlotEntry::Unhashable
+    } else {
+        SlotEntry::Wrapper(slot)
+    }
+}
+
+// What a slot holds by a class's own attributes.
+fn own_wrapper(attrs: &PyAttributes, slot: SlotId) -> Option<SlotEntry>
+    ensures { result ≡ wrapped slot (value_of (is_name_of table_keys slot) attrs.now) }
+{
+    for name in special_names(slot) {
+        if let Some(value) = attrs.get(PyStrInterned(*name)) {
+            return Some(wrapper(slot, value));
+        }
+    }
+    None
+}
+
+// The same of a class by its number, where there is such a class.
+fn wrapper_at(classes: &[Stored], class: PyTypeRef, slot: SlotId) -> Option<SlotEntry>
+    ensures { result ≡ wrapped slot (own_of (is_name_of table_keys slot) (slice_get (plain classes.now) class.0)) }
+{
+    match classes.get(class.0 as usize) {
+        None => None,
+        Some(stored) => own_wrapper(stored.attributes(), slot),
+    }
+}
+
+// What a slot holds by the attributes of some classes.
+#[tactic(auto, using(crate::proofs::Along::wrapped_or_else))]
+fn wrapper_along(classes: &[Stored], line: &[PyTypeRef], slot: SlotId) -> Option<SlotEntry>
+    ensures { result ≡ wrapped slot (along (is_name_of table_keys slot) (plain classes.now) (numbers line.now)) }
+{
+    for class in line {
+        if let Some(entry) = wrapper_at(classes, *class, slot) {
+            return Some(entry);
+        }
+    }
+    None
+}
+
+// What a heap class has in a slot.
+fn heap_entry(
+    classes: &[Stored],
+    class: PyTypeRef,
+    line: &[PyTypeRef],
+    slot: SlotId,
+) -> Option<SlotEntry>
+    ensures { result ≡ heap_entry table_keys (plain classes.now) class.0 (numbers line.now) slot }
+{
+    if is_new(slot) {
+        wrapper_at(classes, class, slot)
+    } else {
+        wrapper_along(classes, line, slot)
+    }
+}
+
+// What a class has in a slot by its attributes or as a native.
+fn given_entry(classes: &[Stored], class: PyTypeRef, slot: SlotId) -> Option<SlotEntry>
+    requires { HasLines classes.now }
+    ensures { result ≡ given_entry table_keys natives_of (plain classes.now) slot class.0 }
+{
+    match classes.get(class.0 as usize) {
+        Some(stored) if stored.is_heap() => heap_entry(classes, class, stored.mro(), slot),
+        _ => native_entry(class, slot),
+    }
+}
+
+fn native_entry(class: PyTypeRef, slot: SlotId) -> Option<SlotEntry>
+    ensures { result ≡ native_entry natives_of class.0 slot }
+{
+    match built_in_native(class, slot) {
+        None => None,
+        Some(native) => Some(SlotEntry::Native(native)),
+    }
+}
+
+// The first such among some classes.
+fn given_along(classes: &[Stored], line: &[PyTypeRef], slot: SlotId) -> Option<SlotEntry>
+    requires { HasLines classes.now }
+    ensures { result ≡ first_along (given_entry table_keys natives_of (plain classes.now) slot) (numbers line.now) }
+{
+    for class in line {
+        if let Some(entry) = given_entry(classes, *class, slot) {
+            return Some(entry);
+        }
+    }
+    None
+}
+
+// Whether a class lacks the slot for good, so that the nearest class along its linearisation gives it.
+fn is_inherited(stored: &Stored, slot: SlotId) -> bool
+    ensures { result ≡ (not (is_heap (class_of stored.now)) && is_by_itself (sort_of slot)) }
+{
+    !stored.is_heap() && is_own(slot)
+}
+
+fn is_own(slot: SlotId) -> bool
+    ensures { result ≡ is_by_itself (sort_of slot) }
+{
+    match read_as(slot) {
+        Reading::Own => true,
+        Reading::Sequence => false,
+        Reading::Mapping => false,
+        Reading::OfNearest => false,
+    }
+}
+
+// What a class itself has in a slot.
+pub(crate) fn entry(classes: &[Stored], class: PyTypeRef, slot: SlotId) -> Option<SlotEntry>
+    requires lines { HasLines classes.now }
+    requires inside { class.0 < length classes.now }
+    ensures { result ≡ entry table_keys natives_of (plain classes.now) class.0 slot }
+{
+    let stored = &classes[class.0 as usize];
+    if is_inherited(stored, slot) {
+        given_along(classes, stored.mro(), slot)
+    } else {
+        given_entry(classes, class, slot)
+    }
+}

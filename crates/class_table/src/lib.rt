@@ -1,0 +1,17 @@
+// A table of classes: each with its linearisation, its slots and its subclasses, kept up to date.
+#![tactic(auto)]
+
+pub mod add;
+pub mod candidates;
+pub mod entries;
+pub mod fault;
+pub mod heap;
+pub mod natives;
+pub mod put;
+pub mod read;
+pub mod refresh;
+pub mod special;
+pub mod stored;
+pub mod table;
+#[cfg(test)]
+mod tests;

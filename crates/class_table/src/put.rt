@@ -1,0 +1,46 @@
+// An attribute of a class that is set.
+
+ghost use Rattle.std.specs.Prelude.{◌≡◌, ◌<◌, length, OnOk, OnErr};
+ghost use Rattle.py_node.specs.Attributes.{is_same_name};
+ghost use Rattle.class_model.specs.Change.{with_class_attr};
+ghost use Rattle.class_table.specs.Kept.{Kept, plain};
+ghost use Rattle.class_table.specs.Coherent.{IsCoherent};
+
+use crate::refresh::refresh;
+use crate::stored::Stored;
+use py_node::memory::OutOfMemory;
+use py_node::refs::{PyObjectRef, PyStrInterned, PyTypeRef};
+
+// Sets an attribute, and finds the slots anew that change with it.
+pub(crate) fn put(
+    classes: &mut [Stored],
+    class: PyTypeRef,
+    name: PyStrInterned,
+    value: PyObjectRef,
+) -> Result<(), OutOfMemory>
+    requires coherent { IsCoherent classes.old }
+    requires inside { class.0 < length classes.old }
+    ensures coherent { OnOk result (IsCoherent classes.new) }
+    ensures ok { OnOk result (plain classes.new ≡ with_class_attr is_same_name (plain classes.old) class.0 name value) }
+    ensures err { OnErr result (classes.new ≡ classes.old) }
+{
+    classes[class.0 as usize].set_attr(name, value)?;
+    refresh(classes, class, name);
+    Ok(())
+}
+
+// The same, of the classes of a table.
+pub(crate) fn put_in(
+    classes: &mut Vec<Stored>,
+    class: PyTypeRef,
+    name: PyStrInterned,
+    value: PyObjectRef,
+) -> Result<(), OutOfMemory>
+    requires coherent { IsCoherent classes.old.items }
+    requires inside { class.0 < length classes.old.items }
+    ensures coherent { OnOk result (IsCoherent classes.new.items) }
+    ensures ok { OnOk result (plain classes.new.items ≡ with_class_attr is_same_name (plain classes.old.items) class.0 name value) }
+    ensures err { OnErr result (classes.new.items ≡ classes.old.items) }
+{
+    put(classes, class, name, value)
+}

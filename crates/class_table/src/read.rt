@@ -1,0 +1,184 @@
+// How a slot is read along a linearisation, and how an attribute is found.
+
+ghost use Rattle.std.specs.Prelude.{◌≡◌, ◌<◌, ℕ, Option, List, length, slice_get, is_some};
+ghost use Rattle.py_node.specs.declared.entry.SlotEntry.{SlotEntry as Entry};
+ghost use Rattle.py_node.specs.declared.entry.SlotId.{SlotId as Slot};
+ghost use Rattle.py_node.specs.Attributes.{is_same_name};
+ghost use Rattle.py_node.specs.Slots.{all_slots, sort_of, ByMapping, BySequence};
+ghost use Rattle.class_model.specs.Order.{Holds};
+ghost use Rattle.class_model.specs.Class.{own_of, along, first_along, past_first};
+ghost use Rattle.class_model.specs.Slot.{entry, slot as slot_read, has_table, first_with, read_along};
+ghost use Rattle.class_model.specs.BuiltIn.{natives_of};
+ghost use Rattle.class_table.specs.Kept.{plain};
+ghost use Rattle.class_table.specs.Keys.{numbers, number_of, table_keys};
+ghost use Rattle.class_table.specs.Coherent.{IsCoherent};
+ghost use Rattle.class_table.specs.Table.{table_sort, any_filled};
+
+use crate::special::{Reading, read_as};
+use crate::stored::Stored;
+use py_node::entry::{SlotEntry, SlotId};
+use py_node::refs::{PyObjectRef, PyStrInterned, PyTypeRef};
+
+// A class's own value, where there is such a class.
+pub(crate) fn own_at(
+    classes: &[Stored],
+    class: PyTypeRef,
+    name: PyStrInterned,
+) -> Option<PyObjectRef>
+    ensures { result ≡ own_of (λ k. is_same_name k name) (slice_get (plain classes.now) class.0) }
+{
+    match classes.get(class.0 as usize) {
+        None => None,
+        Some(stored) => stored.own(name),
+    }
+}
+
+// The first value along some classes.
+pub(crate) fn value_along(
+    classes: &[Stored],
+    line: &[PyTypeRef],
+    name: PyStrInterned,
+) -> Option<PyObjectRef>
+    ensures { result ≡ along (λ k. is_same_name k name) (plain classes.now) (numbers line.now) }
+{
+    for class in line {
+        if let Some(value) = own_at(classes, *class, name) {
+            return Some(value);
+        }
+    }
+    None
+}
+
+// The first value along some classes past the first.
+pub(crate) fn value_past(
+    classes: &[Stored],
+    line: &[PyTypeRef],
+    name: PyStrInterned,
+) -> Option<PyObjectRef>
+    ensures { result ≡ along (λ k. is_same_name k name) (plain classes.now) (past_first (numbers line.now)) }
+{
+    if line.is_empty() {
+        None
+    } else {
+        value_along(classes, &line[1..], name)
+    }
+}
+
+// What a class itself has in a slot, as it is kept.
+pub(crate) fn own_entry(classes: &[Stored], class: PyTypeRef, slot: SlotId) -> Option<SlotEntry>
+    requires coherent { IsCoherent classes.now }
+    requires inside { class.0 < length classes.now }
+    ensures { result ≡ entry table_keys natives_of (plain classes.now) class.0 slot }
+{
+    classes[class.0 as usize].entry(slot)
+}
+
+// The first own entry along some classes.
+fn nearest(classes: &[Stored], line: &[PyTypeRef], slot: SlotId) -> Option<SlotEntry>
+    requires coherent { IsCoherent classes.now }
+    requires inside { (x : ℕ) → Holds (numbers line.now) x → x < length classes.now }
+    ensures { result ≡ first_along (λ d. entry table_keys natives_of (plain classes.now) d slot) (numbers line.now) }
+{
+    for class in line {
+        if let Some(found) = own_entry(classes, *class, slot) {
+            return Some(found);
+        }
+    }
+    None
+}
+
+// The slots of sequences, or of mappings.
+#[tactic(auto, unfolding(py_node::specs::Slots::all_slots, py_node::specs::Slots::sort_of))]
+fn slots_in(mapping: bool) -> &'static [SlotId]
+    ensures { (own : Slot → Option Entry) → any_filled own result.now ≡ has_table own (table_sort mapping) all_slots }
+{
+    if mapping {
+        &[
+            SlotId::MapLength,
+            SlotId::MapSubscript,
+            SlotId::MapAssSubscript,
+        ]
+    } else {
+        &[
+            SlotId::SeqLength,
+            SlotId::SeqItem,
+            SlotId::SeqAssItem,
+            SlotId::SeqContains,
+            SlotId::SeqConcat,
+            SlotId::SeqRepeat,
+            SlotId::SeqInplaceConcat,
+            SlotId::SeqInplaceRepeat,
+        ]
+    }
+}
+
+// Whether a class fills any of some slots.
+fn fills_any(classes: &[Stored], class: PyTypeRef, slots: &[SlotId]) -> bool
+    requires coherent { IsCoherent classes.now }
+    requires inside { class.0 < length classes.now }
+    ensures { result ≡ any_filled (entry table_keys natives_of (plain classes.now) class.0) slots.now }
+{
+    for slot in slots {
+        if own_entry(classes, class, *slot).is_some() {
+            return true;
+        }
+    }
+    false
+}
+
+// Whether a class has the table of sequences, or of mappings.
+fn has_table(classes: &[Stored], class: PyTypeRef, mapping: bool) -> bool
+    requires coherent { IsCoherent classes.now }
+    requires inside { class.0 < length classes.now }
+    ensures { result ≡ has_table (entry table_keys natives_of (plain classes.now) class.0) (table_sort mapping) all_slots }
+{
+    fills_any(classes, class, slots_in(mapping))
+}
+
+// The entry of the first class along some that has the table.
+fn of_table(
+    classes: &[Stored],
+    line: &[PyTypeRef],
+    mapping: bool,
+    slot: SlotId,
+) -> Option<SlotEntry>
+    requires coherent { IsCoherent classes.now }
+    requires inside { (x : ℕ) → Holds (numbers line.now) x → x < length classes.now }
+    ensures { result ≡ read_along (entry table_keys natives_of (plain classes.now)) (table_sort mapping) 0 (numbers line.now) slot }
+{
+    for class in line {
+        if has_table(classes, *class, mapping) {
+            return own_entry(classes, *class, slot);
+        }
+    }
+    None
+}
+
+// A slot as it is read along a linearisation.
+fn read_along(
+    classes: &[Stored],
+    class: PyTypeRef,
+    line: &[PyTypeRef],
+    slot: SlotId,
+) -> Option<SlotEntry>
+    requires coherent { IsCoherent classes.now }
+    requires own { class.0 < length classes.now }
+    requires inside { (x : ℕ) → Holds (numbers line.now) x → x < length classes.now }
+    ensures { result ≡ read_along (entry table_keys natives_of (plain classes.now)) (sort_of slot) class.0 (numbers line.now) slot }
+{
+    match read_as(slot) {
+        Reading::Own => own_entry(classes, class, slot),
+        Reading::Sequence => of_table(classes, line, false, slot),
+        Reading::Mapping => of_table(classes, line, true, slot),
+        Reading::OfNearest => nearest(classes, line, slot),
+    }
+}
+
+// A slot as it is read for a class.
+pub(crate) fn read(classes: &[Stored], class: PyTypeRef, slot: SlotId) -> Option<SlotEntry>
+    requires coherent { IsCoherent classes.now }
+    requires inside { class.0 < length classes.now }
+    ensures { result ≡ slot_read table_keys natives_of (plain classes.now) class.0 slot }
+{
+    read_along(classes, class, classes[class.0 as usize].mro(), slot)
+}

@@ -1,0 +1,98 @@
+// Slots that are found anew after an attribute was set.
+
+ghost use Rattle.std.specs.Prelude.{◌≡◌, ◌<◌, Some, length, slice_get, slice_set, slice_index_or};
+ghost use Rattle.py_node.specs.Slots.{place_of, all_slots};
+ghost use Rattle.class_model.specs.Slot.{is_name_of, entry};
+ghost use Rattle.class_model.specs.BuiltIn.{natives_of};
+ghost use Rattle.class_table.specs.Kept.{Kept, plain};
+ghost use Rattle.class_table.specs.Keys.{table_keys};
+ghost use Rattle.class_table.specs.Coherent.{HasLines};
+ghost use Rattle.class_table.specs.Patch.{IsNear, AreNear, IsRefreshed, settled};
+
+use crate::entries::entry;
+use crate::special::special_names;
+use crate::stored::Stored;
+use py_node::entry::SlotId;
+use py_node::refs::{PyStrInterned, PyTypeRef};
+
+// Whether a name is one of a slot's.
+fn is_name_of(slot: SlotId, name: PyStrInterned) -> bool
+    ensures { result ≡ is_name_of table_keys slot name }
+{
+    for other in special_names(slot) {
+        if *other == name.0 {
+            return true;
+        }
+    }
+    false
+}
+
+// The slot at a place.
+#[tactic(auto, unfolding(py_node::specs::Slots::all_slots))]
+fn slot_at(place: usize) -> SlotId
+    requires { place < 73 }
+    ensures { slice_get all_slots place ≡ Some result }
+{
+    SlotId::ALL[place]
+}
+
+// Finds one slot of a class anew.
+fn patch_slot(classes: &mut [Stored], class: PyTypeRef, slot: SlotId)
+    requires lines { HasLines classes.old }
+    requires inside { class.0 < length classes.old }
+    ensures { (d : Kept) → classes.new ≡ slice_set classes.old class.0 (record (slice_index_or classes.old class.0 d) { slots = slice_set (slice_index_or classes.old class.0 d).slots (place_of slot) (entry table_keys natives_of (plain classes.old) class.0 slot) }) }
+{
+    let found = entry(classes, class, slot);
+    classes[class.0 as usize].set_slot(slot, found);
+}
+
+// Finds the slots of a name anew, where every other slot is as it should be.
+fn patch(classes: &mut [Stored], class: PyTypeRef, name: PyStrInterned)
+    requires lines { HasLines classes.old }
+    requires inside { class.0 < length classes.old }
+    requires near { (d : Kept) → IsNear (plain classes.old) name class.0 (slice_index_or classes.old class.0 d) }
+    ensures { (d : Kept) → classes.new ≡ slice_set classes.old class.0 (settled (plain classes.old) class.0 (slice_index_or classes.old class.0 d)) }
+{
+    for place in 0..73 {
+        let slot = slot_at(place);
+        if is_name_of(slot, name) {
+            patch_slot(classes, class, slot);
+        }
+    }
+}
+
+// Finds every slot of a class.
+pub(crate) fn settle(classes: &mut [Stored], class: PyTypeRef)
+    requires lines { HasLines classes.old }
+    requires inside { class.0 < length classes.old }
+    requires full { (d : Kept) → length (slice_index_or classes.old class.0 d).slots ≡ 73 }
+    ensures { (d : Kept) → classes.new ≡ slice_set classes.old class.0 (settled (plain classes.old) class.0 (slice_index_or classes.old class.0 d)) }
+{
+    for place in 0..73 {
+        patch_slot(classes, class, slot_at(place));
+    }
+}
+
+// Finds the slots of a name anew in each class that has a class along its linearisation.
+fn patch_all(classes: &mut [Stored], class: PyTypeRef, name: PyStrInterned)
+    requires lines { HasLines classes.old }
+    requires near { AreNear name class.0 classes.old }
+    ensures { IsRefreshed class.0 classes.old classes.new }
+{
+    for number in 0..classes.len() {
+        if classes[number].derives(class) {
+            patch(classes, PyTypeRef(number as u64), name);
+        }
+    }
+}
+
+// The same. A name that is no special name changes no slot.
+pub(crate) fn refresh(classes: &mut [Stored], class: PyTypeRef, name: PyStrInterned)
+    requires lines { HasLines classes.old }
+    requires near { AreNear name class.0 classes.old }
+    ensures { IsRefreshed class.0 classes.old classes.new }
+{
+    if name.0 < 70 {
+        patch_all(classes, class, name);
+    }
+}

@@ -1,0 +1,191 @@
+// What the table keeps of a class.
+
+ghost use Rattle.std.specs.Prelude.{◌≡◌, ◌++◌, ◌∷◌, [], OnOk, OnErr, option_and_then, slice_get, slice_set};
+ghost use Rattle.py_node.specs.Attributes.{value_of, with_value, is_same_name};
+ghost use Rattle.py_node.specs.Slots.{place_of};
+ghost use Rattle.class_model.specs.Order.{has};
+ghost use Rattle.class_model.specs.Class.{is_heap};
+ghost use Rattle.class_table.specs.Kept.{Kept, class_of};
+ghost use Rattle.class_table.specs.Keys.{numbers, number_of};
+
+use py_node::attributes::PyAttributes;
+use py_node::entry::{SlotEntry, SlotId};
+use py_node::flags::PyTypeFlags;
+use py_node::memory::OutOfMemory;
+use py_node::refs::{PyObjectRef, PyStrInterned, PyTypeRef};
+use std::marker::Model;
+
+/// A class that is to be made.
+#[derive(Drop)]
+pub struct NewClass {
+    pub name: String,
+    pub node: PyObjectRef,
+    pub base: Option<PyTypeRef>,
+    pub attrs: PyAttributes,
+    pub members: Vec<PyStrInterned>,
+    pub flags: PyTypeFlags,
+}
+
+/// A class, and what is kept of it.
+#[derive(Drop)]
+pub(crate) struct Stored {
+    pub(crate) name: String,
+    pub(crate) node: PyObjectRef,
+    pub(crate) bases: Vec<PyTypeRef>,
+    pub(crate) attrs: PyAttributes,
+    pub(crate) members: Vec<PyStrInterned>,
+    pub(crate) flags: PyTypeFlags,
+    pub(crate) mro: Vec<PyTypeRef>,
+    pub(crate) slots: Vec<Option<SlotEntry>>,
+    pub(crate) base: Option<PyTypeRef>,
+    pub(crate) solid: Option<PyTypeRef>,
+    pub(crate) subclasses: Vec<PyTypeRef>,
+}
+
+impl Model for Stored {
+    ghost use Rattle.std.specs.Prelude.{string_bytes};
+    ghost use Rattle.class_table.specs.Keys.{numbers, number_of};
+    ghost use Rattle.class_table.specs.Kept.{Kept};
+
+    ghost Value = { Kept };
+
+    ghost view = { λ a. record { name = string_bytes a.name; node = a.node; bases = numbers a.bases.items; attrs = a.attrs; members = a.members.items; flags = a.flags.0; mro = numbers a.mro.items; slots = a.slots.items; base = number_of a.base; solid = number_of a.solid; subclasses = numbers a.subclasses.items } };
+}
+
+impl Stored {
+    // The class's own value of a name.
+    pub(crate) fn own(&self, name: PyStrInterned) -> Option<PyObjectRef>
+        ensures { result ≡ value_of (λ k. is_same_name k name) self.now.attrs }
+    {
+        self.attrs.get(name)
+    }
+
+    // Whether the class was made by a script.
+    pub(crate) fn is_heap(&self) -> bool
+        ensures { result ≡ is_heap (class_of self.now) }
+    {
+        self.flags.0 & 512 == 512
+    }
+
+    // Whether the class has a class along its linearisation.
+    pub(crate) fn derives(&self, class: PyTypeRef) -> bool
+        ensures { result ≡ has self.now.mro class.0 }
+    {
+        has(&self.mro, class)
+    }
+
+    // The class's name.
+    pub(crate) fn name(&self) -> &str
+        ensures { result.now ≡ self.now.name }
+    {
+        self.name.as_str()
+    }
+
+    // The object that stands for the class.
+    pub(crate) fn node(&self) -> PyObjectRef
+        ensures { result ≡ self.now.node }
+    {
+        self.node
+    }
+
+    // The class's flags.
+    pub(crate) fn flags(&self) -> PyTypeFlags
+        ensures { result.0 ≡ self.now.flags }
+    {
+        self.flags
+    }
+
+    // The class's own attributes.
+    pub(crate) fn attributes(&self) -> &PyAttributes
+        ensures { result.now ≡ self.now.attrs }
+    {
+        &self.attrs
+    }
+
+    // The class's linearisation.
+    pub(crate) fn mro(&self) -> &[PyTypeRef]
+        ensures { numbers result.now ≡ self.now.mro }
+    {
+        &self.mro
+    }
+
+    // The class's nearest solid class, where it has one.
+    pub(crate) fn solid(&self) -> Option<PyTypeRef>
+        ensures { number_of result ≡ self.now.solid }
+    {
+        self.solid
+    }
+
+    // The class's best base, where it has one.
+    pub(crate) fn base(&self) -> Option<PyTypeRef>
+        ensures { number_of result ≡ self.now.base }
+    {
+        self.base
+    }
+
+    // The class's direct subclasses.
+    pub(crate) fn subclasses(&self) -> &[PyTypeRef]
+        ensures { numbers result.now ≡ self.now.subclasses }
+    {
+        &self.subclasses
+    }
+
+    // What the class itself has in a slot.
+    pub(crate) fn entry(&self, slot: SlotId) -> Option<SlotEntry>
+        ensures { result ≡ option_and_then (λ e. e) (slice_get self.now.slots (place_of slot)) }
+    {
+        match self.slots.get(slot.place()) {
+            None => None,
+            Some(entry) => *entry,
+        }
+    }
+
+    // Fills or empties a slot.
+    pub(crate) fn set_slot(&mut self, slot: SlotId, entry: Option<SlotEntry>)
+        ensures { self.new ≡ record self.old { slots = slice_set self.old.slots (place_of slot) entry } }
+    {
+        write(&mut self.slots, slot.place(), entry);
+    }
+
+    // Notes a direct subclass.
+    pub(crate) fn add_subclass(&mut self, class: PyTypeRef) -> Result<(), OutOfMemory>
+        ensures ok { OnOk result (self.new ≡ record self.old { subclasses = self.old.subclasses ++ class.0 ∷ [] }) }
+        ensures err { OnErr result (self.new ≡ self.old) }
+    {
+        self.subclasses.push(class)?;
+        Ok(())
+    }
+
+    // Gives an own attribute a value.
+    pub(crate) fn set_attr(
+        &mut self,
+        name: PyStrInterned,
+        value: PyObjectRef,
+    ) -> Result<(), OutOfMemory>
+        ensures ok { OnOk result (self.new ≡ record self.old { attrs = with_value is_same_name self.old.attrs name value }) }
+        ensures err { OnErr result (self.new ≡ self.old) }
+    {
+        self.attrs.insert(name, value)
+    }
+}
+
+// Whether a class is among some.
+fn has(classes: &[PyTypeRef], class: PyTypeRef) -> bool
+    ensures { result ≡ has (numbers classes.now) class.0 }
+{
+    for other in classes {
+        if other.0 == class.0 {
+            return true;
+        }
+    }
+    false
+}
+
+// Writes an element, where there is such a place.
+fn write(slots: &mut [Option<SlotEntry>], place: usize, entry: Option<SlotEntry>)
+    ensures { slots.new ≡ slice_set slots.old place entry }
+{
+    if place < slots.len() {
+        slots[place] = entry;
+    }
+}

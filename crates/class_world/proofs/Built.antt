@@ -1,0 +1,51 @@
+-- The fixed objects and the built-in classes are there.
+use Rattle.std.proofs.Common.{◌≡◌, ℕ, ◌<◌, ◌≤◌, length, refl, subst, sym, arith, lit<}
+use Rattle.py_node.specs.declared.refs.PyObjectRef.{PyObjectRef}
+use Rattle.py_node.specs.declared.built_in.BuiltIn.{BuiltIn}
+use Rattle.py_node.specs.BuiltIns.{place_of}
+use Rattle.class_world.specs.Held.{Held}
+use Rattle.class_world.specs.Sound.{IsNode, IsClass, Holds, Sound}
+use Rattle.class_world.specs.declared.world.Fixed.{Fixed}
+use Rattle.class_world.specs.declared.world.Fixed.TheVariants as fixed
+use Rattle.py_node.specs.declared.built_in.BuiltIn.TheVariants as built_in
+use Rattle.class_world.specs.Fixed.{number_of_fixed}
+
+fixed-low : (o : Fixed) → number_of_fixed o < 27
+fixed-low fixed.None = lit< tt
+fixed-low fixed.NotImplemented = lit< tt
+fixed-low fixed.False = lit< tt
+fixed-low fixed.True = lit< tt
+
+place-low : (b : BuiltIn) → place_of b < 23
+unfolding place_of
+place-low built_in.Object = lit< tt
+place-low built_in.TypeType = lit< tt
+place-low built_in.NoneType = lit< tt
+place-low built_in.NotImplementedType = lit< tt
+place-low built_in.Int = lit< tt
+place-low built_in.Bool = lit< tt
+place-low built_in.Str = lit< tt
+place-low built_in.Tuple = lit< tt
+place-low built_in.List = lit< tt
+place-low built_in.Dict = lit< tt
+place-low built_in.Function = lit< tt
+place-low built_in.Method = lit< tt
+place-low built_in.BuiltinFunctionOrMethod = lit< tt
+place-low built_in.BuiltinMethod = lit< tt
+place-low built_in.MethodDescriptor = lit< tt
+place-low built_in.GetSetDescriptor = lit< tt
+place-low built_in.MemberDescriptor = lit< tt
+place-low built_in.Property = lit< tt
+place-low built_in.ClassMethod = lit< tt
+place-low built_in.StaticMethod = lit< tt
+place-low built_in.Super = lit< tt
+place-low built_in.Iterator = lit< tt
+place-low built_in.Slice = lit< tt
+
+pub fixed-holds : (w now : Held) (o : Fixed) (r : PyObjectRef) → w ≡ now → Sound w → r.0 ≡ number_of_fixed o → Holds now (IsNode r)
+unfolding Holds
+fixed-holds w now o r v s e = let l = fixed-low o in let m = s.fixed in subst (λ w. r.0 < length w.nodes) v (omega arith)
+
+pub built_in-holds : (w now : Held) (b : BuiltIn) (c : ℕ) → w ≡ now → Sound w → c ≡ place_of b → Holds now (IsClass c)
+unfolding Holds
+built_in-holds w now b c v s e = let l = place-low b in let m = s.built_in in subst (λ w. c < length w.classes) v (omega arith)

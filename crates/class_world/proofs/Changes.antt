@@ -1,0 +1,96 @@
+-- Each change of a world keeps it sound.
+use Rattle.std.proofs.Common.{◌≡◌, ℕ, zero, suc, ◌+◌, ◌<◌, ◌≤◌, List, [], ◌∷◌, ◌++◌, length, Some, None, refl, sym, ap, ◌∙◌, subst, arith, get_or, map}
+use Rattle.std.specs.Prelude.{slice_get}
+use Rattle.std.specs.List.{All}
+use Rattle.py_node.specs.declared.refs.PyStrInterned.{PyStrInterned}
+use Rattle.py_node.specs.declared.payload.Node.{Node}
+use Rattle.py_node.specs.declared.payload.Form.{Form}
+use Rattle.py_node.specs.declared.payload.Form.TheVariants as form
+use Rattle.py_node.specs.Replies.{Started}
+use Rattle.class_world.specs.Held.{Held}
+use Rattle.class_world.specs.Tables.{IsBelow, AreBelow}
+use Rattle.class_world.specs.Sound.{Claim, IsNode, IsClass, Holds, AllHold, Grows, of_node, of_form, of_each, Sound}
+use Rattle.class_world.proofs.Claims.{all-grow, each-push}
+use Rattle.class_world.proofs.Growth.{node-grows, form-grows, names-grow, same-grows}
+
+all-unmap : (n : ℕ) (es : List (PyStrInterned × ℕ)) → All (λ e. e < n) (map (λ e. e.1) es) → All (λ e. e.1 < n) es
+all-unmap n es h = λ i d l. go es i d l (λ j l. h j 0 l)
+  where
+    at : (es : List (PyStrInterned × ℕ)) (i d : ℕ) (e : PyStrInterned × ℕ) → i < length es → get_or (map (λ e. e.1) es) i d ≡ (get_or es i e).1
+    at [] i d e l = absurd (omega arith)
+    at (x ∷ es) zero d e l = refl
+    at (x ∷ es) (suc i) d e l = at es i d e (omega arith)
+
+    long : (es : List (PyStrInterned × ℕ)) → length (map (λ e. e.1) es) ≡ length es
+    long [] = refl
+    long (x ∷ es) = let r = long es in omega arith
+
+    go : (es : List (PyStrInterned × ℕ)) (i : ℕ) (d : PyStrInterned × ℕ) → i < length es → ((j : ℕ) → j < length (map (λ e. e.1) es) → get_or (map (λ e. e.1) es) j 0 < n) → (get_or es i d).1 < n
+    go es i d l k = let p = k i (omega (arith, long es)) in let e = at es i 0 d l in omega arith
+
+-- an expression of what is there has its parts before it
+pub form-below : (w : Held) (f : Form) → AllHold w (of_form f) → IsBelow (length w.forms) f
+unfolding Holds
+form-below w (form.Const k) h = tt
+form-below w (form.Name x) h = tt
+form-below w (form.Bind x e) h = h.1.0
+form-below w (form.Func x ps e) h = h.1.1.0
+form-below w (form.SetAttr o x e) h = (h.0, h.1.1.0)
+form-below w (form.Call f es) h = (h.0, h.1.0)
+form-below w (form.Op word es) h = h.0
+form-below w (form.Class x bs es) h = (h.1.0, all-unmap (length w.forms) es.items h.1.1.1.0)
+
+below-push : (forms : List Form) (f : Form) → AreBelow forms → IsBelow (length forms) f → AreBelow (forms ++ f ∷ [])
+below-push forms f b h = λ n x e. go forms n x (λ m y k. b m y k) h e
+  where
+    first : (n : ℕ) (x : Form) → f ≡ x → IsBelow n f → IsBelow n x
+    first n x e h = subst (IsBelow n) e h
+
+    -- the place counts on from those that were passed
+    walk : (k : ℕ) (rest : List Form) (n : ℕ) (x : Form) → ((m : ℕ) (y : Form) → slice_get rest m ≡ Some y → IsBelow (k + m) y) → IsBelow (k + length rest) f → slice_get (rest ++ f ∷ []) n ≡ Some x → IsBelow (k + n) x
+    walk k [] zero x b h e = first (k + 0) x (cc) h
+    walk k [] (suc n) x b h e = cc
+    walk k (y ∷ rest) zero x b h e = b zero x e
+    walk k (y ∷ rest) (suc n) x b h e =
+        let sum : suc k + n ≡ k + suc n = omega arith in
+        let len : k + length (y ∷ rest) ≡ suc k + length rest = omega arith in
+        subst (λ m. IsBelow m x) sum (walk (suc k) rest n x (λ m z p. let q : k + suc m ≡ suc k + m = omega arith in subst (λ m. IsBelow m z) q (b (suc m) z p)) (subst (λ m. IsBelow m f) len h) e)
+
+    go : (forms : List Form) (n : ℕ) (x : Form) → ((m : ℕ) (y : Form) → slice_get forms m ≡ Some y → IsBelow m y) → IsBelow (length forms) f → slice_get (forms ++ f ∷ []) n ≡ Some x → IsBelow n x
+    go forms n x b h e =
+        let z : 0 + n ≡ n = omega arith in
+        let l : length forms ≡ 0 + length forms = omega arith in
+        subst (λ m. IsBelow m x) z (walk 0 forms n x (λ m y k. let q : m ≡ 0 + m = omega arith in subst (λ m. IsBelow m y) q (b m y k)) (subst (λ m. IsBelow m f) l h) e)
+
+fixed-grow : (w new : Held) → 27 ≤ length w.nodes → Grows w new → 27 ≤ length new.nodes
+unfolding Holds
+fixed-grow w new h g = let k = g.still (IsNode (record { 0 = 26 })) (omega arith) in omega arith
+
+built_in-grow : (w new : Held) → 23 ≤ length w.classes → Grows w new → 23 ≤ length new.classes
+unfolding Holds
+built_in-grow w new h g = let k = g.still (IsClass 22) (omega arith) in omega arith
+
+module _ (w : Held) (s : Sound w) where
+  pub node-sound : (n : Node) → AllHold w (of_node n) → Sound (record w { nodes = w.nodes ++ n ∷ [] })
+  node-sound n h =
+      let new = record w { nodes = w.nodes ++ n ∷ [] } in
+      let go = all-grow w new (node-grows w n) in
+      record { forms = go _ s.forms; below = s.below; nodes = each-push new of_node w.nodes n (go _ s.nodes) (go (of_node n) h); classes = go _ s.classes; vars = go _ s.vars; scopes = go _ s.scopes; fixed = fixed-grow w new s.fixed (node-grows w n); built_in = built_in-grow w new s.built_in (node-grows w n); special = s.special }
+
+  pub form-sound : (f : Form) → AllHold w (of_form f) → Sound (record w { forms = w.forms ++ f ∷ [] })
+  form-sound f h =
+      let new = record w { forms = w.forms ++ f ∷ [] } in
+      let go = all-grow w new (form-grows w f) in
+      record { forms = each-push new of_form w.forms f (go _ s.forms) (go (of_form f) h); below = below-push w.forms f s.below (form-below w f h); nodes = go _ s.nodes; classes = go _ s.classes; vars = go _ s.vars; scopes = go _ s.scopes; fixed = fixed-grow w new s.fixed (form-grows w f); built_in = built_in-grow w new s.built_in (form-grows w f); special = s.special }
+
+  pub names-sound : (names : List (List ℕ)) → length w.names ≤ length names → ((n : ℕ) (x : List ℕ) → slice_get w.names n ≡ Some x → slice_get names n ≡ Some x) → Sound (record w { names = names })
+  names-sound names l k =
+      let new = record w { names = names } in
+      let go = all-grow w new (names-grow w names l) in
+      record { forms = go _ s.forms; below = s.below; nodes = go _ s.nodes; classes = go _ s.classes; vars = go _ s.vars; scopes = go _ s.scopes; fixed = fixed-grow w new s.fixed (names-grow w names l); built_in = built_in-grow w new s.built_in (names-grow w names l); special = λ n x e. k n x (s.special n x e) }
+
+  pub rest-sound : (calls : List Started) → Sound (record w { scopes = []; calls = calls })
+  rest-sound calls =
+      let new = record w { scopes = []; calls = calls } in
+      let go = all-grow w new (same-grows w new refl refl refl refl) in
+      record { forms = go _ s.forms; below = s.below; nodes = go _ s.nodes; classes = go _ s.classes; vars = go _ s.vars; scopes = tt; fixed = fixed-grow w new s.fixed (same-grows w new refl refl refl refl); built_in = built_in-grow w new s.built_in (same-grows w new refl refl refl refl); special = s.special }

@@ -1,0 +1,10 @@
+pub mod Claims
+pub mod Growth
+pub mod Readable
+pub mod Changes
+pub mod Look
+pub mod Built
+pub mod Stored
+pub mod Shown
+pub mod StartParts
+pub mod StartSound

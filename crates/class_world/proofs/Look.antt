@@ -1,0 +1,99 @@
+-- What a world's tables say of a reading, and what the plain world has at a number.
+use Rattle.std.proofs.Common.{◌≡◌, ℕ, zero, suc, ◌^◌, ◌<◌, List, [], ◌∷◌, ◌++◌, length, Option, Some, None, Bool, true, false, refl, sym, ap, ◌∙◌, subst, arith, map}
+use Rattle.std.specs.Prelude.{slice_get, option_map, IsTrue}
+use Rattle.py_node.specs.declared.refs.PyObjectRef.{PyObjectRef}
+use Rattle.py_node.specs.declared.payload.Node.{Node}
+use Rattle.py_node.specs.declared.payload.Form.{Form}
+use Rattle.py_node.specs.declared.refs.PyStrInterned.{PyStrInterned}
+use Rattle.std.specs.Prelude.{◌==◌}
+use Rattle.std.specs.Int.RustNames.{bit_and}
+use Rattle.py_node.specs.declared.entry.SlotId.{SlotId}
+use Rattle.py_node.specs.Slots.{special_names}
+use Rattle.class_model.specs.Class.{Class, has_flag, renamed}
+use Rattle.class_model.specs.Slot.{slot, candidates_of}
+use Rattle.class_model.specs.BuiltIn.{natives_of}
+use Rattle.class_model.proofs.Renamed.{slot-renamed, candidates_of-renamed}
+use Rattle.class_table.specs.Keys.{table_keys}
+use Rattle.plain_machine.specs.World.{node_at, class_at, datum_at, has_dict, flag_in, the_dict, text_keys, or_empty}
+use Rattle.class_world.specs.Held.{Held}
+use Rattle.class_world.specs.Reading.{Reading, Reads, form_tree, node_of, datum, spelled, plain}
+use Rattle.class_world.specs.Sound.{Claim, IsClass, Holds, AllHold, Sound, of_node, of_dict, of_class, of_each}
+use Rattle.class_world.proofs.Claims.{got-map, each-get, seen, all-first, all-rest, get-end, get-pushed}
+
+pub node-read : (w now : Held) (r : PyObjectRef) (n : Node) → w ≡ now → slice_get w.nodes r.0 ≡ Some n → (t : Reading) → node_at (plain t now) r ≡ Some (node_of t n)
+unfolding plain
+node-read w now r n v e t = subst (λ w. node_at (plain t w) r ≡ Some (node_of t n)) v (got-map (node_of t) w.nodes r.0 n e)
+
+pub node-holds : (w now : Held) (r : PyObjectRef) (n : Node) → w ≡ now → Sound w → slice_get w.nodes r.0 ≡ Some n → AllHold now (of_node n)
+node-holds w now r n v s e = seen w now (of_node n) v (each-get w of_node w.nodes r.0 n e s.nodes)
+
+-- a reading of the longer store reads the shorter one
+pub form-reads : (w now : Held) (f : Form) → w ≡ now → (t : Reading) → Reads t (record w { forms = w.forms ++ f ∷ [] }) → Reads t now
+form-reads w now f v t r =
+    subst (λ w. Reads t w) v (record { names = r.names; trees = λ n x e. r.trees n x (get-pushed w.forms f n x e) })
+
+pub form-added : (w : Held) (f : Form) (t : Reading) → Reads t (record w { forms = w.forms ++ f ∷ [] }) → t.tree (length w.forms) ≡ form_tree t.text t.tree f
+form-added w f t r = r.trees (length w.forms) f (get-end w.forms f)
+
+-- whether a class that is there has a flag
+abbrev pub flag_at : {K : Type 0} → ℕ → Option (Class K) → Bool
+flag_at flag None = false
+flag_at flag (Some k) = has_flag flag k
+
+-- whether a class gives dicts is a flag of the class
+pub dict-read : (w now : Held) (c : ℕ) → w ≡ now → (t : Reading) → has_dict (plain t now) c ≡ flag_at (2 ^ 40) (slice_get w.classes c)
+unfolding plain
+dict-read w now c v t = subst (λ n. has_dict (plain t n) c ≡ flag_at (2 ^ 40) (slice_get w.classes c)) v (go w.classes c)
+  where
+    go : (ks : List (Class PyStrInterned)) (c : ℕ) → flag_in (slice_get (renamed (spelled t) ks) c) ≡ flag_at (2 ^ 40) (slice_get ks c)
+    go [] c = refl
+    go (k ∷ ks) zero = refl
+    go (k ∷ ks) (suc c) = go ks c
+
+-- then the class of dicts is there
+pub dict-there : (w now : Held) (c : ℕ) → w ≡ now → Sound w → IsTrue (flag_at (2 ^ 40) (slice_get w.classes c)) → Holds now (IsClass the_dict)
+dict-there w now c v s h = subst (λ w. Holds w (IsClass the_dict)) v (go w.classes c s.classes h)
+  where
+    of : (b : Bool) → IsTrue b → AllHold w (of_dict b) → Holds w (IsClass the_dict)
+    of true h p = p.0
+    of false h p = cc
+
+    go : (ks : List (Class PyStrInterned)) (c : ℕ) → AllHold w (of_each of_class ks) → IsTrue (flag_at (2 ^ 40) (slice_get ks c)) → Holds w (IsClass the_dict)
+    go [] c p h = cc
+    go (k ∷ ks) zero p h = of (has_flag (2 ^ 40) k) h (all-first w (of_dict (has_flag (2 ^ 40) k)) _ (all-first w (of_class k) (of_each of_class ks) p).1.1)
+    go (k ∷ ks) (suc c) p h = go ks c (all-rest w (of_class k) _ p) h
+
+-- the flags of a class that is there
+pub flags-read : (ks : List (Class PyStrInterned)) (c flags flag : ℕ) → option_map (λ k. k.flags) (slice_get ks c) ≡ Some flags → flag_at flag (slice_get ks c) ≡ (bit_and flags flag == flag)
+flags-read [] c flags flag e = cc
+flags-read (k ∷ ks) zero flags flag e = let same : k.flags ≡ flags = cc in ap (λ n. bit_and n flag == flag) same
+flags-read (k ∷ ks) (suc c) flags flag e = flags-read ks c flags flag e
+
+-- the special names are read as they are
+special-read : (w : Held) (t : Reading) → Sound w → Reads t w → (k : ℕ) → k < 70 → text_keys.special k ≡ t.text k
+unfolding special_names
+special-read w t s r k l = go (slice_get special_names k) refl
+  where
+    within : (xs : List (List ℕ)) (n : ℕ) → n < length xs → (x : List ℕ) × (slice_get xs n ≡ Some x)
+    within [] n h = absurd (omega arith)
+    within (x ∷ xs) zero h = (x, refl)
+    within (x ∷ xs) (suc n) h = within xs n (omega arith)
+
+    go : (o : Option (List ℕ)) → slice_get special_names k ≡ o → text_keys.special k ≡ t.text k
+    go None e = let x = within special_names k l in cc (x.1)
+    go (Some x) e = ap or_empty e ∙ sym (r.names k x (s.special k x e))
+
+-- slots and candidates are read alike by texts and by numbers
+pub slot-seen : (w now : Held) (c : ℕ) (s : SlotId) → w ≡ now → Sound w → (t : Reading) → Reads t now → slot text_keys natives_of (plain t now).classes c s ≡ slot table_keys natives_of w.classes c s
+unfolding plain
+slot-seen w now c s v sound t r =
+    let reads = subst (λ w. Reads t w) (sym v) r in
+    subst (λ u. slot text_keys natives_of (plain t u).classes c s ≡ slot table_keys natives_of w.classes c s) v
+    (slot-renamed (spelled t) table_keys text_keys (λ a b. t.same a.0 b.0) (special-read w t sound reads) natives_of w.classes c s)
+
+pub candidates-seen : (w now : Held) (left right : SlotId) (c d : ℕ) → w ≡ now → Sound w → (t : Reading) → Reads t now → candidates_of text_keys natives_of (plain t now).classes left right c d ≡ candidates_of table_keys natives_of w.classes left right c d
+unfolding plain
+candidates-seen w now left right c d v sound t r =
+    let reads = subst (λ w. Reads t w) (sym v) r in
+    subst (λ u. candidates_of text_keys natives_of (plain t u).classes left right c d ≡ candidates_of table_keys natives_of w.classes left right c d) v
+    (candidates_of-renamed (spelled t) table_keys text_keys (λ a b. t.same a.0 b.0) (special-read w t sound reads) natives_of w.classes left right c d)

@@ -1,0 +1,127 @@
+-- The tables of a world can be read: names past the table are long, and trees go down.
+use Rattle.std.proofs.Common.{◌≡◌, ℕ, zero, suc, ◌+◌, ◌<◌, ◌≤◌, List, [], ◌∷◌, length, replicate, Option, Some, None, Bool, true, false, eqb, refl, sym, ap, ◌∙◌, arith, map}
+use Rattle.std.specs.Prelude.{slice_get}
+use Rattle.std.specs.List.{All}
+use Rattle.std.proofs.lemmas.Bool.{eq-eqb, eqb-true}
+use Rattle.std.proofs.lemmas.Slice.Eq.{bytes_eq-Decides}
+use Rattle.std.proofs.Math.ListN.{length-replicate}
+use Rattle.py_node.specs.declared.refs.PyStrInterned.{PyStrInterned}
+use Rattle.py_node.specs.declared.payload.Form.{Form}
+use Rattle.py_node.specs.declared.payload.Form.TheVariants as form
+use Rattle.py_node.specs.Texts.{AreDistinct}
+use Rattle.py_node.specs.Tree.{Text, Tree, TConst, TCall, TOp, TClass, LNone, trees_of}
+use Rattle.plain_machine.specs.World.{is_text}
+use Rattle.class_world.specs.declared.world.World.{World}
+use Rattle.class_world.specs.Tables.{IsBelow, AreBelow}
+use Rattle.class_world.specs.Reading.{form_tree, entry_list, IsReadable}
+
+abbrev total : List Text → ℕ
+total [] = 0
+total (x ∷ xs) = length x + total xs
+
+total-bound : (xs : List Text) (n : ℕ) (x : Text) → slice_get xs n ≡ Some x → length x ≤ total xs
+total-bound [] n x h = cc
+total-bound (y ∷ xs) zero x h = let e : y ≡ x = cc in let l = ap length e in omega arith
+total-bound (y ∷ xs) (suc n) x h = let l = total-bound xs n x h in omega arith
+
+-- a text of the table, or a long one
+abbrev spell : ℕ → ℕ → Option Text → Text
+spell size n (Some x) = x
+spell size n None = replicate (suc (size + n)) 0
+
+abbrev text_at : List Text → ℕ → Text
+text_at names n = spell (total names) n (slice_get names n)
+
+text_at-injective : (names : List Text) → AreDistinct names → (n m : ℕ) → text_at names n ≡ text_at names m → n ≡ m
+text_at-injective names d n m = go (slice_get names n) (slice_get names m) refl refl
+  where
+    go : (a b : Option Text) → slice_get names n ≡ a → slice_get names m ≡ b → spell (total names) n a ≡ spell (total names) m b → n ≡ m
+    go (Some x) (Some y) e f h = d n m y (e ∙ ap Some h) f
+    go (Some x) None e f h =
+        let l = ap length h ∙ length-replicate (suc (total names + m)) 0 in
+        absurd (omega (arith, total-bound names n x e, l))
+    go None (Some y) e f h =
+        let l = ap length (sym h) ∙ length-replicate (suc (total names + n)) 0 in
+        absurd (omega (arith, total-bound names m y f, l))
+    go None None e f h =
+        let l = sym (length-replicate (suc (total names + n)) 0) ∙ ap length h ∙ length-replicate (suc (total names + m)) 0 in
+        omega (arith, l)
+
+same-tests : (a b : Bool) → (a ≡ true → b ≡ true) → (b ≡ true → a ≡ true) → a ≡ b
+same-tests true b f g = sym (f refl)
+same-tests false true f g = g refl
+same-tests false false f g = refl
+
+text_at-same : (names : List Text) → AreDistinct names → (n m : ℕ) → is_text (text_at names n) (text_at names m) ≡ eqb n m
+text_at-same names d n m =
+    let test = bytes_eq-Decides (text_at names n) (text_at names m) in
+    same-tests _ _ (λ h. eq-eqb n m (text_at-injective names d n m (test.0 h))) (λ h. test.1 (ap (text_at names) (eqb-true n m h)))
+
+abbrev blank : Tree
+blank = TConst LNone
+
+tree_from : (ℕ → Text) → (ℕ → Tree) → Option Form → Tree
+tree_from text tree None = blank
+tree_from text tree (Some f) = form_tree text tree f
+
+-- the tree of an expression, for numbers below the bound
+tree_at : (ℕ → Text) → List Form → ℕ → ℕ → Tree
+tree_at text forms zero n = blank
+tree_at text forms (suc bound) n = tree_from text (tree_at text forms bound) (slice_get forms n)
+
+map-agrees : (f g : ℕ → Tree) (n : ℕ) (es : List ℕ) → All (λ e. e < n) es → ((a : ℕ) → a < n → f a ≡ g a) → map f es ≡ map g es
+map-agrees f g n [] b h = refl
+map-agrees f g n (e ∷ es) b h =
+    let here : e < n = b 0 0 (omega arith) in
+    let rest = map-agrees f g n es (λ i d l. b (suc i) d (omega arith)) h in
+    cc (h e here, rest)
+
+abbrev Pair : Type 0
+Pair = Text × Tree
+
+abbrev pair_of : (ℕ → Text) → (ℕ → Tree) → PyStrInterned × ℕ → Pair
+pair_of text f e = (text e.0.0, f e.1)
+
+entries-agree : (text : ℕ → Text) (f g : ℕ → Tree) (n : ℕ) (es : List (PyStrInterned × ℕ)) → All (λ e. e.1 < n) es → ((a : ℕ) → a < n → f a ≡ g a) → map (pair_of text f) es ≡ map (pair_of text g) es
+entries-agree text f g n [] b h = refl
+entries-agree text f g n (e ∷ es) b h =
+    let here : e.1 < n = b 0 e (omega arith) in
+    let rest = entries-agree text f g n es (λ i d l. b (suc i) d (omega arith)) h in
+    cc (h e.1 here, rest)
+
+form_tree-agrees : (text : ℕ → Text) (f g : ℕ → Tree) (n : ℕ) (x : Form) → IsBelow n x → ((a : ℕ) → a < n → f a ≡ g a) → form_tree text f x ≡ form_tree text g x
+form_tree-agrees text f g n (form.Const k) b h = refl
+form_tree-agrees text f g n (form.Name x) b h = refl
+form_tree-agrees text f g n (form.Bind x e) b h = cc (h e b)
+form_tree-agrees text f g n (form.Func x ps e) b h = cc (h e b)
+form_tree-agrees text f g n (form.SetAttr o x e) b h = cc (h o b.0, h e b.1)
+form_tree-agrees text f g n (form.Call k es) b h = ap (λ u. TCall u (trees_of (map f es.items))) (h k b.0) ∙ ap (λ l. TCall (g k) (trees_of l)) (map-agrees f g n es.items b.1 h)
+form_tree-agrees text f g n (form.Op word es) b h = ap (λ l. TOp word (trees_of l)) (map-agrees f g n es.items b h)
+form_tree-agrees text f g n (form.Class x bs es) b h =
+    ap (λ l. TClass (text x.0) (trees_of l) (entry_list (map (pair_of text f) es.items))) (map-agrees f g n bs.items b.0 h)
+    ∙ ap (λ l. TClass (text x.0) (trees_of (map g bs.items)) (entry_list l)) (entries-agree text f g n es.items b.1 h)
+
+module _ (text : ℕ → Text) (forms : List Form) (below : AreBelow forms) where
+  tree_at-agrees : (i j n : ℕ) → n < i → n < j → tree_at text forms i n ≡ tree_at text forms j n
+  unfolding tree_at tree_from
+  tree_at-agrees zero j n h k = absurd (omega arith)
+  tree_at-agrees (suc i) zero n h k = absurd (omega arith)
+  tree_at-agrees (suc i) (suc j) n h k = go (slice_get forms n) refl (λ a l. tree_at-agrees i j a (omega arith) (omega arith))
+    where
+      go : (o : Option Form) → slice_get forms n ≡ o → ((a : ℕ) → a < n → tree_at text forms i a ≡ tree_at text forms j a) → tree_from text (tree_at text forms i) o ≡ tree_from text (tree_at text forms j) o
+      go None e f = refl
+      go (Some x) e f = form_tree-agrees text _ _ n x (below n x e) f
+
+  tree_at-form : (n : ℕ) (x : Form) → slice_get forms n ≡ Some x → tree_at text forms (suc n) n ≡ form_tree text (λ a. tree_at text forms (suc a) a) x
+  unfolding tree_at tree_from
+  tree_at-form n x e =
+      ap (tree_from text (tree_at text forms n)) e
+      ∙ form_tree-agrees text (tree_at text forms n) (λ a. tree_at text forms (suc a) a) n x (below n x e) (λ a l. tree_at-agrees n (suc a) a l (omega arith))
+
+-- a world whose names differ, and in which the parts of each expression stand before it, can be read
+pub readable : (w : World) → AreDistinct w.names → AreBelow w.forms → IsReadable w
+readable w d b =
+    let text = text_at w.names in (
+      record { text = text; tree = λ n. tree_at text w.forms (suc n) n; same = text_at-same w.names d },
+      record { names = λ n x e. ap (spell (total w.names) n) e; trees = λ n x e. tree_at-form text w.forms b n x e },
+    )

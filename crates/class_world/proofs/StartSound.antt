@@ -1,0 +1,108 @@
+-- The world of a new machine is sound, and is the plain machine's.
+use Rattle.std.proofs.Common.{◌≡◌, ℕ, suc, ◌^◌, ◌<◌, ◌≤◌, Bool, true, false, List, [], ◌∷◌, ◌++◌, length, refl, ap, arith, map}
+use Rattle.std.specs.Prelude.{◌&&◌, ltb}
+use Rattle.std.proofs.lemmas.Bool.{ltb-true}
+use Rattle.py_node.specs.declared.refs.PyStrInterned.{PyStrInterned}
+use Rattle.py_node.specs.declared.payload.Node.{Node}
+use Rattle.py_node.specs.declared.built_in.BuiltIn.{BuiltIn}
+use Rattle.py_node.specs.BuiltIns.{place_of, all_built_ins}
+use Rattle.py_node.specs.Slots.{special_names}
+use Rattle.class_model.specs.Class.{Class, has_flag, renamed}
+use Rattle.plain_machine.specs.Start.{built_class, class_node as plain_class_node, fixed_nodes as plain_fixed_nodes, start}
+use Rattle.plain_machine.specs.World.{ref, the_dict}
+use Rattle.class_world.specs.Held.{Held}
+use Rattle.class_world.specs.StartNodes.{class_node, fixed_nodes, start_nodes}
+use Rattle.class_world.specs.Reading.{Reading, node_of, spelled, plain, IsReadable}
+use Rattle.class_world.specs.Sound.{IsNode, IsClass, Holds, AllHold, Sound, of_node, of_dict, of_class, of_each}
+use Rattle.class_world.proofs.Claims.{each-append, all-append}
+use Rattle.class_world.proofs.StartParts.{split}
+
+-- whether each class has a place below the number
+abbrev places_below : ℕ → List BuiltIn → Bool
+places_below n [] = true
+places_below n (b ∷ bs) = ltb (place_of b) n && places_below n bs
+
+abbrev built : BuiltIn → Class PyStrInterned
+built b = built_class b
+
+module _ (w : Held) where
+  nodes-hold : (n : ℕ) (bs : List BuiltIn) → places_below n bs ≡ true → 1 < length w.classes → n ≤ length w.classes → AllHold w (of_each of_node (map class_node bs))
+  unfolding Holds
+  nodes-hold n [] h l k = tt
+  nodes-hold n (b ∷ bs) h l k =
+      let both = split (ltb (place_of b) n) (places_below n bs) h in
+      let below = ltb-true (place_of b) n both.0 in
+      (l, (omega (arith, below, k), nodes-hold n bs both.1 l k))
+
+  fixed-hold : 5 < length w.classes → AllHold w (of_each of_node fixed_nodes)
+  unfolding Holds
+  fixed-hold l = (omega arith, (omega arith, (omega arith, (omega arith, tt))))
+
+  dict-holds : (b : Bool) → the_dict < length w.classes → AllHold w (of_dict b)
+  unfolding Holds
+  dict-holds true l = (l, tt)
+  dict-holds false l = tt
+
+  classes-hold : (n : ℕ) (bs : List BuiltIn) → places_below n bs ≡ true → the_dict < length w.classes → n ≤ length w.nodes → AllHold w (of_each of_class (map built bs))
+  unfolding Holds
+  classes-hold n [] h l k = tt
+  classes-hold n (b ∷ bs) h l k =
+      let both = split (ltb (place_of b) n) (places_below n bs) h in
+      let below = ltb-true (place_of b) n both.0 in
+      (omega (arith, below, k), ((λ i d l. absurd (omega arith)), all-append w (of_dict (has_flag (2 ^ 40) (built b)) ++ []) _ (all-append w (of_dict (has_flag (2 ^ 40) (built b))) [] (dict-holds (has_flag (2 ^ 40) (built b)) l) tt) (classes-hold n bs both.1 l k)))
+
+-- the world of the special names, the built-in classes and their nodes
+abbrev pub started : Held
+started = record { names = special_names; forms = []; nodes = start_nodes; classes = map built all_built_ins; vars = []; scopes = []; calls = [] }
+
+pub started-sound : Sound started
+unfolding all_built_ins place_of
+started-sound = record {
+  forms = tt;
+  below = λ n x e. cc;
+  nodes = each-append started of_node (map class_node all_built_ins) fixed_nodes (nodes-hold started 23 all_built_ins refl (omega arith) (omega arith)) (fixed-hold started (omega arith));
+  classes = classes-hold started 23 all_built_ins refl (omega arith) (omega arith);
+  vars = tt;
+  scopes = tt;
+  fixed = omega arith;
+  built_in = omega arith;
+  special = λ n x e. e;
+}
+
+module _ (t : Reading) where
+  nodes-read : (bs : List BuiltIn) → map (node_of t) (map class_node bs ++ fixed_nodes) ≡ map plain_class_node bs ++ plain_fixed_nodes
+  nodes-read [] = refl
+  nodes-read (b ∷ bs) = ap (λ ns. plain_class_node b ∷ ns) (nodes-read bs)
+
+  classes-read : (bs : List BuiltIn) → renamed (spelled t) (map built bs) ≡ map built_class bs
+  classes-read [] = refl
+  classes-read (b ∷ bs) = ap (λ ks. built_class b ∷ ks) (classes-read bs)
+
+  pub started-plain : plain t started ≡ start
+  unfolding plain
+  started-plain = let n = nodes-read all_built_ins in let k = classes-read all_built_ins in cc
+
+-- the numbers of a new world's classes and nodes
+
+length-renamed : (t : Reading) (ks : List (Class PyStrInterned)) → length (renamed (spelled t) ks) ≡ length ks
+length-renamed t [] = refl
+length-renamed t (k ∷ ks) = ap suc (length-renamed t ks)
+
+length-read : (t : Reading) (ns : List Node) → length (map (node_of t) ns) ≡ length ns
+length-read t [] = refl
+length-read t (n ∷ ns) = ap suc (length-read t ns)
+
+module _ (w : Held) (at : (t : Reading) → plain t w ≡ start) (reads : IsReadable w) where
+  pub has-class : (c : ℕ) → c < 23 → Holds w (IsClass c)
+  unfolding plain Holds all_built_ins
+  has-class c l =
+      let count = length-renamed reads.0 w.classes in
+      let same = ap (λ p. length p.classes) (at reads.0) in
+      omega (arith, count, same, l)
+
+  pub has-node : (n : ℕ) → n < 27 → Holds w (IsNode (ref n))
+  unfolding plain Holds all_built_ins
+  has-node n l =
+      let count = length-read reads.0 w.nodes in
+      let same = ap (λ p. length p.nodes) (at reads.0) in
+      omega (arith, count, same, l)

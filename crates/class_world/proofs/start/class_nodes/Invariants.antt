@@ -1,0 +1,7 @@
+use Rattle.std.proofs.Common.{◌≡◌, map, take}
+use Rattle.py_node.specs.BuiltIns.{all_built_ins}
+use Rattle.class_world.specs.StartNodes.{class_node}
+use Rattle.class_world.proofs.start.class_nodes.Given as goal
+
+abbrev pub invariant-loop-class : goal.invariant-loop-class
+invariant-loop-class l = l.nodes.items ≡ map class_node (take l.class-index all_built_ins)

@@ -1,0 +1,12 @@
+use Rattle.class_world.specs.contracts.world.World.{the_view}
+use Rattle.class_world.specs.Sound.{Holds, IsClass}
+use Rattle.class_world.proofs.Claims.{opened-one}
+use Rattle.class_world.proofs.Shown.{name-read}
+use Rattle.class_world.proofs.world.World.class_name.Goals as goal
+
+pub name-requires : goal.name-requires
+unfolding Holds
+name-requires c = opened-one (the_view c.self.inside) c.args.self.now (IsClass c.args.class.0) c.self.view_is c.requires
+
+pub returns : goal.returns
+returns c = name-read (the_view c.self.inside) c.args.self.now c.args.class.0 c.name.result.now c.self.view_is c.name.ensures

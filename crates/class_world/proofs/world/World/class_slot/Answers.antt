@@ -1,0 +1,13 @@
+use Rattle.std.proofs.Common.{sym, ◌∙◌}
+use Rattle.class_world.specs.contracts.world.World.{the_view}
+use Rattle.class_world.specs.Sound.{Holds, IsClass}
+use Rattle.class_world.proofs.Claims.{opened-one}
+use Rattle.class_world.proofs.Look.{slot-seen}
+use Rattle.class_world.proofs.world.World.class_slot.Goals as goal
+
+pub slot-requires : goal.slot-requires
+unfolding Holds
+slot-requires c = opened-one (the_view c.self.inside) c.args.self.now (IsClass c.args.class.0) c.self.view_is c.requires
+
+pub returns : goal.returns
+returns c = λ t r. slot-seen (the_view c.self.inside) c.args.self.now c.args.class.0 c.args.slot c.self.view_is c.self.invariant t r ∙ sym c.slot.ensures

@@ -1,0 +1,31 @@
+use Rattle.class_world.specs.contracts.world.World.{the_view}
+use Rattle.class_world.specs.Sound.{Holds, IsExpression, of_form}
+use Rattle.class_world.proofs.Claims.{got, opened-one, each-get, seen}
+use Rattle.class_world.proofs.world.World.form.Goals as goal
+
+pub index-requires : goal.index-requires
+unfolding Holds
+index-requires c = rw c.self.inside.forms.ok.0 (opened-one (the_view c.self.inside) c.args.self.now (IsExpression c.args.number) c.self.view_is c.requires)
+
+pub returns-clause-stored : goal.returns-clause-stored
+unfolding Holds
+returns-clause-stored c =
+    let w = the_view c.self.inside in
+    let here = opened-one w c.args.self.now (IsExpression c.args.number) c.self.view_is c.requires in
+    rw (← c.self.view_is) (got w.forms c.args.number c.index.result.now here c.index.ensures)
+
+pub returns-clause-reads : goal.returns-clause-reads
+unfolding Holds
+returns-clause-reads c = λ t.
+    let w = the_view c.self.inside in
+    let here = opened-one w c.args.self.now (IsExpression c.args.number) c.self.view_is c.requires in
+    let e = got w.forms c.args.number c.index.result.now here c.index.ensures in
+    rw (← c.self.view_is) (λ r. r.trees c.args.number c.index.result.now e)
+
+pub returns-clause-holds : goal.returns-clause-holds
+unfolding Holds
+returns-clause-holds c =
+    let w = the_view c.self.inside in
+    let here = opened-one w c.args.self.now (IsExpression c.args.number) c.self.view_is c.requires in
+    let e = got w.forms c.args.number c.index.result.now here c.index.ensures in
+    seen w c.args.self.now (of_form c.index.result.now) c.self.view_is (each-get w of_form w.forms c.args.number c.index.result.now e c.self.invariant.forms)

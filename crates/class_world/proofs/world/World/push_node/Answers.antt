@@ -1,0 +1,25 @@
+use Rattle.std.proofs.Common.{arith, length-append, ◌∷◌, []}
+use Rattle.class_world.specs.contracts.world.World.{the_view}
+use Rattle.class_world.specs.Sound.{Holds, IsClass, of_option, of_node_ref, of_payload}
+use Rattle.class_world.proofs.Claims.{opened, opened-one, all-append}
+use Rattle.class_world.proofs.Growth.{node-grows, grows-seen}
+use Rattle.class_world.proofs.Changes.{node-sound}
+use Rattle.class_world.proofs.world.World.push_node.Goals as goal
+
+pub invariant_of-self-2 : goal.invariant_of-self-2
+invariant_of-self-2 c =
+    let w = the_view c.self.inside in
+    let now = c.args.self.now in
+    let class = opened-one w now (IsClass c.args.class.0) c.self.view_is c.requires.class in
+    let dict = opened w now (of_option of_node_ref c.args.dict) c.self.view_is c.requires.dict in
+    let payload = opened w now (of_payload c.args.payload) c.self.view_is c.requires.payload in
+    rw c.in_ok-push.ensures.items (node-sound w c.self.invariant (record { class = c.args.class; dict = c.args.dict; payload = c.args.payload }) (class, all-append w _ _ dict payload))
+
+pub returns-clause-grows : goal.returns-clause-grows
+returns-clause-grows c = rw c.in_ok-push.ensures.items (grows-seen (the_view c.self.inside) _ _ c.self.view_is (node-grows _ _))
+
+pub returns-clause-node : goal.returns-clause-node
+unfolding Holds
+returns-clause-node c =
+    let l = length-append c.self.inside.nodes.items (record { class = c.args.class; dict = c.args.dict; payload = c.args.payload } ∷ []) in
+    rw c.in_ok-push.ensures.items (omega (arith, l, c.self.inside.nodes.ok.0))

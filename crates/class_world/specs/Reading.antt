@@ -1,0 +1,102 @@
+-- How the numbers of the code are read as texts and trees.
+use Rattle.std.specs.Prelude.{◌≡◌, ℕ, Bool, eqb, List, [], ◌∷◌, Option, Some, map, slice_get, string_bytes, option_map}
+use Rattle.py_node.specs.declared.refs.PyObjectRef.{PyObjectRef}
+use Rattle.py_node.specs.declared.refs.PyStrInterned.{PyStrInterned}
+use Rattle.py_node.specs.declared.payload.Node.{Node as StoredNode}
+use Rattle.py_node.specs.declared.payload.Payload.{Payload}
+use Rattle.py_node.specs.declared.payload.Payload.TheVariants as payload
+use Rattle.py_node.specs.declared.payload.Form.{Form}
+use Rattle.py_node.specs.declared.payload.Form.TheVariants as form
+use Rattle.py_node.specs.declared.task.Task.{Task}
+use Rattle.py_node.specs.declared.task.Task.TheVariants as task
+use Rattle.py_node.specs.declared.task.EvalTask.{EvalTask}
+use Rattle.py_node.specs.declared.task.EvalTask.TheVariants as eval
+use Rattle.py_node.specs.declared.task.OperatorTask.{OperatorTask}
+use Rattle.py_node.specs.declared.task.OperatorTask.TheVariants as operator
+use Rattle.py_node.specs.Tree.{Text, Tree, TConst, TName, TBind, TFunc, TSetAttr, TCall, TOp, TClass, Entries, no_entries, entry, trees_of, literal_of}
+use Rattle.class_model.specs.Class.{renamed}
+use Rattle.plain_machine.specs.Plain.{Datum, AnObject, AClass, ANumber, AText, ATuple, ADict, AFunction, AMethod, ANativeFunction, ABuiltinMethod, AMethodDescriptor, AGetSet, AClassMethod, Node, Bindings, Scope, PlainWorld, EvalJob, DoEval, OperatorJob, DoAdd, DoBinOp1, DoEnter, DoInt, PlainTask, ToEval, ToOperator, ToLater}
+use Rattle.plain_machine.specs.World.{is_text}
+use Rattle.class_world.specs.declared.scope.Scope.{Scope as HeldScope}
+use Rattle.class_world.specs.declared.world.World.{World}
+
+-- each number as a text, no two alike, and each number as a tree
+pub record Reading : Type 0 where
+  pub text : ℕ → Text
+  pub tree : ℕ → Tree
+  pub same : (n m : ℕ) → is_text (text n) (text m) ≡ eqb n m
+
+abbrev pub entry_list : List (Text × Tree) → Entries
+entry_list [] = no_entries
+entry_list (e ∷ es) = entry e.0 e.1 (entry_list es)
+
+-- an expression of the store, as a tree
+abbrev pub form_tree : (ℕ → Text) → (ℕ → Tree) → Form → Tree
+form_tree text tree (form.Const k) = TConst (literal_of k)
+form_tree text tree (form.Name x) = TName (text x.0)
+form_tree text tree (form.Bind x e) = TBind (text x.0) (tree e)
+form_tree text tree (form.Func x ps e) = TFunc (text x.0) (map (λ p. text p.0) ps.items) (tree e)
+form_tree text tree (form.SetAttr o x e) = TSetAttr (tree o) (text x.0) (tree e)
+form_tree text tree (form.Call f es) = TCall (tree f) (trees_of (map tree es.items))
+form_tree text tree (form.Op word es) = TOp word (trees_of (map tree es.items))
+form_tree text tree (form.Class x bs es) = TClass (text x.0) (trees_of (map tree bs.items)) (entry_list (map (λ e. (text e.0.0, tree e.1)) es.items))
+
+-- the numbers are read as the world's tables have them
+pub record Reads (t : Reading) (w : World) : Type 0 where
+  pub names : (n : ℕ) (text : Text) → slice_get w.names n ≡ Some text → t.text n ≡ text
+  pub trees : (n : ℕ) (form : Form) → slice_get w.forms n ≡ Some form → t.tree n ≡ form_tree t.text t.tree form
+
+-- there is such a reading
+abbrev pub IsReadable : World → Type 0
+IsReadable w = (t : Reading) × Reads t w
+
+abbrev pub spelled : Reading → PyStrInterned → Text
+spelled t x = t.text x.0
+
+abbrev pub datum : Reading → Payload → Datum
+datum t payload.Object = AnObject
+datum t (payload.Class c) = AClass c.0
+datum t (payload.Number z) = ANumber z
+datum t (payload.Text s) = AText (string_bytes s)
+datum t (payload.Tuple rs) = ATuple rs.items
+datum t (payload.Dict es) = ADict es.items
+datum t (payload.Function f) = AFunction (spelled t f.name) (map (spelled t) f.params.items) f.rest (t.tree f.body) (option_map (λ c. c.0) f.class)
+datum t (payload.Method m) = AMethod m.target m.func
+datum t (payload.NativeFunction f) = ANativeFunction (spelled t f.name) f.entry f.target
+datum t (payload.BuiltinMethod m) = ABuiltinMethod (spelled t m.name) m.entry m.target
+datum t (payload.MethodDescriptor m) = AMethodDescriptor m.class.0 (spelled t m.name) m.entry m.flags
+datum t (payload.GetSet g) = AGetSet g.class.0 (spelled t g.name) g.getter g.setter
+datum t (payload.ClassMethod r) = AClassMethod r
+
+abbrev pub node_of : Reading → StoredNode → Node
+node_of t n = record { class = n.class.0; dict = n.dict; members = []; datum = datum t n.payload }
+
+abbrev pub bindings : Reading → List (PyStrInterned × PyObjectRef) → Bindings
+bindings t bs = map (λ b. (spelled t b.0, b.1)) bs
+
+abbrev pub scope_of : Reading → HeldScope → Scope
+scope_of t s = record { func = s.func; vars = bindings t s.vars }
+
+-- the plain world that a world stands for
+unfoldable pub plain : Reading → World → PlainWorld
+plain t w = record {
+  nodes = map (node_of t) w.nodes;
+  classes = renamed (spelled t) w.classes;
+  vars = bindings t w.vars;
+  scopes = map (scope_of t) w.scopes;
+  calls = w.calls;
+}
+
+abbrev pub eval_job : Reading → EvalTask → EvalJob
+eval_job t (eval.Eval e) = DoEval (t.tree e)
+
+abbrev pub operator_job : Reading → OperatorTask → OperatorJob
+operator_job t (operator.Add a b) = DoAdd a b
+operator_job t (operator.BinOp1 op a b) = DoBinOp1 op a b
+operator_job t (operator.Enter s a b) = DoEnter s a b
+operator_job t (operator.Int n args kw) = DoInt n args.items (bindings t kw.items)
+
+abbrev pub task_of : Reading → Task → PlainTask
+task_of t (task.Eval job) = ToEval (eval_job t job)
+task_of t (task.Operator job) = ToOperator (operator_job t job)
+task_of t (task.Later job) = ToLater job

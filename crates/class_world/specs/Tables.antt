@@ -1,0 +1,20 @@
+-- The store of expressions: the parts of each stand before it.
+use Rattle.std.specs.Prelude.{◌≡◌, ℕ, ◌<◌, List, Some, slice_get}
+use Rattle.std.specs.List.{All}
+use Rattle.py_node.specs.declared.payload.Form.{Form}
+use Rattle.py_node.specs.declared.payload.Form.TheVariants as form
+
+-- the expression's parts have numbers below n
+abbrev pub IsBelow : ℕ → Form → Type 0
+IsBelow n (form.Const k) = Unit {0}
+IsBelow n (form.Name x) = Unit {0}
+IsBelow n (form.Bind x e) = e < n
+IsBelow n (form.Func x ps e) = e < n
+IsBelow n (form.SetAttr o x e) = (o < n) × (e < n)
+IsBelow n (form.Call f es) = (f < n) × All (λ e. e < n) es.items
+IsBelow n (form.Op word es) = All (λ e. e < n) es.items
+IsBelow n (form.Class x bs es) = All (λ e. e < n) bs.items × All (λ e. e.1 < n) es.items
+
+-- each expression's parts stand before it
+abbrev pub AreBelow : List Form → Type 0
+AreBelow forms = (n : ℕ) (form : Form) → slice_get forms n ≡ Some form → IsBelow n form

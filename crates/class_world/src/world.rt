@@ -1,0 +1,339 @@
+// The world, and what is read and changed there.
+
+ghost use Rattle.std.specs.Prelude.{◌≡◌, ◌<◌, ℕ, List, map, length, Some, IfOk, OnOk, OnErr, IfSome, IsTrue, [], ◌∷◌, ◌++◌, slice_get, string_bytes, option_map};
+ghost use Rattle.py_node.specs.Tree.{tree_of};
+ghost use Rattle.py_node.specs.Replies.{started_of};
+
+ghost use Rattle.py_node.specs.Slots.{special_names};
+ghost use Rattle.plain_machine.specs.Start.{start};
+ghost use Rattle.plain_machine.specs.World.{ref, push_node, with_node, next_node, has_dict, the_dict, at_rest, class_at, datum_at, number_of, text_keys, slot_at, candidates_at};
+ghost use Rattle.class_model.specs.Slot.{slot as slot_read, candidates_of};
+ghost use Rattle.class_model.specs.BuiltIn.{natives_of};
+ghost use Rattle.class_table.specs.Turn.{list_of};
+ghost use Rattle.py_node.specs.BuiltIns.{place_of};
+ghost use Rattle.class_world.specs.Fixed.{number_of_fixed};
+ghost use Rattle.class_world.specs.Held.{Held};
+ghost use Rattle.class_world.specs.Reading.{Reading, Reads, form_tree, datum, plain, IsReadable};
+ghost use Rattle.class_world.specs.Sound.{IsNode, IsClass, IsExpression, IsName, Holds, AllHold, Grows, of_option, of_node_ref, of_payload, of_form};
+
+use crate::scope::Scope;
+use crate::start::{built_in_classes, special_names, start_nodes};
+use class_table::candidates::Candidates;
+use class_table::table::ClassTable;
+use py_node::attributes::PyAttributes;
+use py_node::built_in::BuiltIn;
+use py_node::entry::{SlotEntry, SlotId};
+use py_node::flags::PyTypeFlags;
+use py_node::memory::OutOfMemory;
+use py_node::names::Names;
+use py_node::payload::{Form, Node, Payload};
+use py_node::refs::{PyObjectRef, PyStrInterned, PyTypeRef};
+use py_node::reply::BodyCall;
+use std::alloc::Global;
+use std::marker::Model;
+use std::mem;
+
+// The class of dicts.
+const DICT: PyTypeRef = PyTypeRef(9);
+
+/// An object that every world has.
+#[derive(Clone, Copy, PartialEq, Eq, Debug)]
+pub enum Fixed {
+    None,
+    NotImplemented,
+    False,
+    True,
+}
+
+impl Fixed {
+    /// The object's node.
+    pub fn node(self) -> PyObjectRef
+        ensures { result.0 ≡ number_of_fixed self }
+    {
+        match self {
+            Fixed::None => PyObjectRef(23),
+            Fixed::NotImplemented => PyObjectRef(24),
+            Fixed::False => PyObjectRef(25),
+            Fixed::True => PyObjectRef(26),
+        }
+    }
+}
+
+/// The world: tables of names and of expressions, nodes and classes, variables, a scope for each
+/// running body, and the bodies that were started in this command.
+#[derive(Drop)]
+pub struct World {
+    names: Names,
+    forms: Vec<Form>,
+    nodes: Vec<Node>,
+    classes: ClassTable,
+    vars: PyAttributes,
+    scopes: Vec<Scope>,
+    calls: Vec<BodyCall>,
+}
+
+impl Model for World {
+    ghost use Rattle.std.specs.Prelude.{map};
+    ghost use Rattle.py_node.specs.Replies.{started_of};
+    ghost use Rattle.class_world.specs.Held.{Held};
+
+    ghost Value = { Held };
+
+    ghost use Rattle.class_world.specs.Sound.{Sound};
+
+    ghost view = { λ a. record { names = a.names; forms = a.forms.items; nodes = a.nodes.items; classes = a.classes; vars = a.vars; scopes = a.scopes.items; calls = map started_of a.calls.items } };
+
+    ghost invariant = { λ a. Sound (record { names = a.names; forms = a.forms.items; nodes = a.nodes.items; classes = a.classes; vars = a.vars; scopes = a.scopes.items; calls = map started_of a.calls.items }) };
+}
+
+#[tactic(auto, unfolding(crate::specs::Reading::plain))]
+impl World {
+    /// The world of a new machine: the special names, the built-in classes with their nodes, and
+    /// None, NotImplemented, False and True.
+    pub fn new(alloc: Global) -> Result<World, OutOfMemory>
+        ensures start { IfOk result (λ w. (t : Reading) → plain t w ≡ start) }
+        ensures known { IfOk result (λ w. (n : ℕ) (x : List ℕ) → slice_get special_names n ≡ Some x → slice_get w.names n ≡ Some x) }
+    {
+        let names = special_names(alloc)?;
+        let nodes = start_nodes(alloc)?;
+        let classes = built_in_classes(alloc)?;
+        Ok(World {
+            names,
+            forms: Vec::new(alloc),
+            nodes,
+            classes,
+            vars: PyAttributes::new(alloc),
+            scopes: Vec::new(alloc),
+            calls: Vec::new(alloc),
+        })
+    }
+
+    /// The numbers can be read: the theorems, which speak of each reading, speak of at least one.
+    pub fn readable(&self)
+        ensures { IsReadable self.now }
+    {
+        let _names = self.names.len();
+        let _forms = self.forms.len();
+    }
+
+    /// The classes, by themselves.
+    pub fn classes(&self) -> &ClassTable
+        ensures { result.now ≡ self.now.classes }
+    {
+        &self.classes
+    }
+
+    /// The names, by themselves.
+    pub fn names(&self) -> &Names
+        ensures { result.now ≡ self.now.names }
+    {
+        &self.names
+    }
+
+    /// A fixed object.
+    pub fn fixed(&self, object: Fixed) -> PyObjectRef
+        ensures number { result.0 ≡ number_of_fixed object }
+        ensures node { Holds self.now (IsNode result) }
+    {
+        let _nodes = &self.nodes;
+        object.node()
+    }
+
+    /// A built-in class.
+    pub fn built_in(&self, class: BuiltIn) -> PyTypeRef
+        ensures place { result.0 ≡ place_of class }
+        ensures class { Holds self.now (IsClass result.0) }
+    {
+        let _classes = &self.classes;
+        class.class()
+    }
+
+    /// The expression of a number.
+    pub fn form(&self, number: u64) -> &Form
+        requires { Holds self.now (IsExpression number) }
+        ensures stored { slice_get self.now.forms number ≡ Some result.now }
+        ensures reads { (t : Reading) → Reads t self.now → t.tree number ≡ form_tree t.text t.tree result.now }
+        ensures holds { AllHold self.now (of_form result.now) }
+    {
+        &self.forms[number as usize]
+    }
+
+    /// What a node holds.
+    pub fn payload(&self, node: PyObjectRef) -> &Payload
+        requires { Holds self.now (IsNode node) }
+        ensures reads { (t : Reading) → datum_at (plain t self.now) node ≡ Some (datum t result.now) }
+        ensures holds { AllHold self.now (of_payload result.now) }
+    {
+        &self.nodes[node.0 as usize].payload
+    }
+
+    /// The class of an object.
+    pub fn class_of(&self, node: PyObjectRef) -> PyTypeRef
+        requires { Holds self.now (IsNode node) }
+        ensures reads { (t : Reading) → class_at (plain t self.now) node ≡ Some result.0 }
+        ensures holds { Holds self.now (IsClass result.0) }
+    {
+        self.nodes[node.0 as usize].class
+    }
+
+    /// The name of a class.
+    pub fn class_name(&self, class: PyTypeRef) -> &str
+        requires { Holds self.now (IsClass class.0) }
+        ensures { (t : Reading) → option_map (λ k. k.name) (slice_get (plain t self.now).classes class.0) ≡ Some result.now }
+    {
+        self.classes.name(class)
+    }
+
+    /// A slot as it is read for an object's class.
+    pub fn slot(&self, node: PyObjectRef, slot: SlotId) -> Option<SlotEntry>
+        requires { Holds self.now (IsNode node) }
+        ensures { (t : Reading) → Reads t self.now → slot_at (plain t self.now) node slot ≡ result }
+    {
+        let class = self.class_of(node);
+        self.class_slot(class, slot)
+    }
+
+    // A slot as it is read for a class.
+    fn class_slot(&self, class: PyTypeRef, slot: SlotId) -> Option<SlotEntry>
+        requires { Holds self.now (IsClass class.0) }
+        ensures { (t : Reading) → Reads t self.now → slot_read text_keys natives_of (plain t self.now).classes class.0 slot ≡ result }
+    {
+        self.classes.slot(class, slot)
+    }
+
+    /// The candidates of an operator, for two objects.
+    pub fn candidates(
+        &self,
+        left: SlotId,
+        right: SlotId,
+        a: PyObjectRef,
+        b: PyObjectRef,
+    ) -> Candidates
+        requires a { Holds self.now (IsNode a) }
+        requires b { Holds self.now (IsNode b) }
+        ensures { (t : Reading) → Reads t self.now → candidates_at (plain t self.now) left right (class_at (plain t self.now) a) (class_at (plain t self.now) b) ≡ list_of result }
+    {
+        let class_a = self.class_of(a);
+        let class_b = self.class_of(b);
+        self.class_candidates(left, right, class_a, class_b)
+    }
+
+    // The candidates of an operator, for two classes.
+    fn class_candidates(
+        &self,
+        left: SlotId,
+        right: SlotId,
+        a: PyTypeRef,
+        b: PyTypeRef,
+    ) -> Candidates
+        requires a { Holds self.now (IsClass a.0) }
+        requires b { Holds self.now (IsClass b.0) }
+        ensures { (t : Reading) → Reads t self.now → candidates_of text_keys natives_of (plain t self.now).classes left right a.0 b.0 ≡ list_of result }
+    {
+        self.classes.candidates(left, right, a, b)
+    }
+
+    /// The number that a node holds, if it holds one.
+    pub fn number(&self, node: PyObjectRef) -> Option<i128>
+        requires { Holds self.now (IsNode node) }
+        ensures { (t : Reading) → number_of (datum_at (plain t self.now) node) ≡ result }
+    {
+        match self.payload(node) {
+            Payload::Number(z) => Some(*z),
+            _ => None,
+        }
+    }
+
+    /// Makes a node, after its dict where its class gives it one.
+    pub fn make_node(
+        &mut self,
+        alloc: Global,
+        class: PyTypeRef,
+        payload: Payload,
+    ) -> Result<PyObjectRef, OutOfMemory>
+        requires class { Holds self.old (IsClass class.0) }
+        requires payload { AllHold self.old (of_payload payload) }
+        ensures made { OnOk result ((t : Reading) → plain t self.new ≡ with_node (plain t self.old) class.0 (datum t payload)) }
+        ensures number { IfOk result (λ r. (t : Reading) → r ≡ next_node (plain t self.old) class.0) }
+        ensures reads { (t : Reading) → Reads t self.new → Reads t self.old }
+        ensures grows { Grows self.old self.new }
+        ensures node { IfOk result (λ r. Holds self.new (IsNode r)) }
+    {
+        if self.gives_dict(class) {
+            let dict = self.push_node(DICT, None, Payload::Dict(Vec::new(alloc)))?;
+            self.push_node(class, Some(dict), payload)
+        } else {
+            self.push_node(class, None, payload)
+        }
+    }
+
+    // Whether a class gives its objects a dict.
+    fn gives_dict(&self, class: PyTypeRef) -> bool
+        requires { Holds self.now (IsClass class.0) }
+        ensures gives { (t : Reading) → has_dict (plain t self.now) class.0 ≡ result }
+        ensures dict { IsTrue result → Holds self.now (IsClass the_dict) }
+    {
+        self.classes.flags(class).has_feature(PyTypeFlags::HAS_DICT)
+    }
+
+    // One more node.
+    fn push_node(
+        &mut self,
+        class: PyTypeRef,
+        dict: Option<PyObjectRef>,
+        payload: Payload,
+    ) -> Result<PyObjectRef, OutOfMemory>
+        requires class { Holds self.old (IsClass class.0) }
+        requires dict { AllHold self.old (of_option of_node_ref dict) }
+        requires payload { AllHold self.old (of_payload payload) }
+        ensures made { OnOk result ((t : Reading) → plain t self.new ≡ push_node (plain t self.old) class.0 dict (datum t payload)) }
+        ensures number { IfOk result (λ r. (t : Reading) → r ≡ ref (length (plain t self.old).nodes)) }
+        ensures reads { (t : Reading) → Reads t self.new → Reads t self.old }
+        ensures grows { Grows self.old self.new }
+        ensures node { IfOk result (λ r. Holds self.new (IsNode r)) }
+    {
+        let number = self.nodes.len();
+        self.nodes.push(Node {
+            class,
+            dict,
+            payload,
+        })?;
+        Ok(PyObjectRef(number as u64))
+    }
+
+    /// The name of a text, which may be new.
+    pub fn intern(&mut self, alloc: Global, text: &str) -> Result<PyStrInterned, OutOfMemory>
+        ensures spelled { IfOk result (λ x. (t : Reading) → Reads t self.new → t.text x.0 ≡ text.now) }
+        ensures same { (t : Reading) → plain t self.new ≡ plain t self.old }
+        ensures reads { (t : Reading) → Reads t self.new → Reads t self.old }
+        ensures grows { Grows self.old self.new }
+        ensures holds { IfOk result (λ x. Holds self.new (IsName x)) }
+    {
+        Ok(self.names.intern(alloc, text)?)
+    }
+
+    // One more expression, of names and expressions that are there.
+    pub(crate) fn add_form(&mut self, form: Form) -> Result<u64, OutOfMemory>
+        requires { AllHold self.old (of_form form) }
+        ensures added { IfOk result (λ n. (t : Reading) → Reads t self.new → t.tree n ≡ form_tree t.text t.tree form) }
+        ensures same { (t : Reading) → plain t self.new ≡ plain t self.old }
+        ensures reads { (t : Reading) → Reads t self.new → Reads t self.old }
+        ensures grows { Grows self.old self.new }
+        ensures holds { IfOk result (λ n. Holds self.new (IsExpression n)) }
+    {
+        let number = self.forms.len();
+        self.forms.push(form)?;
+        Ok(number as u64)
+    }
+
+    /// Takes the notes of the bodies that were started, and closes every scope: a command is over.
+    pub fn rest(&mut self, alloc: Global) -> Vec<BodyCall>
+        ensures calls { (t : Reading) → map started_of result.items ≡ (plain t self.old).calls }
+        ensures rest { (t : Reading) → plain t self.new ≡ at_rest (plain t self.old) }
+        ensures reads { (t : Reading) → Reads t self.new → Reads t self.old }
+        ensures grows { Grows self.old self.new }
+    {
+        self.scopes.clear();
+        mem::replace(&mut self.calls, Vec::new(alloc))
+    }
+}

@@ -1,0 +1,234 @@
+-- Expressions whose operands are evaluated in order.
+use Rattle.std.proofs.Common.{◌≡◌, ℕ, zero, suc, ◌<◌, ◌≤◌, List, [], ◌∷◌, ◌++◌, length, map, Option, Some, None, Ok, Err, refl, sym, ap, ◌∙◌, subst, arith}
+use Rattle.std.specs.Prelude.{slice_get}
+use Rattle.std.specs.Global.{Vec}
+use Rattle.std.proofs.lemmas.List.{map-append, length-map}
+use Rattle.std.proofs.lemmas.Option.{slice_get_within}
+use Rattle.py_node.specs.declared.refs.PyObjectRef.{PyObjectRef}
+use Rattle.py_node.specs.declared.refs.PyStrInterned.{PyStrInterned}
+use Rattle.py_node.specs.declared.raised.Raised.{Raised as Fault}
+use Rattle.py_node.specs.declared.task.Answer.TheVariants.{Done}
+use Rattle.py_node.specs.declared.payload.Form.{Form}
+use Rattle.py_node.specs.declared.payload.Form.TheVariants as form
+use Rattle.py_node.specs.Tree.{Text, Tree, trees_of, list_of, entry_trees}
+use Rattle.plain_machine.specs.Plain.{PlainWorld, DoEval, ToEval, Ended, Answered, Told, Said, Asks, Ends}
+use Rattle.plain_machine.specs.Row.{Row, fault, evaluate}
+use Rattle.class_world.specs.Held.{Held}
+use Rattle.class_world.specs.Reading.{Reading, Reads, form_tree, entry_list, plain}
+use Rattle.class_world.specs.Sound.{Holds, AllHold, AreNodes, IsExpression, AreExpressions, HasOperand, of_form, operands, operands_at}
+use Rattle.class_world.proofs.Claims.{expression-in, got-map, node-in}
+use Rattle.class_world.specs.Claims.{of_step}
+use Rattle.py_node.specs.declared.task.Step.{Step}
+use Rattle.py_node.specs.declared.task.Step.TheVariants.{Ask, End}
+use Rattle.py_node.specs.declared.task.Task.TheVariants as task
+use Rattle.py_node.specs.declared.task.EvalTask.TheVariants as eval
+use Rattle.class_world.specs.declared.world.World.{World}
+use Rattle.class_world.specs.Rows.{Steps}
+use Rattle.eval_forms.specs.declared.EvalKept.{EvalKept}
+use Rattle.eval_forms.specs.declared.EvalKept.TheVariants.{Operands}
+use Rattle.py_node.specs.declared.expr.Word.TheVariants as word
+use Rattle.py_node.specs.declared.raised.Kind.TheVariants.{NotImplementedError}
+use Rattle.py_node.specs.declared.raised.Cause.TheVariants.{NotYet}
+use Rattle.eval_forms.specs.declared.Own.{Own}
+use Rattle.eval_forms.specs.declared.Own.TheVariants as own
+use Rattle.py_node.specs.declared.expr.Word.{Word}
+use Rattle.eval_forms.specs.Say.{operand_trees, own_say, op_say, add_of, two_of, eval_say}
+use Rattle.eval_forms.specs.Rows.{answered, eval_stands, Continues, StepsAt, EndsSo, HasValues, IsOwn, sum_step, of_eval_kept}
+
+list_of-trees_of : (ts : List Tree) → list_of (trees_of ts) ≡ ts
+list_of-trees_of [] = refl
+list_of-trees_of (e ∷ ts) = ap (λ l. e ∷ l) (list_of-trees_of ts)
+
+abbrev part : (ℕ → Text) → (ℕ → Tree) → PyStrInterned × ℕ → Text × Tree
+part text tree e = (text e.0.0, tree e.1)
+
+entry_trees-list : (text : ℕ → Text) (tree : ℕ → Tree) (es : List (PyStrInterned × ℕ)) → entry_trees (entry_list (map (part text tree) es)) ≡ map tree (map (λ e. e.1) es)
+entry_trees-list text tree [] = refl
+entry_trees-list text tree (e ∷ es) = ap (λ l. tree e.1 ∷ l) (entry_trees-list text tree es)
+
+-- the operands of an expression of the store are those of its tree
+pub operand_trees-form : (text : ℕ → Text) (tree : ℕ → Tree) (f : Form) → operand_trees (form_tree text tree f) ≡ map tree (operands f)
+operand_trees-form text tree (form.Const k) = refl
+operand_trees-form text tree (form.Name x) = refl
+operand_trees-form text tree (form.Bind x e) = refl
+operand_trees-form text tree (form.Func x ps e) = refl
+operand_trees-form text tree (form.SetAttr o x e) = refl
+operand_trees-form text tree (form.Call f es) = ap (λ l. tree f ∷ l) (list_of-trees_of (map tree es.items))
+operand_trees-form text tree (form.Op word es) = list_of-trees_of (map tree es.items)
+operand_trees-form text tree (form.Class x bs es) =
+    ap (λ l. l ++ entry_trees (entry_list (map (part text tree) es.items))) (list_of-trees_of (map tree bs.items))
+    ∙ ap (λ l. map tree bs.items ++ l) (entry_trees-list text tree es.items)
+    ∙ sym (map-append tree bs.items (map (λ e. e.1) es.items))
+
+append-nil : {A : Type 0} (xs : List A) → xs ++ [] ≡ xs
+append-nil [] = refl
+append-nil (x ∷ xs) = ap (λ l. x ∷ l) (append-nil xs)
+
+-- there is an element at each place
+pub there : (xs : List ℕ) (n : ℕ) → n < length xs → (x : ℕ) × (slice_get xs n ≡ Some x)
+there [] n h = absurd (omega arith)
+there (x ∷ xs) zero h = (x, refl)
+there (x ∷ xs) (suc n) h = there xs n (omega arith)
+
+module _ (w : PlainWorld) where
+  -- the next operand is asked for
+  pub evaluate-ask : (ts : List Tree) (go : List PyObjectRef → Row) (vs : List PyObjectRef) (e : Tree) → slice_get ts (length vs) ≡ Some e → evaluate w ts go (map answered vs) ≡ Asks w [] (ToEval (DoEval e))
+  evaluate-ask [] go vs e h = cc
+  evaluate-ask (t ∷ ts) go [] e h = let same : t ≡ e = cc in ap (λ e. Asks w [] (ToEval (DoEval e))) same
+  evaluate-ask (t ∷ ts) go (v ∷ vs) e h = evaluate-ask ts (λ us. go (v ∷ us)) vs e h
+
+  -- a fault of an operand is that of the expression
+  pub evaluate-fault : (ts : List Tree) (go : List PyObjectRef → Row) (vs : List PyObjectRef) (e : Tree) (x : Fault) (more : Told) → slice_get ts (length vs) ≡ Some e → evaluate w ts go (map answered vs ++ Answered (Err x) ∷ more) ≡ Ends w (Err x)
+  evaluate-fault [] go vs e x more h = cc
+  evaluate-fault (t ∷ ts) go [] e x more h = refl
+  evaluate-fault (t ∷ ts) go (v ∷ vs) e x more h = evaluate-fault ts (λ us. go (v ∷ us)) vs e x more h
+
+  pub evaluate-done : (ts : List Tree) (go : List PyObjectRef → Row) (vs : List PyObjectRef) (e : Tree) (more : Told) → slice_get ts (length vs) ≡ Some e → evaluate w ts go (map answered vs ++ Answered (Ok Done) ∷ more) ≡ Ends w (Ok Done)
+  evaluate-done [] go vs e more h = cc
+  evaluate-done (t ∷ ts) go [] e more h = refl
+  evaluate-done (t ∷ ts) go (v ∷ vs) e more h = evaluate-done ts (λ us. go (v ∷ us)) vs e more h
+
+  -- where all have values, the expression goes on with them
+  pub evaluate-all : (ts : List Tree) (go : List PyObjectRef → Row) (vs : List PyObjectRef) (more : Told) → length ts ≡ length vs → evaluate w ts go (map answered vs ++ more) ≡ go vs more
+  evaluate-all [] go [] more h = refl
+  evaluate-all [] go (v ∷ vs) more h = absurd (omega arith)
+  evaluate-all (t ∷ ts) go [] more h = absurd (omega arith)
+  evaluate-all (t ∷ ts) go (v ∷ vs) more h = evaluate-all ts (λ us. go (v ∷ us)) vs more (omega arith)
+
+append-holds : (w : Held) (xs ys : List ℕ) (n e : ℕ) → Holds w (AreExpressions xs) → Holds w (AreExpressions ys) → slice_get (xs ++ ys) n ≡ Some e → Holds w (IsExpression e)
+unfolding Holds
+append-holds w [] ys n e g h k = expression-in w ys n e h k
+append-holds w (x ∷ xs) ys zero e g h k = expression-in w (x ∷ xs) zero e g (k)
+append-holds w (x ∷ xs) ys (suc n) e g h k = append-holds w xs ys n e (λ i d l. g (suc i) d (omega arith)) h k
+
+-- each operand is an expression
+pub operand-holds : (w : Held) (f : Form) (n e : ℕ) → AllHold w (of_form f) → slice_get (operands f) n ≡ Some e → Holds w (IsExpression e)
+operand-holds w (form.Const k) n e h p = cc
+operand-holds w (form.Name x) n e h p = cc
+operand-holds w (form.Bind x b) zero e h p = let same : b ≡ e = cc in subst (λ e. Holds w (IsExpression e)) same h.1.0
+operand-holds w (form.Bind x b) (suc n) e h p = cc
+operand-holds w (form.Func x ps b) n e h p = cc
+operand-holds w (form.SetAttr o x b) zero e h p = let same : o ≡ e = cc in subst (λ e. Holds w (IsExpression e)) same h.0
+operand-holds w (form.SetAttr o x b) (suc zero) e h p = let same : b ≡ e = cc in subst (λ e. Holds w (IsExpression e)) same h.1.1.0
+operand-holds w (form.SetAttr o x b) (suc (suc n)) e h p = cc
+operand-holds w (form.Call f es) zero e h p = let same : f ≡ e = cc in subst (λ e. Holds w (IsExpression e)) same h.0
+operand-holds w (form.Call f es) (suc n) e h p = expression-in w es.items n e h.1.0 p
+operand-holds w (form.Op word es) n e h p = expression-in w es.items n e h.0 p
+operand-holds w (form.Class x bs es) n e h p = append-holds w bs.items (map (λ e. e.1) es.items) n e h.1.0 h.1.1.1.0 p
+
+-- a row at an expression of the store is that at its tree
+pub at-tree : (t : Reading) (e : ℕ) (x : Tree) (vs : List PyObjectRef) (old new : World) (next : Step EvalKept) → t.tree e ≡ x → StepsAt t x vs old new next → StepsAt t (t.tree e) vs old new next
+at-tree t e x vs old new next h k = subst (λ x. StepsAt t x vs old new next) (sym h) k
+
+-- the next operand of an expression is evaluated
+pub goes-on : (w : World) (e n : ℕ) (f : Form) (vs : Vec PyObjectRef) → slice_get w.forms e ≡ Some f → slice_get (operands f) (length vs.items) ≡ Some n → Continues e vs.items w w (Ask (task.Eval (eval.Eval n)) (Operands e vs))
+unfolding eval_say
+goes-on w e n f vs h k = λ t r. (r, step t (r.trees e f h))
+  where
+    step : (t : Reading) → t.tree e ≡ form_tree t.text t.tree f → StepsAt t (t.tree e) vs.items w w (Ask (task.Eval (eval.Eval n)) (Operands e vs))
+    step t q =
+        let asks : evaluate (plain t w) (operand_trees (t.tree e)) (own_say (plain t w) (t.tree e)) (map answered vs.items) ≡ Asks (plain t w) [] (ToEval (DoEval (t.tree n))) =
+        evaluate-ask (plain t w) (operand_trees (t.tree e)) (own_say (plain t w) (t.tree e)) vs.items (t.tree n) (ap (λ x. slice_get (operand_trees x) (length vs.items)) q ∙ ap (λ ts. slice_get ts (length vs.items)) (operand_trees-form t.text t.tree f) ∙ got-map t.tree (operands f) (length vs.items) n k) in
+        subst (λ said. Steps eval_say (eval_stands t) t (DoEval (t.tree e)) (map answered vs.items) said (Ask (task.Eval (eval.Eval n)) (Operands e vs)) w) (sym asks) (refl, refl, record { says = λ w r more. ap (λ told. eval_say w (DoEval (t.tree e)) (told ++ Answered r ∷ more)) (append-nil (map answered vs.items)) })
+
+-- a fault of an operand is that of the expression, and so is an answer that is no value
+pub ends-with : (w : World) (e : ℕ) (vs : List PyObjectRef) (x : Fault) → Holds w (HasOperand e (length vs)) → EndsSo e vs w (Err x)
+unfolding Holds eval_say
+ends-with w e vs x h = go (slice_get w.forms e) refl h
+  where
+    go : (o : Option Form) → slice_get w.forms e ≡ o → length vs < length (operands_at o) → EndsSo e vs w (Err x)
+    go None q h = absurd (omega arith)
+    go (Some f) q h = λ t r.
+        let some = there (operands f) (length vs) h in
+        let asks = evaluate-fault (plain t w) (operand_trees (t.tree e)) (own_say (plain t w) (t.tree e)) vs (t.tree some.0) x [] (ap (λ x. slice_get (operand_trees x) (length vs)) (r.trees e f q) ∙ ap (λ ts. slice_get ts (length vs)) (operand_trees-form t.text t.tree f) ∙ got-map t.tree (operands f) (length vs) some.0 some.1) in
+        (r, subst (λ said. Steps eval_say (eval_stands t) t (DoEval (t.tree e)) (map answered vs ++ Answered (Err x) ∷ []) said (End (Err x)) w) (sym asks) (refl, refl))
+
+pub ends-done : (w : World) (e : ℕ) (vs : List PyObjectRef) → Holds w (HasOperand e (length vs)) → EndsSo e vs w (Ok Done)
+unfolding Holds eval_say
+ends-done w e vs h = go (slice_get w.forms e) refl h
+  where
+    go : (o : Option Form) → slice_get w.forms e ≡ o → length vs < length (operands_at o) → EndsSo e vs w (Ok Done)
+    go None q h = absurd (omega arith)
+    go (Some f) q h = λ t r.
+        let some = there (operands f) (length vs) h in
+        let asks = evaluate-done (plain t w) (operand_trees (t.tree e)) (own_say (plain t w) (t.tree e)) vs (t.tree some.0) [] (ap (λ x. slice_get (operand_trees x) (length vs)) (r.trees e f q) ∙ ap (λ ts. slice_get ts (length vs)) (operand_trees-form t.text t.tree f) ∙ got-map t.tree (operands f) (length vs) some.0 some.1) in
+        (r, subst (λ said. Steps eval_say (eval_stands t) t (DoEval (t.tree e)) (map answered vs ++ Answered (Ok Done) ∷ []) said (End (Ok Done)) w) (sym asks) (refl, refl))
+
+pub has-operand : (w : Held) (e n : ℕ) (f : Form) (x : ℕ) → slice_get w.forms e ≡ Some f → slice_get (operands f) n ≡ Some x → Holds w (HasOperand e n)
+unfolding Holds
+has-operand w e n f x h k = subst (λ o. n < length (operands_at o)) (sym h) (slice_get_within (operands f) n x k)
+
+-- where there is no further operand, all have values
+pub has-values : (w : World) (e : ℕ) (f : Form) (vs : List PyObjectRef) → slice_get w.forms e ≡ Some f → slice_get (operands f) (length vs) ≡ None → length vs ≤ length (operands_at (slice_get w.forms e)) → HasValues w e vs
+has-values w e f vs h k l =
+    let same = ap (λ o. length (operands_at o)) h in
+    let past = none-past (operands f) (length vs) k in
+    omega (arith, same, past, l)
+  where
+    none-past : (xs : List ℕ) (n : ℕ) → slice_get xs n ≡ None → length xs ≤ n
+    none-past [] n k = omega arith
+    none-past (x ∷ xs) zero k = cc
+    none-past (x ∷ xs) (suc n) k = let r = none-past xs n k in omega (arith, r)
+
+-- with the values of all operands, the row is at the expression's own step
+own-row : (u : PlainWorld) (t : Reading) (w : World) (e : ℕ) (f : Form) (vs : List PyObjectRef) (more : Told) → Reads t w → slice_get w.forms e ≡ Some f → length (operands f) ≡ length vs → eval_say u (DoEval (t.tree e)) (map answered vs ++ more) ≡ own_say u (t.tree e) vs more
+unfolding eval_say
+own-row u t w e f vs more r h l =
+    let here : length (operand_trees (t.tree e)) ≡ length vs =
+    ap (λ x. length (operand_trees x)) (r.trees e f h) ∙ ap length (operand_trees-form t.text t.tree f) ∙ length-map (operands f) t.tree ∙ l in
+    evaluate-all u (operand_trees (t.tree e)) (own_say u (t.tree e)) vs more here
+
+own-first : (u : PlainWorld) (t : Reading) (w : World) (e : ℕ) (f : Form) (vs : List PyObjectRef) → Reads t w → slice_get w.forms e ≡ Some f → length (operands f) ≡ length vs → eval_say u (DoEval (t.tree e)) (map answered vs) ≡ own_say u (t.tree e) vs []
+own-first u t w e f vs r h l = ap (eval_say u (DoEval (t.tree e))) (sym (append-nil (map answered vs))) ∙ own-row u t w e f vs [] r h l
+
+-- what no stage so far has named
+pub own-later : (w : World) (e : ℕ) (f : Form) (vs : List PyObjectRef) → slice_get w.forms e ≡ Some f → length (operands f) ≡ length vs → IsOwn own.Later f → Continues e vs w w (End (fault NotImplementedError NotYet))
+own-later w e f vs h l o = λ t r. (r, subst (λ said. Steps eval_say (eval_stands t) t (DoEval (t.tree e)) (map answered vs) said (End (fault NotImplementedError NotYet)) w) (sym (own-first (plain t w) t w e f vs r h l ∙ ap (λ x. own_say (plain t w) x vs []) (r.trees e f h) ∙ later t f o)) (refl, refl))
+  where
+    later : (t : Reading) (f : Form) → IsOwn own.Later f → own_say (plain t w) (form_tree t.text t.tree f) vs [] ≡ Ends (plain t w) (fault NotImplementedError NotYet)
+    later t (form.Const k) o = absurd o
+    later t (form.Name x) o = refl
+    later t (form.Bind x e) o = refl
+    later t (form.Func x ps e) o = refl
+    later t (form.SetAttr a x e) o = refl
+    later t (form.Call f es) o = refl
+    later t (form.Op word es) o = absurd o
+    later t (form.Class x bs es) o = refl
+
+-- a sum
+pub own-add : (w : World) (e : ℕ) (f : Form) (vs : List PyObjectRef) → slice_get w.forms e ≡ Some f → length (operands f) ≡ length vs → IsOwn (own.Op word.Add) f → Continues e vs w w (sum_step (two_of vs))
+unfolding eval_say
+own-add w e f vs h l o = λ t r. (r, go t r (two_of vs) refl)
+  where
+    says : (u : PlainWorld) (t : Reading) (f : Form) (more : Told) → IsOwn (own.Op word.Add) f → own_say u (form_tree t.text t.tree f) vs more ≡ add_of u (two_of vs) more
+    says u t (form.Const k) more o = absurd o
+    says u t (form.Name x) more o = absurd o
+    says u t (form.Bind x e) more o = absurd o
+    says u t (form.Func x ps e) more o = absurd o
+    says u t (form.SetAttr a x e) more o = absurd o
+    says u t (form.Call f es) more o = absurd o
+    says u t (form.Op word es) more o = ap (λ v. op_say u v vs more) (sym o)
+    says u t (form.Class x bs es) more o = absurd o
+
+    row : (t : Reading) → Reads t w → (u : PlainWorld) (more : Told) → eval_say u (DoEval (t.tree e)) (map answered vs ++ more) ≡ add_of u (two_of vs) more
+    row t r u more = own-row u t w e f vs more r h l ∙ ap (λ x. own_say u x vs more) (r.trees e f h) ∙ says u t f more o
+
+    first : (t : Reading) → Reads t w → (u : PlainWorld) → eval_say u (DoEval (t.tree e)) (map answered vs) ≡ add_of u (two_of vs) []
+    first t r u = ap (eval_say u (DoEval (t.tree e))) (sym (append-nil (map answered vs))) ∙ row t r u []
+
+    go : (t : Reading) → Reads t w → (p : Option (PyObjectRef × PyObjectRef)) → two_of vs ≡ p → StepsAt t (t.tree e) vs w w (sum_step (two_of vs))
+    go t r None q = subst (λ s. StepsAt t (t.tree e) vs w w (sum_step s)) (sym q) (subst (λ said. Steps eval_say (eval_stands t) t (DoEval (t.tree e)) (map answered vs) said (sum_step None) w) (sym (first t r (plain t w) ∙ ap (λ s. add_of (plain t w) s []) q)) (refl, refl))
+    go t r (Some p) q = subst (λ s. StepsAt t (t.tree e) vs w w (sum_step s)) (sym q) (subst (λ said. Steps eval_say (eval_stands t) t (DoEval (t.tree e)) (map answered vs) said (sum_step (Some p)) w) (sym (first t r (plain t w) ∙ ap (λ s. add_of (plain t w) s []) q)) (refl, refl, record { says = λ u s more. ap (λ told. eval_say u (DoEval (t.tree e)) (told ++ Answered s ∷ more)) (append-nil (map answered vs)) ∙ row t r u (Answered s ∷ more) ∙ ap (λ x. add_of u x (Answered s ∷ more)) q }))
+
+-- the one word of this stage
+pub own-sum : (f : Form) (o : Own) (v : Word) → o ≡ own.Op v → IsOwn o f → IsOwn (own.Op word.Add) f
+own-sum f o v e h = subst (λ v. IsOwn (own.Op v) f) (only v) (subst (λ o. IsOwn o f) e h)
+  where
+    only : (v : Word) → v ≡ word.Add
+    only word.Add = refl
+
+pub sum-holds : (w : Held) (vs : List PyObjectRef) → Holds w (AreNodes vs) → AllHold w (of_step of_eval_kept (sum_step (two_of vs)))
+sum-holds w [] h = tt
+sum-holds w (a ∷ []) h = tt
+sum-holds w (a ∷ (b ∷ [])) h = (node-in w (a ∷ (b ∷ [])) 0 a h refl, (node-in w (a ∷ (b ∷ [])) 1 b h refl, tt))
+sum-holds w (a ∷ (b ∷ (d ∷ vs))) h = tt

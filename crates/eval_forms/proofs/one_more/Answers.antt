@@ -1,0 +1,14 @@
+use Rattle.std.proofs.Common.{◌∷◌, [], arith, length-append}
+use Rattle.class_world.specs.Sound.{Holds}
+use Rattle.class_world.proofs.Claims.{more-nodes}
+use Rattle.eval_forms.proofs.one_more.Goals as goal
+
+pub next_operand-requires-clause-values : goal.next_operand-requires-clause-values
+next_operand-requires-clause-values c = rw c.in_ok-values.ensures (more-nodes _ c.args.values.items c.args.value c.requires.kept.1.1.0 c.requires.answer)
+
+pub next_operand-requires-clause-fits : goal.next_operand-requires-clause-fits
+unfolding Holds
+next_operand-requires-clause-fits c =
+    let l = length-append c.args.values.items (c.args.value ∷ []) in
+    let h = c.requires.kept.1.0 in
+    rw c.in_ok-values.ensures (omega (arith, l, h))

@@ -1,0 +1,90 @@
+-- What the contracts of the rows of expressions say.
+use Rattle.std.specs.Prelude.{◌≡◌, ℕ, List, [], ◌∷◌, ◌++◌, map, length, Result, Option, Some, None, slice_get}
+use Rattle.py_node.specs.declared.raised.Raised.{Raised as Fault}
+use Rattle.py_node.specs.declared.refs.PyObjectRef.{PyObjectRef}
+use Rattle.py_node.specs.declared.expr.Word.TheVariants.{Add}
+use Rattle.py_node.specs.declared.task.Answer.{Answer}
+use Rattle.py_node.specs.declared.task.EvalTask.{EvalTask}
+use Rattle.py_node.specs.declared.task.Step.{Step}
+use Rattle.py_node.specs.declared.task.Step.TheVariants.{Ask, End}
+use Rattle.py_node.specs.declared.task.Task.TheVariants as task
+use Rattle.py_node.specs.declared.task.OperatorTask.TheVariants as operator
+use Rattle.py_node.specs.declared.raised.Kind.TheVariants.{TypeError}
+use Rattle.py_node.specs.declared.raised.Cause.TheVariants.{ArgCount}
+use Rattle.py_node.specs.declared.payload.Form.{Form}
+use Rattle.py_node.specs.declared.payload.Form.TheVariants as form
+use Rattle.py_node.specs.Tree.{literal_of, Tree, TOp, tree, no_trees, TConst, LNone}
+use Rattle.plain_machine.specs.Plain.{EvalJob, DoEval, Fact, Answered}
+use Rattle.plain_machine.specs.Row.{value, fault}
+use Rattle.plain_machine.specs.Rows.{Pending, fresh, given}
+use Rattle.class_world.specs.declared.world.World.{World}
+use Rattle.class_world.specs.Reading.{Reading, plain, eval_job}
+use Rattle.class_world.specs.Rows.{Goes, Steps}
+use Rattle.class_world.specs.Sound.{Claim, AreNodes, IsExpression, HasOperand, operands_at}
+use Rattle.eval_forms.specs.declared.EvalKept.{EvalKept}
+use Rattle.eval_forms.specs.declared.EvalKept.TheVariants.{Pass, Operands}
+use Rattle.eval_forms.specs.declared.Own.{Own}
+use Rattle.eval_forms.specs.declared.Own.TheVariants as own
+use Rattle.eval_forms.specs.Say.{eval_say, two_of}
+
+-- the values of the operands so far, as they were learnt
+abbrev pub answered : PyObjectRef → Fact
+answered v = Answered (value v)
+
+-- an expression whose operands have been evaluated, and which passes on what it then asked
+abbrev pub passing : Tree
+passing = TOp Add (tree (TConst LNone) (tree (TConst LNone) no_trees))
+
+abbrev pub passed : List PyObjectRef
+passed = record { 0 = 0 } ∷ record { 0 = 0 } ∷ []
+
+-- the row that goes on, at each answer, just as the row that the code keeps this for
+abbrev pub eval_stands : Reading → EvalKept → Pending EvalJob
+eval_stands t Pass = record { task = DoEval passing; told = map answered passed }
+eval_stands t (Operands e vs) = record { task = DoEval (t.tree e); told = map answered vs.items }
+
+-- what is said of what is kept
+abbrev pub of_eval_kept : EvalKept → List Claim
+of_eval_kept Pass = []
+of_eval_kept (Operands e vs) = IsExpression e ∷ HasOperand e (length vs.items) ∷ AreNodes vs.items ∷ []
+
+abbrev pub Begins : EvalTask → World → World → Step EvalKept → Type 0
+Begins task = Goes eval_say eval_stands (λ t. fresh (eval_job t task))
+
+abbrev pub Resumes : EvalKept → Result Answer Fault → World → World → Step EvalKept → Type 0
+Resumes kept r = Goes eval_say eval_stands (λ t. given (eval_stands t kept) r)
+
+-- the row of an expression whose operands have these values so far
+abbrev pub Continues : ℕ → List PyObjectRef → World → World → Step EvalKept → Type 0
+Continues e vs = Goes eval_say eval_stands (λ t. record { task = DoEval (t.tree e); told = map answered vs })
+
+-- the same of an expression by its tree
+abbrev pub ContinuesTree : (Reading → Tree) → List PyObjectRef → World → World → Step EvalKept → Type 0
+ContinuesTree spell vs = Goes eval_say eval_stands (λ t. record { task = DoEval (spell t); told = map answered vs })
+
+-- what is kept of an expression's own step is that of the expression
+abbrev pub IsOwn : Own → Form → Type 0
+IsOwn (own.Const k) (form.Const j) = literal_of k ≡ literal_of j
+IsOwn (own.Const k) _ = ⊥
+IsOwn (own.Op word) (form.Op other es) = word ≡ other
+IsOwn (own.Op word) _ = ⊥
+IsOwn own.Later (form.Const j) = ⊥
+IsOwn own.Later (form.Op other es) = ⊥
+IsOwn own.Later _ = Unit {0}
+
+-- the expression's operands have so many values
+abbrev pub HasValues : World → ℕ → List PyObjectRef → Type 0
+HasValues w e vs = length (operands_at (slice_get w.forms e)) ≡ length vs
+
+-- the step of a sum, with the values of its operands
+abbrev pub sum_step : Option (PyObjectRef × PyObjectRef) → Step EvalKept
+sum_step None = End (fault TypeError ArgCount)
+sum_step (Some p) = Ask (task.Operator (operator.Add p.0 p.1)) Pass
+
+-- a step from a point of the row of a tree, under one reading
+abbrev pub StepsAt : Reading → Tree → List PyObjectRef → World → World → Step EvalKept → Type 0
+StepsAt t x vs old new next = Steps eval_say (eval_stands t) t (DoEval x) (map answered vs) (eval_say (plain t old) (DoEval x) (map answered vs)) next new
+
+-- an expression ends as its operand did
+abbrev pub EndsSo : ℕ → List PyObjectRef → World → Result Answer Fault → Type 0
+EndsSo e vs w r = Goes eval_say eval_stands (λ t. record { task = DoEval (t.tree e); told = map answered vs ++ Answered r ∷ [] }) w w (End r)

@@ -1,0 +1,71 @@
+-- What the rows of expressions say.
+use Rattle.std.specs.Prelude.{ℕ, ℤ, pos, List, [], ◌∷◌, ◌++◌, Option, Some, None}
+use Rattle.py_node.specs.declared.refs.PyObjectRef.{PyObjectRef}
+use Rattle.py_node.specs.declared.raised.Kind.TheVariants.{TypeError, NotImplementedError}
+use Rattle.py_node.specs.declared.raised.Cause.TheVariants.{ArgCount, NotYet}
+use Rattle.py_node.specs.declared.expr.Word.{Word}
+use Rattle.py_node.specs.declared.expr.Word.TheVariants as word
+use Rattle.py_node.specs.Tree.{Text, Tree, TConst, TName, TBind, TFunc, TSetAttr, TCall, TOp, TClass, Literal, LNone, LFalse, LTrue, LInt, LText, list_of, entry_trees}
+use Rattle.plain_machine.specs.Plain.{ANumber, AText, PlainWorld, EvalJob, DoEval, DoAdd, ToOperator}
+use Rattle.plain_machine.specs.World.{ref}
+use Rattle.plain_machine.specs.Row.{Row, ask, end, value, fault, make, evaluate}
+
+-- the classes of ints and of texts
+abbrev pub the_int : ℕ
+the_int = 4
+
+abbrev pub the_str : ℕ
+the_str = 6
+
+-- a constant is a fixed object, or a new one
+abbrev pub const_say : PlainWorld → Literal → Row
+const_say w LNone = end w (value (ref 23))
+const_say w LFalse = end w (value (ref 25))
+const_say w LTrue = end w (value (ref 26))
+const_say w (LInt z) = make w the_int (ANumber z)
+const_say w (LText x) = make w the_str (AText x)
+
+-- the operands of an operation with two
+abbrev pub two_of : List PyObjectRef → Option (PyObjectRef × PyObjectRef)
+two_of [] = None
+two_of (a ∷ []) = None
+two_of (a ∷ (b ∷ [])) = Some (a, b)
+two_of (a ∷ (b ∷ (c ∷ more))) = None
+
+abbrev pub add_of : PlainWorld → Option (PyObjectRef × PyObjectRef) → Row
+add_of w None = end w (fault TypeError ArgCount)
+add_of w (Some p) = ask w (ToOperator (DoAdd p.0 p.1)) (end w)
+
+-- the word's task, with the values of the operands
+abbrev pub op_say : PlainWorld → Word → List PyObjectRef → Row
+op_say w word.Add vs = add_of w (two_of vs)
+
+-- what no stage so far has named
+abbrev pub not_yet : PlainWorld → Row
+not_yet w = end w (fault NotImplementedError NotYet)
+
+-- the parts of an expression that are evaluated first, in order
+abbrev pub operand_trees : Tree → List Tree
+operand_trees (TConst k) = []
+operand_trees (TName x) = []
+operand_trees (TBind x e) = e ∷ []
+operand_trees (TFunc x ps e) = []
+operand_trees (TSetAttr o x e) = o ∷ e ∷ []
+operand_trees (TCall f es) = f ∷ list_of es
+operand_trees (TOp word es) = list_of es
+operand_trees (TClass x bs es) = list_of bs ++ entry_trees es
+
+-- what an expression does with the values of its operands
+abbrev pub own_say : PlainWorld → Tree → List PyObjectRef → Row
+own_say w (TConst k) vs = const_say w k
+own_say w (TName x) vs = not_yet w
+own_say w (TBind x e) vs = not_yet w
+own_say w (TFunc x ps e) vs = not_yet w
+own_say w (TSetAttr o x e) vs = not_yet w
+own_say w (TCall f es) vs = not_yet w
+own_say w (TOp word es) vs = op_say w word vs
+own_say w (TClass x bs es) vs = not_yet w
+
+-- an expression's operands are evaluated in order. Then it has a step of its own
+unfoldable pub eval_say : PlainWorld → EvalJob → Row
+eval_say w (DoEval e) told = evaluate w (operand_trees e) (own_say w e) told
