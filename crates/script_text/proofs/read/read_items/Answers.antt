@@ -1,0 +1,17 @@
+use Rattle.std.proofs.Common.{◌≡◌, None, arith}
+use Rattle.serde_json.specs.View.{items_view}
+use Rattle.script_text.specs.declared.read.ScriptFault.TheVariants.{Script}
+use Rattle.script_text.specs.Fault.{fault_of}
+use Rattle.script_text.specs.Forms.{exprs_of}
+use Rattle.script_text.specs.Script.{commands_in}
+use Rattle.script_text.proofs.Values.{shape-from_fault}
+use Rattle.script_text.proofs.read.read_items.Goals as goal
+
+pub returns-in_err-exprs-clause-script : goal.returns-in_err-exprs-clause-script
+unfolding commands_in
+returns-in_err-exprs-clause-script c e is =
+    let u = c.in_err-exprs.field-0.0 in
+    let told : fault_of u ≡ Script e = grind arith in
+    let shape = shape-from_fault u e told in
+    let none : exprs_of (items_view c.args.items.now) ≡ None = grind (arith, shape.0) in
+    grind (arith, none, shape.1)

@@ -1,0 +1,348 @@
+// The forms of expressions.
+
+ghost use Rattle.std.specs.Prelude.{◌≡◌, Some, None, Err, IfOk, IfErr, ok_or, is_ok, nat_le, length, map, string_bytes};
+ghost use Rattle.serde_json.specs.Find.{as_str};
+ghost use Rattle.serde_json.specs.View.{view, items_view};
+ghost use Rattle.py_node.specs.Tree.{tree_of, texts_of};
+ghost use Rattle.script_text.specs.Forms.{word_of, operation_of, arity, texts_in, all_differ, params_of, nothing_in, expr_of, array_of, name_of, bind_of, func_of, setattr_of, call_of, op_of, class_of, list_of, exprs_of, body_of, entries_in, entry_of, named_of, differing, named};
+
+use crate::parts::{Unread, next, no_more, one, three, three_and_rest, two, two_and_rest};
+use py_node::expr::{Constant, Expr, Word};
+use serde_json::Value;
+use std::alloc::{AllocError, Global};
+use std::collections::BTreeSet;
+
+// The word of an operation.
+fn find_word(text: &str) -> Option<Word>
+    ensures { result ≡ word_of text.now }
+{
+    if text == "+" { Some(Word::Add) } else { None }
+}
+
+// A copy of a string.
+fn read_text(alloc: Global, value: &Value) -> Result<String, Unread>
+    ensures ok { IfOk result (λ s. as_str (view value.now) ≡ Some (string_bytes s)) }
+    ensures shape { result ≡ Err Unread.Shape → as_str (view value.now) ≡ None }
+{
+    let text = value.as_str().ok_or(Unread::Shape)?;
+    Ok(String::from_str(alloc, text)?)
+}
+
+// The operation that a value names.
+fn read_word(value: &Value) -> Result<Word, Unread>
+    ensures { result ≡ ok_or (operation_of (view value.now)) Unread.Shape }
+{
+    let text = value.as_str().ok_or(Unread::Shape)?;
+    find_word(text).ok_or(Unread::Shape)
+}
+
+// How many operands an operation takes.
+fn count_operands(word: Word) -> usize
+    ensures { result ≡ arity word }
+{
+    match word {
+        Word::Add => 2,
+    }
+}
+
+// Nothing more, or an empty list.
+fn read_nothing(items: &[Value]) -> Result<(), Unread>
+    ensures ok { IfOk result (λ u. nothing_in (items_view items.now) ≡ Some tt) }
+    ensures shape { IfErr result (λ e. nothing_in (items_view items.now) ≡ None) }
+{
+    let Some((first, rest)) = items.split_first() else {
+        return Ok(());
+    };
+    no_more(rest)?;
+    match first {
+        Value::Array(none) => no_more(none.as_slice()),
+        _ => Err(Unread::Shape),
+    }
+}
+
+// No second base is read yet.
+fn no_second(bases: &[Expr]) -> Result<(), Unread>
+    ensures { is_ok result ≡ nat_le (length bases.now) 1 }
+{
+    if bases.len() <= 1 {
+        Ok(())
+    } else {
+        Err(Unread::Shape)
+    }
+}
+
+// The parameters of a function: strings that all differ.
+fn read_params(alloc: Global, value: &Value) -> Result<Vec<String>, Unread>
+    ensures ok { IfOk result (λ v. params_of (view value.now) ≡ Some (texts_of v.items)) }
+    ensures shape { result ≡ Err Unread.Shape → params_of (view value.now) ≡ None }
+{
+    match value {
+        Value::Array(items) => read_names(alloc, items.as_slice()),
+        _ => Err(Unread::Shape),
+    }
+}
+
+fn read_names(alloc: Global, items: &[Value]) -> Result<Vec<String>, Unread>
+    ensures ok { IfOk result (λ v. differing (items_view items.now) ≡ Some (texts_of v.items)) }
+    ensures shape { result ≡ Err Unread.Shape → differing (items_view items.now) ≡ None }
+{
+    let texts = read_texts(alloc, items)?;
+    if is_distinct(alloc, texts.as_slice())? {
+        Ok(texts)
+    } else {
+        Err(Unread::Shape)
+    }
+}
+
+// The strings of a list.
+fn read_texts(alloc: Global, items: &[Value]) -> Result<Vec<String>, Unread>
+    ensures ok { IfOk result (λ v. texts_in (items_view items.now) ≡ Some (texts_of v.items)) }
+    ensures shape { result ≡ Err Unread.Shape → texts_in (items_view items.now) ≡ None }
+{
+    let mut found = Vec::with_capacity(alloc, items.len())?;
+    for item in items {
+        found.push(read_text(alloc, item)?)?;
+    }
+    Ok(found)
+}
+
+// Whether no text of a list stands twice.
+fn is_distinct(alloc: Global, texts: &[String]) -> Result<bool, AllocError>
+    ensures { IfOk result (λ b. b ≡ all_differ (texts_of texts.now)) }
+{
+    let mut later = BTreeSet::new(alloc);
+    let mut i = texts.len();
+    'texts: while 0 < i {
+        i -= 1;
+        if !later.insert(texts[i].as_str())? {
+            return Ok(false);
+        }
+    }
+    Ok(true)
+}
+
+// The expression that a value spells.
+#[tactic(auto, unfolding(crate::specs::Forms::expr_of))]
+#[cycle(forms)]
+pub(crate) fn read_expr(alloc: Global, value: &Value) -> Result<Expr, Unread>
+    ensures ok { IfOk result (λ e. expr_of (view value.now) ≡ Some (tree_of e)) }
+    ensures shape { result ≡ Err Unread.Shape → expr_of (view value.now) ≡ None }
+{
+    match value {
+        Value::Null => Ok(Expr::Const(Constant::None)),
+        Value::Bool(false) => Ok(Expr::Const(Constant::False)),
+        Value::Bool(true) => Ok(Expr::Const(Constant::True)),
+        Value::Number(n) => match n.as_i64() {
+            Some(z) => Ok(Expr::Const(Constant::Int(z))),
+            None => Err(Unread::Shape),
+        },
+        Value::String(s) => Ok(Expr::Const(Constant::Str(s.clone()?))),
+        Value::Array(items) => read_array(alloc, items.as_slice()),
+        Value::Object(_) => Err(Unread::Shape),
+    }
+}
+
+// A form's word, and what the form takes.
+#[tactic(auto, unfolding(crate::specs::Forms::array_of))]
+#[cycle(forms)]
+fn read_array(alloc: Global, items: &[Value]) -> Result<Expr, Unread>
+    ensures ok { IfOk result (λ e. array_of (items_view items.now) ≡ Some (tree_of e)) }
+    ensures shape { result ≡ Err Unread.Shape → array_of (items_view items.now) ≡ None }
+{
+    let (head, rest) = next(items)?;
+    let word = head.as_str().ok_or(Unread::Shape)?;
+    if word == "name" {
+        read_name(alloc, rest)
+    } else if word == "bind" {
+        read_bind(alloc, rest)
+    } else if word == "func" {
+        read_func(alloc, rest)
+    } else if word == "setattr" {
+        read_setattr(alloc, rest)
+    } else if word == "call" {
+        read_call(alloc, rest)
+    } else if word == "op" {
+        read_op(alloc, rest)
+    } else if word == "class" {
+        read_class(alloc, rest)
+    } else {
+        Err(Unread::Shape)
+    }
+}
+
+// A name.
+#[tactic(auto, unfolding(crate::specs::Forms::name_of))]
+fn read_name(alloc: Global, items: &[Value]) -> Result<Expr, Unread>
+    ensures ok { IfOk result (λ e. name_of (items_view items.now) ≡ Some (tree_of e)) }
+    ensures shape { result ≡ Err Unread.Shape → name_of (items_view items.now) ≡ None }
+{
+    let name = one(items)?;
+    let text = read_text(alloc, name)?;
+    Ok(Expr::Name(text))
+}
+
+// A name, and the expression that it is bound to.
+#[tactic(auto, unfolding(crate::specs::Forms::bind_of))]
+#[cycle(forms)]
+fn read_bind(alloc: Global, items: &[Value]) -> Result<Expr, Unread>
+    ensures ok { IfOk result (λ e. bind_of (items_view items.now) ≡ Some (tree_of e)) }
+    ensures shape { result ≡ Err Unread.Shape → bind_of (items_view items.now) ≡ None }
+{
+    let (name, value) = two(items)?;
+    let text = read_text(alloc, name)?;
+    let expr = read_expr(alloc, value)?;
+    Ok(Expr::Bind(text, Box::new(alloc, expr)?))
+}
+
+// A name, the parameters, which all differ, and the body.
+#[tactic(auto, unfolding(crate::specs::Forms::func_of))]
+#[cycle(forms)]
+fn read_func(alloc: Global, items: &[Value]) -> Result<Expr, Unread>
+    ensures ok { IfOk result (λ e. func_of (items_view items.now) ≡ Some (tree_of e)) }
+    ensures shape { result ≡ Err Unread.Shape → func_of (items_view items.now) ≡ None }
+{
+    let (name, params, body) = three(items)?;
+    let text = read_text(alloc, name)?;
+    let texts = read_params(alloc, params)?;
+    let expr = read_expr(alloc, body)?;
+    Ok(Expr::Func(text, texts, Box::new(alloc, expr)?))
+}
+
+// An object, the name of an attribute, and what it is set to.
+#[tactic(auto, unfolding(crate::specs::Forms::setattr_of))]
+#[cycle(forms)]
+fn read_setattr(alloc: Global, items: &[Value]) -> Result<Expr, Unread>
+    ensures ok { IfOk result (λ e. setattr_of (items_view items.now) ≡ Some (tree_of e)) }
+    ensures shape { result ≡ Err Unread.Shape → setattr_of (items_view items.now) ≡ None }
+{
+    let (object, name, value) = three(items)?;
+    let target = read_expr(alloc, object)?;
+    let text = read_text(alloc, name)?;
+    let expr = read_expr(alloc, value)?;
+    Ok(Expr::SetAttr(Box::new(alloc, target)?, text, Box::new(alloc, expr)?))
+}
+
+// What is called, and the arguments.
+#[tactic(auto, unfolding(crate::specs::Forms::call_of))]
+#[cycle(forms)]
+fn read_call(alloc: Global, items: &[Value]) -> Result<Expr, Unread>
+    ensures ok { IfOk result (λ e. call_of (items_view items.now) ≡ Some (tree_of e)) }
+    ensures shape { result ≡ Err Unread.Shape → call_of (items_view items.now) ≡ None }
+{
+    let (callee, list, rest) = two_and_rest(items)?;
+    read_nothing(rest)?;
+    let function = read_expr(alloc, callee)?;
+    let args = read_list(alloc, list)?;
+    Ok(Expr::Call(Box::new(alloc, function)?, args))
+}
+
+// The word of an operation, and as many operands as it takes.
+#[tactic(auto, unfolding(crate::specs::Forms::op_of))]
+#[cycle(forms)]
+fn read_op(alloc: Global, items: &[Value]) -> Result<Expr, Unread>
+    ensures ok { IfOk result (λ e. op_of (items_view items.now) ≡ Some (tree_of e)) }
+    ensures shape { result ≡ Err Unread.Shape → op_of (items_view items.now) ≡ None }
+{
+    let (head, rest) = next(items)?;
+    let word = read_word(head)?;
+    let operands = read_exprs(alloc, rest)?;
+    if operands.len() == count_operands(word) {
+        Ok(Expr::Op(word, operands))
+    } else {
+        Err(Unread::Shape)
+    }
+}
+
+// A name, the bases, and the entries of the body.
+#[tactic(auto, unfolding(crate::specs::Forms::class_of))]
+#[cycle(forms)]
+fn read_class(alloc: Global, items: &[Value]) -> Result<Expr, Unread>
+    ensures ok { IfOk result (λ e. class_of (items_view items.now) ≡ Some (tree_of e)) }
+    ensures shape { result ≡ Err Unread.Shape → class_of (items_view items.now) ≡ None }
+{
+    let (name, base_list, entry_list, rest) = three_and_rest(items)?;
+    read_nothing(rest)?;
+    let text = read_text(alloc, name)?;
+    let bases = read_list(alloc, base_list)?;
+    no_second(bases.as_slice())?;
+    let entries = read_body(alloc, entry_list)?;
+    Ok(Expr::Class(text, bases, entries))
+}
+
+// A list of expressions.
+#[tactic(auto, unfolding(crate::specs::Forms::list_of))]
+#[cycle(forms)]
+fn read_list(alloc: Global, value: &Value) -> Result<Vec<Expr>, Unread>
+    ensures ok { IfOk result (λ v. list_of (view value.now) ≡ Some (map tree_of v.items)) }
+    ensures shape { result ≡ Err Unread.Shape → list_of (view value.now) ≡ None }
+{
+    match value {
+        Value::Array(items) => read_exprs(alloc, items.as_slice()),
+        _ => Err(Unread::Shape),
+    }
+}
+
+/// The expressions that values spell.
+#[tactic(auto, unfolding(crate::specs::Forms::exprs_of))]
+#[cycle(forms)]
+pub(crate) fn read_exprs(alloc: Global, items: &[Value]) -> Result<Vec<Expr>, Unread>
+    ensures ok { IfOk result (λ v. exprs_of (items_view items.now) ≡ Some (map tree_of v.items)) }
+    ensures shape { result ≡ Err Unread.Shape → exprs_of (items_view items.now) ≡ None }
+{
+    let mut found = Vec::with_capacity(alloc, items.len())?;
+    for item in items {
+        found.push(read_expr(alloc, item)?)?;
+    }
+    Ok(found)
+}
+
+// A list of entries.
+#[tactic(auto, unfolding(crate::specs::Forms::body_of))]
+#[cycle(forms)]
+fn read_body(alloc: Global, value: &Value) -> Result<Vec<(String, Expr)>, Unread>
+    ensures ok { IfOk result (λ v. body_of (view value.now) ≡ Some (map named v.items)) }
+    ensures shape { result ≡ Err Unread.Shape → body_of (view value.now) ≡ None }
+{
+    match value {
+        Value::Array(items) => read_entries(alloc, items.as_slice()),
+        _ => Err(Unread::Shape),
+    }
+}
+
+#[tactic(auto, unfolding(crate::specs::Forms::entries_in))]
+#[cycle(forms)]
+fn read_entries(alloc: Global, items: &[Value]) -> Result<Vec<(String, Expr)>, Unread>
+    ensures ok { IfOk result (λ v. entries_in (items_view items.now) ≡ Some (map named v.items)) }
+    ensures shape { result ≡ Err Unread.Shape → entries_in (items_view items.now) ≡ None }
+{
+    let mut found = Vec::with_capacity(alloc, items.len())?;
+    for item in items {
+        found.push(read_entry(alloc, item)?)?;
+    }
+    Ok(found)
+}
+
+// An entry is an array of a name and an expression.
+#[tactic(auto, unfolding(crate::specs::Forms::entry_of))]
+#[cycle(forms)]
+fn read_entry(alloc: Global, value: &Value) -> Result<(String, Expr), Unread>
+    ensures ok { IfOk result (λ e. entry_of (view value.now) ≡ Some (named e)) }
+    ensures shape { result ≡ Err Unread.Shape → entry_of (view value.now) ≡ None }
+{
+    match value {
+        Value::Array(items) => read_named(alloc, items.as_slice()),
+        _ => Err(Unread::Shape),
+    }
+}
+
+#[tactic(auto, unfolding(crate::specs::Forms::named_of))]
+#[cycle(forms)]
+fn read_named(alloc: Global, items: &[Value]) -> Result<(String, Expr), Unread>
+    ensures ok { IfOk result (λ e. named_of (items_view items.now) ≡ Some (named e)) }
+    ensures shape { result ≡ Err Unread.Shape → named_of (items_view items.now) ≡ None }
+{
+    let (name, value) = two(items)?;
+    let text = read_text(alloc, name)?;
+    let expr = read_expr(alloc, value)?;
+    Ok((text, expr))
+}

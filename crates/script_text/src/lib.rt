@@ -1,0 +1,8 @@
+// The commands that the text of a script spells.
+#![tactic(auto)]
+
+mod forms;
+mod parts;
+pub mod read;
+#[cfg(test)]
+mod tests;
