@@ -3,5 +3,11 @@
 // has taken; each failure raises its count of faults.
 #![tactic(auto)]
 
+pub mod faults;
+pub mod memory;
+pub mod read_all;
 pub mod sink;
 pub mod source;
+pub mod standard;
+pub mod words;
+pub mod write_all;

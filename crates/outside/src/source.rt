@@ -4,8 +4,11 @@ ghost use Rattle.std.specs.Option.{ForSome};
 ghost use Rattle.outside.specs.Count.{Rose};
 ghost use Rattle.outside.specs.Source.{Moves};
 
+use thiserror::Error;
+
 /// A read or a write failed.
-#[derive(Clone, Copy, Debug, PartialEq, Eq)]
+#[derive(Clone, Copy, Debug, PartialEq, Eq, Error)]
+#[error("a read or a write failed")]
 pub struct Failed;
 
 pub trait Source {
