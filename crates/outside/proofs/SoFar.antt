@@ -15,9 +15,13 @@ none_read told read none = record { parts = λ all is. (all, is, rw none refl) }
 -- n bytes more
 pub one_more : (told left later : Option (List ℕ)) (read more : List ℕ) (n : ℕ) → SoFar told left read →
     ForSome left (λ rest. more ≡ read ++ take n rest) → ForSome left (λ rest. later ≡ Some (drop n rest)) → SoFar told later more
-one_more told left later read more n so_far piece rest = record { parts = λ all is. let p = so_far.parts all is in
-    (drop n p.0, rest p.0 p.1,
-      p.2 ∙ ap (λ r. read ++ r) (sym (take-append-drop n p.0)) ∙ sym (append_assoc read (take n p.0) (drop n p.0)) ∙ ap (λ r. r ++ drop n p.0) (sym (piece p.0 p.1))) }
+one_more told left later read more n so_far piece rest = record {
+  parts = λ all is. let p = so_far.parts all is in (
+    drop n p.0,
+    rest p.0 p.1,
+    p.2 ∙ ap (λ r. read ++ r) (sym (take-append-drop n p.0)) ∙ sym (append_assoc read (take n p.0) (drop n p.0)) ∙ ap (λ r. r ++ drop n p.0) (sym (piece p.0 p.1)),
+  );
+}
 
 -- at the end all has been read
 pub all_read : (told left : Option (List ℕ)) (read more : List ℕ) (n : ℕ) → SoFar told left read →

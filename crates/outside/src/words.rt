@@ -23,8 +23,12 @@ fn written_units(text: &str) -> Option<u64>
         return None;
     }
     match text.parse::<u64>() {
-        Ok(units) if (1..=1_000_000_000).contains(&units) => Some(units),
-        _ => None,
+        Ok(units) => if (1..=1_000_000_000).contains(&units) {
+            Some(units)
+        } else {
+            None
+        },
+        Err(_) => None,
     }
 }
 

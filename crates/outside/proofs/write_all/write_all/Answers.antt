@@ -12,9 +12,9 @@ loop-at-preserved g c =
       within = omega (arith, c.in_ok-at.ensures.part, len);
       later = omega (arith, c.in_ok-at.ensures.later);
       front = λ old is. c.in_ok-at.ensures.taken _ (c.loop-at.invariant.front old is)
-        ∙ ap (λ r. Some r) (taken_more old c.args.bytes.now c.loop-at.at c.in_ok-at.field-0);
+          ∙ ap (λ r. Some r) (taken_more old c.args.bytes.now c.loop-at.at c.in_ok-at.field-0);
       sure = λ enough. let before = c.loop-at.invariant.sure enough in
-        let some : 0 < length piece = omega (arith, len) in
-        let fits : length piece ≤ g.K.Sink.sure c.loop-at.sink = omega (arith, len, before) in
-        omega (arith, c.in_ok-at.ensures.sure some fits, before)
+          let some : 0 < length piece = omega (arith, len) in
+          let fits : length piece ≤ g.K.Sink.sure c.loop-at.sink = omega (arith, len, before) in
+          omega (arith, c.in_ok-at.ensures.sure some fits, before);
     }
