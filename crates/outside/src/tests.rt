@@ -1,12 +1,12 @@
 // Small tables: the words, reads of a byte at a time, and failures in mid-stream.
+ghost use Rattle.std.specs.Prelude.{◌<◌};
+
 use crate::memory::{MemorySink, MemorySource, QuietSink, QuietSource};
 use crate::read_all::{LIMIT, ReadEnd, read_all};
-use crate::source::Failed;
 use crate::standard::{StdSink, StdSource};
 use crate::words::units_of;
 use crate::write_all::write_all;
 use std::alloc::{AllocError, Global};
-use std::process::Abort;
 use std::test::Fail;
 
 // What the words say, split at each space; an empty text has no word.
@@ -56,7 +56,7 @@ fn read_hello(
 
 fn is_hello(read: &Result<Vec<u8>, ReadEnd>) -> bool {
     match read {
-        Ok(bytes) => bytes.as_slice() == b"hello",
+        Ok(bytes) => bytes.as_slice() == b"hello".as_slice(),
         Err(_) => false,
     }
 }
@@ -101,10 +101,10 @@ fn a_text_has_a_limit(rt: HostRuntime) -> Result<(), Fail> {
 fn a_sink_takes_all(rt: HostRuntime) -> Result<(), Fail> {
     let mut slow = MemorySink::new(rt.alloc(), 1, Vec::new(rt.alloc()));
     assert!(rt; write_all(&mut slow, b"hello").is_ok());
-    assert!(rt; slow.bytes() == b"hello");
+    assert!(rt; slow.bytes() == b"hello".as_slice());
     let mut quiet = QuietSink::with_room(rt.alloc(), 5)?;
     assert!(rt; write_all(&mut quiet, b"hello").is_ok());
-    assert!(rt; quiet.bytes() == b"hello");
+    assert!(rt; quiet.bytes() == b"hello".as_slice());
     let mut standard = StdSink::new(std::io::sink());
     assert!(rt; write_all(&mut standard, b"hello").is_ok());
     Ok(())
@@ -117,6 +117,6 @@ fn a_write_that_fails_takes_nothing(rt: HostRuntime) -> Result<(), Fail> {
     assert!(rt; first.bytes().is_empty());
     let mut third = MemorySink::new(rt.alloc(), 2, [2].to_vec(rt.alloc())?);
     assert!(rt; write_all(&mut third, b"hello").is_err());
-    assert!(rt; third.bytes() == b"hell");
+    assert!(rt; third.bytes() == b"hell".as_slice());
     Ok(())
 }

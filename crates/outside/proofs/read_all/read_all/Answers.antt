@@ -1,5 +1,5 @@
 -- Each read goes on from what has been read so far.
-use Rattle.std.proofs.Common.{rules, arith, ◌≡◌, ◌+◌, ◌<◌, ◌≤◌, List, [], ℕ, length, take, length-take, vec_len}
+use Rattle.std.proofs.Common.{arith, length-take}
 use Rattle.outside.proofs.SoFar.{one_more, all_read, none_left, within_limit}
 use Rattle.outside.proofs.read_all.read_all.Goals as goal
 
