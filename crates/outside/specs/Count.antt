@@ -1,0 +1,6 @@
+-- A count of faults, and when it has risen.
+use Rattle.std.specs.Prelude.{◌≡◌, ℕ, ◌<◌, ◌-◌, ◌^◌, ◌⊎◌}
+
+-- the count is higher now; one that stands at its last value counts as higher
+abbrev pub Rose : ℕ → ℕ → Type 0
+Rose old new = (old < new) ⊎ (old ≡ 2 ^ 64 - 1)

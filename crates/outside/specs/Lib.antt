@@ -1,0 +1,4 @@
+pub mod Count
+pub mod Memory
+pub mod Source
+pub mod Words

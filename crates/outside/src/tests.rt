@@ -1,0 +1,122 @@
+// Small tables: the words, reads of a byte at a time, and failures in mid-stream.
+ghost use Rattle.std.specs.Prelude.{◌<◌};
+
+use crate::memory::{MemorySink, MemorySource, QuietSink, QuietSource};
+use crate::read_all::{LIMIT, ReadEnd, read_all};
+use crate::standard::{StdSink, StdSource};
+use crate::words::units_of;
+use crate::write_all::write_all;
+use std::alloc::{AllocError, Global};
+use std::test::Fail;
+
+// What the words say, split at each space; an empty text has no word.
+fn units_of_text(alloc: Global, text: &str) -> Result<Option<u64>, AllocError> {
+    let mut words = Vec::new(alloc);
+    for word in text.split_whitespace() {
+        words.push(String::from_str(alloc, word)?)?;
+    }
+    Ok(units_of(&words))
+}
+
+#[test]
+fn words_say_units(rt: HostRuntime) -> Result<(), Fail> {
+    for (text, units) in [
+        ("run 5", Some(5)),
+        ("run 1", Some(1)),
+        ("run 1000000000", Some(1_000_000_000)),
+        ("run 1000000001", None),
+        ("run 99999999999999999999", None),
+        ("run 0", None),
+        ("run 01", None),
+        ("run +5", None),
+        ("run -5", None),
+        ("run 5x", None),
+        ("run", None),
+        ("", None),
+        ("run 5 5", None),
+        ("share 5", None),
+        ("Run 5", None),
+    ] {
+        assert_eq!(rt; units_of_text(rt.alloc(), text)?, units, "at {text}");
+    }
+    Ok(())
+}
+
+// Reads `hello` in chunks, with these calls failing.
+fn read_hello(
+    alloc: Global,
+    chunk: usize,
+    failing: &[u64],
+) -> Result<Result<Vec<u8>, ReadEnd>, AllocError>
+    requires { 0 < chunk }
+{
+    let mut source = MemorySource::new(b"hello".to_vec(alloc)?, chunk, failing.to_vec(alloc)?);
+    Ok(read_all(alloc, &mut source))
+}
+
+fn is_hello(read: &Result<Vec<u8>, ReadEnd>) -> bool {
+    match read {
+        Ok(bytes) => bytes.as_slice() == b"hello".as_slice(),
+        Err(_) => false,
+    }
+}
+
+fn is_end(read: &Result<Vec<u8>, ReadEnd>, end: ReadEnd) -> bool {
+    match read {
+        Ok(_) => false,
+        Err(other) => *other == end,
+    }
+}
+
+#[test]
+fn a_source_is_read_to_its_end(rt: HostRuntime) -> Result<(), Fail> {
+    assert!(rt; is_hello(&read_hello(rt.alloc(), 1, &[])?));
+    assert!(rt; is_hello(&read_hello(rt.alloc(), 2, &[])?));
+    assert!(rt; is_hello(&read_hello(rt.alloc(), 100, &[])?));
+    let mut quiet = QuietSource::new(b"hello".to_vec(rt.alloc())?);
+    assert!(rt; is_hello(&read_all(rt.alloc(), &mut quiet)));
+    let mut standard = StdSource::new(b"hello".as_slice());
+    assert!(rt; is_hello(&read_all(rt.alloc(), &mut standard)));
+    Ok(())
+}
+
+#[test]
+fn a_read_that_fails_is_no_end(rt: HostRuntime) -> Result<(), Fail> {
+    assert!(rt; is_end(&read_hello(rt.alloc(), 1, &[1])?, ReadEnd::Fault));
+    assert!(rt; is_end(&read_hello(rt.alloc(), 1, &[5])?, ReadEnd::Fault));
+    assert!(rt; is_hello(&read_hello(rt.alloc(), 1, &[6])?));
+    Ok(())
+}
+
+#[test]
+fn a_text_has_a_limit(rt: HostRuntime) -> Result<(), Fail> {
+    let mut longest = QuietSource::new(vec![in rt.alloc(); 7; LIMIT]?);
+    assert!(rt; read_all(rt.alloc(), &mut longest).is_ok());
+    let mut longer = QuietSource::new(vec![in rt.alloc(); 7; LIMIT + 1]?);
+    assert!(rt; is_end(&read_all(rt.alloc(), &mut longer), ReadEnd::TooLarge));
+    Ok(())
+}
+
+#[test]
+fn a_sink_takes_all(rt: HostRuntime) -> Result<(), Fail> {
+    let mut slow = MemorySink::new(rt.alloc(), 1, Vec::new(rt.alloc()));
+    assert!(rt; write_all(&mut slow, b"hello").is_ok());
+    assert!(rt; slow.bytes() == b"hello".as_slice());
+    let mut quiet = QuietSink::with_room(rt.alloc(), 5)?;
+    assert!(rt; write_all(&mut quiet, b"hello").is_ok());
+    assert!(rt; quiet.bytes() == b"hello".as_slice());
+    let mut standard = StdSink::new(std::io::sink());
+    assert!(rt; write_all(&mut standard, b"hello").is_ok());
+    Ok(())
+}
+
+#[test]
+fn a_write_that_fails_takes_nothing(rt: HostRuntime) -> Result<(), Fail> {
+    let mut first = MemorySink::new(rt.alloc(), 2, [0].to_vec(rt.alloc())?);
+    assert!(rt; write_all(&mut first, b"hello").is_err());
+    assert!(rt; first.bytes().is_empty());
+    let mut third = MemorySink::new(rt.alloc(), 2, [2].to_vec(rt.alloc())?);
+    assert!(rt; write_all(&mut third, b"hello").is_err());
+    assert!(rt; third.bytes() == b"hell".as_slice());
+    Ok(())
+}
