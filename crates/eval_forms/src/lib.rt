@@ -28,7 +28,11 @@ pub enum EvalKept {
 }
 
 /// Begins a task.
-pub fn begin(world: &mut World, alloc: Global, task: EvalTask) -> Result<Step<EvalKept>, OutOfMemory>
+pub fn begin(
+    world: &mut World,
+    alloc: Global,
+    task: EvalTask,
+) -> Result<Step<EvalKept>, OutOfMemory>
     requires { AllHold world.old (of_eval_task task) }
     ensures goes { IfOk result (λ step. Begins task world.old world.new step) }
     ensures safe { Leaves of_eval_kept world.old world.new result }

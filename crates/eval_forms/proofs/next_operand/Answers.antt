@@ -19,6 +19,8 @@ returns-in-Some-clause-safe c =
     let e = rw (c.len.ensures, c.args.values.ok.0) at c.operand.ensures in
     let here = sym e ∙ c.in-Some.is in (
       grows-itself w,
-      (operand-holds w c.form.result.now _ c.in-Some.operand c.form.ensures.holds here,
-      (c.requires.expression, (has-operand w c.args.e _ c.form.result.now c.in-Some.operand c.form.ensures.stored here, (c.requires.values, tt)))),
+      (
+        operand-holds w c.form.result.now _ c.in-Some.operand c.form.ensures.holds here,
+        (c.requires.expression, (has-operand w c.args.e _ c.form.result.now c.in-Some.operand c.form.ensures.stored here, (c.requires.values, tt))),
+      ),
     )
