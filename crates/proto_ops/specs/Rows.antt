@@ -1,0 +1,75 @@
+-- What the contracts of the rows of operators say.
+use Rattle.std.specs.Prelude.{ℕ, List, [], ◌∷◌, Result, Ok, Option, Some, None}
+use Rattle.py_node.specs.declared.raised.Raised.{Raised as Fault}
+use Rattle.py_node.specs.declared.refs.PyObjectRef.{PyObjectRef}
+use Rattle.py_node.specs.declared.entry.SlotEntry.{SlotEntry}
+use Rattle.py_node.specs.declared.entry.SlotEntry.TheVariants.{Unhashable}
+use Rattle.py_node.specs.declared.task.Answer.{Answer}
+use Rattle.py_node.specs.declared.task.OperatorTask.{OperatorTask}
+use Rattle.py_node.specs.declared.task.PyNumberBinaryOp.TheVariants.{Add}
+use Rattle.py_node.specs.declared.task.Step.{Step}
+use Rattle.plain_machine.specs.Plain.{OperatorJob, DoAdd, DoBinOp1, DoEnter, DoInt, Read}
+use Rattle.py_node.specs.declared.raised.Kind.TheVariants.{TypeError}
+use Rattle.py_node.specs.declared.raised.Cause.TheVariants.{UnsupportedOperand}
+use Rattle.py_node.specs.declared.task.Step.TheVariants.{Ask, End}
+use Rattle.py_node.specs.declared.task.Task.TheVariants as task
+use Rattle.py_node.specs.declared.task.OperatorTask.TheVariants as operator
+use Rattle.py_node.specs.declared.task.LaterTask.TheVariants as later
+use Rattle.plain_machine.specs.Row.{value, fault}
+use Rattle.plain_machine.specs.Rows.{Pending, fresh, given}
+use Rattle.class_world.specs.declared.world.World.{World}
+use Rattle.class_world.specs.Reading.{Reading, operator_job}
+use Rattle.class_world.specs.Rows.{Goes}
+use Rattle.class_world.specs.Sound.{Claim, IsNode, AreNodes, Holds, AllHold}
+use Rattle.class_world.specs.Claims.{of_task}
+use Rattle.py_node.specs.declared.task.Task.{Task}
+use Rattle.py_node.specs.declared.entry.IntNative.TheVariants as int
+use Rattle.proto_ops.specs.declared.OperatorKept.{OperatorKept}
+use Rattle.proto_ops.specs.declared.OperatorKept.TheVariants.{Pass, AddRest, Candidate}
+use Rattle.proto_ops.specs.Say.{operator_say}
+
+-- what is left to try
+abbrev pub left_over : Option SlotEntry → List SlotEntry
+left_over None = []
+left_over (Some s) = s ∷ []
+
+-- the row that goes on, at each answer, just as the row that the code keeps this for
+abbrev pub operator_stands : Reading → OperatorKept → Pending OperatorJob
+operator_stands t Pass = record { task = DoEnter Unhashable (record { 0 = 0 }) (record { 0 = 0 }); told = [] }
+operator_stands t (AddRest a) = record { task = DoAdd a (record { 0 = 0 }); told = [] }
+operator_stands t (Candidate next a b) = record { task = DoBinOp1 Add a b; told = Read (Unhashable ∷ left_over next) ∷ [] }
+
+-- what is said of what is kept
+abbrev pub of_operator_kept : OperatorKept → List Claim
+of_operator_kept Pass = []
+of_operator_kept (AddRest a) = IsNode a ∷ []
+of_operator_kept (Candidate next a b) = IsNode a ∷ IsNode b ∷ []
+
+abbrev pub Begins : OperatorTask → World → World → Step OperatorKept → Type 0
+Begins task = Goes operator_say operator_stands (λ t. fresh (operator_job t task))
+
+abbrev pub Resumes : OperatorKept → Result Answer Fault → World → World → Step OperatorKept → Type 0
+Resumes kept r = Goes operator_say operator_stands (λ t. given (operator_stands t kept) r)
+
+-- the sum of two objects
+abbrev pub Sums : PyObjectRef → PyObjectRef → World → World → Step OperatorKept → Type 0
+Sums a b = Goes operator_say operator_stands (λ t. fresh (DoInt int.Add (a ∷ b ∷ []) []))
+
+-- the nodes are nodes where these two are
+abbrev pub AreBoth : PyObjectRef → PyObjectRef → List PyObjectRef → Type 0
+AreBoth a b vs = (w : World) → Holds w (IsNode a) → Holds w (IsNode b) → Holds w (AreNodes vs)
+
+-- what the task of an entry says of numbers
+abbrev pub Entering : PyObjectRef → PyObjectRef → Task → Type 0
+Entering a b task = (w : World) → Holds w (IsNode a) → Holds w (IsNode b) → AllHold w (of_task task)
+
+-- the steps of the code, by what was read
+
+abbrev pub joining : Option SlotEntry → Step OperatorKept
+joining None = End (fault TypeError UnsupportedOperand)
+joining (Some s) = Ask (task.Later later.Concat) Pass
+
+abbrev pub entered : PyObjectRef → PyObjectRef → PyObjectRef → List SlotEntry → Step OperatorKept
+entered none a b [] = End (value none)
+entered none a b (s ∷ []) = Ask (task.Operator (operator.Enter s a b)) (Candidate None a b)
+entered none a b (s ∷ (u ∷ ss)) = Ask (task.Operator (operator.Enter s a b)) (Candidate (Some u) a b)

@@ -1,0 +1,330 @@
+// The rows of operators, each a small automaton: `begin` and `resume`.
+#![tactic(auto, unfolding(crate::specs::Say::operator_say))]
+
+ghost use Rattle.std.specs.Prelude.{◌≡◌, [], ◌∷◌, IfOk};
+ghost use Rattle.class_world.specs.Sound.{AllHold, Holds, IsNode};
+ghost use Rattle.class_world.specs.Claims.{of_operator_task, of_ended, Leaves};
+ghost use Rattle.class_world.specs.Reading.{Reading, task_of};
+ghost use Rattle.py_node.specs.declared.task.OperatorTask.TheVariants as operator;
+ghost use Rattle.class_table.specs.Turn.{list_of};
+ghost use Rattle.proto_ops.specs.Say.{total, left_slot, right_slot, is_not_implemented, enter_task, two_of};
+ghost use Rattle.proto_ops.specs.Rows.{Begins, Resumes, Sums, Entering, AreBoth, joining, entered, of_operator_kept};
+
+use class_table::candidates::Candidates;
+use class_world::world::{Fixed, World};
+use py_node::built_in::BuiltIn;
+use py_node::entry::{IntNative, NativeEntry, SlotEntry, SlotId};
+use py_node::memory::OutOfMemory;
+use py_node::payload::Payload;
+use py_node::raised::{Cause, Kind, Raised};
+use py_node::refs::PyObjectRef;
+use py_node::task::{Answer, Args, Keywords, LaterTask, OperatorTask, PyNumberBinaryOp, Step, Task};
+use std::alloc::Global;
+
+/// What a row of an operator keeps while it waits for an answer.
+#[derive(Drop)]
+pub enum OperatorKept {
+    /// The answer is passed on.
+    Pass,
+    /// Of a sum: the left operand, for the case that no candidate serves.
+    AddRest(PyObjectRef),
+    /// The candidate that is left, if any, and the operands.
+    Candidate(Option<SlotEntry>, PyObjectRef, PyObjectRef),
+}
+
+/// Begins a task.
+pub fn begin(
+    world: &mut World,
+    alloc: Global,
+    task: OperatorTask,
+) -> Result<Step<OperatorKept>, OutOfMemory>
+    requires { AllHold world.old (of_operator_task task) }
+    ensures goes { IfOk result (λ step. Begins task world.old world.new step) }
+    ensures safe { Leaves of_operator_kept world.old world.new result }
+{
+    match task {
+        OperatorTask::Add(a, b) => Ok(Step::Ask(
+            Task::Operator(OperatorTask::BinOp1(PyNumberBinaryOp::Add, a, b)),
+            OperatorKept::AddRest(a),
+        )),
+        OperatorTask::BinOp1(op, a, b) => binop1(world, op, a, b),
+        OperatorTask::Enter(entry, a, b) => enter(world, alloc, entry, a, b),
+        OperatorTask::Int(native, args, kw) => int(world, alloc, native, args, kw),
+    }
+}
+
+/// Goes on with a task that was given an answer.
+pub fn resume(
+    world: &mut World,
+    kept: OperatorKept,
+    answer: Result<Answer, Raised>,
+) -> Result<Step<OperatorKept>, OutOfMemory>
+    requires kept { AllHold world.old (of_operator_kept kept) }
+    requires answer { AllHold world.old (of_ended answer) }
+    ensures goes { IfOk result (λ step. Resumes kept answer world.old world.new step) }
+    ensures safe { Leaves of_operator_kept world.old world.new result }
+{
+    match kept {
+        OperatorKept::Pass => Ok(Step::End(answer)),
+        OperatorKept::AddRest(a) => match answer {
+            Err(raised) => Ok(Step::End(Err(raised))),
+            Ok(answer) => match answer {
+                Answer::Done => Ok(Step::End(Ok(Answer::Done))),
+                Answer::Value(x) => add_rest(world, a, x),
+            },
+        },
+        OperatorKept::Candidate(next, a, b) => match answer {
+            Err(raised) => Ok(Step::End(Err(raised))),
+            Ok(answer) => match answer {
+                Answer::Done => Ok(Step::End(Ok(Answer::Done))),
+                Answer::Value(x) => next_candidate(world, next, a, b, x),
+            },
+        },
+    }
+}
+
+// Whether an object is NotImplemented.
+fn is_not_implemented(object: PyObjectRef) -> bool
+    ensures { result ≡ is_not_implemented object }
+{
+    object.0 == 24
+}
+
+// A sum that no candidate gave: sequences are joined.
+fn add_rest(
+    world: &mut World,
+    a: PyObjectRef,
+    x: PyObjectRef,
+) -> Result<Step<OperatorKept>, OutOfMemory>
+    requires kept { Holds world.old (IsNode a) }
+    requires answer { Holds world.old (IsNode x) }
+    ensures goes { IfOk result (λ step. Resumes (OperatorKept.AddRest a) (Ok (Answer.Value x)) world.old world.new step) }
+    ensures safe { Leaves of_operator_kept world.old world.new result }
+{
+    if !is_not_implemented(x) {
+        return Ok(Step::End(Ok(Answer::Value(x))));
+    }
+    let step = joining(world.slot(a, SlotId::SeqItem));
+    Ok(step)
+}
+
+// A sequence is joined, and nothing else.
+fn joining(item: Option<SlotEntry>) -> Step<OperatorKept>
+    ensures { result ≡ joining item }
+{
+    match item {
+        Some(_) => Step::Ask(Task::Later(LaterTask::Concat), OperatorKept::Pass),
+        None => Step::End(Err(Raised {
+            kind: Kind::TypeError,
+            cause: Cause::UnsupportedOperand,
+        })),
+    }
+}
+
+// The candidate that is left is entered, where the first gave NotImplemented.
+fn next_candidate(
+    world: &mut World,
+    next: Option<SlotEntry>,
+    a: PyObjectRef,
+    b: PyObjectRef,
+    x: PyObjectRef,
+) -> Result<Step<OperatorKept>, OutOfMemory>
+    requires a { Holds world.old (IsNode a) }
+    requires b { Holds world.old (IsNode b) }
+    requires answer { Holds world.old (IsNode x) }
+    ensures goes { IfOk result (λ step. Resumes (OperatorKept.Candidate next a b) (Ok (Answer.Value x)) world.old world.new step) }
+    ensures safe { Leaves of_operator_kept world.old world.new result }
+{
+    if !is_not_implemented(x) {
+        return Ok(Step::End(Ok(Answer::Value(x))));
+    }
+    match next {
+        None => Ok(Step::End(Ok(Answer::Value(world.fixed(Fixed::NotImplemented))))),
+        Some(entry) => Ok(Step::Ask(
+            Task::Operator(OperatorTask::Enter(entry, a, b)),
+            OperatorKept::Candidate(None, a, b),
+        )),
+    }
+}
+
+// The candidates are read once, and the first is entered.
+fn binop1(
+    world: &mut World,
+    op: PyNumberBinaryOp,
+    a: PyObjectRef,
+    b: PyObjectRef,
+) -> Result<Step<OperatorKept>, OutOfMemory>
+    requires { AllHold world.old (of_operator_task (operator.BinOp1 op a b)) }
+    ensures goes { IfOk result (λ step. Begins (operator.BinOp1 op a b) world.old world.new step) }
+    ensures safe { Leaves of_operator_kept world.old world.new result }
+{
+    let candidates = world.candidates(left_slot(op), right_slot(op), a, b);
+    let none = world.fixed(Fixed::NotImplemented);
+    let step = enter_first(candidates, none, a, b);
+    Ok(step)
+}
+
+// The first of the candidates is entered, or the answer is this where there is none.
+fn enter_first(
+    candidates: Candidates,
+    none: PyObjectRef,
+    a: PyObjectRef,
+    b: PyObjectRef,
+) -> Step<OperatorKept>
+    ensures { result ≡ entered none a b (list_of candidates) }
+{
+    match candidates.first {
+        Some(entry) => Step::Ask(
+            Task::Operator(OperatorTask::Enter(entry, a, b)),
+            OperatorKept::Candidate(candidates.second, a, b),
+        ),
+        None => match candidates.second {
+            Some(entry) => Step::Ask(
+                Task::Operator(OperatorTask::Enter(entry, a, b)),
+                OperatorKept::Candidate(None, a, b),
+            ),
+            None => Step::End(Ok(Answer::Value(none))),
+        },
+    }
+}
+
+// The slot of an operator for its left operand.
+fn left_slot(op: PyNumberBinaryOp) -> SlotId
+    ensures { result ≡ left_slot op }
+{
+    match op {
+        PyNumberBinaryOp::Add => SlotId::Add,
+    }
+}
+
+// The slot of an operator for its right operand.
+fn right_slot(op: PyNumberBinaryOp) -> SlotId
+    ensures { result ≡ right_slot op }
+{
+    match op {
+        PyNumberBinaryOp::Add => SlotId::RightAdd,
+    }
+}
+
+// An entry is entered with both operands.
+fn enter(
+    world: &mut World,
+    alloc: Global,
+    entry: SlotEntry,
+    a: PyObjectRef,
+    b: PyObjectRef,
+) -> Result<Step<OperatorKept>, OutOfMemory>
+    requires { AllHold world.old (of_operator_task (operator.Enter entry a b)) }
+    ensures goes { IfOk result (λ step. Begins (operator.Enter entry a b) world.old world.new step) }
+    ensures safe { Leaves of_operator_kept world.old world.new result }
+{
+    let task = entering(alloc, entry, a, b)?;
+    Ok(Step::Ask(task, OperatorKept::Pass))
+}
+
+// The task of an entry.
+fn entering(
+    alloc: Global,
+    entry: SlotEntry,
+    a: PyObjectRef,
+    b: PyObjectRef,
+) -> Result<Task, OutOfMemory>
+    ensures task { IfOk result (λ task. (t : Reading) → task_of t task ≡ enter_task entry a b) }
+    ensures says { IfOk result (λ task. Entering a b task) }
+{
+    match entry {
+        SlotEntry::Native(NativeEntry::OfInt(native)) => {
+            let args = both(alloc, a, b)?;
+            Ok(Task::Operator(OperatorTask::Int(native, args, Vec::new(alloc))))
+        }
+        SlotEntry::Native(_) => Ok(Task::Later(LaterTask::Native)),
+        SlotEntry::Wrapper(_) => Ok(Task::Later(LaterTask::Special)),
+        SlotEntry::Unhashable => Ok(Task::Later(LaterTask::Native)),
+    }
+}
+
+// Two arguments.
+fn both(alloc: Global, a: PyObjectRef, b: PyObjectRef) -> Result<Args, OutOfMemory>
+    ensures items { IfOk result (λ v. v.items ≡ a ∷ b ∷ []) }
+    ensures holds { IfOk result (λ v. AreBoth a b v.items) }
+{
+    Ok(vec![in alloc; a, b]?)
+}
+
+// A native of `int`: the sum of two whole numbers.
+fn int(
+    world: &mut World,
+    alloc: Global,
+    native: IntNative,
+    args: Args,
+    kw: Keywords,
+) -> Result<Step<OperatorKept>, OutOfMemory>
+    requires { AllHold world.old (of_operator_task (operator.Int native args kw)) }
+    ensures goes { IfOk result (λ step. Begins (operator.Int native args kw) world.old world.new step) }
+    ensures safe { Leaves of_operator_kept world.old world.new result }
+{
+    match two_of(&args) {
+        None => Ok(refused(Cause::ArgCount)),
+        Some((a, b)) => {
+            if !kw.is_empty() {
+                return Ok(refused(Cause::UnexpectedKeyword));
+            }
+            sum(world, alloc, a, b)
+        }
+    }
+}
+
+// The operands of an operation with two.
+fn two_of(args: &[PyObjectRef]) -> Option<(PyObjectRef, PyObjectRef)>
+    ensures { result ≡ two_of args.now }
+{
+    match args {
+        [a, b] => Some((*a, *b)),
+        _ => None,
+    }
+}
+
+// A fault of a call.
+fn refused(cause: Cause) -> Step<OperatorKept>
+    ensures { result ≡ Step.End (Err (record { kind = Kind.TypeError; cause = cause })) }
+{
+    Step::End(Err(Raised {
+        kind: Kind::TypeError,
+        cause,
+    }))
+}
+
+// The sum of two whole numbers, or NotImplemented where one is none.
+fn sum(
+    world: &mut World,
+    alloc: Global,
+    a: PyObjectRef,
+    b: PyObjectRef,
+) -> Result<Step<OperatorKept>, OutOfMemory>
+    requires a { Holds world.old (IsNode a) }
+    requires b { Holds world.old (IsNode b) }
+    ensures goes { IfOk result (λ step. Sums a b world.old world.new step) }
+    ensures safe { Leaves of_operator_kept world.old world.new result }
+{
+    match (world.number(a), world.number(b)) {
+        (Some(x), Some(y)) => match total(x, y) {
+            Some(z) => {
+                let class = world.built_in(BuiltIn::Int);
+                let node = world.make_node(alloc, class, Payload::Number(z))?;
+                Ok(Step::End(Ok(Answer::Value(node))))
+            }
+            None => Ok(Step::End(Err(Raised {
+                kind: Kind::OverflowError,
+                cause: Cause::IntRange,
+            }))),
+        },
+        _ => Ok(Step::End(Ok(Answer::Value(world.fixed(Fixed::NotImplemented))))),
+    }
+}
+
+// The sum of two numbers, where it fits.
+fn total(x: i128, y: i128) -> Option<i128>
+    ensures { result ≡ total x y }
+{
+    x.checked_add(y)
+}
