@@ -1,0 +1,116 @@
+-- One turn of the machine keeps the outcome, whatever the rows are.
+use Rattle.std.proofs.Common.{◌≡◌, ℕ, zero, suc, ◌+◌, List, [], ◌∷◌, ◌++◌, length, map, refl, sym, ap, ◌∙◌, arith, zero-add, true, false, cond, nat_lt, length-append}
+use Rattle.std.proofs.lemmas.List.{map-append, length-map}
+use Rattle.py_node.specs.declared.raised.Kind.TheVariants.{RecursionError}
+use Rattle.py_node.specs.declared.raised.Cause.TheVariants.{DepthLimit}
+use Rattle.py_node.specs.declared.task.Task.{Task}
+use Rattle.py_node.specs.declared.task.Step.{Step}
+use Rattle.py_node.specs.declared.task.Step.TheVariants.{Ask, End}
+use Rattle.plain_machine.specs.Plain.{PlainWorld, PlainTask, Ended, Answered, Told, Said, Asks, Ends}
+use Rattle.plain_machine.specs.Row.{fault}
+use Rattle.plain_machine.specs.Answer.{Over, NoUnits, Outcome, Out, carry, asked, step, answer}
+use Rattle.plain_machine.specs.Rows.{Pending}
+use Rattle.plain_machine.proofs.Follow.{answer-is, answer-alike}
+use Rattle.class_world.specs.declared.world.World.{World}
+use Rattle.class_world.specs.Reading.{Reading, Reads, plain, task_of}
+use Rattle.class_world.specs.Rows.{Steps}
+use Rattle.vm_eval.specs.declared.stack.Kept.{Kept}
+use Rattle.vm_eval.specs.Say.{say, stands, Begins, Resumes}
+use Rattle.vm_eval.specs.Stack.{finish, unwind, coming, state}
+
+unwind-append : (depth : ℕ) (ps : List (Pending PlainTask)) (p : Pending PlainTask) (o : Outcome) → unwind depth (ps ++ p ∷ []) o ≡ unwind depth ps (finish p (depth + length ps) o)
+unwind-append depth [] p o = let e : depth ≡ depth + 0 = omega arith in ap (λ n. finish p n o) e
+unwind-append depth (q ∷ ps) p o =
+    let e : suc depth + length ps ≡ depth + suc (length ps) = omega arith in
+    ap (finish q depth) (unwind-append (suc depth) ps p o ∙ ap (λ n. unwind (suc depth) ps (finish p n o)) e)
+
+unwind-push : (ps : List (Pending PlainTask)) (p : Pending PlainTask) (o : Outcome) → unwind 0 (ps ++ p ∷ []) o ≡ unwind 0 ps (finish p (length ps) o)
+unwind-push ps p o = unwind-append 0 ps p o ∙ ap (λ n. unwind 0 ps (finish p n o)) (zero-add (length ps))
+
+unwind-no_units : (depth : ℕ) (ps : List (Pending PlainTask)) (w : PlainWorld) (left : ℕ) → unwind depth ps (Out w NoUnits left) ≡ Out w NoUnits left
+unwind-no_units depth [] w left = refl
+unwind-no_units depth (p ∷ ps) w left = ap (finish p depth) (unwind-no_units (suc depth) ps w left)
+
+carry-like : (f g : PlainWorld → Ended → ℕ → Outcome) (o : Outcome) → ((w : PlainWorld) (r : Ended) (left : ℕ) → f w r left ≡ g w r left) → carry f o ≡ carry g o
+carry-like f g (Out w (Over r) left) k = k w r left
+carry-like f g (Out w NoUnits left) k = refl
+
+-- what follows from a row's words is what follows from the code's step
+step-coming : (t : Reading) (task : PlainTask) (told : Told) (said : Said) (next : Step Kept) (new : World) (left depth : ℕ) → Steps say (stands t) t task told said next new → step (answer say) task told depth said left ≡ coming t next (plain t new) left depth
+step-coming t task told (Ends w r) (Ask other kept) new left depth h = absurd h
+step-coming t task told (Ends w r) (End s) new left depth h =
+    ap (λ w. Out w (Over r) left) (sym h.1) ∙ ap (λ r. Out (plain t new) (Over r) left) (sym h.0)
+step-coming t task told (Asks w learnt other) (End s) new left depth h = absurd h
+step-coming t task told (Asks w learnt other) (Ask next kept) new zero depth h = ap (λ w. Out w NoUnits zero) (sym h.1)
+step-coming t task told (Asks w learnt other) (Ask next kept) new (suc left) depth h =
+    carry-like _ _ (asked (answer say) w other left (suc depth)) (λ w r left. answer-alike say (record { task = task; told = told ++ learnt }) (stands t kept) h.2 w r left depth)
+    ∙ ap (λ w. finish (stands t kept) depth (asked (answer say) w other left (suc depth))) (sym h.1)
+    ∙ ap (λ other. finish (stands t kept) depth (asked (answer say) (plain t new) other left (suc depth))) (sym h.0)
+
+-- an answer goes to the frame on top
+pub state-resume : (t : Reading) (old new : World) (stack : List Kept) (kept : Kept) (r : Ended) (left : ℕ) (next : Step Kept) → Resumes kept r old new next → Reads t new → state t new stack left next ≡ state t old (stack ++ kept ∷ []) left (End r)
+unfolding state
+state-resume t old new stack kept r left next h reads =
+    let p = stands t kept in
+    let w = plain t old in
+    let told = p.told ++ Answered r ∷ [] in
+    let d : length (map (stands t) stack) ≡ length stack = length-map stack (stands t) in
+    sym (ap (λ ps. unwind 0 ps (Out w (Over r) left)) (map-append (stands t) stack (kept ∷ []))
+    ∙ unwind-push (map (stands t) stack) p (Out w (Over r) left)
+    ∙ ap (unwind 0 (map (stands t) stack)) (
+    answer-is say w p.task told left (length (map (stands t) stack))
+    ∙ step-coming t p.task told (say w p.task told) next new left (length (map (stands t) stack)) (h t reads).1
+    ∙ ap (coming t next (plain t new) left) d))
+
+module _ (t : Reading) (old : World) (stack : List Kept) (task : Task) (kept : Kept) (left : ℕ) where
+  -- a frame goes onto the stack
+  pushed : state t old stack (suc left) (Ask task kept) ≡ unwind 0 (map (stands t) (stack ++ kept ∷ [])) (asked (answer say) (plain t old) (task_of t task) left (length (stack ++ kept ∷ [])))
+  unfolding state
+  pushed =
+      let o = asked (answer say) (plain t old) (task_of t task) left (suc (length stack)) in
+      let n : suc (length stack) ≡ length (stack ++ kept ∷ []) = omega (arith, length-append stack (kept ∷ [])) in
+      ap (λ d. unwind 0 (map (stands t) stack) (finish (stands t kept) d o)) (sym (length-map stack (stands t)))
+      ∙ sym (unwind-push (map (stands t) stack) (stands t kept) o)
+      ∙ ap (λ ps. unwind 0 ps o) (sym (map-append (stands t) stack (kept ∷ [])))
+      ∙ ap (λ n. unwind 0 (map (stands t) (stack ++ kept ∷ [])) (asked (answer say) (plain t old) (task_of t task) left n)) n
+
+  -- an asked task begins
+  pub state-begin : (new : World) (next : Step Kept) → nat_lt (length (stack ++ kept ∷ [])) 1000 ≡ true → Begins task old new next → Reads t new → state t new (stack ++ kept ∷ []) left next ≡ state t old stack (suc left) (Ask task kept)
+  unfolding state
+  state-begin new next low h reads =
+      let w = plain t old in
+      let n = length (stack ++ kept ∷ []) in
+      sym (pushed ∙ ap (unwind 0 (map (stands t) (stack ++ kept ∷ []))) (
+      ap (λ b. cond b (answer say w (task_of t task) [] left n) (Out w (Over (fault RecursionError DepthLimit)) left)) low
+      ∙ answer-is say w (task_of t task) [] left n
+      ∙ step-coming t (task_of t task) [] (say w (task_of t task) []) next new left n (h t reads).1))
+
+  -- or it stands too deep
+  pub state-limit : nat_lt (length (stack ++ kept ∷ [])) 1000 ≡ false → state t old (stack ++ kept ∷ []) left (End (fault RecursionError DepthLimit)) ≡ state t old stack (suc left) (Ask task kept)
+  unfolding state
+  state-limit high =
+      let w = plain t old in
+      let n = length (stack ++ kept ∷ []) in
+      sym (pushed ∙ ap (unwind 0 (map (stands t) (stack ++ kept ∷ []))) (
+      ap (λ b. cond b (answer say w (task_of t task) [] left n) (Out w (Over (fault RecursionError DepthLimit)) left)) high))
+
+-- no unit is left
+pub state-no_units : (t : Reading) (w : World) (stack : List Kept) (task : Task) (kept : Kept) → Out (plain t w) NoUnits 0 ≡ state t w stack 0 (Ask task kept)
+unfolding state
+state-no_units t w stack task kept = sym (unwind-no_units 0 (map (stands t) stack) (plain t w) 0)
+
+-- an answer is the end where no frame waits
+pub state-end : (t : Reading) (w : World) (left : ℕ) (r : Ended) → Out (plain t w) (Over r) left ≡ state t w [] left (End r)
+unfolding state
+state-end t w left r = refl
+
+-- the first task begins
+pub state-first : (t : Reading) (old new : World) (task : Task) (left : ℕ) (next : Step Kept) → Begins task old new next → Reads t new → state t new [] left next ≡ answer say (plain t old) (task_of t task) [] left 0
+unfolding state
+state-first t old new task left next h reads =
+    sym (answer-is say (plain t old) (task_of t task) [] left 0
+    ∙ step-coming t (task_of t task) [] (say (plain t old) (task_of t task) []) next new left 0 (h t reads).1)
+
+pub no-frames : (stack : List Kept) → length stack ≡ 0 → stack ≡ []
+no-frames [] h = refl
+no-frames (kept ∷ stack) h = absurd (omega arith)

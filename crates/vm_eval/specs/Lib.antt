@@ -1,0 +1,4 @@
+pub mod Say
+pub mod Stack
+pub mod Runs
+pub mod State

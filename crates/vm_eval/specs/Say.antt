@@ -1,0 +1,51 @@
+-- The rows of all groups.
+use Rattle.std.specs.Prelude.{List, [], Result}
+use Rattle.py_node.specs.declared.raised.Raised.{Raised as Fault}
+use Rattle.py_node.specs.declared.raised.Kind.TheVariants.{NotImplementedError}
+use Rattle.py_node.specs.declared.raised.Cause.TheVariants.{NotYet}
+use Rattle.py_node.specs.declared.task.Answer.{Answer}
+use Rattle.py_node.specs.declared.task.Task.{Task}
+use Rattle.py_node.specs.declared.task.Step.{Step}
+use Rattle.py_node.specs.declared.task.Step.TheVariants.{Ask, End}
+use Rattle.plain_machine.specs.Plain.{PlainTask, ToEval, ToOperator, ToLater, Saying}
+use Rattle.plain_machine.specs.Row.{end, fault}
+use Rattle.plain_machine.specs.Rows.{Pending, fresh, given}
+use Rattle.class_world.specs.declared.world.World.{World}
+use Rattle.class_world.specs.Reading.{Reading, task_of}
+use Rattle.class_world.specs.Rows.{Goes}
+use Rattle.class_world.specs.Sound.{Claim}
+use Rattle.eval_forms.specs.Say.{eval_say}
+use Rattle.eval_forms.specs.Rows.{eval_stands, of_eval_kept}
+use Rattle.proto_ops.specs.Say.{operator_say}
+use Rattle.proto_ops.specs.Rows.{operator_stands, of_operator_kept}
+use Rattle.vm_eval.specs.declared.stack.Kept.{Kept}
+use Rattle.vm_eval.specs.declared.stack.Kept.TheVariants.{ForEval, ForOperator}
+
+-- what a task's row says, by the group that the task is in. What no stage so far has named ends with NotYet
+unfoldable pub say : Saying PlainTask
+say w (ToEval job) = eval_say w job
+say w (ToOperator job) = operator_say w job
+say w (ToLater job) = end w (fault NotImplementedError NotYet)
+
+-- a row of a group, among all rows
+abbrev pub among : {J : Type 0} → (J → PlainTask) → Pending J → Pending PlainTask
+among to p = record { task = to p.task; told = p.told }
+
+-- what is kept, among all that is kept
+abbrev pub step_among : {K : Type 0} → (K → Kept) → Step K → Step Kept
+step_among for (Ask task kept) = Ask task (for kept)
+step_among for (End r) = End r
+
+unfoldable pub stands : Reading → Kept → Pending PlainTask
+stands t (ForEval kept) = among ToEval (eval_stands t kept)
+stands t (ForOperator kept) = among ToOperator (operator_stands t kept)
+
+abbrev pub Begins : Task → World → World → Step Kept → Type 0
+Begins task = Goes say stands (λ t. fresh (task_of t task))
+
+abbrev pub Resumes : Kept → Result Answer Fault → World → World → Step Kept → Type 0
+Resumes kept r = Goes say stands (λ t. given (stands t kept) r)
+
+abbrev pub of_kept : Kept → List Claim
+of_kept (ForEval kept) = of_eval_kept kept
+of_kept (ForOperator kept) = of_operator_kept kept

@@ -1,0 +1,74 @@
+-- What a stack of frames comes to, in the terms of `answer`.
+use Rattle.std.specs.Prelude.{◌≡◌, ℕ, zero, suc, ◌+◌, List, [], ◌∷◌, ◌++◌, length, map, Result}
+use Rattle.py_node.specs.declared.raised.Raised.{Raised as Fault}
+use Rattle.py_node.specs.declared.task.Answer.{Answer}
+use Rattle.py_node.specs.declared.task.Task.{Task}
+use Rattle.py_node.specs.declared.task.Step.{Step}
+use Rattle.py_node.specs.declared.task.Step.TheVariants.{Ask, End}
+use Rattle.plain_machine.specs.Plain.{PlainWorld, PlainTask, Answered}
+use Rattle.plain_machine.specs.Answer.{Ending, Over, NoUnits, Outcome, Out, carry, asked, answer}
+use Rattle.plain_machine.specs.Rows.{Pending}
+use Rattle.class_world.specs.declared.world.World.{World}
+use Rattle.class_world.specs.Reading.{Reading, Reads, plain, task_of}
+use Rattle.class_world.specs.Sound.{Claim}
+use Rattle.class_world.specs.Claims.{of_step, of_ended}
+use Rattle.vm_eval.specs.declared.stack.Kept.{Kept}
+use Rattle.vm_eval.specs.declared.stack.Turn.{Turn}
+use Rattle.vm_eval.specs.declared.stack.Turn.TheVariants.{On, Finished, OutOfUnits}
+use Rattle.vm_eval.specs.declared.stack.End.{End as CodeEnd}
+use Rattle.vm_eval.specs.declared.stack.End.TheVariants as code
+use Rattle.vm_eval.specs.Say.{say, stands, of_kept}
+
+-- a row's outcome, from the outcome of what it asked
+abbrev pub finish : Pending PlainTask → ℕ → Outcome → Outcome
+finish p depth o = carry (λ w r left. answer say w p.task (p.told ++ Answered r ∷ []) left depth) o
+
+-- the outcome of the lowest frame, from the outcome of what the top frame asked
+abbrev pub unwind : ℕ → List (Pending PlainTask) → Outcome → Outcome
+unwind depth [] o = o
+unwind depth (p ∷ ps) o = finish p depth (unwind (suc depth) ps o)
+
+-- the outcome of a row that has come to this step
+abbrev pub coming : Reading → Step Kept → PlainWorld → ℕ → ℕ → Outcome
+coming t (End r) w left depth = Out w (Over r) left
+coming t (Ask task kept) w zero depth = Out w NoUnits zero
+coming t (Ask task kept) w (suc left) depth = finish (stands t kept) depth (asked (answer say) w (task_of t task) left (suc depth))
+
+-- the outcome that the machine is on its way to
+unfoldable pub state : Reading → World → List Kept → ℕ → Step Kept → Outcome
+state t w stack left step = unwind 0 (map (stands t) stack) (coming t step (plain t w) left (length stack))
+
+abbrev pub leads : Reading → World → List Kept → ℕ → Turn → Outcome
+leads t w stack left (On step) = state t w stack left step
+leads t w stack left (Finished r) = Out (plain t w) (Over r) left
+leads t w stack left OutOfUnits = Out (plain t w) NoUnits left
+
+-- a turn keeps the outcome
+abbrev pub Keeps : World → List Kept → ℕ → Step Kept → World → List Kept → ℕ → Turn → Type 0
+Keeps old stack left step new stack' left' turn =
+    (t : Reading) → Reads t new → Reads t old × (leads t new stack' left' turn ≡ state t old stack left step)
+
+-- the turns that are left, at most
+abbrev pub turns_left : ℕ → List Kept → Turn → ℕ
+turns_left left stack (On step) = suc (left + left + length stack)
+turns_left left stack (Finished r) = 0
+turns_left left stack OutOfUnits = 0
+
+-- how a command ended, in the terms of the plain machine
+abbrev pub ending_of : CodeEnd → Ending
+ending_of (code.Over r) = Over r
+ending_of code.NoUnits = NoUnits
+
+-- the task ends so, from one world to the other
+abbrev pub Answers : Task → World → ℕ → World → CodeEnd → Type 0
+Answers task old units new end =
+    (t : Reading) → Reads t new → Reads t old × (left : ℕ) × (answer say (plain t old) (task_of t task) [] units 0 ≡ Out (plain t new) (ending_of end) left)
+
+abbrev pub of_turn : Turn → List Claim
+of_turn (On step) = of_step of_kept step
+of_turn (Finished r) = of_ended r
+of_turn OutOfUnits = []
+
+abbrev pub of_end : CodeEnd → List Claim
+of_end (code.Over r) = of_ended r
+of_end code.NoUnits = []

@@ -1,0 +1,94 @@
+// The virtual machine: a world, and whether a run of it found no memory.
+
+ghost use Rattle.std.specs.Prelude.{◌≡◌, IfOk, OnOk, OnErr, Err, IsTrue, false, true};
+ghost use Rattle.plain_machine.specs.Start.{start};
+ghost use Rattle.class_world.specs.Reading.{Reading, plain, IsReadable};
+ghost use Rattle.class_world.specs.Sound.{Grows};
+ghost use Rattle.vm_eval.specs.Runs.{Runs};
+
+use crate::run::replies;
+use crate::stack::{DEPTH, Kept};
+use class_world::world::World;
+use py_node::expr::Command;
+use py_node::memory::OutOfMemory;
+use py_node::reply::Reply;
+use std::alloc::Global;
+use std::marker::Model;
+
+/// Why commands have no replies: memory could not be had, or an earlier run found none.
+#[derive(Clone, Copy, PartialEq, Eq, Debug)]
+pub enum RunFault {
+    OutOfMemory,
+    Failed,
+}
+
+/// The machine that runs commands.
+#[derive(Drop)]
+pub struct VirtualMachine {
+    world: World,
+    stack: Vec<Kept>,
+    failed: bool,
+}
+
+impl Model for VirtualMachine {
+    ghost use Rattle.vm_eval.specs.State.{State};
+
+    ghost Value = { State };
+
+    ghost view = { λ a. record { world = a.world; failed = a.failed } };
+}
+
+impl VirtualMachine {
+    /// A new machine, with the built-in classes and no variables. Its frames are reserved.
+    pub fn new(alloc: Global) -> Result<VirtualMachine, OutOfMemory>
+        ensures start { IfOk result (λ vm. (t : Reading) → plain t vm.world ≡ start) }
+        ensures clear { IfOk result (λ vm. vm.failed ≡ false) }
+    {
+        let world = World::new(alloc)?;
+        let stack = Vec::with_capacity(alloc, DEPTH)?;
+        Ok(VirtualMachine {
+            world,
+            stack,
+            failed: false,
+        })
+    }
+
+    /// The machine's world.
+    pub fn world(&self) -> &World
+        ensures { result.now ≡ self.now.world }
+    {
+        &self.world
+    }
+
+    /// Runs commands, each of which may use so many units. The replies are the plain machine's, and so
+    /// is the world after them. Where memory cannot be had, this run and every later one fails.
+    pub fn run(
+        &mut self,
+        alloc: Global,
+        commands: &[Command],
+        units: u64,
+    ) -> Result<Vec<Reply>, RunFault>
+        ensures runs { IfOk result (λ replies. Runs commands.now self.old.world units self.new.world replies.items) }
+        ensures grows { Grows self.old.world self.new.world }
+        ensures readable { OnOk result (IsReadable self.new.world) }
+        ensures works { OnOk result (self.new.failed ≡ self.old.failed) }
+        ensures gives_up { OnErr result (IsTrue self.new.failed) }
+        ensures failed { IsTrue self.old.failed → result ≡ Err RunFault.Failed }
+        ensures same { IsTrue self.old.failed → self.new ≡ self.old }
+        ensures memory { self.old.failed ≡ false → result ≡ Err RunFault.Failed → ⊥ }
+    {
+        if self.failed {
+            return Err(RunFault::Failed);
+        }
+        match replies(&mut self.world, alloc, &mut self.stack, commands, units) {
+            Ok(replies) => {
+                self.world.readable();
+                Ok(replies)
+            }
+            Err(_) => {
+                self.failed = true;
+                Err(RunFault::OutOfMemory)
+            }
+        }
+    }
+}

@@ -1,0 +1,89 @@
+// Commands, one after another.
+
+ghost use Rattle.std.specs.Prelude.{◌≡◌, [], ◌∷◌, ◌++◌, IfOk, OnOk};
+ghost use Rattle.py_node.specs.Tree.{tree_of};
+ghost use Rattle.py_node.specs.Replies.{reply_of, told_of, ToldValue};
+ghost use Rattle.plain_machine.specs.Show.{show as show_of};
+ghost use Rattle.plain_machine.specs.Answer.{answering};
+ghost use Rattle.class_world.specs.Reading.{Reading, plain};
+ghost use Rattle.class_world.specs.Sound.{AllHold, Grows, Holds, IsNode};
+ghost use Rattle.vm_eval.specs.Stack.{of_end, ending_of};
+ghost use Rattle.vm_eval.specs.Runs.{Replied, Runs};
+
+use crate::stack::{End, Kept, drive};
+use class_world::show::show;
+use class_world::store::add_expr;
+use class_world::world::{Fixed, World};
+use py_node::expr::Command;
+use py_node::memory::OutOfMemory;
+use py_node::refs::PyObjectRef;
+use py_node::reply::{Reply, ReplyAnswer};
+use py_node::task::{Answer, EvalTask, Task};
+use std::alloc::Global;
+
+// The replies to commands, each of which may use so many units.
+pub(crate) fn replies(
+    world: &mut World,
+    alloc: Global,
+    stack: &mut Vec<Kept>,
+    commands: &[Command],
+    units: u64,
+) -> Result<Vec<Reply>, OutOfMemory>
+    ensures runs { IfOk result (λ replies. Runs commands.now world.old units world.new replies.items) }
+    ensures grows { Grows world.old world.new }
+{
+    let mut replies = Vec::new(alloc);
+    for command in commands {
+        let reply = reply(world, alloc, stack, command, units)?;
+        push(&mut replies, reply)?;
+    }
+    Ok(replies)
+}
+
+// One more reply.
+fn push(replies: &mut Vec<Reply>, reply: Reply) -> Result<(), OutOfMemory>
+    ensures { OnOk result (replies.new.items ≡ replies.old.items ++ reply ∷ []) }
+{
+    replies.push(reply)?;
+    Ok(())
+}
+
+// The reply to one command.
+fn reply(
+    world: &mut World,
+    alloc: Global,
+    stack: &mut Vec<Kept>,
+    command: &Command,
+    units: u64,
+) -> Result<Reply, OutOfMemory>
+    ensures replied { IfOk result (λ reply. Replied (tree_of command.now.expr) world.old units world.new (reply_of reply)) }
+    ensures grows { Grows world.old world.new }
+{
+    let number = add_expr(world, alloc, &command.expr)?;
+    let end = drive(world, alloc, stack, Task::Eval(EvalTask::Eval(number)), units)?;
+    let answer = answering(world, alloc, end)?;
+    let calls = world.rest(alloc);
+    Ok(Reply { answer, calls })
+}
+
+// How a command is answered, with the text of its value.
+fn answering(world: &World, alloc: Global, end: End) -> Result<ReplyAnswer, OutOfMemory>
+    requires { AllHold world.now (of_end end) }
+    ensures { IfOk result (λ answer. (t : Reading) → told_of answer ≡ answering (plain t world.now) (ending_of end)) }
+{
+    match end {
+        End::NoUnits => Ok(ReplyAnswer::Budget),
+        End::Over(Err(raised)) => Ok(ReplyAnswer::Raised(raised)),
+        End::Over(Ok(Answer::Value(node))) => shown(world, alloc, node),
+        End::Over(Ok(Answer::Done)) => shown(world, alloc, world.fixed(Fixed::None)),
+    }
+}
+
+// A value, with its text.
+fn shown(world: &World, alloc: Global, node: PyObjectRef) -> Result<ReplyAnswer, OutOfMemory>
+    requires { Holds world.now (IsNode node) }
+    ensures { IfOk result (λ answer. (t : Reading) → told_of answer ≡ ToldValue node (show_of (plain t world.now) node)) }
+{
+    let text = show(world, alloc, node)?;
+    Ok(ReplyAnswer::Value(node, text))
+}

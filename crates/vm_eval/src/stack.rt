@@ -1,0 +1,186 @@
+// The stack of frames: one turn at a time, until a task is answered or its units are used up.
+
+ghost use Rattle.std.specs.Prelude.{◌≡◌, ◌<◌, [], ◌∷◌, ◌++◌, IfOk, OnErr, OnOk};
+ghost use Rattle.class_world.specs.Sound.{AllHold, Grows, of_each};
+ghost use Rattle.class_world.specs.Claims.{of_task, of_ended, of_step, Leaves};
+ghost use Rattle.eval_forms.specs.Rows.{of_eval_kept};
+ghost use Rattle.proto_ops.specs.Rows.{of_operator_kept};
+ghost use Rattle.vm_eval.specs.Say.{Begins, Resumes, step_among, of_kept};
+ghost use Rattle.vm_eval.specs.Stack.{Answers, Keeps, turns_left, of_turn, of_end};
+
+use class_world::world::World;
+use eval_forms::EvalKept;
+use proto_ops::OperatorKept;
+use py_node::memory::OutOfMemory;
+use py_node::raised::{Cause, Kind, Raised};
+use py_node::task::{Answer, Step, Task};
+use std::alloc::Global;
+
+// No task stands so deep.
+pub(crate) const DEPTH: usize = 1000;
+
+/// What a row keeps while it waits for an answer.
+#[derive(Drop)]
+pub enum Kept {
+    ForEval(EvalKept),
+    ForOperator(OperatorKept),
+}
+
+/// How a command ended: its row ended, or its units were used up.
+#[derive(Clone, Copy)]
+pub enum End {
+    Over(Result<Answer, Raised>),
+    NoUnits,
+}
+
+// The first step of a task.
+fn begin(world: &mut World, alloc: Global, task: Task) -> Result<Step<Kept>, OutOfMemory>
+    requires { AllHold world.old (of_task task) }
+    ensures goes { IfOk result (λ step. Begins task world.old world.new step) }
+    ensures safe { Leaves of_kept world.old world.new result }
+{
+    match task {
+        Task::Eval(task) => {
+            let step = eval_forms::begin(world, alloc, task)?;
+            Ok(of_eval(step))
+        }
+        Task::Operator(task) => {
+            let step = proto_ops::begin(world, alloc, task)?;
+            Ok(of_operator(step))
+        }
+        Task::Later(_) => Ok(Step::End(Err(Raised {
+            kind: Kind::NotImplementedError,
+            cause: Cause::NotYet,
+        }))),
+    }
+}
+
+// The next step of a row that was given an answer.
+fn resume(
+    world: &mut World,
+    alloc: Global,
+    kept: Kept,
+    answer: Result<Answer, Raised>,
+) -> Result<Step<Kept>, OutOfMemory>
+    requires kept { AllHold world.old (of_kept kept) }
+    requires answer { AllHold world.old (of_ended answer) }
+    ensures goes { IfOk result (λ step. Resumes kept answer world.old world.new step) }
+    ensures safe { Leaves of_kept world.old world.new result }
+{
+    match kept {
+        Kept::ForEval(kept) => {
+            let step = eval_forms::resume(world, alloc, kept, answer)?;
+            Ok(of_eval(step))
+        }
+        Kept::ForOperator(kept) => {
+            let step = proto_ops::resume(world, kept, answer)?;
+            Ok(of_operator(step))
+        }
+    }
+}
+
+// A step of an expression, among all steps.
+fn of_eval(step: Step<EvalKept>) -> Step<Kept>
+    ensures step { result ≡ step_among Kept.ForEval step }
+    ensures says { of_step of_kept result ≡ of_step of_eval_kept step }
+{
+    match step {
+        Step::Ask(task, kept) => Step::Ask(task, Kept::ForEval(kept)),
+        Step::End(answer) => Step::End(answer),
+    }
+}
+
+// A step of an operator, among all steps.
+fn of_operator(step: Step<OperatorKept>) -> Step<Kept>
+    ensures step { result ≡ step_among Kept.ForOperator step }
+    ensures says { of_step of_kept result ≡ of_step of_operator_kept step }
+{
+    match step {
+        Step::Ask(task, kept) => Step::Ask(task, Kept::ForOperator(kept)),
+        Step::End(answer) => Step::End(answer),
+    }
+}
+
+/// Where a turn of the machine leads.
+#[derive(Drop)]
+pub enum Turn {
+    On(Step<Kept>),
+    Finished(Result<Answer, Raised>),
+    OutOfUnits,
+}
+
+// One turn: an answer goes to the frame on top, or an asked task begins above it.
+fn take_turn(
+    world: &mut World,
+    alloc: Global,
+    stack: &mut Vec<Kept>,
+    left: &mut u64,
+    step: Step<Kept>,
+) -> Result<Turn, OutOfMemory>
+    requires stack { AllHold world.old (of_each of_kept stack.old.items) }
+    requires step { AllHold world.old (of_step of_kept step) }
+    ensures turned { IfOk result (λ turn. Keeps world.old stack.old.items left.old step world.new stack.new.items left.new turn) }
+    ensures falls { IfOk result (λ turn. turns_left left.new stack.new.items turn < turns_left left.old stack.old.items (Turn.On step)) }
+    ensures grows { Grows world.old world.new }
+    ensures stack { IfOk result (λ turn. AllHold world.new (of_each of_kept stack.new.items)) }
+    ensures holds { IfOk result (λ turn. AllHold world.new (of_turn turn)) }
+{
+    match step {
+        Step::End(answer) => match stack.pop() {
+            None => Ok(Turn::Finished(answer)),
+            Some(kept) => {
+                let next = resume(world, alloc, kept, answer)?;
+                Ok(Turn::On(next))
+            }
+        },
+        Step::Ask(task, kept) => {
+            if *left == 0 {
+                return Ok(Turn::OutOfUnits);
+            }
+            *left -= 1;
+            push(stack, kept)?;
+            if stack.len() < DEPTH {
+                let next = begin(world, alloc, task)?;
+                Ok(Turn::On(next))
+            } else {
+                Ok(Turn::On(Step::End(Err(Raised {
+                    kind: Kind::RecursionError,
+                    cause: Cause::DepthLimit,
+                }))))
+            }
+        }
+    }
+}
+
+// One more frame.
+fn push(stack: &mut Vec<Kept>, kept: Kept) -> Result<(), OutOfMemory>
+    ensures { OnOk result (stack.new.items ≡ stack.old.items ++ kept ∷ []) }
+{
+    stack.push(kept)?;
+    Ok(())
+}
+
+// How a task ends that may use so many units, on a stack that is empty.
+pub(crate) fn drive(
+    world: &mut World,
+    alloc: Global,
+    stack: &mut Vec<Kept>,
+    task: Task,
+    units: u64,
+) -> Result<End, OutOfMemory>
+    requires { AllHold world.old (of_task task) }
+    ensures answers { IfOk result (λ end. Answers task world.old units world.new end) }
+    ensures grows { Grows world.old world.new }
+    ensures holds { IfOk result (λ end. AllHold world.new (of_end end)) }
+{
+    stack.clear();
+    let mut left = units;
+    let mut step = begin(world, alloc, task)?;
+    'turns: loop {
+        match take_turn(world, alloc, stack, &mut left, step)? {
+            Turn::On(next) => step = next,
+            Turn::Finished(answer) => return Ok(End::Over(answer)),
+            Turn::OutOfUnits => return Ok(End::NoUnits),
+        }
+    }
+}
