@@ -253,3 +253,13 @@ module _ (kept : List Kept) (ok : IsCoherent kept) (new : Class PyStrInterned) (
       solid = λ i x e. ap (λ t. solid t i) plain-added ∙ (now i x e).solid;
       subclasses = λ i x e. (now i x e).subclasses ∙ ap (λ t. subclasses t i) (sym plain-added);
     }
+
+pub added-at : (kept : List Kept) → IsCoherent kept → (new : Class PyStrInterned) (below : Option PyTypeRef) → IsBelow (length kept) below → new.bases ≡ one_base below → (stored : Kept) (n : ℕ) (before items cur found final : List Kept) → n ≡ length kept → before ≡ kept → IsFresh before n new below stored → ((d : Kept) → items ≡ noted d kept below n ++ stored ∷ []) → cur ≡ items → ((x : Kept) → found ≡ set cur n (settled (plain cur) n (get_or cur n x))) → final ≡ found → IsCoherent final × (plain final ≡ with_class (plain kept) new)
+added-at kept ok new below inside bases stored n before items cur found final size same h put is says e =
+    let fresh = fresh-at kept before n new below stored size same h in
+    let attached = attached-at stored kept cur items n below stored size is (put stored) in
+    let all = e ∙ settled-at kept ok new below inside bases stored fresh stored cur found n attached size says in
+    (
+      coherent-added kept ok new below inside bases stored fresh stored final all,
+      plain-added kept ok new below inside bases stored fresh stored final all,
+    )
