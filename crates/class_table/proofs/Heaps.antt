@@ -1,5 +1,5 @@
 -- A class with one base.
-use Rattle.std.proofs.Common.{◌≡◌, ℕ, ◌<◌, ◌≤◌, List, [], ◌∷◌, length, Option, Some, None, Bool, true, false, cond, refl, sym, ap, subst, ◌∙◌, arith, rules}
+use Rattle.std.proofs.Common.{◌≡◌, ℕ, ◌≤◌, List, [], ◌∷◌, length, Option, Some, None, Bool, true, false, cond, refl, sym, ap, subst, arith, rules}
 use Rattle.std.specs.Prelude.{slice_get}
 use Rattle.py_node.specs.declared.refs.PyTypeRef.{PyTypeRef}
 use Rattle.class_table.specs.Keys.{numbers}

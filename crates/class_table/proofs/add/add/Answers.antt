@@ -1,9 +1,7 @@
-use Rattle.std.proofs.Common.{◌≡◌, ℕ, ◌<◌, List, ◌∷◌, [], ◌++◌, length, get_or, set, take, drop, sym, ap, subst, ◌∙◌, arith, refl}
+use Rattle.std.proofs.Common.{◌≡◌, ℕ, List, ◌∷◌, [], ◌++◌, length, get_or, drop, sym, ap, subst, ◌∙◌, arith, refl}
 use Rattle.std.proofs.lemmas.List.{take_at}
-use Rattle.class_model.specs.Change.{with_class}
-use Rattle.class_table.specs.Kept.{Kept, plain}
-use Rattle.class_table.specs.Coherent.{HasLines, IsCoherent}
-use Rattle.class_table.specs.Patch.{settled}
+use Rattle.class_table.specs.Kept.{Kept}
+use Rattle.class_table.specs.Coherent.{HasLines}
 use Rattle.class_table.specs.New.{class_of_new}
 use Rattle.class_table.specs.Made.{IsFresh, noted}
 use Rattle.class_table.proofs.Pushed.{fresh-at, attached-at, lines-attached, last, within-attached, added-at}

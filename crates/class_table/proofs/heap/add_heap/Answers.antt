@@ -1,4 +1,4 @@
-use Rattle.std.proofs.Common.{◌≡◌, List, ◌∷◌, [], sym, ap, ◌∙◌}
+use Rattle.std.proofs.Common.{List, sym, ap, ◌∙◌}
 use Rattle.std.specs.Prelude.{slice_get}
 use Rattle.py_node.specs.declared.refs.PyTypeRef.{PyTypeRef}
 use Rattle.class_model.specs.Change.{with_class}
@@ -22,8 +22,8 @@ returns-in-Ok-add-clause-added c =
 pub returns-in-Err-clause-base : goal.returns-in-Err-clause-base
 returns-in-Err-clause-base c =
     let r =
-      c.in-Err.ensures.refused
-      ∙ ap (λ (kept : List Kept). refused_bases (plain kept) (numbers c.deref-2.result.now)) c.deref.ensures.value
-      ∙ ap (λ (bs : List PyTypeRef). refused_bases (plain c.args.classes.now.items) (numbers bs)) c.deref-2.ensures.value in
+    c.in-Err.ensures.refused
+    ∙ ap (λ (kept : List Kept). refused_bases (plain kept) (numbers c.deref-2.result.now)) c.deref.ensures.value
+    ∙ ap (λ (bs : List PyTypeRef). refused_bases (plain c.args.classes.now.items) (numbers bs)) c.deref-2.ensures.value in
     let both = lacks-both (plain c.args.classes.now.items) (numbers c.args.bases.items) in
     (λ h. both.0 (sym r ∙ h), λ h. r ∙ both.1 h)
