@@ -1,18 +1,17 @@
 -- An attribute that is set, and the slots that are found anew.
-use Rattle.std.proofs.Common.{◌≡◌, ℕ, zero, suc, ◌<◌, List, [], ◌∷◌, length, get_or, set, map, Some, Bool, true, false, cond, eqb, inl, inr, refl, sym, ap, subst, ◌∙◌, arith}
+use Rattle.std.proofs.Common.{◌≡◌, ℕ, zero, suc, ◌<◌, List, [], ◌∷◌, length, get_or, set, Some, Bool, true, false, cond, eqb, inl, inr, refl, sym, ap, subst, ◌∙◌, arith}
 use Rattle.std.specs.Prelude.{slice_get}
-use Rattle.std.proofs.lemmas.List.{length-map, map-set, get_or-map, length-set}
+use Rattle.std.proofs.lemmas.List.{length-map, map-set, get_or-map}
 use Rattle.std.proofs.lemmas.Option.{slice_get-get_or, slice_get_within}
 use Rattle.std.proofs.lemmas.Bool.{eqb-true}
 use Rattle.py_node.specs.declared.refs.PyStrInterned.{PyStrInterned}
 use Rattle.py_node.specs.declared.refs.PyObjectRef.{PyObjectRef}
-use Rattle.py_node.specs.declared.entry.SlotId.{SlotId}
 use Rattle.py_node.specs.Attributes.{with_value, is_same_name}
 use Rattle.py_node.specs.Slots.{place_of}
 use Rattle.class_model.specs.Order.{has}
 use Rattle.class_model.specs.Class.{Class, Classes, lin, subclasses}
 use Rattle.class_model.specs.Layout.{base, solid}
-use Rattle.class_model.specs.Slot.{is_name_of, entry, entries}
+use Rattle.class_model.specs.Slot.{entries}
 use Rattle.class_model.specs.BuiltIn.{natives_of}
 use Rattle.class_model.specs.Change.{with_changed, with_class_attr}
 use Rattle.class_model.proofs.Changed.{lin-attr}

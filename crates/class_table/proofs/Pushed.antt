@@ -1,14 +1,14 @@
 -- One more class, with what follows from its base.
-use Rattle.std.proofs.Common.{◌≡◌, ℕ, zero, suc, ◌<◌, List, [], ◌∷◌, ◌++◌, length, get_or, set, map, Option, Some, None, Bool, true, false, cond, not, ◌||◌, nat_lt, eqb, ◌⊎◌, inl, inr, refl, sym, ap, subst, ◌∙◌, arith}
+use Rattle.std.proofs.Common.{◌≡◌, ℕ, ◌<◌, List, [], ◌∷◌, ◌++◌, length, get_or, set, Option, Some, None, false, cond, not, ◌||◌, nat_lt, inl, inr, refl, sym, ap, subst, ◌∙◌, arith}
 use Rattle.std.specs.Prelude.{slice_get, option_and_then}
 use Rattle.std.proofs.lemmas.List.{length-map, length-set, length-append, map-append, append-nil, get_or_default, get_or_push}
-use Rattle.std.proofs.lemmas.Option.{slice_get-get_or, slice_get_within, slice_get-map}
+use Rattle.std.proofs.lemmas.Option.{slice_get-get_or, slice_get_within}
 use Rattle.std.proofs.lemmas.Bool.{eq-eqb, ne_eqb}
 use Rattle.py_node.specs.declared.refs.PyStrInterned.{PyStrInterned}
 use Rattle.py_node.specs.declared.refs.PyTypeRef.{PyTypeRef}
 use Rattle.class_model.specs.Order.{has, Holds}
 use Rattle.class_model.specs.Class.{Class, Classes, lin, subclasses}
-use Rattle.class_model.specs.Layout.{base, solid, best_of, derives_all, built_ins, is_empty, is_solid, has_members}
+use Rattle.class_model.specs.Layout.{base, solid, best_of, derives_all, built_ins, is_empty, is_solid}
 use Rattle.class_model.specs.Slot.{entries}
 use Rattle.class_model.specs.BuiltIn.{natives_of}
 use Rattle.class_model.specs.Change.{with_class}
@@ -253,3 +253,12 @@ module _ (kept : List Kept) (ok : IsCoherent kept) (new : Class PyStrInterned) (
       solid = λ i x e. ap (λ t. solid t i) plain-added ∙ (now i x e).solid;
       subclasses = λ i x e. (now i x e).subclasses ∙ ap (λ t. subclasses t i) (sym plain-added);
     }
+
+pub added-at : (kept : List Kept) → IsCoherent kept → (new : Class PyStrInterned) (below : Option PyTypeRef) → IsBelow (length kept) below → new.bases ≡ one_base below → (stored : Kept) (n : ℕ) (before items cur found final : List Kept) → n ≡ length kept → before ≡ kept → IsFresh before n new below stored → ((d : Kept) → items ≡ noted d kept below n ++ stored ∷ []) → cur ≡ items → ((x : Kept) → found ≡ set cur n (settled (plain cur) n (get_or cur n x))) → final ≡ found → IsCoherent final × (plain final ≡ with_class (plain kept) new)
+added-at kept ok new below inside bases stored n before items cur found final size same h put is says e =
+    let fresh = fresh-at kept before n new below stored size same h in
+    let attached = attached-at stored kept cur items n below stored size is (put stored) in
+    let all = e ∙ settled-at kept ok new below inside bases stored fresh stored cur found n attached size says in (
+      coherent-added kept ok new below inside bases stored fresh stored final all,
+      plain-added kept ok new below inside bases stored fresh stored final all,
+    )

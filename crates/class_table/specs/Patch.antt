@@ -1,5 +1,5 @@
 -- Slots that are found anew.
-use Rattle.std.specs.Prelude.{◌≡◌, ℕ, Bool, true, false, cond, List, Some, length, slice_get}
+use Rattle.std.specs.Prelude.{◌≡◌, ℕ, true, false, cond, List, Some, length, slice_get}
 use Rattle.py_node.specs.declared.refs.PyStrInterned.{PyStrInterned}
 use Rattle.py_node.specs.declared.entry.SlotId.{SlotId}
 use Rattle.py_node.specs.Slots.{place_of}

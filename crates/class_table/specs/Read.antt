@@ -1,6 +1,4 @@
 -- How slots are read, and the candidates of an operator.
-use Rattle.std.specs.Prelude.{ℕ, List, [], ◌∷◌, Option, Some, None}
-use Rattle.py_node.specs.declared.entry.SlotEntry.{SlotEntry}
 use Rattle.py_node.specs.Slots.{Sort, ByItself, BySequence, ByMapping, Nearest}
 use Rattle.class_table.specs.declared.special.Reading.{Reading}
 use Rattle.class_table.specs.declared.special.Reading.TheVariants.{Own, Sequence, Mapping, OfNearest}

@@ -1,5 +1,5 @@
 -- When a class is refused.
-use Rattle.std.specs.Prelude.{ℕ, ◌<◌, Bool, false, cond, List, [], ◌∷◌, Option, Some, None, Result, Ok, Err, slice_get}
+use Rattle.std.specs.Prelude.{ℕ, ◌<◌, Bool, false, not, cond, List, [], ◌∷◌, Option, Some, None, Result, Ok, Err, slice_get}
 use Rattle.py_node.specs.declared.raised.Cause.{Cause}
 use Rattle.py_node.specs.declared.raised.Cause.TheVariants.{EmptyBases, NotBaseType, ImmutableType}
 use Rattle.py_node.specs.declared.refs.PyObjectRef.{PyObjectRef}
@@ -25,6 +25,11 @@ is_base_at (Some k) = has_flag 1024 k
 abbrev pub refused_bases : {K : Type 0} → Classes K → List ℕ → Option Cause
 refused_bases t [] = Some EmptyBases
 refused_bases t (b ∷ bs) = cond (is_base_at (slice_get t b)) None (Some NotBaseType)
+
+-- whether the first base may have no subclasses
+abbrev pub lacks_base : {K : Type 0} → Classes K → List ℕ → Bool
+lacks_base t [] = false
+lacks_base t (b ∷ bs) = not (is_base_at (slice_get t b))
 
 -- why an attribute of a class may not be set by a script
 abbrev pub refused_attr : {K : Type 0} → Classes K → ℕ → Option Cause

@@ -1,6 +1,7 @@
 // Classes as scripts make and change them.
 
-ghost use Rattle.std.specs.Prelude.{◌≡◌, ◌<◌, ◌≤◌, ◌∷◌, [], length, OnOk, OnErr, IfOk, slice_get};
+ghost use Rattle.std.specs.Prelude.{◌≡◌, ◌<◌, ◌≤◌, ◌∷◌, [], length, OnOk, OnErr, IfOk, ◌↔◌, IsTrue, Some, slice_get};
+ghost use Rattle.py_node.specs.declared.raised.Cause.TheVariants.{EmptyBases, NotBaseType};
 ghost use Rattle.py_node.specs.Attributes.{is_same_name};
 ghost use Rattle.class_model.specs.Change.{with_class, with_class_attr};
 ghost use Rattle.class_model.specs.Slot.{is_heap_at};
@@ -8,7 +9,7 @@ ghost use Rattle.class_table.specs.Keys.{numbers};
 ghost use Rattle.class_table.specs.New.{class_of_new};
 ghost use Rattle.class_table.specs.Kept.{plain};
 ghost use Rattle.class_table.specs.Coherent.{IsCoherent};
-ghost use Rattle.class_table.specs.Refused.{refusal, refused_bases, refused_attr, is_base_at, AreBelow, heap_class};
+ghost use Rattle.class_table.specs.Refused.{refusal, refused_bases, refused_attr, is_base_at, lacks_base, AreBelow, heap_class};
 
 use crate::add::add;
 use crate::fault::ClassFault;
@@ -94,6 +95,8 @@ pub(crate) fn add_heap(
     ensures coherent { OnOk result (IsCoherent classes.new.items) }
     ensures added { OnOk result (plain classes.new.items ≡ with_class (plain classes.old.items) (heap_class name.now node (numbers bases.items) attrs members.items)) }
     ensures refused { refusal result ≡ refused_bases (plain classes.old.items) (numbers bases.items) }
+    ensures empty { (refusal result ≡ Some EmptyBases) ↔ (numbers bases.items ≡ []) }
+    ensures base { (refusal result ≡ Some NotBaseType) ↔ IsTrue (lacks_base (plain classes.old.items) (numbers bases.items)) }
     ensures err { OnErr result (classes.new.items ≡ classes.old.items) }
 {
     let base = match base_for(classes, &bases) {

@@ -1,6 +1,7 @@
 // The table of classes.
 
-ghost use Rattle.std.specs.Prelude.{◌≡◌, ◌<◌, ◌≤◌, ◌∷◌, [], ℕ, length, OnOk, OnErr, IfOk, Some, is_some, slice_get, option_map};
+ghost use Rattle.std.specs.Prelude.{◌≡◌, ◌<◌, ◌≤◌, ◌∷◌, [], ℕ, length, OnOk, OnErr, IfOk, ◌↔◌, IsTrue, Some, is_some, slice_get, option_map};
+ghost use Rattle.py_node.specs.declared.raised.Cause.TheVariants.{EmptyBases, NotBaseType};
 ghost use Rattle.py_node.specs.Attributes.{is_same_name};
 ghost use Rattle.class_model.specs.Class.{Class, lin, is_sub, is_heap, found, found_past, own_of, subclasses};
 ghost use Rattle.class_model.specs.Layout.{base, solid};
@@ -10,7 +11,7 @@ ghost use Rattle.class_model.specs.Change.{with_class, with_class_attr};
 ghost use Rattle.class_table.specs.Keys.{numbers, number_of, table_keys};
 ghost use Rattle.class_table.specs.Kept.{plain};
 ghost use Rattle.class_table.specs.New.{IsBelow, class_of_new};
-ghost use Rattle.class_table.specs.Refused.{refusal, refused_bases, refused_attr, AreBelow, heap_class};
+ghost use Rattle.class_table.specs.Refused.{refusal, refused_bases, refused_attr, lacks_base, AreBelow, heap_class};
 ghost use Rattle.class_table.specs.Turn.{list_of};
 
 use crate::add::add;
@@ -91,6 +92,8 @@ impl ClassTable {
         ensures number { IfOk result (λ c. c.0 ≡ length self.old) }
         ensures added { OnOk result (self.new ≡ with_class self.old (heap_class name.now node (numbers bases.items) attrs members.items)) }
         ensures refused { refusal result ≡ refused_bases self.old (numbers bases.items) }
+        ensures empty { (refusal result ≡ Some EmptyBases) ↔ (numbers bases.items ≡ []) }
+        ensures base { (refusal result ≡ Some NotBaseType) ↔ IsTrue (lacks_base self.old (numbers bases.items)) }
         ensures err { OnErr result (self.new ≡ self.old) }
     {
         add_heap(&mut self.classes, alloc, node, name, bases, attrs, members)

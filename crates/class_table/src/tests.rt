@@ -1,3 +1,5 @@
+ghost use Rattle.std.specs.Prelude.{◌≡◌, IfOk};
+
 use crate::fault::ClassFault;
 use crate::stored::NewClass;
 use crate::table::ClassTable;
@@ -10,7 +12,9 @@ use std::alloc::{AllocError, Global};
 use std::test::Fail;
 
 // A built-in class by the name `object`.
-fn object(alloc: Global) -> Result<NewClass, AllocError> {
+fn object(alloc: Global) -> Result<NewClass, AllocError>
+    ensures { IfOk result (λ n. n.base ≡ None) }
+{
     Ok(NewClass {
         name: String::from_str(alloc, "object")?,
         node: PyObjectRef(0),

@@ -1,14 +1,12 @@
-use Rattle.std.proofs.Common.{◌≡◌, ℕ, ◌<◌, List, ◌∷◌, [], ◌++◌, length, get_or, set, take, drop, sym, ap, subst, ◌∙◌, arith, refl}
+use Rattle.std.proofs.Common.{◌≡◌, ℕ, List, ◌∷◌, [], ◌++◌, length, get_or, drop, sym, ap, subst, ◌∙◌, arith, refl}
 use Rattle.std.proofs.lemmas.List.{take_at}
-use Rattle.class_model.specs.Change.{with_class}
-use Rattle.class_table.specs.Kept.{Kept, plain}
-use Rattle.class_table.specs.Coherent.{HasLines, IsCoherent}
-use Rattle.class_table.specs.Patch.{settled}
+use Rattle.class_table.specs.Kept.{Kept}
+use Rattle.class_table.specs.Coherent.{HasLines}
 use Rattle.class_table.specs.New.{class_of_new}
 use Rattle.class_table.specs.Made.{IsFresh, noted}
-use Rattle.class_table.proofs.Pushed.{fresh-at, attached-at, lines-attached, last, within-attached, settled-at, plain-added, coherent-added}
+use Rattle.class_table.proofs.Pushed.{fresh-at, attached-at, lines-attached, last, within-attached, added-at}
 use Rattle.class_table.proofs.add.add.Goals as goal
-use Rattle.class_table.proofs.add.add.Goals.{After-deref_mut, After-classes-1}
+use Rattle.class_table.proofs.add.add.Goals.{After-deref_mut}
 
 size : (c : After-deref_mut) → c.len.result ≡ length c.args.classes.now.items
 size c = let h = c.len.ensures in omega (arith, h)
@@ -39,26 +37,18 @@ settle-requires-clause-full c = λ x.
     ap (λ (k : Kept). length k.slots) (ap (λ (ys : List Kept). get_or ys c.len.result x) (attached c) ∙ ap (λ (n : ℕ). get_or (noted d c.args.classes.now.items c.args.new.base (length c.args.classes.now.items) ++ c.in_ok-stored.stored ∷ []) n x) (size c) ∙ last c.args.classes.now.items c.requires.coherent (class_of_new c.args.new) c.args.new.base c.requires.base refl c.in_ok-stored.stored (fresh c) d x)
     ∙ (fresh c).full
 
-size-then : (c : After-classes-1) → c.len.result ≡ length c.args.classes.now.items
-size-then c = let h = c.len.ensures in omega (arith, h)
-
-fresh-then : (c : After-classes-1) → IsFresh c.args.classes.now.items (length c.args.classes.now.items) (class_of_new c.args.new) c.args.new.base c.in_ok-stored.stored
-fresh-then c = fresh-at c.args.classes.now.items c.deref.result.now c.len.result (class_of_new c.args.new) c.args.new.base c.in_ok-stored.stored (size-then c) c.deref.ensures.value c.in_ok-stored.ensures
-
-attached-then : (c : After-classes-1) → c.deref_mut.result.now ≡ noted c.in_ok-stored.stored c.args.classes.now.items c.args.new.base (length c.args.classes.now.items) ++ c.in_ok-stored.stored ∷ []
-attached-then c = attached-at c.in_ok-stored.stored c.args.classes.now.items c.deref_mut.result.now c.attach.new.classes.items c.len.result c.args.new.base c.in_ok-stored.stored (size-then c) c.deref_mut.ensures.value (c.in_ok-attach.ensures.ok c.in_ok-stored.stored)
-
-final : (c : After-classes-1) → take c.attach.new.classes.len (c.settle.new.classes ++ drop (length c.settle.new.classes) c.attach.new.classes.items) ≡ set (noted c.in_ok-stored.stored c.args.classes.now.items c.args.new.base (length c.args.classes.now.items) ++ c.in_ok-stored.stored ∷ []) (length c.args.classes.now.items) (settled (with_class (plain c.args.classes.now.items) (class_of_new c.args.new)) (length c.args.classes.now.items) c.in_ok-stored.stored)
-final c =
-    let d = c.in_ok-stored.stored in
-    let same : length c.settle.new.classes ≡ c.attach.new.classes.len = let a = c.settle.auto.classes in let b = c.deref_mut.ensures.len in omega (arith, a, b) in
-    take_at c.settle.new.classes (drop (length c.settle.new.classes) c.attach.new.classes.items) c.attach.new.classes.len same
-    ∙ settled-at c.args.classes.now.items c.requires.coherent (class_of_new c.args.new) c.args.new.base c.requires.base refl d (fresh-then c) d c.deref_mut.result.now c.settle.new.classes c.len.result (attached-then c) (size-then c) c.settle.ensures
-
 pub returns-clause-coherent : goal.returns-clause-coherent
 returns-clause-coherent c =
-    coherent-added c.args.classes.now.items c.requires.coherent (class_of_new c.args.new) c.args.new.base c.requires.base refl c.in_ok-stored.stored (fresh-then c) c.in_ok-stored.stored _ (final c)
+    let d = c.in_ok-stored.stored in
+    let size : c.len.result ≡ length c.args.classes.now.items = let h = c.len.ensures in omega (arith, h) in
+    let same : length c.settle.new.classes ≡ c.attach.new.classes.len = let a = c.settle.auto.classes in let b = c.deref_mut.ensures.len in omega (arith, a, b) in
+    let both = added-at c.args.classes.now.items c.requires.coherent (class_of_new c.args.new) c.args.new.base c.requires.base refl d c.len.result c.deref.result.now c.attach.new.classes.items c.deref_mut.result.now c.settle.new.classes _ size c.deref.ensures.value c.in_ok-stored.ensures c.in_ok-attach.ensures.ok c.deref_mut.ensures.value c.settle.ensures (take_at c.settle.new.classes (drop (length c.settle.new.classes) c.attach.new.classes.items) c.attach.new.classes.len same) in
+    both.0
 
 pub returns-clause-added : goal.returns-clause-added
 returns-clause-added c =
-    plain-added c.args.classes.now.items c.requires.coherent (class_of_new c.args.new) c.args.new.base c.requires.base refl c.in_ok-stored.stored (fresh-then c) c.in_ok-stored.stored _ (final c)
+    let d = c.in_ok-stored.stored in
+    let size : c.len.result ≡ length c.args.classes.now.items = let h = c.len.ensures in omega (arith, h) in
+    let same : length c.settle.new.classes ≡ c.attach.new.classes.len = let a = c.settle.auto.classes in let b = c.deref_mut.ensures.len in omega (arith, a, b) in
+    let both = added-at c.args.classes.now.items c.requires.coherent (class_of_new c.args.new) c.args.new.base c.requires.base refl d c.len.result c.deref.result.now c.attach.new.classes.items c.deref_mut.result.now c.settle.new.classes _ size c.deref.ensures.value c.in_ok-stored.ensures c.in_ok-attach.ensures.ok c.deref_mut.ensures.value c.settle.ensures (take_at c.settle.new.classes (drop (length c.settle.new.classes) c.attach.new.classes.items) c.attach.new.classes.len same) in
+    both.1

@@ -1,10 +1,10 @@
 use Rattle.std.proofs.Common.{◌≡◌, Some, sym, ap, ◌∙◌}
 use Rattle.std.specs.Prelude.{slice_get, List, ℕ}
 use Rattle.std.proofs.lemmas.Option.{slice_get-get_or}
-use Rattle.class_model.specs.Class.{first_along, lin}
+use Rattle.class_model.specs.Class.{first_along}
 use Rattle.class_model.specs.Slot.{given_entry}
 use Rattle.class_model.specs.BuiltIn.{natives_of}
-use Rattle.class_table.specs.Keys.{table_keys, numbers}
+use Rattle.class_table.specs.Keys.{table_keys}
 use Rattle.class_table.specs.Kept.{plain}
 use Rattle.class_table.proofs.Along.{get-some, entry-inherited, entry-given}
 use Rattle.class_table.proofs.entries.entry.Goals as goal

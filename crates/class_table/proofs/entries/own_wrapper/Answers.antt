@@ -1,4 +1,4 @@
-use Rattle.std.proofs.Common.{◌≡◌, Some, None, refl, sym, ap, ◌∙◌, arith}
+use Rattle.std.proofs.Common.{refl, sym, ◌∙◌, arith}
 use Rattle.class_table.proofs.Along.{wrapped-found, wrapped-next, wrapped-end}
 use Rattle.class_table.proofs.entries.own_wrapper.Goals as goal
 

@@ -1,6 +1,6 @@
 use Rattle.std.proofs.Common.{◌≡◌, List, set, sym, ap, subst, ◌∙◌}
 use Rattle.py_node.specs.Attributes.{with_value, is_same_name}
-use Rattle.class_table.specs.Kept.{Kept, plain}
+use Rattle.class_table.specs.Kept.{Kept}
 use Rattle.class_table.specs.Coherent.{HasLines}
 use Rattle.class_table.specs.Patch.{AreNear, IsRefreshed}
 use Rattle.class_table.proofs.Changed.{lines-changed, near-changed, plain-final, coherent-final}

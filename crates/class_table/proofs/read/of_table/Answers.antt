@@ -1,4 +1,3 @@
-use Rattle.std.proofs.Common.{arith}
 use Rattle.class_table.proofs.Along.{held-at}
 use Rattle.class_table.proofs.read.of_table.Goals as goal
 

@@ -1,8 +1,4 @@
-use Rattle.std.proofs.Common.{sym, ap, ◌∙◌}
-use Rattle.std.specs.Prelude.{slice_get, option_and_then, Option}
-use Rattle.py_node.specs.declared.entry.SlotEntry.{SlotEntry}
-use Rattle.py_node.specs.Slots.{place_of}
-use Rattle.class_table.specs.Kept.{Kept}
+use Rattle.std.proofs.Common.{◌∙◌}
 use Rattle.class_table.proofs.AsKept.{entry-kept}
 use Rattle.class_table.proofs.read.own_entry.Goals as goal
 

@@ -1,4 +1,4 @@
-use Rattle.std.proofs.Common.{◌≡◌, ℕ, length, cond, ltb, Some}
+use Rattle.std.proofs.Common.{◌≡◌, ℕ, cond, ltb, Some}
 use Rattle.std.specs.Prelude.{slice_get}
 use Rattle.class_table.specs.Kept.{Kept, plain}
 use Rattle.class_table.specs.Coherent.{HasLines}
