@@ -1,0 +1,108 @@
+// The one top call: words, a source and a sink.
+
+ghost use Rattle.std.specs.Prelude.{◌≡◌, ◌<◌, ◌≤◌, ◌^◌, ◌++◌, ℕ, List, length, take, map, string_bytes, Some, None, IfOk, Err};
+ghost use Rattle.std.specs.Option.{ForSome};
+ghost use Rattle.outside.specs.Count.{Rose};
+ghost use Rattle.outside.specs.Words.{units_in};
+ghost use Rattle.script_text.specs.Script.{script_of};
+ghost use Rattle.script_text.specs.declared.read.ScriptError.{ScriptError as Refusal};
+ghost use Rattle.typecore.specs.Headline.{IsTextOf, run_text};
+ghost use Rattle.vm_eval.specs.Runs.{trees_in};
+
+use crate::status::Status;
+use outside::read_all::{ReadEnd, read_all};
+use outside::sink::Sink;
+use outside::source::Source;
+use outside::words::units_of;
+use outside::write_all::write_all;
+use py_node::expr::Command;
+use py_node::memory::OutOfMemory;
+use reply_text::write::write_replies;
+use script_text::read::{ScriptFault, read_script};
+use std::alloc::Global;
+use vm_eval::machine::VirtualMachine;
+
+/// Reads a script to the source's end, runs each command of it with the units that the words give, and
+/// writes the replies to the sink. Nothing is written before all was read and run.
+pub fn serve<S: Source, K: Sink>(
+    alloc: Global,
+    words: &[String],
+    source: &mut S,
+    sink: &mut K,
+) -> Status
+    // What is written is the text of the plain machine's run, and nothing else.
+    ensures done { result ≡ Status.Done → (units : ℕ) × (units_in (map string_bytes words.now) ≡ Some units)
+        × ForSome (S.left source.old) (λ bytes. (length bytes ≤ 2 ^ 24) × (text : List ℕ) × IsTextOf bytes units text
+        × ForSome (K.taken sink.old) (λ old. K.taken sink.new ≡ Some (old ++ text))) }
+    // Usage comes exactly where the words are none that the program knows.
+    ensures usage { result ≡ Status.Usage → units_in (map string_bytes words.now) ≡ None }
+    ensures only_usage { units_in (map string_bytes words.now) ≡ None → result ≡ Status.Usage }
+    // A word of a script comes only where the bytes give it.
+    ensures script { (e : Refusal) → result ≡ Status.Script e → ForSome (S.left source.old) (λ bytes. script_of bytes ≡ Err e) }
+    ensures read_fault { result ≡ Status.ReadFault → Rose (S.faults source.old) (S.faults source.new) }
+    ensures too_large { result ≡ Status.TooLarge → ForSome (S.left source.old) (λ bytes. 2 ^ 24 < length bytes) }
+    ensures fits { ForSome (S.left source.old) (λ bytes. length bytes ≤ 2 ^ 24 → result ≡ Status.TooLarge → ⊥) }
+    ensures write_fault { result ≡ Status.WriteFault → Rose (K.faults sink.old) (K.faults sink.new) }
+    // What was taken before a fault is a front of the text.
+    ensures front { result ≡ Status.WriteFault → (units : ℕ) × (units_in (map string_bytes words.now) ≡ Some units)
+        × ForSome (S.left source.old) (λ bytes. (text : List ℕ) × IsTextOf bytes units text
+        × ForSome (K.taken sink.old) (λ old. (n : ℕ) × (n < length text) × (K.taken sink.new ≡ Some (old ++ take n text)))) }
+    // With any other end nothing is written.
+    ensures nothing { (result ≡ Status.Done → ⊥) → (result ≡ Status.WriteFault → ⊥) → K.taken sink.new ≡ K.taken sink.old }
+{
+    match units_of(words) {
+        None => Status::Usage,
+        Some(units) => match read_all(alloc, source) {
+            Err(ReadEnd::Fault) => Status::ReadFault,
+            Err(ReadEnd::TooLarge) => Status::TooLarge,
+            Err(ReadEnd::OutOfMemory) => Status::OutOfMemory,
+            Ok(bytes) => answer(alloc, &bytes, units, sink),
+        },
+    }
+}
+
+// Runs the script that bytes spell, and writes the replies.
+fn answer<K: Sink>(alloc: Global, bytes: &[u8], units: u64, sink: &mut K) -> Status
+    ensures done { result ≡ Status.Done → (text : List ℕ) × IsTextOf bytes.now units text
+        × ForSome (K.taken sink.old) (λ old. K.taken sink.new ≡ Some (old ++ text)) }
+    ensures usage { result ≡ Status.Usage → ⊥ }
+    ensures script { (e : Refusal) → result ≡ Status.Script e → script_of bytes.now ≡ Err e }
+    ensures read_fault { result ≡ Status.ReadFault → ⊥ }
+    ensures too_large { result ≡ Status.TooLarge → ⊥ }
+    ensures write_fault { result ≡ Status.WriteFault → Rose (K.faults sink.old) (K.faults sink.new) }
+    ensures front { result ≡ Status.WriteFault → (text : List ℕ) × IsTextOf bytes.now units text
+        × ForSome (K.taken sink.old) (λ old. (n : ℕ) × (n < length text) × (K.taken sink.new ≡ Some (old ++ take n text))) }
+    ensures nothing { (result ≡ Status.Done → ⊥) → (result ≡ Status.WriteFault → ⊥) → K.taken sink.new ≡ K.taken sink.old }
+{
+    match text_of(alloc, bytes, units) {
+        Err(ScriptFault::Script(error)) => Status::Script(error),
+        Err(ScriptFault::OutOfMemory(_)) => Status::OutOfMemory,
+        Ok(text) => match write_all(sink, &text) {
+            Ok(()) => Status::Done,
+            Err(_) => Status::WriteFault,
+        },
+    }
+}
+
+// The text of the replies to the script that bytes spell.
+fn text_of(alloc: Global, bytes: &[u8], units: u64) -> Result<Vec<u8>, ScriptFault>
+    ensures text { IfOk result (λ v. IsTextOf bytes.now units v.items) }
+    ensures script { (e : Refusal) → result ≡ Err (ScriptFault.Script e) → script_of bytes.now ≡ Err e }
+{
+    let commands = read_script(alloc, bytes)?;
+    match replies_text(alloc, &commands, units) {
+        Ok(text) => Ok(text),
+        Err(error) => Err(ScriptFault::OutOfMemory(error)),
+    }
+}
+
+// The text of the replies to commands.
+fn replies_text(alloc: Global, commands: &[Command], units: u64) -> Result<Vec<u8>, OutOfMemory>
+    ensures { IfOk result (λ v. v.items ≡ run_text (trees_in commands.now) units) }
+{
+    let mut vm = VirtualMachine::new(alloc)?;
+    match vm.run(alloc, commands, units) {
+        Ok(replies) => write_replies(alloc, &replies),
+        Err(_) => Err(OutOfMemory),
+    }
+}
