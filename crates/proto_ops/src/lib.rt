@@ -18,7 +18,9 @@ use py_node::memory::OutOfMemory;
 use py_node::payload::Payload;
 use py_node::raised::{Cause, Kind, Raised};
 use py_node::refs::PyObjectRef;
-use py_node::task::{Answer, Args, Keywords, LaterTask, OperatorTask, PyNumberBinaryOp, Step, Task};
+use py_node::task::{
+    Answer, Args, Keywords, LaterTask, OperatorTask, PyNumberBinaryOp, Step, Task,
+};
 use std::alloc::Global;
 
 /// What a row of an operator keeps while it waits for an answer.

@@ -3,12 +3,13 @@
 
 mod serve;
 mod status;
+#[cfg(test)]
+mod tests;
 
 use outside::standard::{StdSink, StdSource};
 use serve::serve;
-use std::env;
-use std::io;
 use std::process::ExitCode;
+use std::{env, io};
 
 fn main(rt: HostRuntime) -> io::Result<ExitCode> {
     let mut words = Vec::new(rt.alloc());

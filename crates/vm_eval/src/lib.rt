@@ -4,3 +4,5 @@
 pub mod machine;
 mod run;
 mod stack;
+#[cfg(test)]
+mod tests;

@@ -60,7 +60,13 @@ fn reply(
     ensures grows { Grows world.old world.new }
 {
     let number = add_expr(world, alloc, &command.expr)?;
-    let end = drive(world, alloc, stack, Task::Eval(EvalTask::Eval(number)), units)?;
+    let end = drive(
+        world,
+        alloc,
+        stack,
+        Task::Eval(EvalTask::Eval(number)),
+        units,
+    )?;
     let answer = answering(world, alloc, end)?;
     let calls = world.rest(alloc);
     Ok(Reply { answer, calls })
