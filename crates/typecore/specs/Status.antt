@@ -11,3 +11,9 @@ exit_of ReadFault = 4
 exit_of WriteFault = 5
 exit_of OutOfMemory = 6
 exit_of TooLarge = 7
+
+-- all was written, or memory could not be had
+abbrev pub IsDoneOrPoor : Status → Type 0
+IsDoneOrPoor Done = Unit {0}
+IsDoneOrPoor OutOfMemory = Unit {0}
+IsDoneOrPoor _ = ⊥

@@ -1,12 +1,14 @@
 // The one top call: words, a source and a sink.
 
-ghost use Rattle.std.specs.Prelude.{◌≡◌, ◌<◌, ◌≤◌, ◌^◌, ◌++◌, ℕ, List, length, take, map, string_bytes, Some, None, IfOk, Err};
+ghost use Rattle.std.specs.Prelude.{◌≡◌, ◌<◌, ◌≤◌, ◌^◌, ◌++◌, ℕ, List, length, take, map, string_bytes, Some, None, IfOk, Ok, Err};
 ghost use Rattle.std.specs.Option.{ForSome};
 ghost use Rattle.outside.specs.Count.{Rose};
 ghost use Rattle.outside.specs.Words.{units_in};
 ghost use Rattle.script_text.specs.Script.{script_of};
 ghost use Rattle.script_text.specs.declared.read.ScriptError.{ScriptError as Refusal};
+ghost use Rattle.py_node.specs.Tree.{Tree};
 ghost use Rattle.typecore.specs.Headline.{IsTextOf, run_text};
+ghost use Rattle.typecore.specs.Status.{IsDoneOrPoor};
 ghost use Rattle.vm_eval.specs.Runs.{trees_in};
 
 use crate::status::Status;
@@ -37,18 +39,24 @@ pub fn serve<S: Source, K: Sink>(
     // Usage comes exactly where the words are none that the program knows.
     ensures usage { result ≡ Status.Usage → units_in (map string_bytes words.now) ≡ None }
     ensures only_usage { units_in (map string_bytes words.now) ≡ None → result ≡ Status.Usage }
-    // A word of a script comes only where the bytes give it.
-    ensures script { (e : Refusal) → result ≡ Status.Script e → ForSome (S.left source.old) (λ bytes. script_of bytes ≡ Err e) }
+    // A word of a script comes only where the bytes, which are few enough, give it.
+    ensures script { (e : Refusal) → result ≡ Status.Script e → ForSome (S.left source.old) (λ bytes. (length bytes ≤ 2 ^ 24) × (script_of bytes ≡ Err e)) }
     ensures read_fault { result ≡ Status.ReadFault → Rose (S.faults source.old) (S.faults source.new) }
     ensures too_large { result ≡ Status.TooLarge → ForSome (S.left source.old) (λ bytes. 2 ^ 24 < length bytes) }
     ensures fits { ForSome (S.left source.old) (λ bytes. length bytes ≤ 2 ^ 24 → result ≡ Status.TooLarge → ⊥) }
     ensures write_fault { result ≡ Status.WriteFault → Rose (K.faults sink.old) (K.faults sink.new) }
     // What was taken before a fault is a front of the text.
     ensures front { result ≡ Status.WriteFault → (units : ℕ) × (units_in (map string_bytes words.now) ≡ Some units)
-        × ForSome (S.left source.old) (λ bytes. (text : List ℕ) × IsTextOf bytes units text
+        × ForSome (S.left source.old) (λ bytes. (length bytes ≤ 2 ^ 24) × (text : List ℕ) × IsTextOf bytes units text
         × ForSome (K.taken sink.old) (λ old. (n : ℕ) × (n < length text) × (K.taken sink.new ≡ Some (old ++ take n text)))) }
     // With any other end nothing is written.
     ensures nothing { (result ≡ Status.Done → ⊥) → (result ≡ Status.WriteFault → ⊥) → K.taken sink.new ≡ K.taken sink.old }
+    // Words that are known, bytes that spell a script and are few enough, and no failure: then all is
+    // written, or memory could not be had.
+    ensures complete { (units : ℕ) → units_in (map string_bytes words.now) ≡ Some units
+        → ForSome (S.left source.old) (λ bytes. (commands : List Tree) → script_of bytes ≡ Ok commands → length bytes ≤ 2 ^ 24
+        → (Rose (S.faults source.old) (S.faults source.new) → ⊥) → (Rose (K.faults sink.old) (K.faults sink.new) → ⊥)
+        → IsDoneOrPoor result) }
 {
     match units_of(words) {
         None => Status::Usage,
@@ -73,6 +81,8 @@ fn answer<K: Sink>(alloc: Global, bytes: &[u8], units: u64, sink: &mut K) -> Sta
     ensures front { result ≡ Status.WriteFault → (text : List ℕ) × IsTextOf bytes.now units text
         × ForSome (K.taken sink.old) (λ old. (n : ℕ) × (n < length text) × (K.taken sink.new ≡ Some (old ++ take n text))) }
     ensures nothing { (result ≡ Status.Done → ⊥) → (result ≡ Status.WriteFault → ⊥) → K.taken sink.new ≡ K.taken sink.old }
+    ensures complete { (commands : List Tree) → script_of bytes.now ≡ Ok commands
+        → (Rose (K.faults sink.old) (K.faults sink.new) → ⊥) → IsDoneOrPoor result }
 {
     match text_of(alloc, bytes, units) {
         Err(ScriptFault::Script(error)) => Status::Script(error),

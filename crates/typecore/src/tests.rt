@@ -13,7 +13,7 @@ use std::test::Fail;
 fn served(
     alloc: Global,
     words: &str,
-    script: &str,
+    script: &[u8],
     reads: &[u64],
     writes: &[u64],
 ) -> Result<(Status, Vec<u8>), AllocError> {
@@ -21,7 +21,7 @@ fn served(
     for word in words.split_whitespace() {
         list.push(String::from_str(alloc, word)?)?;
     }
-    let bytes = script.as_bytes().to_vec(alloc)?;
+    let bytes = script.to_vec(alloc)?;
     let mut source = MemorySource::new(bytes, 1, reads.to_vec(alloc)?);
     let mut sink = MemorySink::new(alloc, 1, writes.to_vec(alloc)?);
     let status = serve(alloc, &list, &mut source, &mut sink);
@@ -46,7 +46,7 @@ fn a_script_is_answered(rt: HostRuntime) -> Result<(), Fail> {
             "! TypeError UnsupportedOperand\n",
         ),
     ] {
-        let (status, written) = served(rt.alloc(), units, script, &[], &[])?;
+        let (status, written) = served(rt.alloc(), units, script.as_bytes(), &[], &[])?;
         assert_eq!(rt; status, Status::Done, "at {script}");
         assert!(rt; written.as_slice() == text.as_bytes(), "at {script}");
     }
@@ -72,7 +72,7 @@ fn a_bad_call_writes_nothing(rt: HostRuntime) -> Result<(), Fail> {
             Status::Script(ScriptError::Shape),
         ),
     ] {
-        let (status, written) = served(rt.alloc(), words, script, &[], &[])?;
+        let (status, written) = served(rt.alloc(), words, script.as_bytes(), &[], &[])?;
         assert_eq!(rt; status, wanted, "at {words} {script}");
         assert!(rt; written.is_empty(), "at {words} {script}");
     }
@@ -82,7 +82,7 @@ fn a_bad_call_writes_nothing(rt: HostRuntime) -> Result<(), Fail> {
 #[test]
 fn a_failing_source_writes_nothing(rt: HostRuntime) -> Result<(), Fail> {
     for call in [0, 1, 6] {
-        let (status, written) = served(rt.alloc(), "run 5", "[1, 2]", &[call], &[])?;
+        let (status, written) = served(rt.alloc(), "run 5", b"[1, 2]", &[call], &[])?;
         assert_eq!(rt; status, Status::ReadFault, "at {call}");
         assert!(rt; written.is_empty(), "at {call}");
     }
@@ -92,9 +92,35 @@ fn a_failing_source_writes_nothing(rt: HostRuntime) -> Result<(), Fail> {
 #[test]
 fn a_failing_sink_has_a_front(rt: HostRuntime) -> Result<(), Fail> {
     for (call, front) in [(0, ""), (1, "="), (5, "= 1\n=")] {
-        let (status, written) = served(rt.alloc(), "run 5", "[1, 2]", &[], &[call])?;
+        let (status, written) = served(rt.alloc(), "run 5", b"[1, 2]", &[], &[call])?;
         assert_eq!(rt; status, Status::WriteFault, "at {call}");
         assert!(rt; written.as_slice() == front.as_bytes(), "at {call}");
+    }
+    Ok(())
+}
+
+#[test]
+fn a_front_of_a_script_is_no_json(rt: HostRuntime) -> Result<(), Fail> {
+    let script = br#"[["op","+",33,12],["bind","A","text"],null]"#;
+    for length in 0..script.len() {
+        let (status, written) = served(rt.alloc(), "run 5", &script[..length], &[], &[])?;
+        assert_eq!(rt; status, Status::Script(ScriptError::NotJson), "at {length}");
+        assert!(rt; written.is_empty(), "at {length}");
+    }
+    Ok(())
+}
+
+#[test]
+fn a_script_has_a_limit(rt: HostRuntime) -> Result<(), Fail> {
+    for (blanks, wanted, text) in [
+        (16_777_213, Status::Done, "= 1\n"),
+        (16_777_214, Status::TooLarge, ""),
+    ] {
+        let mut script = b"[1]".to_vec(rt.alloc())?;
+        script.extend_from_slice(&vec![in rt.alloc(); b' '; blanks]?)?;
+        let (status, written) = served(rt.alloc(), "run 5", &script, &[], &[])?;
+        assert_eq!(rt; status, wanted, "at {blanks}");
+        assert!(rt; written.as_slice() == text.as_bytes(), "at {blanks}");
     }
     Ok(())
 }
