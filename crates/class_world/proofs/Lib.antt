@@ -2,6 +2,7 @@ pub mod Claims
 pub mod Growth
 pub mod Readable
 pub mod Changes
+pub mod Bound
 pub mod Look
 pub mod Built
 pub mod Stored

@@ -5,18 +5,19 @@ ghost use Rattle.py_node.specs.Tree.{tree_of};
 ghost use Rattle.py_node.specs.Replies.{started_of};
 ghost use Rattle.py_node.specs.Slots.{special_names};
 ghost use Rattle.plain_machine.specs.Start.{start};
-ghost use Rattle.plain_machine.specs.World.{ref, push_node, with_node, next_node, has_dict, the_dict, at_rest, class_at, datum_at, number_of, text_keys, slot_at, candidates_at};
+ghost use Rattle.plain_machine.specs.World.{ref, push_node, with_node, next_node, has_dict, the_dict, at_rest, class_at, datum_at, number_of, text_keys, slot_at, candidates_at, variable, with_binding, with_scope, without_scope};
 ghost use Rattle.class_model.specs.Slot.{slot as slot_read, candidates_of};
 ghost use Rattle.class_model.specs.BuiltIn.{natives_of};
 ghost use Rattle.class_table.specs.Turn.{list_of};
 ghost use Rattle.py_node.specs.BuiltIns.{place_of};
 ghost use Rattle.class_world.specs.Fixed.{number_of_fixed};
 ghost use Rattle.class_world.specs.Held.{Held};
-ghost use Rattle.class_world.specs.Reading.{Reading, Reads, form_tree, datum, plain, IsReadable};
-ghost use Rattle.class_world.specs.Sound.{IsNode, IsClass, IsExpression, IsName, Holds, AllHold, Grows, of_option, of_node_ref, of_payload, of_form};
+ghost use Rattle.class_world.specs.Reading.{Reading, Reads, form_tree, datum, bindings, plain, IsReadable};
+ghost use Rattle.class_world.specs.Sound.{IsNode, IsClass, IsExpression, IsName, Holds, AllHold, Grows, of_option, of_node_ref, of_payload, of_form, of_binding, of_each};
 
 use crate::scope::Scope;
 use crate::start::{built_in_classes, special_names, start_nodes};
+use crate::variables::{bind_in, value_in};
 use class_table::candidates::Candidates;
 use class_table::table::ClassTable;
 use py_node::attributes::PyAttributes;
@@ -192,8 +193,8 @@ impl World {
         self.class_slot(class, slot)
     }
 
-    // A slot as it is read for a class.
-    fn class_slot(&self, class: PyTypeRef, slot: SlotId) -> Option<SlotEntry>
+    /// A slot as it is read for a class.
+    pub fn class_slot(&self, class: PyTypeRef, slot: SlotId) -> Option<SlotEntry>
         requires { Holds self.now (IsClass class.0) }
         ensures { (t : Reading) → Reads t self.now → slot_read text_keys natives_of (plain t self.now).classes class.0 slot ≡ result }
     {
@@ -334,5 +335,54 @@ impl World {
     {
         self.scopes.clear();
         mem::replace(&mut self.calls, Vec::new(alloc))
+    }
+    /// A variable, of the running body or else of the machine.
+    pub fn variable(&self, name: PyStrInterned) -> Option<PyObjectRef>
+        requires { Holds self.now (IsName name) }
+        ensures found { (t : Reading) → variable (plain t self.now) (t.text name.0) ≡ result }
+        ensures node { IfSome result (λ r. Holds self.now (IsNode r)) }
+    {
+        value_in(&self.scopes, &self.vars, name)
+    }
+
+    /// Binds a variable, of the running body or else of the machine.
+    pub fn bind(&mut self, name: PyStrInterned, value: PyObjectRef) -> Result<(), OutOfMemory>
+        requires name { Holds self.old (IsName name) }
+        requires value { Holds self.old (IsNode value) }
+        ensures bound { OnOk result ((t : Reading) → plain t self.new ≡ with_binding (plain t self.old) (t.text name.0) value) }
+        ensures reads { (t : Reading) → Reads t self.new → Reads t self.old }
+        ensures grows { Grows self.old self.new }
+    {
+        bind_in(&mut self.scopes, &mut self.vars, name, value)
+    }
+
+    /// A body begins: its scope, with its parameters, and the note of its start. Where memory runs
+    /// out, there is neither.
+    pub fn open_scope(
+        &mut self,
+        func: PyObjectRef,
+        vars: PyAttributes,
+        start: BodyCall,
+    ) -> Result<(), OutOfMemory>
+        requires func { Holds self.old (IsNode func) }
+        requires vars { AllHold self.old (of_each of_binding vars) }
+        ensures opened { OnOk result ((t : Reading) → plain t self.new ≡ with_scope (plain t self.old) (record { func = func; vars = bindings t vars }) (started_of start)) }
+        ensures reads { (t : Reading) → Reads t self.new → Reads t self.old }
+        ensures grows { Grows self.old self.new }
+    {
+        self.scopes.reserve(1)?;
+        self.calls.reserve(1)?;
+        self.scopes.push_reserved(Scope { func, vars });
+        self.calls.push_reserved(start);
+        Ok(())
+    }
+
+    /// A body is over: its scope is taken away.
+    pub fn close_scope(&mut self)
+        ensures closed { (t : Reading) → plain t self.new ≡ without_scope (plain t self.old) }
+        ensures reads { (t : Reading) → Reads t self.new → Reads t self.old }
+        ensures grows { Grows self.old self.new }
+    {
+        let _ = self.scopes.pop();
     }
 }
