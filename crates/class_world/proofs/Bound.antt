@@ -1,17 +1,16 @@
 -- Variables and scopes, as a reading has them, and what holds of them.
-use Rattle.std.proofs.Common.{◌≡◌, ℕ, zero, suc, ◌-◌, ◌<◌, ◌≤◌, Bool, true, false, cond, List, [], ◌∷◌, ◌++◌, length, Option, Some, None, Result, Ok, Err, OnOk, OnErr, refl, sym, ap, ◌∙◌, subst, arith, get_or, set, take, map, IfSome}
+use Rattle.std.proofs.Common.{◌≡◌, ℕ, zero, suc, ◌-◌, Bool, true, false, cond, List, [], ◌∷◌, ◌++◌, length, Option, Some, None, Result, Ok, Err, OnOk, OnErr, refl, sym, ap, ◌∙◌, subst, arith, get_or, set, take, map, IfSome}
 use Rattle.py_node.specs.declared.refs.PyObjectRef.{PyObjectRef}
 use Rattle.py_node.specs.declared.refs.PyStrInterned.{PyStrInterned}
 use Rattle.py_node.specs.Attributes.{value_of, with_value, is_same_name}
 use Rattle.py_node.specs.Replies.{Started}
-use Rattle.py_node.specs.Tree.{Text}
 use Rattle.plain_machine.specs.World.{is_text, or_else_var, bound, bound_last, in_last, variable, with_binding, with_scope, without_scope}
 use Rattle.class_world.specs.declared.scope.Scope.{Scope}
 use Rattle.class_world.specs.Held.{Held}
 use Rattle.class_world.specs.Reading.{Reading, spelled, bindings, scope_of, plain}
 use Rattle.class_world.specs.Sound.{IsName, IsNode, Holds, AllHold, Grows, Sound, of_binding, of_scope, of_each}
 use Rattle.class_world.specs.Bound.{last_value, value_in, bound_vars, bound_scopes}
-use Rattle.class_world.proofs.Claims.{all-grow, all-append, all-first, all-rest, each-push, each-take}
+use Rattle.class_world.proofs.Claims.{all-grow, all-append, all-first, all-rest}
 use Rattle.class_world.proofs.Growth.{same-grows}
 use Rattle.class_world.proofs.Changes.{fixed-grow, built_in-grow}
 
@@ -102,7 +101,7 @@ closed-read w now n v e t =
     (ap (λ ss. record (plain t w) { scopes = ss }) (map-taken (scope_of t) (n - 1) w.scopes ∙ ap (λ k. take (k - 1) (map (scope_of t) w.scopes)) (e ∙ sym (length-map (scope_of t) w.scopes))))
 
 module _ (w : Held) where
-  value-holds : (test : PyStrInterned → Bool) (bs : Bound) → AllHold w (of_each of_binding bs) → IfSome (value_of test bs) (λ r. Holds w (IsNode r))
+  pub value-holds : (test : PyStrInterned → Bool) (bs : Bound) → AllHold w (of_each of_binding bs) → IfSome (value_of test bs) (λ r. Holds w (IsNode r))
   value-holds test [] h = tt
   value-holds test (b ∷ bs) h = go (test b.0) (value-holds test bs h.1.1)
     where

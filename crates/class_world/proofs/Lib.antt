@@ -3,6 +3,8 @@ pub mod Growth
 pub mod Readable
 pub mod Changes
 pub mod Bound
+pub mod OfClasses
+pub mod ClassChanges
 pub mod Look
 pub mod Built
 pub mod Stored
