@@ -353,6 +353,7 @@ impl World {
         requires name { Holds self.old (IsName name) }
         requires value { Holds self.old (IsNode value) }
         ensures bound { OnOk result ((t : Reading) → plain t self.new ≡ with_binding (plain t self.old) (t.text name.0) value) }
+        ensures err { OnErr result (self.new ≡ self.old) }
         ensures reads { (t : Reading) → Reads t self.new → Reads t self.old }
         ensures grows { Grows self.old self.new }
     {
@@ -370,6 +371,7 @@ impl World {
         requires func { Holds self.old (IsNode func) }
         requires vars { AllHold self.old (of_each of_binding vars) }
         ensures opened { OnOk result ((t : Reading) → plain t self.new ≡ with_scope (plain t self.old) (record { func = func; vars = bindings t vars }) (started_of start)) }
+        ensures err { OnErr result (self.new ≡ self.old) }
         ensures reads { (t : Reading) → Reads t self.new → Reads t self.old }
         ensures grows { Grows self.old self.new }
     {
@@ -459,6 +461,7 @@ impl World {
         requires name { Holds self.old (IsName name) }
         requires value { Holds self.old (IsNode value) }
         ensures set { OnOk result ((t : Reading) → plain t self.new ≡ with_own_attr (plain t self.old) class.0 (t.text name.0) value) }
+        ensures err { OnErr result (self.new ≡ self.old) }
         ensures reads { (t : Reading) → Reads t self.new → Reads t self.old }
         ensures grows { Grows self.old self.new }
     {
@@ -481,6 +484,7 @@ impl World {
         requires attrs { AllHold self.old (of_each of_binding attrs) }
         ensures made { OnOk result ((t : Reading) → plain t self.new ≡ with_new_class (plain t self.old) class_of_class.0 (record { name = string_bytes name; node = ref (length (plain t self.old).nodes); bases = one_base base; attrs = bindings t attrs; members = []; flags = flags.0 })) }
         ensures numbers { IfOk result (λ r. (t : Reading) → (r.0.0 ≡ length (plain t self.old).classes) × (r.1 ≡ ref (length (plain t self.old).nodes))) }
+        ensures err { OnErr result (self.new ≡ self.old) }
         ensures reads { (t : Reading) → Reads t self.new → Reads t self.old }
         ensures grows { Grows self.old self.new }
         ensures class { IfOk result (λ r. Holds self.new (IsClass r.0.0)) }
