@@ -339,6 +339,7 @@ impl World {
         self.scopes.clear();
         mem::replace(&mut self.calls, Vec::new(alloc))
     }
+
     /// A variable, of the running body or else of the machine.
     pub fn variable(&self, name: PyStrInterned) -> Option<PyObjectRef>
         requires { Holds self.now (IsName name) }
@@ -390,6 +391,7 @@ impl World {
     {
         let _ = self.scopes.pop();
     }
+
     /// The value of a name, in the first class along a class's linearisation that has it.
     pub fn class_attr(&self, class: PyTypeRef, name: PyStrInterned) -> Option<PyObjectRef>
         requires { Holds self.now (IsClass class.0) }
