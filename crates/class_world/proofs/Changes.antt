@@ -62,11 +62,11 @@ below-push forms f b h = λ n x e. go forms n x (λ m y k. b m y k) h e
         let l : length forms ≡ 0 + length forms = omega arith in
         subst (λ m. IsBelow m x) z (walk 0 forms n x (λ m y k. let q : m ≡ 0 + m = omega arith in subst (λ m. IsBelow m y) q (b m y k)) (subst (λ m. IsBelow m f) l h) e)
 
-fixed-grow : (w new : Held) → 27 ≤ length w.nodes → Grows w new → 27 ≤ length new.nodes
+pub fixed-grow : (w new : Held) → 27 ≤ length w.nodes → Grows w new → 27 ≤ length new.nodes
 unfolding Holds
 fixed-grow w new h g = let k = g.still (IsNode (record { 0 = 26 })) (omega arith) in omega arith
 
-built_in-grow : (w new : Held) → 23 ≤ length w.classes → Grows w new → 23 ≤ length new.classes
+pub built_in-grow : (w new : Held) → 23 ≤ length w.classes → Grows w new → 23 ≤ length new.classes
 unfolding Holds
 built_in-grow w new h g = let k = g.still (IsClass 22) (omega arith) in omega arith
 

@@ -2,6 +2,9 @@ pub mod Claims
 pub mod Growth
 pub mod Readable
 pub mod Changes
+pub mod Bound
+pub mod OfClasses
+pub mod ClassChanges
 pub mod Look
 pub mod Built
 pub mod Stored

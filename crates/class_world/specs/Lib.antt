@@ -3,6 +3,7 @@ pub mod Held
 pub mod Reading
 pub mod Sound
 pub mod Tables
+pub mod Bound
 pub mod Claims
 pub mod Rows
 pub mod StartNodes

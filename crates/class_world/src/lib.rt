@@ -7,4 +7,5 @@ mod start;
 pub mod store;
 #[cfg(test)]
 mod tests;
+mod variables;
 pub mod world;

@@ -5,19 +5,23 @@ ghost use Rattle.py_node.specs.Tree.{tree_of};
 ghost use Rattle.py_node.specs.Replies.{started_of};
 ghost use Rattle.py_node.specs.Slots.{special_names};
 ghost use Rattle.plain_machine.specs.Start.{start};
-ghost use Rattle.plain_machine.specs.World.{ref, push_node, with_node, next_node, has_dict, the_dict, at_rest, class_at, datum_at, number_of, text_keys, slot_at, candidates_at};
-ghost use Rattle.class_model.specs.Slot.{slot as slot_read, candidates_of};
+ghost use Rattle.plain_machine.specs.World.{ref, push_node, with_node, next_node, has_dict, the_dict, at_rest, class_at, datum_at, number_of, text_keys, slot_at, candidates_at, variable, with_binding, with_scope, without_scope, with_own_attr, with_new_class, is_text};
+ghost use Rattle.class_model.specs.Class.{found, found_past, own_of, is_sub, has_flag};
+ghost use Rattle.class_model.specs.Slot.{slot as slot_read, candidates_of, is_heap_at};
 ghost use Rattle.class_model.specs.BuiltIn.{natives_of};
+ghost use Rattle.class_table.specs.New.{one_base};
 ghost use Rattle.class_table.specs.Turn.{list_of};
 ghost use Rattle.py_node.specs.BuiltIns.{place_of};
 ghost use Rattle.class_world.specs.Fixed.{number_of_fixed};
 ghost use Rattle.class_world.specs.Held.{Held};
-ghost use Rattle.class_world.specs.Reading.{Reading, Reads, form_tree, datum, plain, IsReadable};
-ghost use Rattle.class_world.specs.Sound.{IsNode, IsClass, IsExpression, IsName, Holds, AllHold, Grows, of_option, of_node_ref, of_payload, of_form};
+ghost use Rattle.class_world.specs.Reading.{Reading, Reads, form_tree, datum, bindings, plain, IsReadable};
+ghost use Rattle.class_world.specs.Sound.{IsNode, IsClass, IsExpression, IsName, Holds, AllHold, Grows, of_option, of_node_ref, of_payload, of_form, of_class_ref, of_binding, of_each};
 
 use crate::scope::Scope;
 use crate::start::{built_in_classes, special_names, start_nodes};
+use crate::variables::{bind_in, value_in};
 use class_table::candidates::Candidates;
+use class_table::stored::NewClass;
 use class_table::table::ClassTable;
 use py_node::attributes::PyAttributes;
 use py_node::built_in::BuiltIn;
@@ -192,8 +196,8 @@ impl World {
         self.class_slot(class, slot)
     }
 
-    // A slot as it is read for a class.
-    fn class_slot(&self, class: PyTypeRef, slot: SlotId) -> Option<SlotEntry>
+    /// A slot as it is read for a class.
+    pub fn class_slot(&self, class: PyTypeRef, slot: SlotId) -> Option<SlotEntry>
         requires { Holds self.now (IsClass class.0) }
         ensures { (t : Reading) → Reads t self.now → slot_read text_keys natives_of (plain t self.now).classes class.0 slot ≡ result }
     {
@@ -334,5 +338,176 @@ impl World {
     {
         self.scopes.clear();
         mem::replace(&mut self.calls, Vec::new(alloc))
+    }
+
+    /// A variable, of the running body or else of the machine.
+    pub fn variable(&self, name: PyStrInterned) -> Option<PyObjectRef>
+        requires { Holds self.now (IsName name) }
+        ensures found { (t : Reading) → variable (plain t self.now) (t.text name.0) ≡ result }
+        ensures node { IfSome result (λ r. Holds self.now (IsNode r)) }
+    {
+        value_in(&self.scopes, &self.vars, name)
+    }
+
+    /// Binds a variable, of the running body or else of the machine.
+    pub fn bind(&mut self, name: PyStrInterned, value: PyObjectRef) -> Result<(), OutOfMemory>
+        requires name { Holds self.old (IsName name) }
+        requires value { Holds self.old (IsNode value) }
+        ensures bound { OnOk result ((t : Reading) → plain t self.new ≡ with_binding (plain t self.old) (t.text name.0) value) }
+        ensures err { OnErr result (self.new ≡ self.old) }
+        ensures reads { (t : Reading) → Reads t self.new → Reads t self.old }
+        ensures grows { Grows self.old self.new }
+    {
+        bind_in(&mut self.scopes, &mut self.vars, name, value)
+    }
+
+    /// A body begins: its scope, with its parameters, and the note of its start. Where memory runs
+    /// out, there is neither.
+    pub fn open_scope(
+        &mut self,
+        func: PyObjectRef,
+        vars: PyAttributes,
+        start: BodyCall,
+    ) -> Result<(), OutOfMemory>
+        requires func { Holds self.old (IsNode func) }
+        requires vars { AllHold self.old (of_each of_binding vars) }
+        ensures opened { OnOk result ((t : Reading) → plain t self.new ≡ with_scope (plain t self.old) (record { func = func; vars = bindings t vars }) (started_of start)) }
+        ensures err { OnErr result (self.new ≡ self.old) }
+        ensures reads { (t : Reading) → Reads t self.new → Reads t self.old }
+        ensures grows { Grows self.old self.new }
+    {
+        self.scopes.reserve(1)?;
+        self.calls.reserve(1)?;
+        self.scopes.push_reserved(Scope { func, vars });
+        self.calls.push_reserved(start);
+        Ok(())
+    }
+
+    /// A body is over: its scope is taken away.
+    pub fn close_scope(&mut self)
+        ensures closed { (t : Reading) → plain t self.new ≡ without_scope (plain t self.old) }
+        ensures reads { (t : Reading) → Reads t self.new → Reads t self.old }
+        ensures grows { Grows self.old self.new }
+    {
+        let _ = self.scopes.pop();
+    }
+
+    /// The value of a name, in the first class along a class's linearisation that has it.
+    pub fn class_attr(&self, class: PyTypeRef, name: PyStrInterned) -> Option<PyObjectRef>
+        requires { Holds self.now (IsClass class.0) }
+        ensures found { (t : Reading) → Reads t self.now → found is_text (plain t self.now).classes class.0 (t.text name.0) ≡ result }
+        ensures node { IfSome result (λ r. Holds self.now (IsNode r)) }
+    {
+        self.classes.get_attr(class, name)
+    }
+
+    /// The same past the class itself.
+    pub fn class_attr_past(&self, class: PyTypeRef, name: PyStrInterned) -> Option<PyObjectRef>
+        requires { Holds self.now (IsClass class.0) }
+        ensures found { (t : Reading) → Reads t self.now → found_past is_text (plain t self.now).classes class.0 (t.text name.0) ≡ result }
+        ensures node { IfSome result (λ r. Holds self.now (IsNode r)) }
+    {
+        self.classes.get_super_attr(class, name)
+    }
+
+    /// A class's own value of a name.
+    pub fn own_attr(&self, class: PyTypeRef, name: PyStrInterned) -> Option<PyObjectRef>
+        requires { Holds self.now (IsClass class.0) }
+        ensures found { (t : Reading) → Reads t self.now → own_of (λ y. is_text y (t.text name.0)) (slice_get (plain t self.now).classes class.0) ≡ result }
+        ensures node { IfSome result (λ r. Holds self.now (IsNode r)) }
+    {
+        self.classes.get_direct_attr(class, name)
+    }
+
+    /// Whether a class is another one or has it along its linearisation.
+    pub fn is_sub(&self, class: PyTypeRef, other: PyTypeRef) -> bool
+        requires { Holds self.now (IsClass class.0) }
+        ensures { (t : Reading) → is_sub (plain t self.now).classes class.0 other.0 ≡ result }
+    {
+        self.classes.fast_issubclass(class, other)
+    }
+
+    /// Whether a class was made by a script.
+    pub fn class_is_heap(&self, class: PyTypeRef) -> bool
+        requires { Holds self.now (IsClass class.0) }
+        ensures { (t : Reading) → is_heap_at (slice_get (plain t self.now).classes class.0) ≡ result }
+    {
+        self.classes.is_heap(class)
+    }
+
+    /// Whether a class has a flag.
+    pub fn class_flag(&self, class: PyTypeRef, flag: PyTypeFlags) -> bool
+        requires { Holds self.now (IsClass class.0) }
+        ensures { (t : Reading) → option_map (λ k. has_flag flag.0 k) (slice_get (plain t self.now).classes class.0) ≡ Some result }
+    {
+        self.classes.flags(class).has_feature(flag)
+    }
+
+    /// The object that stands for a class.
+    pub fn class_node(&self, class: PyTypeRef) -> PyObjectRef
+        requires { Holds self.now (IsClass class.0) }
+        ensures reads { (t : Reading) → option_map (λ k. k.node) (slice_get (plain t self.now).classes class.0) ≡ Some result }
+        ensures node { Holds self.now (IsNode result) }
+    {
+        self.classes.node(class)
+    }
+
+    /// Gives a class's own attribute a value, whatever the class is.
+    pub fn set_class_attr(
+        &mut self,
+        class: PyTypeRef,
+        name: PyStrInterned,
+        value: PyObjectRef,
+    ) -> Result<(), OutOfMemory>
+        requires class { Holds self.old (IsClass class.0) }
+        requires name { Holds self.old (IsName name) }
+        requires value { Holds self.old (IsNode value) }
+        ensures set { OnOk result ((t : Reading) → plain t self.new ≡ with_own_attr (plain t self.old) class.0 (t.text name.0) value) }
+        ensures err { OnErr result (self.new ≡ self.old) }
+        ensures reads { (t : Reading) → Reads t self.new → Reads t self.old }
+        ensures grows { Grows self.old self.new }
+    {
+        self.classes.put_attr(class, name, value)
+    }
+
+    /// Makes a class, with one base or none, and the node that stands for it. Where memory runs
+    /// out, there is neither.
+    pub fn make_class(
+        &mut self,
+        alloc: Global,
+        class_of_class: PyTypeRef,
+        name: String,
+        base: Option<PyTypeRef>,
+        attrs: PyAttributes,
+        flags: PyTypeFlags,
+    ) -> Result<(PyTypeRef, PyObjectRef), OutOfMemory>
+        requires meta { Holds self.old (IsClass class_of_class.0) }
+        requires base { AllHold self.old (of_option of_class_ref base) }
+        requires attrs { AllHold self.old (of_each of_binding attrs) }
+        ensures made { OnOk result ((t : Reading) → plain t self.new ≡ with_new_class (plain t self.old) class_of_class.0 (record { name = string_bytes name; node = ref (length (plain t self.old).nodes); bases = one_base base; attrs = bindings t attrs; members = []; flags = flags.0 })) }
+        ensures numbers { IfOk result (λ r. (t : Reading) → (r.0.0 ≡ length (plain t self.old).classes) × (r.1 ≡ ref (length (plain t self.old).nodes))) }
+        ensures err { OnErr result (self.new ≡ self.old) }
+        ensures reads { (t : Reading) → Reads t self.new → Reads t self.old }
+        ensures grows { Grows self.old self.new }
+        ensures class { IfOk result (λ r. Holds self.new (IsClass r.0.0)) }
+        ensures node { IfOk result (λ r. Holds self.new (IsNode r.1)) }
+    {
+        self.nodes.reserve(1)?;
+        let node = PyObjectRef(self.nodes.len() as u64);
+        let new = NewClass {
+            name,
+            node,
+            base,
+            attrs,
+            members: Vec::new(alloc),
+            flags,
+        };
+        let class = self.classes.add_class(alloc, new)?;
+        self.nodes.push_reserved(Node {
+            class: class_of_class,
+            dict: None,
+            payload: Payload::Class(class),
+        });
+        Ok((class, node))
     }
 }

@@ -9,9 +9,10 @@ use Rattle.py_node.specs.Slots.{special_names}
 use Rattle.py_node.specs.Tree.{Text}
 use Rattle.py_node.specs.Replies.{Started}
 use Rattle.class_model.specs.Class.{Class, Classes, has_flag}
+use Rattle.class_model.specs.Change.{with_class, with_class_attr}
 use Rattle.class_model.specs.Slot.{Keys, slot, candidates_of}
 use Rattle.class_model.specs.BuiltIn.{natives_of}
-use Rattle.plain_machine.specs.Plain.{Datum, AnObject, ADict, ANumber, Node, Bindings, Scope, PlainWorld}
+use Rattle.plain_machine.specs.Plain.{Datum, AnObject, AClass, ADict, ANumber, Node, Bindings, Scope, PlainWorld}
 
 -- whether two texts are one
 abbrev pub is_text : Text → Text → Bool
@@ -100,6 +101,14 @@ with_scope w s start = record w { scopes = w.scopes ++ s ∷ []; calls = w.calls
 -- the last body's scope is taken away
 abbrev pub without_scope : PlainWorld → PlainWorld
 without_scope w = record w { scopes = take (length w.scopes - 1) w.scopes }
+
+-- an own attribute of a class is set
+abbrev pub with_own_attr : PlainWorld → ℕ → Text → PyObjectRef → PlainWorld
+with_own_attr w c x r = record w { classes = with_class_attr is_text w.classes c x r }
+
+-- a new class, after which its node comes last. The node has no dict
+abbrev pub with_new_class : PlainWorld → ℕ → Class Text → PlainWorld
+with_new_class w meta k = record (push_node w meta None (AClass (length w.classes))) { classes = with_class w.classes k }
 
 -- a command is over: no scope is left, and no start is noted
 abbrev pub at_rest : PlainWorld → PlainWorld

@@ -1,0 +1,13 @@
+use Rattle.std.proofs.Common.{sym, ◌∙◌}
+use Rattle.class_world.specs.contracts.world.World.{the_view}
+use Rattle.class_world.specs.Sound.{Holds, IsClass}
+use Rattle.class_world.proofs.Claims.{opened-one}
+use Rattle.class_world.proofs.OfClasses.{heap-seen}
+use Rattle.class_world.proofs.world.World.class_is_heap.Goals as goal
+
+pub is_heap-requires : goal.is_heap-requires
+unfolding Holds
+is_heap-requires c = opened-one (the_view c.self.inside) c.args.self.now (IsClass c.args.class.0) c.self.view_is c.requires
+
+pub returns : goal.returns
+returns c = λ t. heap-seen (the_view c.self.inside) c.args.self.now c.self.view_is t c.args.class.0 ∙ sym c.is_heap.ensures

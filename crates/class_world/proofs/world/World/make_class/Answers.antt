@@ -1,0 +1,34 @@
+use Rattle.std.proofs.Common.{string_bytes, arith}
+use Rattle.py_node.specs.declared.refs.PyStrInterned.{PyStrInterned}
+use Rattle.class_model.specs.Class.{Class}
+use Rattle.class_table.specs.New.{one_base}
+use Rattle.class_world.specs.contracts.world.World.{the_view}
+use Rattle.class_world.specs.Sound.{IsClass, of_option, of_class_ref, of_binding, of_each}
+use Rattle.class_world.proofs.Claims.{opened, opened-one}
+use Rattle.class_world.proofs.Growth.{grows-seen}
+use Rattle.class_world.proofs.ClassChanges.{base-below, made-grows, class-made, node-made, made-sound}
+use Rattle.class_world.proofs.world.World.make_class.Goals as goal
+
+pub add_class-requires : goal.add_class-requires
+add_class-requires c = record { base = base-below (the_view c.self.inside) c.args.base (opened (the_view c.self.inside) c.args.self.now (of_option of_class_ref c.args.base) c.self.view_is c.requires.base) }
+
+pub invariant_of-self-2 : goal.invariant_of-self-2
+invariant_of-self-2 c =
+    let w = the_view c.self.inside in
+    let meta = opened-one w c.args.self.now (IsClass c.args.class_of_class.0) c.self.view_is c.requires.meta in
+    let attrs = opened w c.args.self.now (of_each of_binding c.args.attrs) c.self.view_is c.requires.attrs in
+    let k : Class PyStrInterned = record { name = string_bytes c.args.name; node = record { 0 = c.len.result }; bases = one_base c.args.base; attrs = c.args.attrs; members = c.new.result.items; flags = c.args.flags.0 } in
+    rw (c.push_reserved.ensures.items, c.in_ok-reserve.ensures.items, c.in_ok-class.ensures.added)
+    (made-sound w c.args.class_of_class k c.in_ok-class.class c.in_ok-class.ensures.number (omega (arith, c.len.ensures, c.in_ok-reserve.ensures.len, c.self.inside.nodes.ok.0)) c.new.ensures.items meta attrs c.self.invariant)
+
+pub returns-clause-grows : goal.returns-clause-grows
+returns-clause-grows c =
+    rw (c.push_reserved.ensures.items, c.in_ok-reserve.ensures.items, c.in_ok-class.ensures.added) (grows-seen (the_view c.self.inside) _ _ c.self.view_is (made-grows (the_view c.self.inside) c.args.class_of_class _ c.in_ok-class.class))
+
+pub returns-clause-class : goal.returns-clause-class
+returns-clause-class c =
+    rw (c.push_reserved.ensures.items, c.in_ok-reserve.ensures.items, c.in_ok-class.ensures.added) (class-made (the_view c.self.inside) c.args.class_of_class _ c.in_ok-class.class c.in_ok-class.ensures.number)
+
+pub returns-clause-node : goal.returns-clause-node
+returns-clause-node c =
+    rw (c.push_reserved.ensures.items, c.in_ok-reserve.ensures.items, c.in_ok-class.ensures.added) (node-made (the_view c.self.inside) c.args.class_of_class _ c.in_ok-class.class _ (omega (arith, c.len.ensures, c.in_ok-reserve.ensures.len, c.self.inside.nodes.ok.0)))
