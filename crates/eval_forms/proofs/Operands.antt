@@ -1,21 +1,22 @@
 -- Expressions whose operands are evaluated in order.
 use Rattle.std.proofs.Common.{◌≡◌, ℕ, zero, suc, ◌<◌, ◌≤◌, List, [], ◌∷◌, ◌++◌, length, map, Option, Some, None, Ok, Err, refl, sym, ap, ◌∙◌, subst, arith}
-use Rattle.std.specs.Prelude.{slice_get}
+use Rattle.std.specs.Prelude.{slice_get, Result, IfOk, IfSome}
 use Rattle.std.specs.Global.{Vec}
 use Rattle.std.proofs.lemmas.List.{map-append, length-map}
 use Rattle.std.proofs.lemmas.Option.{slice_get_within}
 use Rattle.py_node.specs.declared.refs.PyObjectRef.{PyObjectRef}
 use Rattle.py_node.specs.declared.refs.PyStrInterned.{PyStrInterned}
+use Rattle.py_node.specs.declared.memory.OutOfMemory.{OutOfMemory}
 use Rattle.py_node.specs.declared.raised.Raised.{Raised as Fault}
 use Rattle.py_node.specs.declared.task.Answer.TheVariants.{Done}
 use Rattle.py_node.specs.declared.payload.Form.{Form}
 use Rattle.py_node.specs.declared.payload.Form.TheVariants as form
 use Rattle.py_node.specs.Tree.{Text, Tree, trees_of, list_of, entry_trees}
-use Rattle.plain_machine.specs.Plain.{PlainWorld, DoEval, ToEval, Ended, Answered, Told, Said, Asks, Ends}
+use Rattle.plain_machine.specs.Plain.{PlainWorld, DoEval, ToEval, Answered, Told, Asks, Ends}
 use Rattle.plain_machine.specs.Row.{Row, fault, evaluate}
 use Rattle.class_world.specs.Held.{Held}
 use Rattle.class_world.specs.Reading.{Reading, Reads, form_tree, entry_list, plain}
-use Rattle.class_world.specs.Sound.{Holds, AllHold, AreNodes, IsExpression, AreExpressions, HasOperand, of_form, operands, operands_at}
+use Rattle.class_world.specs.Sound.{Holds, AllHold, IsNode, IsName, AreNodes, IsExpression, AreExpressions, HasOperand, of_form, of_node_ref, of_option, operands, operands_at}
 use Rattle.class_world.proofs.Claims.{expression-in, got-map, node-in}
 use Rattle.class_world.specs.Claims.{of_step}
 use Rattle.py_node.specs.declared.task.Step.{Step}
@@ -32,8 +33,8 @@ use Rattle.py_node.specs.declared.raised.Cause.TheVariants.{NotYet}
 use Rattle.eval_forms.specs.declared.Own.{Own}
 use Rattle.eval_forms.specs.declared.Own.TheVariants as own
 use Rattle.py_node.specs.declared.expr.Word.{Word}
-use Rattle.eval_forms.specs.Say.{operand_trees, own_say, op_say, add_of, two_of, eval_say}
-use Rattle.eval_forms.specs.Rows.{answered, eval_stands, Continues, StepsAt, EndsSo, HasValues, IsOwn, sum_step, of_eval_kept}
+use Rattle.eval_forms.specs.Say.{operand_trees, own_say, one_of, func_say, op_say, add_of, two_of, not_yet, eval_say}
+use Rattle.eval_forms.specs.Rows.{answered, eval_stands, Continues, Closes, StepsAt, EndsSo, HasValues, IsOwn, sum_step, of_eval_kept}
 
 list_of-trees_of : (ts : List Tree) → list_of (trees_of ts) ≡ ts
 list_of-trees_of [] = refl
@@ -181,19 +182,61 @@ own-row u t w e f vs more r h l =
 own-first : (u : PlainWorld) (t : Reading) (w : World) (e : ℕ) (f : Form) (vs : List PyObjectRef) → Reads t w → slice_get w.forms e ≡ Some f → length (operands f) ≡ length vs → eval_say u (DoEval (t.tree e)) (map answered vs) ≡ own_say u (t.tree e) vs []
 own-first u t w e f vs r h l = ap (eval_say u (DoEval (t.tree e))) (sym (append-nil (map answered vs))) ∙ own-row u t w e f vs [] r h l
 
+-- an expression ends as the row of its own step says
+pub own-closes : (w new : World) (e : ℕ) (f : Form) (vs : List PyObjectRef) (row : Reading → PlainWorld → Row) (next : Step EvalKept) → slice_get w.forms e ≡ Some f → length (operands f) ≡ length vs → ((t : Reading) (u : PlainWorld) → own_say u (form_tree t.text t.tree f) vs [] ≡ row t u []) → Closes row w new next → Continues e vs w new next
+own-closes w new e f vs row (Ask asked kept) h l says k = absurd k
+own-closes w new e f vs row (End s) h l says k = λ t r.
+    let here = k t r in
+    let told = own-first (plain t w) t w e f vs here.0 h l ∙ ap (λ x. own_say (plain t w) x vs []) (here.0.trees e f h) ∙ says t (plain t w) ∙ here.1 in
+    (here.0, subst (λ said. Steps eval_say (eval_stands t) t (DoEval (t.tree e)) (map answered vs) said (End s) new) (sym told) (refl, refl))
+
 -- what no stage so far has named
 pub own-later : (w : World) (e : ℕ) (f : Form) (vs : List PyObjectRef) → slice_get w.forms e ≡ Some f → length (operands f) ≡ length vs → IsOwn own.Later f → Continues e vs w w (End (fault NotImplementedError NotYet))
-own-later w e f vs h l o = λ t r. (r, subst (λ said. Steps eval_say (eval_stands t) t (DoEval (t.tree e)) (map answered vs) said (End (fault NotImplementedError NotYet)) w) (sym (own-first (plain t w) t w e f vs r h l ∙ ap (λ x. own_say (plain t w) x vs []) (r.trees e f h) ∙ later t f o)) (refl, refl))
+own-later w e f vs h l o = own-closes w w e f vs (λ t u. not_yet u) (End (fault NotImplementedError NotYet)) h l (λ t u. says t u f o) (λ t r. (r, refl))
   where
-    later : (t : Reading) (f : Form) → IsOwn own.Later f → own_say (plain t w) (form_tree t.text t.tree f) vs [] ≡ Ends (plain t w) (fault NotImplementedError NotYet)
-    later t (form.Const k) o = absurd o
-    later t (form.Name x) o = refl
-    later t (form.Bind x e) o = refl
-    later t (form.Func x ps e) o = refl
-    later t (form.SetAttr a x e) o = refl
-    later t (form.Call f es) o = refl
-    later t (form.Op word es) o = absurd o
-    later t (form.Class x bs es) o = refl
+    says : (t : Reading) (u : PlainWorld) (f : Form) → IsOwn own.Later f → own_say u (form_tree t.text t.tree f) vs [] ≡ not_yet u []
+    says t u (form.Const k) o = absurd o
+    says t u (form.Name x) o = absurd o
+    says t u (form.Bind x e) o = absurd o
+    says t u (form.Func x ps e) o = absurd o
+    says t u (form.SetAttr a x e) o = refl
+    says t u (form.Call f es) o = refl
+    says t u (form.Op word es) o = absurd o
+    says t u (form.Class x bs es) o = refl
+
+-- the text of a name is there, and the fixed nodes are
+pub names-in : (w : Held) (x : PyStrInterned) → Holds w (IsName x) → x.0 < length w.names
+unfolding Holds
+names-in w x h = h
+
+pub nodes-in : (w : Held) (last : PyObjectRef) (o : Option PyObjectRef) → last.0 ≡ 26 → Holds w (IsNode last) → IfSome o (λ r. r.0 ≤ 26) → IfSome o (λ r. Holds w (IsNode r))
+unfolding Holds
+nodes-in w last None e h k = tt
+nodes-in w last (Some r) e h k = omega (arith, e, h, k)
+
+-- what is said of the operand of a form with one
+pub one-holds : (w : Held) (vs : List PyObjectRef) → Holds w (AreNodes vs) → AllHold w (of_option of_node_ref (one_of vs))
+one-holds w [] h = tt
+one-holds w (a ∷ []) h = (node-in w (a ∷ []) 0 a h refl, tt)
+one-holds w (a ∷ (b ∷ vs)) h = tt
+
+-- a function
+says-func : (x : PyStrInterned) (ps : Vec PyStrInterned) (e : ℕ) (vs : List PyObjectRef) (f : Form) → IsOwn (own.Func x ps e) f → (t : Reading) (u : PlainWorld) → own_say u (form_tree t.text t.tree f) vs [] ≡ func_say u (t.text x.0) (map (λ p. t.text p.0) ps.items) (t.tree e) []
+says-func x ps e vs (form.Const k) o t u = absurd o
+says-func x ps e vs (form.Name y) o t u = absurd o
+says-func x ps e vs (form.Bind y b) o t u = absurd o
+says-func x ps e vs (form.Func y qs b) o t u =
+    ap (λ z. func_say u (t.text z.0) (map (λ p. t.text p.0) qs.items) (t.tree b) []) (sym o.0)
+    ∙ ap (λ rs. func_say u (t.text x.0) (map (λ p. t.text p.0) rs) (t.tree b) []) (sym o.1)
+    ∙ ap (λ c. func_say u (t.text x.0) (map (λ p. t.text p.0) ps.items) (t.tree c) []) (sym o.2)
+says-func x ps e vs (form.SetAttr a y b) o t u = absurd o
+says-func x ps e vs (form.Call f es) o t u = absurd o
+says-func x ps e vs (form.Op word es) o t u = absurd o
+says-func x ps e vs (form.Class y bs es) o t u = absurd o
+
+pub own-func : (w new : World) (e : ℕ) (f : Form) (vs : List PyObjectRef) (x : PyStrInterned) (ps : Vec PyStrInterned) (b : ℕ) (r : Result (Step EvalKept) OutOfMemory) → slice_get w.forms e ≡ Some f → length (operands f) ≡ length vs → IsOwn (own.Func x ps b) f → IfOk r (λ step. Closes (λ t u. func_say u (t.text x.0) (map (λ p. t.text p.0) ps.items) (t.tree b)) w new step) → IfOk r (λ step. Continues e vs w new step)
+own-func w new e f vs x ps b (Ok step) h l o k = own-closes w new e f vs (λ t u. func_say u (t.text x.0) (map (λ p. t.text p.0) ps.items) (t.tree b)) step h l (says-func x ps b vs f o) k
+own-func w new e f vs x ps b (Err out) h l o k = tt
 
 -- a sum
 pub own-add : (w : World) (e : ℕ) (f : Form) (vs : List PyObjectRef) → slice_get w.forms e ≡ Some f → length (operands f) ≡ length vs → IsOwn (own.Op word.Add) f → Continues e vs w w (sum_step (two_of vs))

@@ -14,18 +14,18 @@ use Rattle.py_node.specs.declared.raised.Cause.TheVariants.{ArgCount}
 use Rattle.py_node.specs.declared.payload.Form.{Form}
 use Rattle.py_node.specs.declared.payload.Form.TheVariants as form
 use Rattle.py_node.specs.Tree.{literal_of, Tree, TOp, tree, no_trees, TConst, LNone}
-use Rattle.plain_machine.specs.Plain.{EvalJob, DoEval, Fact, Answered}
-use Rattle.plain_machine.specs.Row.{value, fault}
+use Rattle.plain_machine.specs.Plain.{PlainWorld, EvalJob, DoEval, Fact, Answered, Ends}
+use Rattle.plain_machine.specs.Row.{Row, value, fault}
 use Rattle.plain_machine.specs.Rows.{Pending, fresh, given}
 use Rattle.class_world.specs.declared.world.World.{World}
-use Rattle.class_world.specs.Reading.{Reading, plain, eval_job}
+use Rattle.class_world.specs.Reading.{Reading, Reads, plain, eval_job}
 use Rattle.class_world.specs.Rows.{Goes, Steps}
 use Rattle.class_world.specs.Sound.{Claim, AreNodes, IsExpression, HasOperand, operands_at}
 use Rattle.eval_forms.specs.declared.EvalKept.{EvalKept}
 use Rattle.eval_forms.specs.declared.EvalKept.TheVariants.{Pass, Operands}
 use Rattle.eval_forms.specs.declared.Own.{Own}
 use Rattle.eval_forms.specs.declared.Own.TheVariants as own
-use Rattle.eval_forms.specs.Say.{eval_say, two_of}
+use Rattle.eval_forms.specs.Say.{eval_say}
 
 -- the values of the operands so far, as they were learnt
 abbrev pub answered : PyObjectRef → Fact
@@ -66,9 +66,18 @@ ContinuesTree spell vs = Goes eval_say eval_stands (λ t. record { task = DoEval
 abbrev pub IsOwn : Own → Form → Type 0
 IsOwn (own.Const k) (form.Const j) = literal_of k ≡ literal_of j
 IsOwn (own.Const k) _ = ⊥
+IsOwn (own.Name x) (form.Name y) = x ≡ y
+IsOwn (own.Name x) _ = ⊥
+IsOwn (own.Bind x) (form.Bind y e) = x ≡ y
+IsOwn (own.Bind x) _ = ⊥
+IsOwn (own.Func x ps e) (form.Func y qs b) = (x ≡ y) × (ps.items ≡ qs.items) × (e ≡ b)
+IsOwn (own.Func x ps e) _ = ⊥
 IsOwn (own.Op word) (form.Op other es) = word ≡ other
 IsOwn (own.Op word) _ = ⊥
 IsOwn own.Later (form.Const j) = ⊥
+IsOwn own.Later (form.Name x) = ⊥
+IsOwn own.Later (form.Bind x e) = ⊥
+IsOwn own.Later (form.Func x ps e) = ⊥
 IsOwn own.Later (form.Op other es) = ⊥
 IsOwn own.Later _ = Unit {0}
 
@@ -84,6 +93,11 @@ sum_step (Some p) = Ask (task.Operator (operator.Add p.0 p.1)) Pass
 -- a step from a point of the row of a tree, under one reading
 abbrev pub StepsAt : Reading → Tree → List PyObjectRef → World → World → Step EvalKept → Type 0
 StepsAt t x vs old new next = Steps eval_say (eval_stands t) t (DoEval x) (map answered vs) (eval_say (plain t old) (DoEval x) (map answered vs)) next new
+
+-- a step ends a row, as the row says under every reading
+abbrev pub Closes : (Reading → PlainWorld → Row) → World → World → Step EvalKept → Type 0
+Closes row old new (Ask asked kept) = ⊥
+Closes row old new (End r) = (t : Reading) → Reads t new → Reads t old × (row t (plain t old) [] ≡ Ends (plain t new) r)
 
 -- an expression ends as its operand did
 abbrev pub EndsSo : ℕ → List PyObjectRef → World → Result Answer Fault → Type 0

@@ -1,21 +1,24 @@
 -- What the rows of expressions say.
-use Rattle.std.specs.Prelude.{ℕ, ℤ, pos, List, [], ◌∷◌, ◌++◌, Option, Some, None}
+use Rattle.std.specs.Prelude.{ℕ, false, if◌then◌else◌, bytes_eq, codes, List, [], ◌∷◌, ◌++◌, Option, Some, None}
 use Rattle.py_node.specs.declared.refs.PyObjectRef.{PyObjectRef}
-use Rattle.py_node.specs.declared.raised.Kind.TheVariants.{TypeError, NotImplementedError}
-use Rattle.py_node.specs.declared.raised.Cause.TheVariants.{ArgCount, NotYet}
+use Rattle.py_node.specs.declared.raised.Kind.TheVariants.{NameError, TypeError, NotImplementedError}
+use Rattle.py_node.specs.declared.raised.Cause.TheVariants.{ArgCount, NotYet, Unbound}
 use Rattle.py_node.specs.declared.expr.Word.{Word}
 use Rattle.py_node.specs.declared.expr.Word.TheVariants as word
 use Rattle.py_node.specs.Tree.{Text, Tree, TConst, TName, TBind, TFunc, TSetAttr, TCall, TOp, TClass, Literal, LNone, LFalse, LTrue, LInt, LText, list_of, entry_trees}
-use Rattle.plain_machine.specs.Plain.{ANumber, AText, PlainWorld, EvalJob, DoEval, DoAdd, ToOperator}
-use Rattle.plain_machine.specs.World.{ref}
+use Rattle.plain_machine.specs.Plain.{ANumber, AText, AFunction, PlainWorld, EvalJob, DoEval, DoAdd, ToOperator}
+use Rattle.plain_machine.specs.World.{ref, variable, or_else_var, with_binding}
 use Rattle.plain_machine.specs.Row.{Row, ask, end, value, fault, make, evaluate}
 
--- the classes of ints and of texts
+-- the classes of ints, of texts and of functions
 abbrev pub the_int : ℕ
 the_int = 4
 
 abbrev pub the_str : ℕ
 the_str = 6
+
+abbrev pub the_function : ℕ
+the_function = 10
 
 -- a constant is a fixed object, or a new one
 abbrev pub const_say : PlainWorld → Literal → Row
@@ -24,6 +27,48 @@ const_say w LFalse = end w (value (ref 25))
 const_say w LTrue = end w (value (ref 26))
 const_say w (LInt z) = make w the_int (ANumber z)
 const_say w (LText x) = make w the_str (AText x)
+
+-- the names that every body can read, with the nodes of what they name
+unfoldable pub built_in_named : Text → Option PyObjectRef
+built_in_named x =
+    if bytes_eq x (codes "object") then Some (ref 0)
+    else (if bytes_eq x (codes "type") then Some (ref 1)
+    else (if bytes_eq x (codes "int") then Some (ref 4)
+    else (if bytes_eq x (codes "bool") then Some (ref 5)
+    else (if bytes_eq x (codes "str") then Some (ref 6)
+    else (if bytes_eq x (codes "tuple") then Some (ref 7)
+    else (if bytes_eq x (codes "list") then Some (ref 8)
+    else (if bytes_eq x (codes "dict") then Some (ref 9)
+    else (if bytes_eq x (codes "property") then Some (ref 17)
+    else (if bytes_eq x (codes "classmethod") then Some (ref 18)
+    else (if bytes_eq x (codes "staticmethod") then Some (ref 19)
+    else (if bytes_eq x (codes "super") then Some (ref 20)
+    else (if bytes_eq x (codes "NotImplemented") then Some (ref 24)
+    else None))))))))))))
+
+-- what a name names, or a fault where it names nothing
+abbrev pub named_say : PlainWorld → Option PyObjectRef → Row
+named_say w None = end w (fault NameError Unbound)
+named_say w (Some r) = end w (value r)
+
+-- a name is that of a variable, or else of a built-in object
+abbrev pub name_say : PlainWorld → Text → Row
+name_say w x = named_say w (or_else_var (variable w x) (built_in_named x))
+
+-- the operand of a form with one
+abbrev pub one_of : List PyObjectRef → Option PyObjectRef
+one_of [] = None
+one_of (a ∷ []) = Some a
+one_of (a ∷ (b ∷ more)) = None
+
+-- a binding binds a variable to its operand, which is its value
+abbrev pub bind_say : PlainWorld → Text → Option PyObjectRef → Row
+bind_say w x None = end w (fault TypeError ArgCount)
+bind_say w x (Some v) = end (with_binding w x v) (value v)
+
+-- a function is a new object
+abbrev pub func_say : PlainWorld → Text → List Text → Tree → Row
+func_say w x ps e = make w the_function (AFunction x ps false e None)
 
 -- the operands of an operation with two
 abbrev pub two_of : List PyObjectRef → Option (PyObjectRef × PyObjectRef)
@@ -58,9 +103,9 @@ operand_trees (TClass x bs es) = list_of bs ++ entry_trees es
 -- what an expression does with the values of its operands
 abbrev pub own_say : PlainWorld → Tree → List PyObjectRef → Row
 own_say w (TConst k) vs = const_say w k
-own_say w (TName x) vs = not_yet w
-own_say w (TBind x e) vs = not_yet w
-own_say w (TFunc x ps e) vs = not_yet w
+own_say w (TName x) vs = name_say w x
+own_say w (TBind x e) vs = bind_say w x (one_of vs)
+own_say w (TFunc x ps e) vs = func_say w x ps e
 own_say w (TSetAttr o x e) vs = not_yet w
 own_say w (TCall f es) vs = not_yet w
 own_say w (TOp word es) vs = op_say w word vs

@@ -1,20 +1,21 @@
 // The rows of expressions, each a small automaton: `begin` and `resume`.
 #![tactic(auto, unfolding(crate::specs::Say::eval_say))]
 
-ghost use Rattle.std.specs.Prelude.{◌≡◌, ◌≤◌, ◌++◌, [], ◌∷◌, length, slice_get, IfOk, OnOk, IfSome};
-ghost use Rattle.class_world.specs.Sound.{AllHold, Holds, IsExpression, IsNode, AreNodes, HasOperand, operands, operands_at};
-ghost use Rattle.class_world.specs.Claims.{of_eval_task, of_ended, Leaves};
-ghost use Rattle.eval_forms.specs.Say.{two_of};
+ghost use Rattle.std.specs.Prelude.{◌≡◌, ◌≤◌, ◌++◌, [], ◌∷◌, map, length, slice_get, IfOk, OnOk, IfSome};
+ghost use Rattle.class_world.specs.Sound.{AllHold, Holds, IsExpression, IsName, IsNode, AreNodes, HasOperand, of_form, of_node_ref, of_option, operands, operands_at};
+ghost use Rattle.class_world.specs.Claims.{of_eval_task, of_ended, of_step, Leaves};
+ghost use Rattle.class_world.specs.Reading.{Reading, Reads};
+ghost use Rattle.eval_forms.specs.Say.{built_in_named, name_say, one_of, bind_say, func_say, two_of};
 ghost use Rattle.py_node.specs.Tree.{TConst, literal_of};
-ghost use Rattle.eval_forms.specs.Rows.{Begins, Resumes, Continues, ContinuesTree, IsOwn, HasValues, sum_step, of_eval_kept};
+ghost use Rattle.eval_forms.specs.Rows.{Begins, Resumes, Continues, ContinuesTree, Closes, IsOwn, HasValues, sum_step, of_eval_kept};
 
 use class_world::world::{Fixed, World};
 use py_node::built_in::BuiltIn;
 use py_node::expr::{Constant, Word};
 use py_node::memory::OutOfMemory;
-use py_node::payload::{Form, Payload};
+use py_node::payload::{Form, Function, Payload};
 use py_node::raised::{Cause, Kind, Raised};
-use py_node::refs::PyObjectRef;
+use py_node::refs::{PyObjectRef, PyStrInterned};
 use py_node::task::{Answer, EvalTask, OperatorTask, Step, Task};
 use std::alloc::Global;
 
@@ -162,6 +163,10 @@ fn first_of(only: u64, place: usize) -> Option<u64>
 #[derive(Drop)]
 pub enum Own {
     Const(Constant),
+    Name(PyStrInterned),
+    Bind(PyStrInterned),
+    /// The function's name, its parameters and its body.
+    Func(PyStrInterned, Vec<PyStrInterned>, u64),
     Op(Word),
     /// What no stage so far has named.
     Later,
@@ -182,6 +187,12 @@ fn own_step(
 {
     match own_of(alloc, world.form(e))? {
         Own::Const(constant) => const_step(world, alloc, constant),
+        Own::Name(name) => {
+            let step = name_step(world, name);
+            Ok(step)
+        }
+        Own::Bind(name) => bind_step(world, name, one_of(&values)),
+        Own::Func(name, params, body) => func_step(world, alloc, name, params, body),
         Own::Op(Word::Add) => {
             let step = add_step(&values);
             Ok(step)
@@ -201,6 +212,12 @@ fn own_of(alloc: Global, form: &Form) -> Result<Own, OutOfMemory>
         Form::Const(constant) => {
             let copy = constant.try_clone(alloc)?;
             Ok(Own::Const(copy))
+        }
+        Form::Name(name) => Ok(Own::Name(*name)),
+        Form::Bind(name, _) => Ok(Own::Bind(*name)),
+        Form::Func(name, params, body) => {
+            let copy = params.clone()?;
+            Ok(Own::Func(*name, copy, *body))
         }
         Form::Op(word, _) => Ok(Own::Op(*word)),
         _ => Ok(Own::Later),
@@ -242,6 +259,130 @@ fn const_step(
             Ok(Step::End(Ok(Answer::Value(node))))
         }
     }
+}
+
+// A name is that of a variable, or else of a built-in object.
+fn name_step(world: &World, name: PyStrInterned) -> Step<EvalKept>
+    requires { Holds world.now (IsName name) }
+    ensures goes { Closes (λ t w. name_say w (t.text name.0)) world.now world.now result }
+    ensures safe { AllHold world.now (of_step of_eval_kept result) }
+{
+    match world.variable(name) {
+        Some(node) => Step::End(Ok(Answer::Value(node))),
+        None => match built_in_at(world, name) {
+            Some(node) => Step::End(Ok(Answer::Value(node))),
+            None => Step::End(Err(Raised {
+                kind: Kind::NameError,
+                cause: Cause::Unbound,
+            })),
+        },
+    }
+}
+
+// The built-in object of a name.
+fn built_in_at(world: &World, name: PyStrInterned) -> Option<PyObjectRef>
+    requires { Holds world.now (IsName name) }
+    ensures named { (t : Reading) → Reads t world.now → built_in_named (t.text name.0) ≡ result }
+    ensures node { IfSome result (λ r. Holds world.now (IsNode r)) }
+{
+    // Every world has the nodes up to this one.
+    let _last = world.fixed(Fixed::True);
+    built_in_named(world.names().text(name))
+}
+
+// The built-in object that a text names.
+#[tactic(auto, unfolding(crate::specs::Say::built_in_named))]
+fn built_in_named(text: &str) -> Option<PyObjectRef>
+    ensures named { result ≡ built_in_named text.now }
+    ensures fixed { IfSome result (λ r. r.0 ≤ 26) }
+{
+    if text == "object" {
+        Some(PyObjectRef(0))
+    } else if text == "type" {
+        Some(PyObjectRef(1))
+    } else if text == "int" {
+        Some(PyObjectRef(4))
+    } else if text == "bool" {
+        Some(PyObjectRef(5))
+    } else if text == "str" {
+        Some(PyObjectRef(6))
+    } else if text == "tuple" {
+        Some(PyObjectRef(7))
+    } else if text == "list" {
+        Some(PyObjectRef(8))
+    } else if text == "dict" {
+        Some(PyObjectRef(9))
+    } else if text == "property" {
+        Some(PyObjectRef(17))
+    } else if text == "classmethod" {
+        Some(PyObjectRef(18))
+    } else if text == "staticmethod" {
+        Some(PyObjectRef(19))
+    } else if text == "super" {
+        Some(PyObjectRef(20))
+    } else if text == "NotImplemented" {
+        Some(PyObjectRef(24))
+    } else {
+        None
+    }
+}
+
+// A variable is bound to the value of its operand, which is the answer.
+fn bind_step(
+    world: &mut World,
+    name: PyStrInterned,
+    value: Option<PyObjectRef>,
+) -> Result<Step<EvalKept>, OutOfMemory>
+    requires name { Holds world.old (IsName name) }
+    requires value { AllHold world.old (of_option of_node_ref value) }
+    ensures goes { IfOk result (λ step. Closes (λ t w. bind_say w (t.text name.0) value) world.old world.new step) }
+    ensures safe { Leaves of_eval_kept world.old world.new result }
+{
+    match value {
+        None => Ok(Step::End(Err(Raised {
+            kind: Kind::TypeError,
+            cause: Cause::ArgCount,
+        }))),
+        Some(value) => {
+            world.bind(name, value)?;
+            Ok(Step::End(Ok(Answer::Value(value))))
+        }
+    }
+}
+
+// The operand of a form with one.
+fn one_of(values: &[PyObjectRef]) -> Option<PyObjectRef>
+    ensures { result ≡ one_of values.now }
+{
+    match values {
+        [a] => Some(*a),
+        _ => None,
+    }
+}
+
+// A function is a new object.
+#[tactic(auto, unfolding(py_node::specs::BuiltIns::place_of))]
+fn func_step(
+    world: &mut World,
+    alloc: Global,
+    name: PyStrInterned,
+    params: Vec<PyStrInterned>,
+    body: u64,
+) -> Result<Step<EvalKept>, OutOfMemory>
+    requires parts { AllHold world.old (of_form (Form.Func name params body)) }
+    ensures goes { IfOk result (λ step. Closes (λ t w. func_say w (t.text name.0) (map (λ p. t.text p.0) params.items) (t.tree body)) world.old world.new step) }
+    ensures safe { Leaves of_eval_kept world.old world.new result }
+{
+    let class = world.built_in(BuiltIn::Function);
+    let function = Function {
+        name,
+        params,
+        rest: false,
+        body,
+        class: None,
+    };
+    let node = world.make_node(alloc, class, Payload::Function(function))?;
+    Ok(Step::End(Ok(Answer::Value(node))))
 }
 
 // A sum, with the values of its operands.

@@ -1,4 +1,4 @@
-use Rattle.std.proofs.Common.{◌≡◌, sym, ◌∙◌}
+use Rattle.std.proofs.Common.{sym, ◌∙◌}
 use Rattle.class_world.proofs.Growth.{grows-itself}
 use Rattle.eval_forms.proofs.Operands.{goes-on, operand-holds, has-operand, has-values}
 use Rattle.eval_forms.proofs.next_operand.Goals as goal

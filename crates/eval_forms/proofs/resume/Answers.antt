@@ -1,11 +1,7 @@
-use Rattle.std.proofs.Common.{◌≡◌, ◌∙◌, sym, ap, subst, Ok, Err, Result}
-use Rattle.py_node.specs.declared.raised.Raised.{Raised}
-use Rattle.py_node.specs.declared.task.Answer.{Answer}
+use Rattle.std.proofs.Common.{◌∙◌, sym, ap, subst, Ok, Err}
 use Rattle.py_node.specs.declared.task.Answer.TheVariants.{Done}
 use Rattle.py_node.specs.declared.task.Step.TheVariants.{End}
-use Rattle.class_world.specs.Sound.{AllHold, HasOperand, Holds}
-use Rattle.class_world.specs.declared.world.World.{World}
-use Rattle.eval_forms.specs.declared.EvalKept.{EvalKept}
+use Rattle.class_world.specs.Sound.{AllHold}
 use Rattle.eval_forms.specs.declared.EvalKept.TheVariants.{Operands}
 use Rattle.eval_forms.specs.Rows.{Resumes, of_eval_kept}
 use Rattle.eval_forms.proofs.Operands.{ends-with, ends-done}
