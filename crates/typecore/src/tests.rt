@@ -45,6 +45,26 @@ fn a_script_is_answered(rt: HostRuntime) -> Result<(), Fail> {
             r#"[["op","+",null,1]]"#,
             "! TypeError UnsupportedOperand\n",
         ),
+        (
+            "run 9",
+            r#"[["bind","x",5],["op","+",["name","x"],["bind","x",2]],["name","x"]]"#,
+            "= 5\n= 7\n= 2\n",
+        ),
+        (
+            "run 1",
+            r#"[["name","x"],["name","int"],["bind","int",null],["name","int"]]"#,
+            "! NameError Unbound\n= <class 'int'>\n? Budget\n= <class 'int'>\n",
+        ),
+        (
+            "run 2",
+            r#"[["bind","int",null],["name","int"],["func","f",["x"],["name","x"]]]"#,
+            "= None\n= None\n= <function object>\n",
+        ),
+        (
+            "run 2",
+            r#"[["call",["name","int"],[]]]"#,
+            "! NotImplementedError NotYet\n",
+        ),
     ] {
         let (status, written) = served(rt.alloc(), units, script.as_bytes(), &[], &[])?;
         assert_eq!(rt; status, Status::Done, "at {script}");
