@@ -8,19 +8,39 @@ mod tests;
 
 use outside::standard::{StdSink, StdSource};
 use serve::serve;
+use status::Status;
 use std::process::ExitCode;
 use std::{env, io};
 
-fn main(rt: HostRuntime) -> io::Result<ExitCode> {
+fn main(rt: HostRuntime) -> ExitCode {
+    let status = run(&rt);
+    if let Some(word) = status.word() {
+        // Where standard error can't be told either, the exit status still is.
+        let _ = eprintln!(rt; "typecore: {word}");
+    }
+    ExitCode::from(status.code())
+}
+
+// Serves standard input. Words that are no text are none that the program knows.
+fn run(rt: &HostRuntime) -> Status {
+    match words(rt) {
+        Ok(words) => {
+            let mut source = StdSource::new(rt.stdin());
+            let mut sink = StdSink::new(io::writer(rt));
+            serve(rt.alloc(), &words, &mut source, &mut sink)
+        }
+        Err(error) => match error.kind() {
+            io::ErrorKind::OutOfMemory => Status::OutOfMemory,
+            _ => Status::Usage,
+        },
+    }
+}
+
+// The words after the program's name.
+fn words(rt: &HostRuntime) -> io::Result<Vec<String>> {
     let mut words = Vec::new(rt.alloc());
-    for word in env::args(&rt)?.skip(1) {
+    for word in env::args(rt)?.skip(1) {
         words.push(word)?;
     }
-    let mut source = StdSource::new(rt.stdin());
-    let mut sink = StdSink::new(io::writer(&rt));
-    let status = serve(rt.alloc(), &words, &mut source, &mut sink);
-    if let Some(word) = status.word() {
-        eprintln!(rt; "typecore: {word}")?;
-    }
-    Ok(ExitCode::from(status.code()))
+    Ok(words)
 }

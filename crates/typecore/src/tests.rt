@@ -53,7 +53,7 @@ fn a_script_is_answered(rt: HostRuntime) -> Result<(), Fail> {
         (
             "run 1",
             r#"[["name","x"],["name","int"],["bind","int",null],["name","int"]]"#,
-            "! NameError Unbound\n= <class 'int'>\n? Budget\n= <class 'int'>\n",
+            "! NameError Unbound\n= <class 'int'>\n= None\n= None\n",
         ),
         (
             "run 2",
