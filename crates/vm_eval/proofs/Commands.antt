@@ -1,9 +1,9 @@
 -- One command after another.
-use Rattle.std.proofs.Common.{◌≡◌, ℕ, List, [], refl, sym, ap, ◌∙◌}
+use Rattle.std.proofs.Common.{◌≡◌, ℕ, List, [], sym, ap, ◌∙◌}
 use Rattle.py_node.specs.declared.task.EvalTask.TheVariants as eval
 use Rattle.py_node.specs.declared.task.Task.TheVariants as task
 use Rattle.py_node.specs.Tree.{Tree}
-use Rattle.py_node.specs.Replies.{Told, Started, PlainReply}
+use Rattle.py_node.specs.Replies.{Told, Started}
 use Rattle.plain_machine.specs.Plain.{PlainWorld, DoEval, ToEval}
 use Rattle.plain_machine.specs.Answer.{Run, Out, answer, answering, replied}
 use Rattle.plain_machine.specs.World.{at_rest}

@@ -1,5 +1,5 @@
 -- The rows of all groups.
-use Rattle.std.specs.Prelude.{List, [], Result}
+use Rattle.std.specs.Prelude.{List, Result}
 use Rattle.py_node.specs.declared.raised.Raised.{Raised as Fault}
 use Rattle.py_node.specs.declared.raised.Kind.TheVariants.{NotImplementedError}
 use Rattle.py_node.specs.declared.raised.Cause.TheVariants.{NotYet}

@@ -1,6 +1,6 @@
 // The virtual machine: a world, and whether a run of it found no memory.
 
-ghost use Rattle.std.specs.Prelude.{◌≡◌, IfOk, OnOk, OnErr, Err, IsTrue, false, true};
+ghost use Rattle.std.specs.Prelude.{◌≡◌, [], IfErr, IfOk, OnOk, OnErr, Err, IsTrue, false, true};
 ghost use Rattle.plain_machine.specs.Start.{start};
 ghost use Rattle.class_world.specs.Reading.{Reading, plain, IsReadable};
 ghost use Rattle.class_world.specs.Sound.{Grows};
@@ -61,7 +61,8 @@ impl VirtualMachine {
     }
 
     /// Runs commands, each of which may use so many units. The replies are the plain machine's, and so
-    /// is the world after them. Where memory cannot be had, this run and every later one fails.
+    /// is the world after them. Where memory cannot be had, this run and every later one fails; no
+    /// commands take no memory.
     pub fn run(
         &mut self,
         alloc: Global,
@@ -76,6 +77,7 @@ impl VirtualMachine {
         ensures failed { IsTrue self.old.failed → result ≡ Err RunFault.Failed }
         ensures same { IsTrue self.old.failed → self.new ≡ self.old }
         ensures memory { self.old.failed ≡ false → result ≡ Err RunFault.Failed → ⊥ }
+        ensures idle { commands.now ≡ [] → self.old.failed ≡ false → IfErr result (λ _. ⊥) }
     {
         if self.failed {
             return Err(RunFault::Failed);

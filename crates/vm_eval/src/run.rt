@@ -1,6 +1,6 @@
 // Commands, one after another.
 
-ghost use Rattle.std.specs.Prelude.{◌≡◌, [], ◌∷◌, ◌++◌, IfOk, OnOk};
+ghost use Rattle.std.specs.Prelude.{◌≡◌, [], IfErr, ◌∷◌, ◌++◌, IfOk, OnOk};
 ghost use Rattle.py_node.specs.Tree.{tree_of};
 ghost use Rattle.py_node.specs.Replies.{reply_of, told_of, ToldValue};
 ghost use Rattle.plain_machine.specs.Show.{show as show_of};
@@ -31,6 +31,7 @@ pub(crate) fn replies(
 ) -> Result<Vec<Reply>, OutOfMemory>
     ensures runs { IfOk result (λ replies. Runs commands.now world.old units world.new replies.items) }
     ensures grows { Grows world.old world.new }
+    ensures idle { commands.now ≡ [] → IfErr result (λ _. ⊥) }
 {
     let mut replies = Vec::new(alloc);
     for command in commands {
