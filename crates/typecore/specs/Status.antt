@@ -1,5 +1,7 @@
--- The exit status of each way to end.
-use Rattle.std.specs.Prelude.{ℕ}
+-- The exit status of each way to end, and the word for it.
+use Rattle.std.specs.Prelude.{ℕ, codes, Option, Some, None}
+use Rattle.py_node.specs.Tree.{Text}
+use Rattle.script_text.specs.Script.{error_word}
 use Rattle.typecore.specs.declared.status.Status.{Status}
 use Rattle.typecore.specs.declared.status.Status.TheVariants.{Done, Usage, Script, ReadFault, WriteFault, OutOfMemory, TooLarge}
 
@@ -17,3 +19,13 @@ abbrev pub IsDoneOrPoor : Status → Type 0
 IsDoneOrPoor Done = Unit {0}
 IsDoneOrPoor OutOfMemory = Unit {0}
 IsDoneOrPoor _ = ⊥
+
+-- the word that standard error is told, where the call did not end well
+unfoldable pub word_of : Status → Option Text
+word_of Done = None
+word_of Usage = Some (codes "Usage")
+word_of (Script e) = Some (error_word e)
+word_of ReadFault = Some (codes "ReadFault")
+word_of WriteFault = Some (codes "WriteFault")
+word_of OutOfMemory = Some (codes "OutOfMemory")
+word_of TooLarge = Some (codes "TooLarge")

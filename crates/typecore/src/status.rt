@@ -1,7 +1,7 @@
 // How the program ends.
 
-ghost use Rattle.std.specs.Prelude.{◌≡◌};
-ghost use Rattle.typecore.specs.Status.{exit_of};
+ghost use Rattle.std.specs.Prelude.{◌≡◌, option_map};
+ghost use Rattle.typecore.specs.Status.{exit_of, word_of};
 
 use script_text::read::ScriptError;
 
@@ -24,6 +24,7 @@ pub enum Status {
     TooLarge,
 }
 
+#[tactic(auto, unfolding(crate::specs::Status::word_of))]
 impl Status {
     /// The exit status of the process.
     pub fn code(self) -> u8
@@ -41,7 +42,9 @@ impl Status {
     }
 
     /// The word that standard error is told, for a call that did not end well.
-    pub fn word(self) -> Option<&'static str> {
+    pub fn word(self) -> Option<&'static str>
+        ensures { option_map (λ s. s.now) result ≡ word_of self }
+    {
         match self {
             Status::Done => None,
             Status::Usage => Some("Usage"),
