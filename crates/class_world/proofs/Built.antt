@@ -1,5 +1,5 @@
 -- The fixed objects and the built-in classes are there.
-use Rattle.std.proofs.Common.{◌≡◌, ℕ, ◌<◌, ◌≤◌, length, refl, subst, sym, arith, lit<}
+use Rattle.std.proofs.Common.{◌≡◌, ℕ, ◌<◌, length, subst, arith, lit<}
 use Rattle.py_node.specs.declared.refs.PyObjectRef.{PyObjectRef}
 use Rattle.py_node.specs.declared.built_in.BuiltIn.{BuiltIn}
 use Rattle.py_node.specs.BuiltIns.{place_of}
@@ -49,3 +49,7 @@ fixed-holds w now o r v s e = let l = fixed-low o in let m = s.fixed in subst (�
 pub built_in-holds : (w now : Held) (b : BuiltIn) (c : ℕ) → w ≡ now → Sound w → c ≡ place_of b → Holds now (IsClass c)
 unfolding Holds
 built_in-holds w now b c v s e = let l = place-low b in let m = s.built_in in subst (λ w. c < length w.classes) v (omega arith)
+
+pub built_in_node-holds : (w now : Held) (b : BuiltIn) (r : PyObjectRef) → w ≡ now → Sound w → r.0 ≡ place_of b → Holds now (IsNode r)
+unfolding Holds
+built_in_node-holds w now b r v s e = let l = place-low b in let m = s.fixed in subst (λ w. r.0 < length w.nodes) v (omega arith)

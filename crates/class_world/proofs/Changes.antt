@@ -1,5 +1,5 @@
 -- Each change of a world keeps it sound.
-use Rattle.std.proofs.Common.{◌≡◌, ℕ, zero, suc, ◌+◌, ◌<◌, ◌≤◌, List, [], ◌∷◌, ◌++◌, length, Some, None, refl, sym, ap, ◌∙◌, subst, arith, get_or, map}
+use Rattle.std.proofs.Common.{◌≡◌, ℕ, zero, suc, ◌+◌, ◌<◌, ◌≤◌, List, [], ◌∷◌, ◌++◌, length, Some, refl, subst, arith, get_or, map}
 use Rattle.std.specs.Prelude.{slice_get}
 use Rattle.std.specs.List.{All}
 use Rattle.py_node.specs.declared.refs.PyStrInterned.{PyStrInterned}
@@ -9,7 +9,7 @@ use Rattle.py_node.specs.declared.payload.Form.TheVariants as form
 use Rattle.py_node.specs.Replies.{Started}
 use Rattle.class_world.specs.Held.{Held}
 use Rattle.class_world.specs.Tables.{IsBelow, AreBelow}
-use Rattle.class_world.specs.Sound.{Claim, IsNode, IsClass, Holds, AllHold, Grows, of_node, of_form, of_each, Sound}
+use Rattle.class_world.specs.Sound.{IsNode, IsClass, Holds, AllHold, Grows, of_node, of_form, Sound}
 use Rattle.class_world.proofs.Claims.{all-grow, each-push}
 use Rattle.class_world.proofs.Growth.{node-grows, form-grows, names-grow, same-grows}
 

@@ -1,6 +1,6 @@
 -- Lists of claims.
-use Rattle.std.proofs.Common.{◌≡◌, ℕ, zero, suc, ◌<◌, List, [], ◌∷◌, ◌++◌, length, take, Some, refl, sym, ap, ◌∙◌, subst, arith, get_or, map}
-use Rattle.std.specs.Prelude.{slice_get, slice_set}
+use Rattle.std.proofs.Common.{◌≡◌, ℕ, zero, suc, ◌<◌, List, [], ◌∷◌, ◌++◌, length, take, Some, refl, sym, ap, subst, arith, get_or, map}
+use Rattle.std.specs.Prelude.{slice_get}
 use Rattle.class_world.specs.Held.{Held}
 use Rattle.py_node.specs.declared.refs.PyObjectRef.{PyObjectRef}
 use Rattle.class_world.specs.Sound.{Claim, IsNode, AreNodes, IsExpression, AreExpressions, Holds, AllHold, Grows, of_each}

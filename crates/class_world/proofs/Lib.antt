@@ -9,5 +9,8 @@ pub mod Look
 pub mod Built
 pub mod Stored
 pub mod Shown
+pub mod Defined
 pub mod StartParts
 pub mod StartSound
+pub mod OwnAttrs
+pub mod ClassText

@@ -10,9 +10,9 @@ use Rattle.std.specs.Int.RustNames.{bit_and}
 use Rattle.py_node.specs.declared.entry.SlotId.{SlotId}
 use Rattle.py_node.specs.Slots.{special_names}
 use Rattle.class_model.specs.Class.{Class, has_flag, renamed}
-use Rattle.class_model.specs.Slot.{slot, candidates_of}
+use Rattle.class_model.specs.Slot.{entry, slot, candidates_of}
 use Rattle.class_model.specs.BuiltIn.{natives_of}
-use Rattle.class_model.proofs.Renamed.{slot-renamed, candidates_of-renamed}
+use Rattle.class_model.proofs.Renamed.{entry-renamed, slot-renamed, candidates_of-renamed}
 use Rattle.class_table.specs.Keys.{table_keys}
 use Rattle.plain_machine.specs.World.{node_at, class_at, datum_at, has_dict, flag_in, the_dict, text_keys, or_empty}
 use Rattle.class_world.specs.Held.{Held}
@@ -70,7 +70,7 @@ flags-read (k ∷ ks) zero flags flag e = let same : k.flags ≡ flags = cc in a
 flags-read (k ∷ ks) (suc c) flags flag e = flags-read ks c flags flag e
 
 -- the special names are read as they are
-special-read : (w : Held) (t : Reading) → Sound w → Reads t w → (k : ℕ) → k < 70 → text_keys.special k ≡ t.text k
+pub special-read : (w : Held) (t : Reading) → ((n : ℕ) (x : List ℕ) → slice_get special_names n ≡ Some x → slice_get w.names n ≡ Some x) → Reads t w → (k : ℕ) → k < 70 → text_keys.special k ≡ t.text k
 unfolding special_names
 special-read w t s r k l = go (slice_get special_names k) refl
   where
@@ -81,7 +81,14 @@ special-read w t s r k l = go (slice_get special_names k) refl
 
     go : (o : Option (List ℕ)) → slice_get special_names k ≡ o → text_keys.special k ≡ t.text k
     go None e = let x = within special_names k l in cc (x.1)
-    go (Some x) e = ap or_empty e ∙ sym (r.names k x (s.special k x e))
+    go (Some x) e = ap or_empty e ∙ sym (r.names k x (s k x e))
+
+pub entry-seen : (w now : Held) (c : ℕ) (s : SlotId) → w ≡ now → Sound w → (t : Reading) → Reads t now → entry text_keys natives_of (plain t now).classes c s ≡ entry table_keys natives_of w.classes c s
+unfolding plain
+entry-seen w now c s v sound t r =
+    let reads = subst (λ w. Reads t w) (sym v) r in
+    subst (λ u. entry text_keys natives_of (plain t u).classes c s ≡ entry table_keys natives_of w.classes c s) v
+    (entry-renamed (spelled t) table_keys text_keys (λ a b. t.same a.0 b.0) (special-read w t sound.special reads) natives_of w.classes c s)
 
 -- slots and candidates are read alike by texts and by numbers
 pub slot-seen : (w now : Held) (c : ℕ) (s : SlotId) → w ≡ now → Sound w → (t : Reading) → Reads t now → slot text_keys natives_of (plain t now).classes c s ≡ slot table_keys natives_of w.classes c s
@@ -89,11 +96,11 @@ unfolding plain
 slot-seen w now c s v sound t r =
     let reads = subst (λ w. Reads t w) (sym v) r in
     subst (λ u. slot text_keys natives_of (plain t u).classes c s ≡ slot table_keys natives_of w.classes c s) v
-    (slot-renamed (spelled t) table_keys text_keys (λ a b. t.same a.0 b.0) (special-read w t sound reads) natives_of w.classes c s)
+    (slot-renamed (spelled t) table_keys text_keys (λ a b. t.same a.0 b.0) (special-read w t sound.special reads) natives_of w.classes c s)
 
 pub candidates-seen : (w now : Held) (left right : SlotId) (c d : ℕ) → w ≡ now → Sound w → (t : Reading) → Reads t now → candidates_of text_keys natives_of (plain t now).classes left right c d ≡ candidates_of table_keys natives_of w.classes left right c d
 unfolding plain
 candidates-seen w now left right c d v sound t r =
     let reads = subst (λ w. Reads t w) (sym v) r in
     subst (λ u. candidates_of text_keys natives_of (plain t u).classes left right c d ≡ candidates_of table_keys natives_of w.classes left right c d) v
-    (candidates_of-renamed (spelled t) table_keys text_keys (λ a b. t.same a.0 b.0) (special-read w t sound reads) natives_of w.classes left right c d)
+    (candidates_of-renamed (spelled t) table_keys text_keys (λ a b. t.same a.0 b.0) (special-read w t sound.special reads) natives_of w.classes left right c d)

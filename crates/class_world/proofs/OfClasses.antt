@@ -8,7 +8,7 @@ use Rattle.py_node.specs.Attributes.{is_same_name}
 use Rattle.py_node.specs.Tree.{Text}
 use Rattle.class_model.specs.Class.{Class, Classes, lin, has_flag, is_sub, own_of, or_else, along, found, past_first, found_past, rekeyed}
 use Rattle.class_model.specs.Slot.{is_heap_at}
-use Rattle.class_model.proofs.Renamed.{get-renamed, is_sub-renamed, own_of-renamed, found-renamed, found_past-renamed}
+use Rattle.class_model.proofs.Renamed.{get-renamed, lin-renamed, is_sub-renamed, own_of-renamed, found-renamed, found_past-renamed}
 use Rattle.plain_machine.specs.World.{is_text}
 use Rattle.class_world.specs.Held.{Held}
 use Rattle.class_world.specs.Reading.{Reading, spelled, plain}
@@ -42,6 +42,10 @@ module _ (w now : Held) (v : w ≡ now) (t : Reading) where
   pub sub-seen : (c d : ℕ) → is_sub (plain t now).classes c d ≡ is_sub w.classes c d
   unfolding plain
   sub-seen c d = subst (λ n. is_sub (plain t n).classes c d ≡ is_sub w.classes c d) v (is_sub-renamed (spelled t) w.classes c d)
+
+  pub line-seen : (c : ℕ) → lin (plain t now).classes c ≡ lin w.classes c
+  unfolding plain
+  line-seen c = subst (λ n. lin (plain t n).classes c ≡ lin w.classes c) v (lin-renamed (spelled t) w.classes c)
 
   -- what does not see the names of attributes
   pub class-seen : {A : Type 0} (g : Option (Class Text) → A) (h : Option HeldClass → A) → g None ≡ h None → ((k : HeldClass) → g (Some (rekeyed (spelled t) k)) ≡ h (Some k)) → (c : ℕ) → g (slice_get (plain t now).classes c) ≡ h (slice_get w.classes c)

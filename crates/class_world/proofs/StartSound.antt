@@ -1,19 +1,18 @@
 -- The world of a new machine is sound, and is the plain machine's.
-use Rattle.std.proofs.Common.{◌≡◌, ℕ, suc, ◌^◌, ◌<◌, ◌≤◌, Bool, true, false, List, [], ◌∷◌, ◌++◌, length, refl, ap, arith, map}
+use Rattle.std.proofs.Common.{◌≡◌, ℕ, ◌^◌, ◌<◌, ◌≤◌, Bool, true, false, List, [], ◌∷◌, ◌++◌, length, refl, ap, arith, map}
 use Rattle.std.specs.Prelude.{◌&&◌, ltb}
 use Rattle.std.proofs.lemmas.Bool.{ltb-true}
 use Rattle.py_node.specs.declared.refs.PyStrInterned.{PyStrInterned}
-use Rattle.py_node.specs.declared.payload.Node.{Node}
 use Rattle.py_node.specs.declared.built_in.BuiltIn.{BuiltIn}
 use Rattle.py_node.specs.BuiltIns.{place_of, all_built_ins}
 use Rattle.py_node.specs.Slots.{special_names}
 use Rattle.class_model.specs.Class.{Class, has_flag, renamed}
-use Rattle.plain_machine.specs.Start.{built_class, class_node as plain_class_node, fixed_nodes as plain_fixed_nodes, start}
-use Rattle.plain_machine.specs.World.{ref, the_dict}
+use Rattle.plain_machine.specs.Start.{built_class, class_node as plain_class_node, fixed_nodes as plain_fixed_nodes, bare}
+use Rattle.plain_machine.specs.World.{the_dict}
 use Rattle.class_world.specs.Held.{Held}
 use Rattle.class_world.specs.StartNodes.{class_node, fixed_nodes, start_nodes}
-use Rattle.class_world.specs.Reading.{Reading, node_of, spelled, plain, IsReadable}
-use Rattle.class_world.specs.Sound.{IsNode, IsClass, Holds, AllHold, Sound, of_node, of_dict, of_class, of_each}
+use Rattle.class_world.specs.Reading.{Reading, node_of, spelled, plain}
+use Rattle.class_world.specs.Sound.{Holds, AllHold, Sound, of_node, of_dict, of_class, of_each}
 use Rattle.class_world.proofs.Claims.{each-append, all-append}
 use Rattle.class_world.proofs.StartParts.{split}
 
@@ -78,31 +77,6 @@ module _ (t : Reading) where
   classes-read [] = refl
   classes-read (b ∷ bs) = ap (λ ks. built_class b ∷ ks) (classes-read bs)
 
-  pub started-plain : plain t started ≡ start
+  pub started-plain : plain t started ≡ bare
   unfolding plain
   started-plain = let n = nodes-read all_built_ins in let k = classes-read all_built_ins in cc
-
--- the numbers of a new world's classes and nodes
-
-length-renamed : (t : Reading) (ks : List (Class PyStrInterned)) → length (renamed (spelled t) ks) ≡ length ks
-length-renamed t [] = refl
-length-renamed t (k ∷ ks) = ap suc (length-renamed t ks)
-
-length-read : (t : Reading) (ns : List Node) → length (map (node_of t) ns) ≡ length ns
-length-read t [] = refl
-length-read t (n ∷ ns) = ap suc (length-read t ns)
-
-module _ (w : Held) (at : (t : Reading) → plain t w ≡ start) (reads : IsReadable w) where
-  pub has-class : (c : ℕ) → c < 23 → Holds w (IsClass c)
-  unfolding plain Holds all_built_ins
-  has-class c l =
-      let count = length-renamed reads.0 w.classes in
-      let same = ap (λ p. length p.classes) (at reads.0) in
-      omega (arith, count, same, l)
-
-  pub has-node : (n : ℕ) → n < 27 → Holds w (IsNode (ref n))
-  unfolding plain Holds all_built_ins
-  has-node n l =
-      let count = length-read reads.0 w.nodes in
-      let same = ap (λ p. length p.nodes) (at reads.0) in
-      omega (arith, count, same, l)

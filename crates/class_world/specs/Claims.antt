@@ -8,15 +8,46 @@ use Rattle.py_node.specs.declared.task.Task.{Task}
 use Rattle.py_node.specs.declared.task.Task.TheVariants as task
 use Rattle.py_node.specs.declared.task.EvalTask.{EvalTask}
 use Rattle.py_node.specs.declared.task.EvalTask.TheVariants as eval
+use Rattle.py_node.specs.declared.task.AttributeTask.{AttributeTask}
+use Rattle.py_node.specs.declared.task.AttributeTask.TheVariants as attribute
+use Rattle.py_node.specs.declared.task.CallTask.{CallTask}
+use Rattle.py_node.specs.declared.task.CallTask.TheVariants as call
+use Rattle.py_node.specs.declared.task.ClassTask.{ClassTask}
+use Rattle.py_node.specs.declared.task.ClassTask.TheVariants as class
+use Rattle.py_node.specs.declared.refs.PyObjectRef.{PyObjectRef}
+use Rattle.py_node.specs.declared.refs.PyStrInterned.{PyStrInterned}
 use Rattle.py_node.specs.declared.task.OperatorTask.{OperatorTask}
 use Rattle.py_node.specs.declared.task.OperatorTask.TheVariants as operator
 use Rattle.py_node.specs.declared.task.Step.{Step}
 use Rattle.py_node.specs.declared.task.Step.TheVariants.{Ask, End}
 use Rattle.class_world.specs.Held.{Held}
-use Rattle.class_world.specs.Sound.{AllHold, Grows, Claim, IsNode, AreNodes, IsExpression, of_binding, of_each}
+use Rattle.class_world.specs.Sound.{AllHold, Grows, Claim, IsNode, AreNodes, IsName, IsClass, IsExpression, of_binding, of_each, of_option, of_node_ref}
 
 abbrev pub of_eval_task : EvalTask → List Claim
 of_eval_task (eval.Eval e) = IsExpression e ∷ []
+
+-- of arguments and keywords
+abbrev pub of_args : List PyObjectRef → List (PyStrInterned × PyObjectRef) → List Claim
+of_args args kw = AreNodes args ∷ of_each of_binding kw
+
+abbrev pub of_attribute_task : AttributeTask → List Claim
+of_attribute_task (attribute.SetAttr o x v) = IsNode o ∷ IsName x ∷ IsNode v ∷ []
+of_attribute_task (attribute.TypeSet c x v) = IsClass c.0 ∷ IsName x ∷ IsNode v ∷ []
+of_attribute_task (attribute.Special o x args kw) = IsNode o ∷ IsName x ∷ of_args args.items kw.items
+of_attribute_task (attribute.Bind m o c) = IsNode m ∷ IsNode c ∷ of_option of_node_ref o
+of_attribute_task (attribute.DescrGet m o c) = IsNode m ∷ of_option of_node_ref o ++ of_option of_node_ref c
+
+abbrev pub of_call_task : CallTask → List Claim
+of_call_task (call.Call f args kw) = IsNode f ∷ of_args args.items kw.items
+of_call_task (call.Body f args kw) = IsNode f ∷ of_args args.items kw.items
+of_call_task (call.TypeCall c args kw) = IsClass c.0 ∷ of_args args.items kw.items
+of_call_task (call.New k c args kw) = IsClass k.0 ∷ IsClass c.0 ∷ of_args args.items kw.items
+of_call_task (call.Init o args kw) = IsNode o ∷ of_args args.items kw.items
+of_call_task (call.Object n args kw) = of_args args.items kw.items
+
+abbrev pub of_class_task : ClassTask → List Claim
+of_class_task (class.MakeClass c args kw) = IsClass c.0 ∷ of_args args.items kw.items
+of_class_task (class.Type n args kw) = of_args args.items kw.items
 
 abbrev pub of_operator_task : OperatorTask → List Claim
 of_operator_task (operator.Add a b) = IsNode a ∷ IsNode b ∷ []
@@ -26,6 +57,9 @@ of_operator_task (operator.Int n args kw) = AreNodes args.items ∷ of_each of_b
 
 abbrev pub of_task : Task → List Claim
 of_task (task.Eval job) = of_eval_task job
+of_task (task.Attribute job) = of_attribute_task job
+of_task (task.Call job) = of_call_task job
+of_task (task.Class job) = of_class_task job
 of_task (task.Operator job) = of_operator_task job
 of_task (task.Later job) = []
 

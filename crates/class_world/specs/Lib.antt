@@ -3,7 +3,9 @@ pub mod Held
 pub mod Reading
 pub mod Sound
 pub mod Tables
+pub mod Defined
 pub mod Bound
 pub mod Claims
 pub mod Rows
 pub mod StartNodes
+pub mod BuiltInAttrs

@@ -11,11 +11,17 @@ use Rattle.py_node.specs.declared.task.Task.{Task}
 use Rattle.py_node.specs.declared.task.Task.TheVariants as task
 use Rattle.py_node.specs.declared.task.EvalTask.{EvalTask}
 use Rattle.py_node.specs.declared.task.EvalTask.TheVariants as eval
+use Rattle.py_node.specs.declared.task.AttributeTask.{AttributeTask}
+use Rattle.py_node.specs.declared.task.AttributeTask.TheVariants as attribute
+use Rattle.py_node.specs.declared.task.CallTask.{CallTask}
+use Rattle.py_node.specs.declared.task.CallTask.TheVariants as call
+use Rattle.py_node.specs.declared.task.ClassTask.{ClassTask}
+use Rattle.py_node.specs.declared.task.ClassTask.TheVariants as class
 use Rattle.py_node.specs.declared.task.OperatorTask.{OperatorTask}
 use Rattle.py_node.specs.declared.task.OperatorTask.TheVariants as operator
 use Rattle.py_node.specs.Tree.{Text, Tree, TConst, TName, TBind, TFunc, TSetAttr, TCall, TOp, TClass, Entries, no_entries, entry, trees_of, literal_of}
 use Rattle.class_model.specs.Class.{renamed}
-use Rattle.plain_machine.specs.Plain.{Datum, AnObject, AClass, ANumber, AText, ATuple, ADict, AFunction, AMethod, ANativeFunction, ABuiltinMethod, AMethodDescriptor, AGetSet, AClassMethod, Node, Bindings, Scope, PlainWorld, EvalJob, DoEval, OperatorJob, DoAdd, DoBinOp1, DoEnter, DoInt, PlainTask, ToEval, ToOperator, ToLater}
+use Rattle.plain_machine.specs.Plain.{Datum, AnObject, AClass, ANumber, AText, ATuple, ADict, AFunction, AMethod, ANativeFunction, ABuiltinMethod, AMethodDescriptor, AGetSet, AClassMethod, Node, Bindings, Scope, PlainWorld, EvalJob, DoEval, AttributeJob, DoSetAttr, DoTypeSet, DoSpecial, DoBind, DoDescrGet, CallJob, DoCall, DoBody, DoTypeCall, DoNew, DoInit, DoObject, ClassJob, DoMakeClass, DoType, OperatorJob, DoAdd, DoBinOp1, DoEnter, DoInt, PlainTask, ToEval, ToAttribute, ToCall, ToClass, ToOperator, ToLater}
 use Rattle.plain_machine.specs.World.{is_text}
 use Rattle.class_world.specs.declared.scope.Scope.{Scope as HeldScope}
 use Rattle.class_world.specs.declared.world.World.{World}
@@ -90,6 +96,25 @@ plain t w = record {
 abbrev pub eval_job : Reading → EvalTask → EvalJob
 eval_job t (eval.Eval e) = DoEval (t.tree e)
 
+abbrev pub attribute_job : Reading → AttributeTask → AttributeJob
+attribute_job t (attribute.SetAttr o x v) = DoSetAttr o (spelled t x) v
+attribute_job t (attribute.TypeSet c x v) = DoTypeSet c.0 (spelled t x) v
+attribute_job t (attribute.Special o x args kw) = DoSpecial o (spelled t x) args.items (bindings t kw.items)
+attribute_job t (attribute.Bind m o c) = DoBind m o c
+attribute_job t (attribute.DescrGet m o c) = DoDescrGet m o c
+
+abbrev pub call_job : Reading → CallTask → CallJob
+call_job t (call.Call f args kw) = DoCall f args.items (bindings t kw.items)
+call_job t (call.Body f args kw) = DoBody f args.items (bindings t kw.items)
+call_job t (call.TypeCall c args kw) = DoTypeCall c.0 args.items (bindings t kw.items)
+call_job t (call.New k c args kw) = DoNew k.0 c.0 args.items (bindings t kw.items)
+call_job t (call.Init o args kw) = DoInit o args.items (bindings t kw.items)
+call_job t (call.Object n args kw) = DoObject n args.items (bindings t kw.items)
+
+abbrev pub class_job : Reading → ClassTask → ClassJob
+class_job t (class.MakeClass c args kw) = DoMakeClass c.0 args.items (bindings t kw.items)
+class_job t (class.Type n args kw) = DoType n args.items (bindings t kw.items)
+
 abbrev pub operator_job : Reading → OperatorTask → OperatorJob
 operator_job t (operator.Add a b) = DoAdd a b
 operator_job t (operator.BinOp1 op a b) = DoBinOp1 op a b
@@ -98,5 +123,8 @@ operator_job t (operator.Int n args kw) = DoInt n args.items (bindings t kw.item
 
 abbrev pub task_of : Reading → Task → PlainTask
 task_of t (task.Eval job) = ToEval (eval_job t job)
+task_of t (task.Attribute job) = ToAttribute (attribute_job t job)
+task_of t (task.Call job) = ToCall (call_job t job)
+task_of t (task.Class job) = ToClass (class_job t job)
 task_of t (task.Operator job) = ToOperator (operator_job t job)
 task_of t (task.Later job) = ToLater job

@@ -2,7 +2,7 @@
 use Rattle.std.specs.Prelude.{◌≡◌, ◌++◌}
 use Rattle.py_node.specs.declared.task.Step.{Step}
 use Rattle.py_node.specs.declared.task.Step.TheVariants.{Ask, End}
-use Rattle.plain_machine.specs.Plain.{Told, Said, Asks, Ends, Saying}
+use Rattle.plain_machine.specs.Plain.{PlainWorld, Told, Said, Asks, Ends, Saying}
 use Rattle.plain_machine.specs.Rows.{Pending, Alike}
 use Rattle.class_world.specs.declared.world.World.{World}
 use Rattle.class_world.specs.Reading.{Reading, Reads, plain, task_of}
@@ -14,6 +14,11 @@ Steps say stands t task told (Asks w learnt other) (Ask asked kept) new =
 Steps say stands t task told (Asks w learnt other) (End r) new = ⊥
 Steps say stands t task told (Ends w r) (Ask asked kept) new = ⊥
 Steps say stands t task told (Ends w r) (End s) new = (s ≡ r) × (plain t new ≡ w)
+
+-- the step that is said to follow at a point of a row, however the numbers are read
+abbrev pub Follows : {J K : Type 0} → Saying J → (Reading → K → Pending J) → (Reading → Pending J) → (Reading → PlainWorld → Said) → World → World → Step K → Type 0
+Follows say stands p said old new step =
+    (t : Reading) → Reads t new → Reads t old × Steps say (stands t) t (p t).task (p t).told (said t (plain t old)) step new
 
 -- the step from a point of a row, however the numbers are read
 abbrev pub Goes : {J K : Type 0} → Saying J → (Reading → K → Pending J) → (Reading → Pending J) → World → World → Step K → Type 0

@@ -1,8 +1,15 @@
 // The world that tasks change: nodes and classes, names, variables, scopes and expressions.
 #![tactic(auto)]
 
+pub mod args;
+mod attributes_of_built_ins;
+pub mod classes;
+mod definer;
+pub mod objects;
 pub mod scope;
 pub mod show;
+#[cfg(test)]
+mod show_tests;
 mod start;
 pub mod store;
 #[cfg(test)]

@@ -1,8 +1,16 @@
-// The world of a new machine, made once with ample memory.
+// Worlds that are made with ample memory: a new one, and one with classes that were made since.
+ghost use Rattle.std.specs.Prelude.{IfOk};
+ghost use Rattle.class_world.specs.Sound.{AllHold, Grows, Holds, IsClass, IsNode, of_class_ref, of_option};
 
-use crate::world::World;
-use py_node::payload::Payload;
+use crate::classes::push_classes;
+use crate::world::{Fixed, World};
+use py_node::attributes::PyAttributes;
+use py_node::built_in::BuiltIn;
+use py_node::flags::PyTypeFlags;
+use py_node::memory::OutOfMemory;
+use py_node::payload::{Form, Function, Payload};
 use py_node::refs::{PyObjectRef, PyTypeRef};
+use std::alloc::Global;
 use std::test::Fail;
 
 #[test]
@@ -10,8 +18,122 @@ fn makes_a_world(rt: HostRuntime) -> Result<(), Fail> {
     let alloc = rt.alloc();
     let mut world = World::new(alloc)?;
     world.readable();
-    assert_eq!(rt; world.class_of(PyObjectRef(23)), PyTypeRef(2));
-    let seven = world.make_node(alloc, PyTypeRef(4), Payload::Number(7))?;
+    assert_eq!(rt; world.class_of(world.fixed(Fixed::None)), PyTypeRef(2));
+    let int = world.built_in(BuiltIn::Int);
+    let seven = world.make_node(alloc, int, Payload::Number(7))?;
+    // The nodes of 51 attributes stand before it.
+    assert_eq!(rt; seven, PyObjectRef(78));
     assert_eq!(rt; world.number(seven), Some(7));
+    Ok(())
+}
+
+#[test]
+fn built_in_classes_have_attributes(rt: HostRuntime) -> Result<(), Fail> {
+    let alloc = rt.alloc();
+    let mut world = World::new(alloc)?;
+    for (class, name, own, found) in [
+        (BuiltIn::Object, "__new__", Some(27), Some(27)),
+        (BuiltIn::Object, "__init_subclass__", Some(44), Some(44)),
+        (BuiltIn::Object, "mro", None, None),
+        (BuiltIn::TypeType, "__new__", Some(46), Some(46)),
+        (BuiltIn::TypeType, "__init__", None, Some(28)),
+        (BuiltIn::TypeType, "__text_signature__", Some(68), Some(68)),
+        (BuiltIn::Bool, "__radd__", None, Some(70)),
+        (BuiltIn::MethodDescriptor, "__get__", Some(77), Some(77)),
+        (BuiltIn::Slice, "__class__", None, Some(45)),
+    ] {
+        let name = world.intern(alloc, name)?;
+        let class = world.built_in(class);
+        assert_eq!(rt; world.own_attr(class, name), own.map(PyObjectRef));
+        assert_eq!(rt; world.class_attr(class, name), found.map(PyObjectRef));
+    }
+    Ok(())
+}
+
+// A class that is made as scripts make them, without attributes.
+fn made(
+    world: &mut World,
+    alloc: Global,
+    name: &str,
+    base: Option<PyTypeRef>,
+) -> Result<PyTypeRef, OutOfMemory>
+    requires { AllHold world.old (of_option of_class_ref base) }
+    ensures class { IfOk result (λ c. Holds world.new (IsClass c.0)) }
+    ensures grows { Grows world.old world.new }
+{
+    let metaclass = world.built_in(BuiltIn::TypeType);
+    let name = String::from_str(alloc, name)?;
+    let flags = PyTypeFlags::heap_type_flags();
+    let attrs = PyAttributes::new(alloc);
+    let (class, _node) = world.make_class(alloc, metaclass, name, base, attrs, flags)?;
+    Ok(class)
+}
+
+// Gives an attribute of a class a fixed object.
+fn set(
+    world: &mut World,
+    alloc: Global,
+    class: PyTypeRef,
+    name: &str,
+    value: Fixed,
+) -> Result<(), OutOfMemory>
+    requires { Holds world.old (IsClass class.0) }
+    ensures { Grows world.old world.new }
+{
+    let name = world.intern(alloc, name)?;
+    let value = world.fixed(value);
+    world.set_class_attr(class, name, value)
+}
+
+// A class, and one below it that forbids the hash. `__new__` counts in its own class alone.
+#[test]
+fn writes_the_classes_that_were_made(rt: HostRuntime) -> Result<(), Fail> {
+    let alloc = rt.alloc();
+    let mut world = World::new(alloc)?;
+    let mut out = b"= 1\n".to_vec(alloc)?;
+    push_classes(&mut out, &world)?;
+    assert_eq!(rt; out.as_slice(), b"= 1\n".as_slice());
+    let first = made(&mut world, alloc, "A\n", None)?;
+    let second = made(&mut world, alloc, "B", Some(first))?;
+    set(&mut world, alloc, first, "__new__", Fixed::True)?;
+    set(&mut world, alloc, first, "__add__", Fixed::True)?;
+    set(&mut world, alloc, second, "__hash__", Fixed::None)?;
+    push_classes(&mut out, &world)?;
+    let wanted =
+        "= 1\nclass A\\n: A\\n\nslots A\\n: add new\nclass B: B, A\\n\nslots B: add hash!\n";
+    assert_eq!(rt; out.as_slice(), wanted.as_bytes());
+    Ok(())
+}
+
+// The class that defines a function.
+fn definer(world: &World, func: PyObjectRef) -> Option<PyTypeRef>
+    requires { Holds world.now (IsNode func) }
+{
+    match world.payload(func) {
+        Payload::Function(function) => function.class,
+        _ => None,
+    }
+}
+
+#[test]
+fn defines_a_function_once(rt: HostRuntime) -> Result<(), Fail> {
+    let alloc = rt.alloc();
+    let mut world = World::new(alloc)?;
+    let name = world.intern(alloc, "f")?;
+    let body = world.add_form(Form::Name(name))?;
+    let function = Function {
+        name,
+        params: Vec::new(alloc),
+        rest: false,
+        body,
+        class: None,
+    };
+    let class = world.built_in(BuiltIn::Function);
+    let func = world.make_node(alloc, class, Payload::Function(function))?;
+    let first = world.built_in(BuiltIn::Int);
+    world.set_definer(first, func);
+    let second = world.built_in(BuiltIn::Str);
+    world.set_definer(second, func);
+    assert_eq!(rt; definer(&world, func), Some(first));
     Ok(())
 }

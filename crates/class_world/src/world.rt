@@ -4,10 +4,11 @@ ghost use Rattle.std.specs.Prelude.{◌≡◌, ◌<◌, ℕ, List, map, length, 
 ghost use Rattle.py_node.specs.Tree.{tree_of};
 ghost use Rattle.py_node.specs.Replies.{started_of};
 ghost use Rattle.py_node.specs.Slots.{special_names};
-ghost use Rattle.plain_machine.specs.Start.{start};
+ghost use Rattle.plain_machine.specs.Start.{bare, start};
 ghost use Rattle.plain_machine.specs.World.{ref, push_node, with_node, next_node, has_dict, the_dict, at_rest, class_at, datum_at, number_of, text_keys, slot_at, candidates_at, variable, with_binding, with_scope, without_scope, with_own_attr, with_new_class, is_text};
+ghost use Rattle.plain_machine.specs.Objects.{with_definer};
 ghost use Rattle.class_model.specs.Class.{found, found_past, own_of, is_sub, has_flag};
-ghost use Rattle.class_model.specs.Slot.{slot as slot_read, candidates_of, is_heap_at};
+ghost use Rattle.class_model.specs.Slot.{entry, slot as slot_read, candidates_of, is_heap_at};
 ghost use Rattle.class_model.specs.BuiltIn.{natives_of};
 ghost use Rattle.class_table.specs.New.{one_base};
 ghost use Rattle.class_table.specs.Turn.{list_of};
@@ -17,6 +18,8 @@ ghost use Rattle.class_world.specs.Held.{Held};
 ghost use Rattle.class_world.specs.Reading.{Reading, Reads, form_tree, datum, bindings, plain, IsReadable};
 ghost use Rattle.class_world.specs.Sound.{IsNode, IsClass, IsExpression, IsName, Holds, AllHold, Grows, of_option, of_node_ref, of_payload, of_form, of_class_ref, of_binding, of_each};
 
+use crate::attributes_of_built_ins::add_own_attrs;
+use crate::definer::define;
 use crate::scope::Scope;
 use crate::start::{built_in_classes, special_names, start_nodes};
 use crate::variables::{bind_in, value_in};
@@ -91,11 +94,21 @@ impl Model for World {
 
 #[tactic(auto, unfolding(crate::specs::Reading::plain))]
 impl World {
-    /// The world of a new machine: the special names, the built-in classes with their nodes, and
-    /// None, NotImplemented, False and True.
+    /// The world of a new machine: the special names, the built-in classes with their nodes and their
+    /// own attributes, and None, NotImplemented, False and True.
     pub fn new(alloc: Global) -> Result<World, OutOfMemory>
-        ensures start { IfOk result (λ w. (t : Reading) → plain t w ≡ start) }
+        ensures start { IfOk result (λ w. (t : Reading) → Reads t w → plain t w ≡ start) }
         ensures known { IfOk result (λ w. (n : ℕ) (x : List ℕ) → slice_get special_names n ≡ Some x → slice_get w.names n ≡ Some x) }
+    {
+        let mut world = World::bare(alloc)?;
+        add_own_attrs(&mut world, alloc)?;
+        world.knows_special_names();
+        Ok(world)
+    }
+
+    // The same without attributes.
+    fn bare(alloc: Global) -> Result<World, OutOfMemory>
+        ensures { IfOk result (λ w. (t : Reading) → plain t w ≡ bare) }
     {
         let names = special_names(alloc)?;
         let nodes = start_nodes(alloc)?;
@@ -111,6 +124,13 @@ impl World {
         })
     }
 
+    // The special names have their numbers.
+    fn knows_special_names(&self)
+        ensures { (n : ℕ) (x : List ℕ) → slice_get special_names n ≡ Some x → slice_get self.now.names n ≡ Some x }
+    {
+        let _names = &self.names;
+    }
+
     /// The numbers can be read: the theorems, which speak of each reading, speak of at least one.
     pub fn readable(&self)
         ensures { IsReadable self.now }
@@ -119,9 +139,10 @@ impl World {
         let _forms = self.forms.len();
     }
 
-    /// The classes, by themselves.
+    /// The classes, by themselves. They name special methods by the first numbers of names.
     pub fn classes(&self) -> &ClassTable
-        ensures { result.now ≡ self.now.classes }
+        ensures same { result.now ≡ self.now.classes }
+        ensures special { (n : ℕ) (x : List ℕ) → slice_get special_names n ≡ Some x → slice_get self.now.names n ≡ Some x }
     {
         &self.classes
     }
@@ -149,6 +170,15 @@ impl World {
     {
         let _classes = &self.classes;
         class.class()
+    }
+
+    /// The object that stands for a built-in class.
+    pub fn built_in_node(&self, class: BuiltIn) -> PyObjectRef
+        ensures place { result.0 ≡ place_of class }
+        ensures node { Holds self.now (IsNode result) }
+    {
+        let _nodes = &self.nodes;
+        PyObjectRef(class.class().0)
     }
 
     /// The expression of a number.
@@ -202,6 +232,14 @@ impl World {
         ensures { (t : Reading) → Reads t self.now → slot_read text_keys natives_of (plain t self.now).classes class.0 slot ≡ result }
     {
         self.classes.slot(class, slot)
+    }
+
+    /// What a class itself has in a slot.
+    pub fn own_slot(&self, class: PyTypeRef, slot: SlotId) -> Option<SlotEntry>
+        requires { Holds self.now (IsClass class.0) }
+        ensures { (t : Reading) → Reads t self.now → entry text_keys natives_of (plain t self.now).classes class.0 slot ≡ result }
+    {
+        self.classes.own_slot(class, slot)
     }
 
     /// The candidates of an operator, for two objects.
@@ -509,5 +547,24 @@ impl World {
             payload: Payload::Class(class),
         });
         Ok((class, node))
+    }
+
+    /// The text of a name.
+    pub fn spelling(&self, alloc: Global, name: PyStrInterned) -> Result<String, OutOfMemory>
+        requires { Holds self.now (IsName name) }
+        ensures { IfOk result (λ s. (t : Reading) → Reads t self.now → string_bytes s ≡ t.text name.0) }
+    {
+        Ok(String::from_str(alloc, self.names.text(name))?)
+    }
+
+    /// A function that no class defines yet is defined by this one. What is no function stays.
+    pub fn set_definer(&mut self, class: PyTypeRef, func: PyObjectRef)
+        requires class { Holds self.old (IsClass class.0) }
+        requires func { Holds self.old (IsNode func) }
+        ensures set { (t : Reading) → plain t self.new ≡ with_definer (plain t self.old) class.0 func }
+        ensures reads { (t : Reading) → Reads t self.new → Reads t self.old }
+        ensures grows { Grows self.old self.new }
+    {
+        define(&mut self.nodes[func.0 as usize], class);
     }
 }

@@ -1,5 +1,5 @@
 -- Expressions whose operands are evaluated in order.
-use Rattle.std.proofs.Common.{◌≡◌, ℕ, zero, suc, ◌<◌, ◌≤◌, List, [], ◌∷◌, ◌++◌, length, map, Option, Some, None, Ok, Err, refl, sym, ap, ◌∙◌, subst, arith}
+use Rattle.std.proofs.Common.{◌≡◌, ℕ, zero, suc, ◌+◌, ◌<◌, ◌≤◌, List, [], ◌∷◌, ◌++◌, length, map, Option, Some, None, Ok, Err, refl, sym, ap, ◌∙◌, subst, arith, length-append}
 use Rattle.std.specs.Prelude.{slice_get, Result, IfOk, IfSome}
 use Rattle.std.specs.Global.{Vec}
 use Rattle.std.proofs.lemmas.List.{map-append, length-map}
@@ -12,13 +12,12 @@ use Rattle.py_node.specs.declared.task.Answer.TheVariants.{Done}
 use Rattle.py_node.specs.declared.payload.Form.{Form}
 use Rattle.py_node.specs.declared.payload.Form.TheVariants as form
 use Rattle.py_node.specs.Tree.{Text, Tree, trees_of, list_of, entry_trees}
-use Rattle.plain_machine.specs.Plain.{PlainWorld, DoEval, ToEval, Answered, Told, Asks, Ends}
-use Rattle.plain_machine.specs.Row.{Row, fault, evaluate}
+use Rattle.plain_machine.specs.Plain.{PlainWorld, DoEval, ToEval, Answered, Told, Said, Asks, Ends}
+use Rattle.plain_machine.specs.Row.{Row, evaluate}
 use Rattle.class_world.specs.Held.{Held}
 use Rattle.class_world.specs.Reading.{Reading, Reads, form_tree, entry_list, plain}
-use Rattle.class_world.specs.Sound.{Holds, AllHold, IsNode, IsName, AreNodes, IsExpression, AreExpressions, HasOperand, of_form, of_node_ref, of_option, operands, operands_at}
+use Rattle.class_world.specs.Sound.{Holds, AllHold, IsNode, IsName, AreNames, AreNodes, IsExpression, AreExpressions, HasOperand, of_form, of_node_ref, of_option, operands, operands_at}
 use Rattle.class_world.proofs.Claims.{expression-in, got-map, node-in}
-use Rattle.class_world.specs.Claims.{of_step}
 use Rattle.py_node.specs.declared.task.Step.{Step}
 use Rattle.py_node.specs.declared.task.Step.TheVariants.{Ask, End}
 use Rattle.py_node.specs.declared.task.Task.TheVariants as task
@@ -28,13 +27,11 @@ use Rattle.class_world.specs.Rows.{Steps}
 use Rattle.eval_forms.specs.declared.EvalKept.{EvalKept}
 use Rattle.eval_forms.specs.declared.EvalKept.TheVariants.{Operands}
 use Rattle.py_node.specs.declared.expr.Word.TheVariants as word
-use Rattle.py_node.specs.declared.raised.Kind.TheVariants.{NotImplementedError}
-use Rattle.py_node.specs.declared.raised.Cause.TheVariants.{NotYet}
 use Rattle.eval_forms.specs.declared.Own.{Own}
 use Rattle.eval_forms.specs.declared.Own.TheVariants as own
 use Rattle.py_node.specs.declared.expr.Word.{Word}
-use Rattle.eval_forms.specs.Say.{operand_trees, own_say, one_of, func_say, op_say, add_of, two_of, not_yet, eval_say}
-use Rattle.eval_forms.specs.Rows.{answered, eval_stands, Continues, Closes, StepsAt, EndsSo, HasValues, IsOwn, sum_step, of_eval_kept}
+use Rattle.eval_forms.specs.Say.{operand_trees, own_say, one_of, func_say, set_attr_say, call_say, op_say, add_of, class_say, entry_names, two_of, eval_say}
+use Rattle.eval_forms.specs.Rows.{answered, eval_stands, Continues, Closes, TakesAt, Takes, StepsAt, EndsSo, HasValues, IsOwn}
 
 list_of-trees_of : (ts : List Tree) → list_of (trees_of ts) ≡ ts
 list_of-trees_of [] = refl
@@ -190,19 +187,25 @@ own-closes w new e f vs row (End s) h l says k = λ t r.
     let told = own-first (plain t w) t w e f vs here.0 h l ∙ ap (λ x. own_say (plain t w) x vs []) (here.0.trees e f h) ∙ says t (plain t w) ∙ here.1 in
     (here.0, subst (λ said. Steps eval_say (eval_stands t) t (DoEval (t.tree e)) (map answered vs) said (End s) new) (sym told) (refl, refl))
 
--- what no stage so far has named
-pub own-later : (w : World) (e : ℕ) (f : Form) (vs : List PyObjectRef) → slice_get w.forms e ≡ Some f → length (operands f) ≡ length vs → IsOwn own.Later f → Continues e vs w w (End (fault NotImplementedError NotYet))
-own-later w e f vs h l o = own-closes w w e f vs (λ t u. not_yet u) (End (fault NotImplementedError NotYet)) h l (λ t u. says t u f o) (λ t r. (r, refl))
+append-on : {A : Type 0} (xs ys zs : List A) → (xs ++ ys) ++ zs ≡ xs ++ (ys ++ zs)
+append-on [] ys zs = refl
+append-on (x ∷ xs) ys zs = ap (λ l. x ∷ l) (append-on xs ys zs)
+
+-- an expression goes on as the row of its own step says
+pub own-takes : (w new : World) (e : ℕ) (f : Form) (vs : List PyObjectRef) (row : Reading → PlainWorld → Row) (next : Step EvalKept) → slice_get w.forms e ≡ Some f → length (operands f) ≡ length vs → ((t : Reading) (u : PlainWorld) (more : Told) → own_say u (form_tree t.text t.tree f) vs more ≡ row t u more) → Takes row w new next → Continues e vs w new next
+own-takes w new e f vs row next h l says k = λ t r.
+    let here = k t r in
+    let told = own-first (plain t w) t w e f vs here.0 h l ∙ ap (λ x. own_say (plain t w) x vs []) (here.0.trees e f h) ∙ says t (plain t w) [] in
+    (here.0, subst (λ said. Steps eval_say (eval_stands t) t (DoEval (t.tree e)) (map answered vs) said next new) (sym told) (go t here.0 (row t (plain t w) []) next here.1))
   where
-    says : (t : Reading) (u : PlainWorld) (f : Form) → IsOwn own.Later f → own_say u (form_tree t.text t.tree f) vs [] ≡ not_yet u []
-    says t u (form.Const k) o = absurd o
-    says t u (form.Name x) o = absurd o
-    says t u (form.Bind x e) o = absurd o
-    says t u (form.Func x ps e) o = absurd o
-    says t u (form.SetAttr a x e) o = refl
-    says t u (form.Call f es) o = refl
-    says t u (form.Op word es) o = absurd o
-    says t u (form.Class x bs es) o = refl
+    on : (t : Reading) → Reads t w → (u : PlainWorld) (more : Told) → eval_say u (DoEval (t.tree e)) (map answered vs ++ more) ≡ row t u more
+    on t r u more = own-row u t w e f vs more r h l ∙ ap (λ x. own_say u x vs more) (r.trees e f h) ∙ says t u more
+
+    go : (t : Reading) → Reads t w → (said : Said) (next : Step EvalKept) → TakesAt (row t) t said next new → Steps eval_say (eval_stands t) t (DoEval (t.tree e)) (map answered vs) said next new
+    go t r (Asks u learnt other) (Ask asked kept) k = (k.0, k.1, record { says = λ v s more. ap (eval_say v (DoEval (t.tree e))) (append-on (map answered vs) learnt (Answered s ∷ more)) ∙ on t r v (learnt ++ Answered s ∷ more) ∙ k.2 v s more })
+    go t r (Asks u learnt other) (End s) k = absurd k
+    go t r (Ends u s) (Ask asked kept) k = absurd k
+    go t r (Ends u s) (End x) k = k
 
 -- the text of a name is there, and the fixed nodes are
 pub names-in : (w : Held) (x : PyStrInterned) → Holds w (IsName x) → x.0 < length w.names
@@ -238,30 +241,108 @@ pub own-func : (w new : World) (e : ℕ) (f : Form) (vs : List PyObjectRef) (x :
 own-func w new e f vs x ps b (Ok step) h l o k = own-closes w new e f vs (λ t u. func_say u (t.text x.0) (map (λ p. t.text p.0) ps.items) (t.tree b)) step h l (says-func x ps b vs f o) k
 own-func w new e f vs x ps b (Err out) h l o k = tt
 
--- a sum
-pub own-add : (w : World) (e : ℕ) (f : Form) (vs : List PyObjectRef) → slice_get w.forms e ≡ Some f → length (operands f) ≡ length vs → IsOwn (own.Op word.Add) f → Continues e vs w w (sum_step (two_of vs))
-unfolding eval_say
-own-add w e f vs h l o = λ t r. (r, go t r (two_of vs) refl)
-  where
-    says : (u : PlainWorld) (t : Reading) (f : Form) (more : Told) → IsOwn (own.Op word.Add) f → own_say u (form_tree t.text t.tree f) vs more ≡ add_of u (two_of vs) more
-    says u t (form.Const k) more o = absurd o
-    says u t (form.Name x) more o = absurd o
-    says u t (form.Bind x e) more o = absurd o
-    says u t (form.Func x ps e) more o = absurd o
-    says u t (form.SetAttr a x e) more o = absurd o
-    says u t (form.Call f es) more o = absurd o
-    says u t (form.Op word es) more o = ap (λ v. op_say u v vs more) (sym o)
-    says u t (form.Class x bs es) more o = absurd o
+-- the steps of an attribute that is set, of a call, of a sum and of a class
 
-    row : (t : Reading) → Reads t w → (u : PlainWorld) (more : Told) → eval_say u (DoEval (t.tree e)) (map answered vs ++ more) ≡ add_of u (two_of vs) more
-    row t r u more = own-row u t w e f vs more r h l ∙ ap (λ x. own_say u x vs more) (r.trees e f h) ∙ says u t f more o
+pub says-set : (x : PyStrInterned) (vs : List PyObjectRef) (f : Form) → IsOwn (own.SetAttr x) f → (t : Reading) (u : PlainWorld) (more : Told) → own_say u (form_tree t.text t.tree f) vs more ≡ set_attr_say u (t.text x.0) (two_of vs) more
+says-set x vs (form.Const k) o t u more = absurd o
+says-set x vs (form.Name y) o t u more = absurd o
+says-set x vs (form.Bind y e) o t u more = absurd o
+says-set x vs (form.Func y ps e) o t u more = absurd o
+says-set x vs (form.SetAttr a y b) o t u more = ap (λ z. set_attr_say u (t.text z.0) (two_of vs) more) (sym o)
+says-set x vs (form.Call g es) o t u more = absurd o
+says-set x vs (form.Op word es) o t u more = absurd o
+says-set x vs (form.Class y bs es) o t u more = absurd o
 
-    first : (t : Reading) → Reads t w → (u : PlainWorld) → eval_say u (DoEval (t.tree e)) (map answered vs) ≡ add_of u (two_of vs) []
-    first t r u = ap (eval_say u (DoEval (t.tree e))) (sym (append-nil (map answered vs))) ∙ row t r u []
+pub says-call : (vs : List PyObjectRef) (f : Form) → IsOwn own.Call f → (t : Reading) (u : PlainWorld) (more : Told) → own_say u (form_tree t.text t.tree f) vs more ≡ call_say u vs more
+says-call vs (form.Const k) o t u more = absurd o
+says-call vs (form.Name y) o t u more = absurd o
+says-call vs (form.Bind y e) o t u more = absurd o
+says-call vs (form.Func y ps e) o t u more = absurd o
+says-call vs (form.SetAttr a y b) o t u more = absurd o
+says-call vs (form.Call g es) o t u more = refl
+says-call vs (form.Op word es) o t u more = absurd o
+says-call vs (form.Class y bs es) o t u more = absurd o
 
-    go : (t : Reading) → Reads t w → (p : Option (PyObjectRef × PyObjectRef)) → two_of vs ≡ p → StepsAt t (t.tree e) vs w w (sum_step (two_of vs))
-    go t r None q = subst (λ s. StepsAt t (t.tree e) vs w w (sum_step s)) (sym q) (subst (λ said. Steps eval_say (eval_stands t) t (DoEval (t.tree e)) (map answered vs) said (sum_step None) w) (sym (first t r (plain t w) ∙ ap (λ s. add_of (plain t w) s []) q)) (refl, refl))
-    go t r (Some p) q = subst (λ s. StepsAt t (t.tree e) vs w w (sum_step s)) (sym q) (subst (λ said. Steps eval_say (eval_stands t) t (DoEval (t.tree e)) (map answered vs) said (sum_step (Some p)) w) (sym (first t r (plain t w) ∙ ap (λ s. add_of (plain t w) s []) q)) (refl, refl, record { says = λ u s more. ap (λ told. eval_say u (DoEval (t.tree e)) (told ++ Answered s ∷ more)) (append-nil (map answered vs)) ∙ row t r u (Answered s ∷ more) ∙ ap (λ x. add_of u x (Answered s ∷ more)) q }))
+pub says-add : (vs : List PyObjectRef) (f : Form) → IsOwn (own.Op word.Add) f → (t : Reading) (u : PlainWorld) (more : Told) → own_say u (form_tree t.text t.tree f) vs more ≡ add_of u (two_of vs) more
+says-add vs (form.Const k) o t u more = absurd o
+says-add vs (form.Name y) o t u more = absurd o
+says-add vs (form.Bind y e) o t u more = absurd o
+says-add vs (form.Func y ps e) o t u more = absurd o
+says-add vs (form.SetAttr a y b) o t u more = absurd o
+says-add vs (form.Call g es) o t u more = absurd o
+says-add vs (form.Op v es) o t u more = ap (λ v. op_say u v vs more) (sym o)
+says-add vs (form.Class y bs es) o t u more = absurd o
+
+long-trees : (tree : ℕ → Tree) (es : List ℕ) → length (list_of (trees_of (map tree es))) ≡ length es
+long-trees tree [] = refl
+long-trees tree (e ∷ es) = ap suc (long-trees tree es)
+
+names-of-entries : (text : ℕ → Text) (tree : ℕ → Tree) (es : List (PyStrInterned × ℕ)) → entry_names (entry_list (map (part text tree) es)) ≡ map (λ x. text x.0) (map (λ e. e.0) es)
+names-of-entries text tree [] = refl
+names-of-entries text tree (e ∷ es) = ap (λ l. text e.0.0 ∷ l) (names-of-entries text tree es)
+
+pub says-class : (x : PyStrInterned) (n : ℕ) (xs : Vec PyStrInterned) (vs : List PyObjectRef) (f : Form) → IsOwn (own.Class x n xs) f → (t : Reading) (u : PlainWorld) (more : Told) → own_say u (form_tree t.text t.tree f) vs more ≡ class_say u (t.text x.0) n (map (λ y. t.text y.0) xs.items) vs more
+says-class x n xs vs (form.Const k) o t u more = absurd o
+says-class x n xs vs (form.Name y) o t u more = absurd o
+says-class x n xs vs (form.Bind y e) o t u more = absurd o
+says-class x n xs vs (form.Func y ps e) o t u more = absurd o
+says-class x n xs vs (form.SetAttr a y b) o t u more = absurd o
+says-class x n xs vs (form.Call g es) o t u more = absurd o
+says-class x n xs vs (form.Op word es) o t u more = absurd o
+says-class x n xs vs (form.Class y bs es) o t u more =
+    ap (λ m. class_say u (t.text y.0) m (entry_names (entry_list (map (part t.text t.tree) es.items))) vs more) (long-trees t.tree bs.items ∙ sym o.1)
+    ∙ ap (λ ys. class_say u (t.text y.0) n ys vs more) (names-of-entries t.text t.tree es.items ∙ ap (map (λ y. t.text y.0)) (sym o.2))
+    ∙ ap (λ z. class_say u (t.text z.0) n (map (λ y. t.text y.0) xs.items) vs more) (sym o.0)
+
+-- how many operands a class has
+pub class-long : (x : PyStrInterned) (n : ℕ) (xs : Vec PyStrInterned) (f : Form) → IsOwn (own.Class x n xs) f → length (operands f) ≡ n + length xs.items
+class-long x n xs (form.Const k) o = absurd o
+class-long x n xs (form.Name y) o = absurd o
+class-long x n xs (form.Bind y e) o = absurd o
+class-long x n xs (form.Func y ps e) o = absurd o
+class-long x n xs (form.SetAttr a y b) o = absurd o
+class-long x n xs (form.Call g es) o = absurd o
+class-long x n xs (form.Op word es) o = absurd o
+class-long x n xs (form.Class y bs es) o =
+    let both = length-append bs.items (map (λ e. e.1) es.items) in
+    let entries = length-map es.items (λ e. e.1) in
+    let names = ap length o.2 in
+    let named = length-map es.items (λ e. e.0) in
+    let bases = o.1 in
+    omega (arith, both, entries, names, named, bases)
+
+-- what is said of the names of a class
+pub class-names : (w : Held) (x : PyStrInterned) (n : ℕ) (xs : Vec PyStrInterned) (f : Form) → IsOwn (own.Class x n xs) f → AllHold w (of_form f) → Holds w (IsName x) × Holds w (AreNames xs.items)
+class-names w x n xs (form.Const k) o h = absurd o
+class-names w x n xs (form.Name y) o h = absurd o
+class-names w x n xs (form.Bind y e) o h = absurd o
+class-names w x n xs (form.Func y ps e) o h = absurd o
+class-names w x n xs (form.SetAttr a y b) o h = absurd o
+class-names w x n xs (form.Call g es) o h = absurd o
+class-names w x n xs (form.Op word es) o h = absurd o
+class-names w x n xs (form.Class y bs es) o h = (subst (λ z. Holds w (IsName z)) (sym o.0) h.0, subst (λ ys. Holds w (AreNames ys)) (sym o.2) h.1.1.0)
+
+pub set-name : (w : Held) (x : PyStrInterned) (f : Form) → IsOwn (own.SetAttr x) f → AllHold w (of_form f) → Holds w (IsName x)
+set-name w x (form.Const k) o h = absurd o
+set-name w x (form.Name y) o h = absurd o
+set-name w x (form.Bind y e) o h = absurd o
+set-name w x (form.Func y ps e) o h = absurd o
+set-name w x (form.SetAttr a y b) o h = subst (λ z. Holds w (IsName z)) (sym o) h.1.0
+set-name w x (form.Call g es) o h = absurd o
+set-name w x (form.Op word es) o h = absurd o
+set-name w x (form.Class y bs es) o h = absurd o
+
+abbrev pair_or : PyObjectRef → Option (PyObjectRef × PyObjectRef) → PyObjectRef × PyObjectRef
+pair_or r None = (r, r)
+pair_or r (Some p) = p
+
+-- two operands are objects where all are
+pub two-hold : (w : Held) (vs : List PyObjectRef) (a b : PyObjectRef) → Holds w (AreNodes vs) → two_of vs ≡ Some (a, b) → Holds w (IsNode a) × Holds w (IsNode b)
+two-hold w [] a b h e = cc
+two-hold w (v ∷ []) a b h e = cc
+two-hold w (v ∷ (u ∷ [])) a b h e =
+    (subst (λ r. Holds w (IsNode r)) (ap (λ o. (pair_or a o).0) e) (node-in w (v ∷ (u ∷ [])) 0 v h refl), subst (λ r. Holds w (IsNode r)) (ap (λ o. (pair_or a o).1) e) (node-in w (v ∷ (u ∷ [])) 1 u h refl))
+two-hold w (v ∷ (u ∷ (x ∷ vs))) a b h e = cc
 
 -- the one word of this stage
 pub own-sum : (f : Form) (o : Own) (v : Word) → o ≡ own.Op v → IsOwn o f → IsOwn (own.Op word.Add) f
@@ -269,9 +350,3 @@ own-sum f o v e h = subst (λ v. IsOwn (own.Op v) f) (only v) (subst (λ o. IsOw
   where
     only : (v : Word) → v ≡ word.Add
     only word.Add = refl
-
-pub sum-holds : (w : Held) (vs : List PyObjectRef) → Holds w (AreNodes vs) → AllHold w (of_step of_eval_kept (sum_step (two_of vs)))
-sum-holds w [] h = tt
-sum-holds w (a ∷ []) h = tt
-sum-holds w (a ∷ (b ∷ [])) h = (node-in w (a ∷ (b ∷ [])) 0 a h refl, (node-in w (a ∷ (b ∷ [])) 1 b h refl, tt))
-sum-holds w (a ∷ (b ∷ (d ∷ vs))) h = tt

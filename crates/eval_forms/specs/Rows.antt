@@ -1,5 +1,5 @@
 -- What the contracts of the rows of expressions say.
-use Rattle.std.specs.Prelude.{◌≡◌, ℕ, List, [], ◌∷◌, ◌++◌, map, length, Result, Option, Some, None, slice_get}
+use Rattle.std.specs.Prelude.{◌≡◌, ℕ, List, [], ◌∷◌, ◌++◌, map, length, Result, slice_get}
 use Rattle.py_node.specs.declared.raised.Raised.{Raised as Fault}
 use Rattle.py_node.specs.declared.refs.PyObjectRef.{PyObjectRef}
 use Rattle.py_node.specs.declared.expr.Word.TheVariants.{Add}
@@ -7,22 +7,18 @@ use Rattle.py_node.specs.declared.task.Answer.{Answer}
 use Rattle.py_node.specs.declared.task.EvalTask.{EvalTask}
 use Rattle.py_node.specs.declared.task.Step.{Step}
 use Rattle.py_node.specs.declared.task.Step.TheVariants.{Ask, End}
-use Rattle.py_node.specs.declared.task.Task.TheVariants as task
-use Rattle.py_node.specs.declared.task.OperatorTask.TheVariants as operator
-use Rattle.py_node.specs.declared.raised.Kind.TheVariants.{TypeError}
-use Rattle.py_node.specs.declared.raised.Cause.TheVariants.{ArgCount}
 use Rattle.py_node.specs.declared.payload.Form.{Form}
 use Rattle.py_node.specs.declared.payload.Form.TheVariants as form
-use Rattle.py_node.specs.Tree.{literal_of, Tree, TOp, tree, no_trees, TConst, LNone}
-use Rattle.plain_machine.specs.Plain.{PlainWorld, EvalJob, DoEval, Fact, Answered, Ends}
-use Rattle.plain_machine.specs.Row.{Row, value, fault}
+use Rattle.py_node.specs.Tree.{literal_of, Tree, TOp, TSetAttr, tree, no_trees, TConst, LNone}
+use Rattle.plain_machine.specs.Plain.{PlainWorld, EvalJob, DoEval, Ended, Fact, Answered, Told, Said, Asks, Ends}
+use Rattle.plain_machine.specs.Row.{Row, value}
 use Rattle.plain_machine.specs.Rows.{Pending, fresh, given}
 use Rattle.class_world.specs.declared.world.World.{World}
-use Rattle.class_world.specs.Reading.{Reading, Reads, plain, eval_job}
+use Rattle.class_world.specs.Reading.{Reading, Reads, plain, eval_job, task_of}
 use Rattle.class_world.specs.Rows.{Goes, Steps}
 use Rattle.class_world.specs.Sound.{Claim, AreNodes, IsExpression, HasOperand, operands_at}
 use Rattle.eval_forms.specs.declared.EvalKept.{EvalKept}
-use Rattle.eval_forms.specs.declared.EvalKept.TheVariants.{Pass, Operands}
+use Rattle.eval_forms.specs.declared.EvalKept.TheVariants.{Pass, SetDone, Operands}
 use Rattle.eval_forms.specs.declared.Own.{Own}
 use Rattle.eval_forms.specs.declared.Own.TheVariants as own
 use Rattle.eval_forms.specs.Say.{eval_say}
@@ -35,17 +31,23 @@ answered v = Answered (value v)
 abbrev pub passing : Tree
 passing = TOp Add (tree (TConst LNone) (tree (TConst LNone) no_trees))
 
+-- the same of one that has set an attribute
+abbrev pub setting : Tree
+setting = TSetAttr (TConst LNone) [] (TConst LNone)
+
 abbrev pub passed : List PyObjectRef
 passed = record { 0 = 0 } ∷ record { 0 = 0 } ∷ []
 
 -- the row that goes on, at each answer, just as the row that the code keeps this for
 abbrev pub eval_stands : Reading → EvalKept → Pending EvalJob
 eval_stands t Pass = record { task = DoEval passing; told = map answered passed }
+eval_stands t SetDone = record { task = DoEval setting; told = map answered passed }
 eval_stands t (Operands e vs) = record { task = DoEval (t.tree e); told = map answered vs.items }
 
 -- what is said of what is kept
 abbrev pub of_eval_kept : EvalKept → List Claim
 of_eval_kept Pass = []
+of_eval_kept SetDone = []
 of_eval_kept (Operands e vs) = IsExpression e ∷ HasOperand e (length vs.items) ∷ AreNodes vs.items ∷ []
 
 abbrev pub Begins : EvalTask → World → World → Step EvalKept → Type 0
@@ -74,25 +76,31 @@ IsOwn (own.Func x ps e) (form.Func y qs b) = (x ≡ y) × (ps.items ≡ qs.items
 IsOwn (own.Func x ps e) _ = ⊥
 IsOwn (own.Op word) (form.Op other es) = word ≡ other
 IsOwn (own.Op word) _ = ⊥
-IsOwn own.Later (form.Const j) = ⊥
-IsOwn own.Later (form.Name x) = ⊥
-IsOwn own.Later (form.Bind x e) = ⊥
-IsOwn own.Later (form.Func x ps e) = ⊥
-IsOwn own.Later (form.Op other es) = ⊥
-IsOwn own.Later _ = Unit {0}
+IsOwn (own.SetAttr x) (form.SetAttr o y e) = x ≡ y
+IsOwn (own.SetAttr x) _ = ⊥
+IsOwn own.Call (form.Call f es) = Unit {0}
+IsOwn own.Call _ = ⊥
+IsOwn (own.Class x n xs) (form.Class y bs es) = (x ≡ y) × (n ≡ length bs.items) × (xs.items ≡ map (λ e. e.0) es.items)
+IsOwn (own.Class x n xs) _ = ⊥
 
 -- the expression's operands have so many values
 abbrev pub HasValues : World → ℕ → List PyObjectRef → Type 0
 HasValues w e vs = length (operands_at (slice_get w.forms e)) ≡ length vs
 
--- the step of a sum, with the values of its operands
-abbrev pub sum_step : Option (PyObjectRef × PyObjectRef) → Step EvalKept
-sum_step None = End (fault TypeError ArgCount)
-sum_step (Some p) = Ask (task.Operator (operator.Add p.0 p.1)) Pass
-
 -- a step from a point of the row of a tree, under one reading
 abbrev pub StepsAt : Reading → Tree → List PyObjectRef → World → World → Step EvalKept → Type 0
 StepsAt t x vs old new next = Steps eval_say (eval_stands t) t (DoEval x) (map answered vs) (eval_say (plain t old) (DoEval x) (map answered vs)) next new
+
+-- a step is what a row of its own says first. What is kept stands for an expression that goes on as that row does
+abbrev pub TakesAt : (PlainWorld → Row) → Reading → Said → Step EvalKept → World → Type 0
+TakesAt row t (Asks w learnt other) (Ask asked kept) new =
+    (task_of t asked ≡ other) × (plain t new ≡ w) × ((u : PlainWorld) (r : Ended) (more : Told) → row u (learnt ++ Answered r ∷ more) ≡ eval_say u (eval_stands t kept).task ((eval_stands t kept).told ++ Answered r ∷ more))
+TakesAt row t (Asks w learnt other) (End r) new = ⊥
+TakesAt row t (Ends w r) (Ask asked kept) new = ⊥
+TakesAt row t (Ends w r) (End s) new = (s ≡ r) × (plain t new ≡ w)
+
+abbrev pub Takes : (Reading → PlainWorld → Row) → World → World → Step EvalKept → Type 0
+Takes row old new step = (t : Reading) → Reads t new → Reads t old × TakesAt (row t) t (row t (plain t old) []) step new
 
 -- a step ends a row, as the row says under every reading
 abbrev pub Closes : (Reading → PlainWorld → Row) → World → World → Step EvalKept → Type 0

@@ -1,21 +1,29 @@
 -- What the rows of expressions say.
-use Rattle.std.specs.Prelude.{ℕ, false, if◌then◌else◌, bytes_eq, codes, List, [], ◌∷◌, ◌++◌, Option, Some, None}
+use Rattle.std.specs.Prelude.{ℕ, false, if◌then◌else◌, bytes_eq, codes, List, [], ◌∷◌, ◌++◌, Option, Some, None, length, take, drop, slice_get}
 use Rattle.py_node.specs.declared.refs.PyObjectRef.{PyObjectRef}
-use Rattle.py_node.specs.declared.raised.Kind.TheVariants.{NameError, TypeError, NotImplementedError}
-use Rattle.py_node.specs.declared.raised.Cause.TheVariants.{ArgCount, NotYet, Unbound}
+use Rattle.py_node.specs.declared.raised.Kind.TheVariants.{NameError, TypeError}
+use Rattle.py_node.specs.declared.raised.Cause.TheVariants.{ArgCount, Unbound}
 use Rattle.py_node.specs.declared.expr.Word.{Word}
 use Rattle.py_node.specs.declared.expr.Word.TheVariants as word
-use Rattle.py_node.specs.Tree.{Text, Tree, TConst, TName, TBind, TFunc, TSetAttr, TCall, TOp, TClass, Literal, LNone, LFalse, LTrue, LInt, LText, list_of, entry_trees}
-use Rattle.plain_machine.specs.Plain.{ANumber, AText, AFunction, PlainWorld, EvalJob, DoEval, DoAdd, ToOperator}
-use Rattle.plain_machine.specs.World.{ref, variable, or_else_var, with_binding}
-use Rattle.plain_machine.specs.Row.{Row, ask, end, value, fault, make, evaluate}
+use Rattle.py_node.specs.Tree.{Text, Tree, TConst, TName, TBind, TFunc, TSetAttr, TCall, TOp, TClass, Entries, no_entries, entry, Literal, LNone, LFalse, LTrue, LInt, LText, list_of, entry_trees}
+use Rattle.plain_machine.specs.Plain.{ANumber, AText, ATuple, ADict, AFunction, PlainWorld, Bindings, EvalJob, DoEval, DoAdd, DoSetAttr, DoCall, ToAttribute, ToCall, ToOperator, Said}
+use Rattle.plain_machine.specs.World.{ref, is_text, the_dict, variable, or_else_var, with_binding, with_node, next_node}
+use Rattle.plain_machine.specs.Objects.{class_object, type_object}
+use Rattle.plain_machine.specs.Row.{Row, start, ask, pass, end, value, none, fault, on_done, make, evaluate}
+use Rattle.py_node.specs.Attributes.{with_value}
 
--- the classes of ints, of texts and of functions
+-- the classes of classes, of ints, of texts, of tuples and of functions
+abbrev pub the_type : ℕ
+the_type = 1
+
 abbrev pub the_int : ℕ
 the_int = 4
 
 abbrev pub the_str : ℕ
 the_str = 6
+
+abbrev pub the_tuple : ℕ
+the_tuple = 7
 
 abbrev pub the_function : ℕ
 the_function = 10
@@ -85,9 +93,54 @@ add_of w (Some p) = ask w (ToOperator (DoAdd p.0 p.1)) (end w)
 abbrev pub op_say : PlainWorld → Word → List PyObjectRef → Row
 op_say w word.Add vs = add_of w (two_of vs)
 
--- what no stage so far has named
-abbrev pub not_yet : PlainWorld → Row
-not_yet w = end w (fault NotImplementedError NotYet)
+-- an attribute is set to the second operand, and the answer is None
+abbrev pub set_attr_say : PlainWorld → Text → Option (PyObjectRef × PyObjectRef) → Row
+set_attr_say w x None = end w (fault TypeError ArgCount)
+set_attr_say w x (Some p) = ask w (ToAttribute (DoSetAttr p.0 x p.1)) (λ r. on_done w r (end w (value none)))
+
+-- the first operand is called with the others
+abbrev pub call_say : PlainWorld → List PyObjectRef → Row
+call_say w [] = end w (fault TypeError ArgCount)
+call_say w (f ∷ args) = start (pass w (ToCall (DoCall f args []))) (end w)
+
+-- a class: its name is a new text, its bases are a new tuple, its entries are a new dict, with a new text for each name, and the class of the first base, or `type`, is called with these
+
+-- names with their values, of which the last one counts
+abbrev pub merged : Bindings → List Text → List PyObjectRef → Bindings
+merged attrs [] vs = attrs
+merged attrs (x ∷ xs) [] = attrs
+merged attrs (x ∷ xs) (v ∷ vs) = merged (with_value is_text attrs x v) xs vs
+
+abbrev pub Pairs : Type 0
+Pairs = List (PyObjectRef × PyObjectRef)
+
+-- new texts for names, with their values
+abbrev pub keyed : PlainWorld → Pairs → Bindings → PlainWorld × Pairs
+keyed w ps [] = (w, ps)
+keyed w ps (b ∷ bs) = keyed (with_node w the_str (AText b.0)) (ps ++ (next_node w the_str, b.1) ∷ []) bs
+
+abbrev pub metaclass : PlainWorld → Option PyObjectRef → PyObjectRef
+metaclass w None = class_object w the_type
+metaclass w (Some b) = type_object w b
+
+-- a new dict
+abbrev pub with_dict : PlainWorld × Pairs → PlainWorld × PyObjectRef
+with_dict s = (with_node s.0 the_dict (ADict s.1), next_node s.0 the_dict)
+
+abbrev pub call_with : PyObjectRef → PyObjectRef → PyObjectRef → PlainWorld × PyObjectRef → Said
+call_with meta name bases s = pass s.0 (ToCall (DoCall meta (name ∷ bases ∷ s.1 ∷ []) []))
+
+abbrev pub class_by : PlainWorld → Text → List PyObjectRef → Bindings → Said
+class_by w x bases entries =
+    let named = with_node w the_str (AText x) in
+    call_with (metaclass w (slice_get bases 0)) (next_node w the_str) (next_node named the_tuple) (with_dict (keyed (with_node named the_tuple (ATuple bases)) [] entries))
+
+abbrev pub class_say : PlainWorld → Text → ℕ → List Text → List PyObjectRef → Row
+class_say w x bases names vs = start (class_by w x (take bases vs) (merged [] names (drop bases vs))) (end w)
+
+abbrev pub entry_names : Entries → List Text
+entry_names no_entries = []
+entry_names (entry x e es) = x ∷ entry_names es
 
 -- the parts of an expression that are evaluated first, in order
 abbrev pub operand_trees : Tree → List Tree
@@ -106,10 +159,10 @@ own_say w (TConst k) vs = const_say w k
 own_say w (TName x) vs = name_say w x
 own_say w (TBind x e) vs = bind_say w x (one_of vs)
 own_say w (TFunc x ps e) vs = func_say w x ps e
-own_say w (TSetAttr o x e) vs = not_yet w
-own_say w (TCall f es) vs = not_yet w
+own_say w (TSetAttr o x e) vs = set_attr_say w x (two_of vs)
+own_say w (TCall f es) vs = call_say w vs
 own_say w (TOp word es) vs = op_say w word vs
-own_say w (TClass x bs es) vs = not_yet w
+own_say w (TClass x bs es) vs = class_say w x (length (list_of bs)) (entry_names es) vs
 
 -- an expression's operands are evaluated in order. Then it has a step of its own
 unfoldable pub eval_say : PlainWorld → EvalJob → Row

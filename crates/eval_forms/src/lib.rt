@@ -5,10 +5,14 @@ ghost use Rattle.std.specs.Prelude.{◌≡◌, ◌≤◌, ◌++◌, [], ◌∷�
 ghost use Rattle.class_world.specs.Sound.{AllHold, Holds, IsExpression, IsName, IsNode, AreNodes, HasOperand, of_form, of_node_ref, of_option, operands, operands_at};
 ghost use Rattle.class_world.specs.Claims.{of_eval_task, of_ended, of_step, Leaves};
 ghost use Rattle.class_world.specs.Reading.{Reading, Reads};
-ghost use Rattle.eval_forms.specs.Say.{built_in_named, name_say, one_of, bind_say, func_say, two_of};
+ghost use Rattle.eval_forms.specs.Say.{built_in_named, name_say, one_of, bind_say, func_say, set_attr_say, call_say, add_of, two_of};
 ghost use Rattle.py_node.specs.Tree.{TConst, literal_of};
-ghost use Rattle.eval_forms.specs.Rows.{Begins, Resumes, Continues, ContinuesTree, Closes, IsOwn, HasValues, sum_step, of_eval_kept};
+ghost use Rattle.eval_forms.specs.Rows.{Begins, Resumes, Continues, ContinuesTree, Closes, Takes, IsOwn, HasValues, of_eval_kept};
 
+mod class_form;
+
+use class_form::class_step;
+use class_world::args::copy_args;
 use class_world::world::{Fixed, World};
 use py_node::built_in::BuiltIn;
 use py_node::expr::{Constant, Word};
@@ -16,7 +20,7 @@ use py_node::memory::OutOfMemory;
 use py_node::payload::{Form, Function, Payload};
 use py_node::raised::{Cause, Kind, Raised};
 use py_node::refs::{PyObjectRef, PyStrInterned};
-use py_node::task::{Answer, EvalTask, OperatorTask, Step, Task};
+use py_node::task::{Answer, AttributeTask, CallTask, EvalTask, OperatorTask, Step, Task};
 use std::alloc::Global;
 
 /// What a row of an expression keeps while it waits for an answer.
@@ -24,6 +28,8 @@ use std::alloc::Global;
 pub enum EvalKept {
     /// The answer is passed on.
     Pass,
+    /// An attribute is being set, and then the answer is None.
+    SetDone,
     /// The expression, and the values of its operands so far.
     Operands(u64, Vec<PyObjectRef>),
 }
@@ -64,6 +70,21 @@ pub fn resume(
                 Answer::Done => Ok(Step::End(Ok(Answer::Done))),
             },
         },
+        EvalKept::SetDone => {
+            let step = set_done(world, answer);
+            Ok(step)
+        }
+    }
+}
+
+// An attribute was set: the answer is None.
+fn set_done(world: &World, answer: Result<Answer, Raised>) -> Step<EvalKept>
+    ensures goes { Resumes EvalKept.SetDone answer world.now world.now result }
+    ensures safe { AllHold world.now (of_step of_eval_kept result) }
+{
+    match answer {
+        Err(raised) => Step::End(Err(raised)),
+        Ok(_) => Step::End(Ok(Answer::Value(world.fixed(Fixed::None)))),
     }
 }
 
@@ -167,9 +188,11 @@ pub enum Own {
     Bind(PyStrInterned),
     /// The function's name, its parameters and its body.
     Func(PyStrInterned, Vec<PyStrInterned>, u64),
+    SetAttr(PyStrInterned),
+    Call,
     Op(Word),
-    /// What no stage so far has named.
-    Later,
+    /// The class's name, how many bases it has, and the names of its entries.
+    Class(PyStrInterned, usize, Vec<PyStrInterned>),
 }
 
 // The step of an expression whose operands have their values.
@@ -193,14 +216,16 @@ fn own_step(
         }
         Own::Bind(name) => bind_step(world, name, one_of(&values)),
         Own::Func(name, params, body) => func_step(world, alloc, name, params, body),
+        Own::SetAttr(name) => {
+            let step = set_attr_step(name, &values);
+            Ok(step)
+        }
+        Own::Call => call_step(alloc, &values),
         Own::Op(Word::Add) => {
             let step = add_step(&values);
             Ok(step)
         }
-        Own::Later => {
-            let raised = not_yet();
-            Ok(Step::End(Err(raised)))
-        }
+        Own::Class(name, bases, names) => class_step(world, alloc, name, bases, &names, &values),
     }
 }
 
@@ -219,19 +244,28 @@ fn own_of(alloc: Global, form: &Form) -> Result<Own, OutOfMemory>
             let copy = params.clone()?;
             Ok(Own::Func(*name, copy, *body))
         }
+        Form::SetAttr(_, name, _) => Ok(Own::SetAttr(*name)),
+        Form::Call(_, _) => Ok(Own::Call),
         Form::Op(word, _) => Ok(Own::Op(*word)),
-        _ => Ok(Own::Later),
+        Form::Class(name, bases, entries) => {
+            let names = names_of(alloc, entries)?;
+            Ok(Own::Class(*name, bases.len(), names))
+        }
     }
 }
 
-// What no stage so far has named.
-fn not_yet() -> Raised
-    ensures { result ≡ record { kind = Kind.NotImplementedError; cause = Cause.NotYet } }
+// The names of a class's entries.
+fn names_of(
+    alloc: Global,
+    entries: &[(PyStrInterned, u64)],
+) -> Result<Vec<PyStrInterned>, OutOfMemory>
+    ensures { IfOk result (λ v. v.items ≡ map (λ e. e.0) entries.now) }
 {
-    Raised {
-        kind: Kind::NotImplementedError,
-        cause: Cause::NotYet,
+    let mut names = Vec::new(alloc);
+    for entry in entries {
+        names.push(entry.0)?;
     }
+    Ok(names)
 }
 
 // A constant is a fixed object, or a new one.
@@ -385,17 +419,54 @@ fn func_step(
     Ok(Step::End(Ok(Answer::Value(node))))
 }
 
-// A sum, with the values of its operands.
-fn add_step(values: &[PyObjectRef]) -> Step<EvalKept>
-    ensures { result ≡ sum_step (two_of values.now) }
+// An attribute is set to the second operand.
+fn set_attr_step(name: PyStrInterned, values: &[PyObjectRef]) -> Step<EvalKept>
+    ensures goes { (w : World) → Takes (λ t u. set_attr_say u (t.text name.0) (two_of values.now)) w w result }
+    ensures safe { (w : World) → Holds w (IsName name) → Holds w (AreNodes values.now) → AllHold w (of_step of_eval_kept result) }
 {
     match two_of(values) {
-        None => Step::End(Err(Raised {
-            kind: Kind::TypeError,
-            cause: Cause::ArgCount,
-        })),
+        None => missing_operand(),
+        Some((target, value)) => Step::Ask(
+            Task::Attribute(AttributeTask::SetAttr(target, name, value)),
+            EvalKept::SetDone,
+        ),
+    }
+}
+
+// The first operand is called with the others.
+fn call_step(alloc: Global, values: &[PyObjectRef]) -> Result<Step<EvalKept>, OutOfMemory>
+    ensures goes { IfOk result (λ step. (w : World) → Takes (λ t u. call_say u values.now) w w step) }
+    ensures safe { IfOk result (λ step. (w : World) → Holds w (AreNodes values.now) → AllHold w (of_step of_eval_kept step)) }
+{
+    match values {
+        [] => Ok(missing_operand()),
+        [func, args @ ..] => {
+            let args = copy_args(alloc, args)?;
+            let task = CallTask::Call(*func, args, Vec::new(alloc));
+            Ok(Step::Ask(Task::Call(task), EvalKept::Pass))
+        }
+    }
+}
+
+// A sum, with the values of its operands.
+fn add_step(values: &[PyObjectRef]) -> Step<EvalKept>
+    ensures goes { (w : World) → Takes (λ t u. add_of u (two_of values.now)) w w result }
+    ensures safe { (w : World) → Holds w (AreNodes values.now) → AllHold w (of_step of_eval_kept result) }
+{
+    match two_of(values) {
+        None => missing_operand(),
         Some((a, b)) => Step::Ask(Task::Operator(OperatorTask::Add(a, b)), EvalKept::Pass),
     }
+}
+
+// There are too few operands, or too many.
+fn missing_operand() -> Step<EvalKept>
+    ensures { result ≡ Step.End (Err (record { kind = Kind.TypeError; cause = Cause.ArgCount })) }
+{
+    Step::End(Err(Raised {
+        kind: Kind::TypeError,
+        cause: Cause::ArgCount,
+    }))
 }
 
 // The operands of an operation with two.

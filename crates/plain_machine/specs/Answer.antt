@@ -1,11 +1,9 @@
 -- What a task answers: its row is followed until it ends. And what a list of commands is answered.
-use Rattle.std.specs.Prelude.{ℕ, zero, suc, List, [], ◌∷◌, ◌++◌, nat_lt, cond, Result, Ok, Err}
-use Rattle.py_node.specs.declared.task.Answer.{Answer}
+use Rattle.std.specs.Prelude.{ℕ, zero, suc, List, [], ◌∷◌, ◌++◌, nat_lt, cond, Ok, Err}
 use Rattle.py_node.specs.declared.task.Answer.TheVariants.{Value, Done}
-use Rattle.py_node.specs.declared.raised.Raised.{Raised as Fault}
 use Rattle.py_node.specs.declared.raised.Kind.TheVariants.{RecursionError}
 use Rattle.py_node.specs.declared.raised.Cause.TheVariants.{DepthLimit}
-use Rattle.py_node.specs.Tree.{Text, Tree}
+use Rattle.py_node.specs.Tree.{Tree}
 use Rattle.py_node.specs.Replies.{PlainReply, ToldValue, ToldRaise, ToldBudget}
 use Rattle.py_node.specs.Replies.{Told as Answering}
 use Rattle.plain_machine.specs.Plain.{PlainWorld, DoEval, PlainTask, ToEval, Ended, Answered, Told, Said, Asks, Ends, Saying}

@@ -1,7 +1,11 @@
 pub mod Plain
 pub mod World
 pub mod Show
+pub mod ClassText
 pub mod Row
 pub mod Answer
 pub mod Rows
+pub mod BuiltInAttrs
 pub mod Start
+pub mod Objects
+pub mod Native

@@ -3,6 +3,8 @@ use Rattle.std.specs.Prelude.{ℕ, ℤ, Bool, List, Option, Result}
 use Rattle.py_node.specs.declared.refs.PyObjectRef.{PyObjectRef}
 use Rattle.py_node.specs.declared.raised.Raised.{Raised as Fault}
 use Rattle.py_node.specs.declared.entry.IntNative.{IntNative}
+use Rattle.py_node.specs.declared.entry.ObjectNative.{ObjectNative}
+use Rattle.py_node.specs.declared.entry.TypeNative.{TypeNative}
 use Rattle.py_node.specs.declared.entry.NativeEntry.{NativeEntry}
 use Rattle.py_node.specs.declared.entry.SlotEntry.{SlotEntry}
 use Rattle.py_node.specs.declared.task.Answer.{Answer}
@@ -60,6 +62,26 @@ pub record PlainWorld : Type 0 where
 pub data EvalJob : Type 0 where
   DoEval : Tree → EvalJob
 
+-- keywords are bindings of their names
+pub data AttributeJob : Type 0 where
+  DoSetAttr : PyObjectRef → Text → PyObjectRef → AttributeJob
+  DoTypeSet : ℕ → Text → PyObjectRef → AttributeJob
+  DoSpecial : PyObjectRef → Text → List PyObjectRef → Bindings → AttributeJob
+  DoBind : PyObjectRef → Option PyObjectRef → PyObjectRef → AttributeJob
+  DoDescrGet : PyObjectRef → Option PyObjectRef → Option PyObjectRef → AttributeJob
+
+pub data CallJob : Type 0 where
+  DoCall : PyObjectRef → List PyObjectRef → Bindings → CallJob
+  DoBody : PyObjectRef → List PyObjectRef → Bindings → CallJob
+  DoTypeCall : ℕ → List PyObjectRef → Bindings → CallJob
+  DoNew : ℕ → ℕ → List PyObjectRef → Bindings → CallJob
+  DoInit : PyObjectRef → List PyObjectRef → Bindings → CallJob
+  DoObject : ObjectNative → List PyObjectRef → Bindings → CallJob
+
+pub data ClassJob : Type 0 where
+  DoMakeClass : ℕ → List PyObjectRef → Bindings → ClassJob
+  DoType : TypeNative → List PyObjectRef → Bindings → ClassJob
+
 pub data OperatorJob : Type 0 where
   DoAdd : PyObjectRef → PyObjectRef → OperatorJob
   DoBinOp1 : PyNumberBinaryOp → PyObjectRef → PyObjectRef → OperatorJob
@@ -68,6 +90,9 @@ pub data OperatorJob : Type 0 where
 
 pub data PlainTask : Type 0 where
   ToEval : EvalJob → PlainTask
+  ToAttribute : AttributeJob → PlainTask
+  ToCall : CallJob → PlainTask
+  ToClass : ClassJob → PlainTask
   ToOperator : OperatorJob → PlainTask
   ToLater : LaterTask → PlainTask
 
@@ -75,11 +100,12 @@ pub data PlainTask : Type 0 where
 abbrev pub Ended : Type 0
 Ended = Result Answer Fault
 
--- what a row has learnt: the answer to what it asked, the node that it made, or a list that it read once
+-- what a row has learnt: the answer to what it asked, the node that it made, a list that it read once, or which of two ways it went
 pub data Fact : Type 0 where
   Answered : Ended → Fact
   Made : PyObjectRef → Fact
   Read : List SlotEntry → Fact
+  Chose : Bool → Fact
 
 abbrev pub Told : Type 0
 Told = List Fact

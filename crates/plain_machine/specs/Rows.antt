@@ -1,6 +1,6 @@
 -- Rows at some point, and when two go on alike.
-use Rattle.std.specs.Prelude.{◌≡◌, List, [], ◌∷◌, ◌++◌}
-use Rattle.plain_machine.specs.Plain.{PlainWorld, Ended, Answered, Told, Said, Saying}
+use Rattle.std.specs.Prelude.{◌≡◌, [], ◌∷◌, ◌++◌}
+use Rattle.plain_machine.specs.Plain.{PlainWorld, Ended, Answered, Told, Saying}
 
 -- a row at some point: its task, and what it has learnt so far
 pub record Pending (J : Type 0) : Type 0 where

@@ -1,11 +1,11 @@
 -- The text of an object, as replies show it.
-use Rattle.std.specs.Prelude.{ℕ, List, [], ◌++◌, codes, Option, Some, None, slice_get, if◌then◌else◌, ◌==◌}
+use Rattle.std.specs.Prelude.{ℕ, zero, suc, List, [], ◌∷◌, ◌++◌, codes, map, take, drop, Option, Some, None, slice_get, if◌then◌else◌, ◌==◌}
 use Rattle.std.specs.Fmt.{signed_decimal}
 use Rattle.py_node.specs.declared.refs.PyObjectRef.{PyObjectRef}
 use Rattle.py_node.specs.Tree.{Text}
 use Rattle.reply_text.specs.Escapes.{escaped, quoted}
-use Rattle.class_model.specs.Class.{Class}
-use Rattle.plain_machine.specs.Plain.{Datum, AnObject, AClass, ANumber, AText, ATuple, ADict, AFunction, AMethod, ANativeFunction, ABuiltinMethod, AMethodDescriptor, AGetSet, AClassMethod, Node, PlainWorld}
+use Rattle.reply_text.specs.Lines.{joined}
+use Rattle.plain_machine.specs.Plain.{Datum, AClass, ANumber, AText, ATuple, ADict, Node, PlainWorld}
 use Rattle.plain_machine.specs.World.{node_at}
 
 -- the name of a class, escaped
@@ -20,21 +20,75 @@ plain_text w c = codes "<" ++ class_name w c ++ codes " object>"
 abbrev pub fixed_text : ℕ → Option Text
 fixed_text n = if n == 23 then Some (codes "None") else if n == 24 then Some (codes "NotImplemented") else if n == 25 then Some (codes "False") else if n == 26 then Some (codes "True") else None
 
--- exact ints and texts, and classes
-abbrev pub datum_text : PlainWorld → ℕ → Datum → Text
-datum_text w c (ANumber z) = if c == 4 then signed_decimal z else plain_text w c
-datum_text w c (AText x) = if c == 6 then quoted x else plain_text w c
-datum_text w c (AClass d) = codes "<class '" ++ class_name w d ++ codes "'>"
-datum_text w c _ = plain_text w c
+-- what is not shown
+abbrev pub dots : Text
+dots = codes "..."
 
-abbrev pub node_text : PlainWorld → Option Node → Text
-node_text w None = []
-node_text w (Some n) = datum_text w n.class n.datum
+abbrev pub rest_text : {A : Type 0} → List A → List Text
+rest_text [] = []
+rest_text (x ∷ xs) = dots ∷ []
+
+-- the texts of a container's items: of the first twenty, and dots in place of the rest
+abbrev pub item_texts : {A : Type 0} → (A → Text) → List A → List Text
+item_texts text xs = map text (take 20 xs) ++ rest_text (drop 20 xs)
+
+-- a key with its value
+abbrev pub entry_text : (PyObjectRef → Text) → PyObjectRef × PyObjectRef → Text
+entry_text text e = text e.0 ++ codes ": " ++ text e.1
+
+-- after an only item comes a comma
+abbrev pub tuple_end : List Text → Text
+tuple_end (x ∷ []) = codes ",)"
+tuple_end xs = codes ")"
+
+abbrev pub tuple_text : List Text → Text
+tuple_text xs = codes "(" ++ joined (codes ", ") xs ++ tuple_end xs
+
+abbrev pub dict_text : List Text → Text
+dict_text xs = codes "{" ++ joined (codes ", ") xs ++ codes "}"
+
+-- how containers are shown, by what they contain
+pub record Containers : Type 0 where
+  pub tuple : List PyObjectRef → Text
+  pub dict : List (PyObjectRef × PyObjectRef) → Text
+
+-- dots, also for a container of nothing
+abbrev pub hidden : Containers
+hidden = record { tuple = λ rs. dots; dict = λ es. dots }
+
+-- each item has this text
+abbrev pub opened : (PyObjectRef → Text) → Containers
+opened text = record { tuple = λ rs. tuple_text (item_texts text rs); dict = λ es. dict_text (item_texts (entry_text text) es) }
+
+-- exact ints and texts, exact tuples and dicts, and classes
+abbrev pub datum_text : Containers → PlainWorld → ℕ → Datum → Text
+datum_text shown w c (ANumber z) = if c == 4 then signed_decimal z else plain_text w c
+datum_text shown w c (AText x) = if c == 6 then quoted x else plain_text w c
+datum_text shown w c (ATuple rs) = if c == 7 then shown.tuple rs else plain_text w c
+datum_text shown w c (ADict es) = if c == 9 then shown.dict es else plain_text w c
+datum_text shown w c (AClass d) = codes "<class '" ++ class_name w d ++ codes "'>"
+datum_text shown w c _ = plain_text w c
+
+abbrev pub node_text : Containers → PlainWorld → Option Node → Text
+node_text shown w None = []
+node_text shown w (Some n) = datum_text shown w n.class n.datum
 
 abbrev pub or_text : Option Text → Text → Text
 or_text None other = other
 or_text (Some x) other = x
 
--- the text of an object
+abbrev pub object_text : Containers → PlainWorld → PyObjectRef → Text
+object_text shown w r = or_text (fixed_text r.0) (node_text shown w (node_at w r))
+
+-- where containers are shown so many deep: the items of one are shown one less deep
+abbrev pub containers : ℕ → PlainWorld → Containers
+containers zero w = hidden
+containers (suc n) w = opened (object_text (containers n w) w)
+
+-- the text of an object, where containers are shown so many deep
+abbrev pub text_within : ℕ → PlainWorld → PyObjectRef → Text
+text_within n w r = object_text (containers n w) w r
+
+-- the text of an object: containers inside three containers are not shown
 unfoldable pub show : PlainWorld → PyObjectRef → Text
-show w r = or_text (fixed_text r.0) (node_text w (node_at w r))
+show w r = text_within 3 w r

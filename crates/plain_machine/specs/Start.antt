@@ -1,10 +1,14 @@
--- The world of a new machine: a node for each built-in class, then None, NotImplemented, False and True.
-use Rattle.std.specs.Prelude.{ℕ, ℤ, pos, List, [], ◌∷◌, ◌++◌, Option, Some, None, map}
+-- The world of a new machine: a node for each built-in class, then None, NotImplemented, False and True, and then a node for each own attribute of a built-in class.
+use Rattle.std.specs.Prelude.{ℕ, pos, List, [], ◌∷◌, ◌++◌, Option, Some, None, map}
 use Rattle.py_node.specs.declared.built_in.BuiltIn.{BuiltIn}
+use Rattle.py_node.specs.declared.built_in.BuiltIn.TheVariants as built_in
+use Rattle.py_node.specs.declared.entry.NativeEntry.TheVariants.{Getter, Setter, NewWrapper}
 use Rattle.py_node.specs.BuiltIns.{place_of, name_of, base_of, flags_of, all_built_ins}
+use Rattle.py_node.specs.Tree.{Text}
 use Rattle.class_model.specs.Class.{Class}
-use Rattle.plain_machine.specs.Plain.{Datum, AnObject, AClass, ANumber, Node, PlainWorld}
-use Rattle.plain_machine.specs.World.{ref}
+use Rattle.plain_machine.specs.Plain.{Datum, AnObject, AClass, ANumber, ANativeFunction, AMethodDescriptor, AGetSet, Node, PlainWorld}
+use Rattle.plain_machine.specs.World.{ref, with_node, next_node, with_own_attr}
+use Rattle.plain_machine.specs.BuiltInAttrs.{Attr, New, Method, ClassMethod, ReadOnly, Settable, BuiltInAttr, built_in_attrs}
 
 abbrev pub the_type : ℕ
 the_type = 1
@@ -27,5 +31,36 @@ class_node b = simple_node the_type (AClass (place_of b))
 abbrev pub fixed_nodes : List Node
 fixed_nodes = simple_node 2 AnObject ∷ simple_node 3 AnObject ∷ simple_node 5 (ANumber (pos 0)) ∷ simple_node 5 (ANumber (pos 1)) ∷ []
 
-abbrev pub start : PlainWorld
-start = record { nodes = map class_node all_built_ins ++ fixed_nodes; classes = map built_class all_built_ins; vars = []; scopes = []; calls = [] }
+-- the built-in classes without attributes, and the fixed objects
+abbrev pub bare : PlainWorld
+bare = record { nodes = map class_node all_built_ins ++ fixed_nodes; classes = map built_class all_built_ins; vars = []; scopes = []; calls = [] }
+
+-- the class of the object that an own attribute holds
+abbrev pub attr_class : Attr → BuiltIn
+attr_class New = built_in.BuiltinFunctionOrMethod
+attr_class (Method n) = built_in.MethodDescriptor
+attr_class (ClassMethod n) = built_in.MethodDescriptor
+attr_class (ReadOnly p) = built_in.GetSetDescriptor
+attr_class (Settable p) = built_in.GetSetDescriptor
+
+-- what this object is, for a class and a name. A method of the objects has the flag 2 ^ 9, and one of the class 2 ^ 4
+abbrev pub attr_datum : ℕ → Text → Attr → Datum
+attr_datum c x New = ANativeFunction x NewWrapper (Some (ref c))
+attr_datum c x (Method n) = AMethodDescriptor c x n 512
+attr_datum c x (ClassMethod n) = AMethodDescriptor c x n 16
+attr_datum c x (ReadOnly p) = AGetSet c x (Some (Getter p)) None
+attr_datum c x (Settable p) = AGetSet c x (Some (Getter p)) (Some (Setter p))
+
+-- a new node for an attribute, under its name in its class
+abbrev pub with_attr : PlainWorld → BuiltInAttr → PlainWorld
+with_attr w a =
+    let c = place_of (attr_class a.attr) in
+    with_own_attr (with_node w c (attr_datum (place_of a.class) a.name a.attr)) (place_of a.class) a.name (next_node w c)
+
+-- the same for each of some, in order
+abbrev pub with_attrs : PlainWorld → List BuiltInAttr → PlainWorld
+with_attrs w [] = w
+with_attrs w (a ∷ more) = with_attrs (with_attr w a) more
+
+unfoldable pub start : PlainWorld
+start = with_attrs bare built_in_attrs

@@ -1,5 +1,5 @@
 -- How the plain world is read and changed.
-use Rattle.std.specs.Prelude.{ℕ, ℤ, suc, ◌+◌, ◌-◌, ◌^◌, Bool, true, false, eqb, cond, List, [], ◌∷◌, ◌++◌, Option, Some, None, length, take, slice_get, option_map, option_and_then, is_some}
+use Rattle.std.specs.Prelude.{ℕ, ℤ, ◌+◌, ◌-◌, ◌^◌, Bool, false, eqb, cond, List, [], ◌∷◌, ◌++◌, Option, Some, None, length, take, slice_get, option_map, option_and_then}
 use Rattle.std.specs.Cmp.Lexicographic.{pointwise}
 use Rattle.py_node.specs.declared.refs.PyObjectRef.{PyObjectRef}
 use Rattle.py_node.specs.declared.entry.SlotId.{SlotId}
@@ -8,11 +8,11 @@ use Rattle.py_node.specs.Attributes.{value_of, with_value}
 use Rattle.py_node.specs.Slots.{special_names}
 use Rattle.py_node.specs.Tree.{Text}
 use Rattle.py_node.specs.Replies.{Started}
-use Rattle.class_model.specs.Class.{Class, Classes, has_flag}
+use Rattle.class_model.specs.Class.{Class, has_flag}
 use Rattle.class_model.specs.Change.{with_class, with_class_attr}
 use Rattle.class_model.specs.Slot.{Keys, slot, candidates_of}
 use Rattle.class_model.specs.BuiltIn.{natives_of}
-use Rattle.plain_machine.specs.Plain.{Datum, AnObject, AClass, ADict, ANumber, Node, Bindings, Scope, PlainWorld}
+use Rattle.plain_machine.specs.Plain.{Datum, AClass, ADict, ANumber, Node, Bindings, Scope, PlainWorld}
 
 -- whether two texts are one
 abbrev pub is_text : Text → Text → Bool
@@ -54,7 +54,7 @@ candidates_at w left right None d = []
 candidates_at w left right (Some c) None = []
 candidates_at w left right (Some c) (Some d) = candidates_of text_keys natives_of w.classes left right c d
 
--- the nine changes
+-- how it is changed
 
 abbrev pub flag_in : Option (Class Text) → Bool
 flag_in None = false

@@ -1,5 +1,5 @@
 -- The steps of sums and of candidates are what their rows say.
-use Rattle.std.proofs.Common.{◌≡◌, ℕ, List, [], ◌∷◌, ◌++◌, Option, Some, None, Ok, Bool, true, false, cond, eqb, refl, sym, ap, ◌∙◌, subst}
+use Rattle.std.proofs.Common.{◌≡◌, ℕ, List, [], ◌∷◌, ◌++◌, Option, Some, None, Ok, Err, Bool, true, false, cond, eqb, refl, sym, ap, ◌∙◌, subst}
 use Rattle.py_node.specs.declared.refs.PyObjectRef.{PyObjectRef}
 use Rattle.py_node.specs.declared.entry.SlotEntry.{SlotEntry}
 use Rattle.py_node.specs.declared.entry.SlotId.TheVariants.{SeqItem}
@@ -13,18 +13,22 @@ use Rattle.plain_machine.specs.Row.{value, end, start, read_once}
 use Rattle.class_world.specs.declared.world.World.{World}
 use Rattle.class_world.specs.Reading.{Reading, Reads, plain}
 use Rattle.class_world.specs.Rows.{Steps}
-use Rattle.class_world.specs.Sound.{AllHold, IsNode, AreNodes, Holds}
-use Rattle.class_world.specs.Claims.{of_step}
+use Rattle.class_world.specs.Sound.{Grows, AllHold, IsName, IsNode, AreNodes, Holds, of_each, of_binding}
+use Rattle.class_world.specs.Claims.{of_step, Leaves}
 use Rattle.py_node.specs.declared.task.Step.{Step}
-use Rattle.py_node.specs.declared.task.Step.TheVariants.{End}
+use Rattle.py_node.specs.declared.task.Step.TheVariants.{Ask, End}
+use Rattle.py_node.specs.declared.task.Task.TheVariants as task
+use Rattle.py_node.specs.declared.task.AttributeTask.TheVariants as attribute
+use Rattle.py_node.specs.declared.memory.OutOfMemory.{OutOfMemory}
+use Rattle.py_node.specs.declared.refs.PyStrInterned.{PyStrInterned}
 use Rattle.py_node.specs.declared.entry.IntNative.TheVariants as int
-use Rattle.std.specs.Prelude.{ℤ}
-use Rattle.class_world.proofs.Claims.{node-in}
+use Rattle.std.specs.Prelude.{ℤ, Result, IfOk}
+use Rattle.class_world.proofs.Claims.{node-in, no-nodes, more-nodes, all-append}
 use Rattle.class_table.specs.Turn.{list_both}
 use Rattle.proto_ops.specs.declared.OperatorKept.{OperatorKept}
-use Rattle.proto_ops.specs.declared.OperatorKept.TheVariants.{AddRest}
+use Rattle.proto_ops.specs.declared.OperatorKept.TheVariants.{Pass, AddRest}
 use Rattle.proto_ops.specs.Say.{operator_say, left_slot, right_slot, is_not_implemented, joined, in_turn, sum_say, int_or_fault, total, two_of}
-use Rattle.proto_ops.specs.Rows.{operator_stands, of_operator_kept, joining, entered, Begins, Resumes, Sums}
+use Rattle.proto_ops.specs.Rows.{operator_stands, of_operator_kept, joining, entered, AsksSpecial, Begins, Resumes, Sums}
 
 -- a sum that no candidate gave
 pub add-joins : (w : World) (a x : PyObjectRef) (item : Option SlotEntry) → is_not_implemented x ≡ true → ((t : Reading) → Reads t w → slot_at (plain t w) a SeqItem ≡ item) → Resumes (AddRest a) (Ok (Value x)) w w (joining item)
@@ -90,3 +94,15 @@ two-hold w (v ∷ (u ∷ [])) a b h e =
     let second : u ≡ b = ap (λ o. (pair_or a o).1) e in
     (subst (λ r. Holds w (IsNode r)) first (node-in w (v ∷ (u ∷ [])) 0 v h refl), subst (λ r. Holds w (IsNode r)) second (node-in w (v ∷ (u ∷ [])) 1 u h refl))
 two-hold w (v ∷ (u ∷ (x ∷ vs))) a b h e = cc
+
+-- a special method that is asked says of numbers only what held before
+pub special-leaves : (old new : World) (name : PyStrInterned) (object other : PyObjectRef) (r : Result (Step OperatorKept) OutOfMemory) → Grows old new → Holds new (IsName name) → Holds old (IsNode object) → Holds old (IsNode other) → IfOk r (λ step. AsksSpecial name object other step) → Leaves of_operator_kept old new r
+unfolding Holds
+special-leaves old new name object other (Err e) g n a b h = (g, tt)
+special-leaves old new name object other (Ok (Ask (task.Attribute (attribute.Special o x args kw)) Pass)) g n a b h =
+    let here = subst (λ r. Holds new (IsNode r)) (sym h.0) (g.still (IsNode object) a) in
+    let named = subst (λ x. Holds new (IsName x)) (sym h.1) n in
+    let there = subst (λ vs. Holds new (AreNodes vs)) (sym h.2) (more-nodes new [] other (no-nodes new) (g.still (IsNode other) b)) in
+    let keys = subst (λ ks. AllHold new (of_each of_binding ks)) (sym h.3) tt in
+    (g, (here, (named, (there, all-append new (of_each of_binding kw.items) [] keys tt))))
+special-leaves old new name object other (Ok step) g n a b h = absurd h

@@ -1,5 +1,5 @@
 -- What the rows of operators say.
-use Rattle.std.specs.Prelude.{ℕ, ◌^◌, ℤ, pos, negsuc, ◌+ℤ◌, Bool, cond, eqb, List, [], ◌∷◌, Option, Some, None, nat_lt}
+use Rattle.std.specs.Prelude.{ℕ, ◌^◌, ℤ, pos, negsuc, ◌+ℤ◌, codes, Bool, cond, eqb, List, [], ◌∷◌, Option, Some, None, nat_lt}
 use Rattle.py_node.specs.declared.refs.PyObjectRef.{PyObjectRef}
 use Rattle.py_node.specs.declared.raised.Kind.TheVariants.{TypeError, OverflowError, NotImplementedError}
 use Rattle.py_node.specs.declared.raised.Cause.TheVariants.{UnsupportedOperand, IntRange, ArgCount, UnexpectedKeyword, NotYet}
@@ -7,15 +7,14 @@ use Rattle.py_node.specs.declared.entry.SlotId.{SlotId}
 use Rattle.py_node.specs.declared.entry.SlotId.TheVariants.{Add, RightAdd, SeqItem}
 use Rattle.py_node.specs.declared.entry.SlotEntry.{SlotEntry}
 use Rattle.py_node.specs.declared.entry.SlotEntry.TheVariants.{Native, Wrapper, Unhashable}
-use Rattle.py_node.specs.declared.entry.NativeEntry.{NativeEntry}
-use Rattle.py_node.specs.declared.entry.NativeEntry.TheVariants.{OfInt}
 use Rattle.py_node.specs.declared.entry.IntNative.{IntNative}
 use Rattle.py_node.specs.declared.task.PyNumberBinaryOp.{PyNumberBinaryOp}
 use Rattle.py_node.specs.declared.task.PyNumberBinaryOp.TheVariants as op
 use Rattle.py_node.specs.declared.task.LaterTask.TheVariants as later
-use Rattle.plain_machine.specs.Plain.{ANumber, PlainWorld, Bindings, OperatorJob, DoAdd, DoBinOp1, DoEnter, DoInt, PlainTask, ToOperator, ToLater, Said, Asks, Ends}
+use Rattle.plain_machine.specs.Plain.{ANumber, PlainWorld, Bindings, OperatorJob, DoAdd, DoBinOp1, DoEnter, DoInt, DoSpecial, PlainTask, ToAttribute, ToOperator, ToLater, Said, Asks, Ends}
 use Rattle.plain_machine.specs.World.{ref, class_at, datum_at, number_of, slot_at, candidates_at}
-use Rattle.plain_machine.specs.Row.{Row, start, ask, end, value, fault, on_value, make, read_once}
+use Rattle.plain_machine.specs.Native.{native_task}
+use Rattle.plain_machine.specs.Row.{Row, start, ask, pass, end, value, fault, on_value, make, read_once}
 
 -- the slots of an operator, for its left and its right operand
 abbrev pub left_slot : PyNumberBinaryOp → SlotId
@@ -40,15 +39,20 @@ in_turn w a b (s ∷ ss) =
 abbrev pub binop1_say : PlainWorld → PyNumberBinaryOp → PyObjectRef → PyObjectRef → Row
 binop1_say w o a b = read_once (candidates_at w (left_slot o) (right_slot o) (class_at w a) (class_at w b)) (in_turn w a b)
 
--- an entry is entered: the native with both operands, or the special method of the operand that it is for
+-- the special method that a wrapper stands for: of the left operand, with the right one, or the other way round
+abbrev pub method_task : SlotId → PyObjectRef → PyObjectRef → PlainTask
+method_task Add a b = ToAttribute (DoSpecial a (codes "__add__") (b ∷ []) [])
+method_task RightAdd a b = ToAttribute (DoSpecial b (codes "__radd__") (a ∷ []) [])
+method_task _ a b = ToLater later.Native
+
+-- an entry is entered: a native with both operands, or the special method of an operand. That of a slot of no operator so far is for later
 abbrev pub enter_task : SlotEntry → PyObjectRef → PyObjectRef → PlainTask
-enter_task (Native (OfInt n)) a b = ToOperator (DoInt n (a ∷ b ∷ []) [])
-enter_task (Native _) a b = ToLater later.Native
-enter_task (Wrapper s) a b = ToLater later.Special
+enter_task (Native n) a b = native_task n (a ∷ b ∷ []) []
+enter_task (Wrapper s) a b = method_task s a b
 enter_task Unhashable a b = ToLater later.Native
 
 abbrev pub enter_say : PlainWorld → SlotEntry → PyObjectRef → PyObjectRef → Row
-enter_say w s a b = ask w (enter_task s a b) (end w)
+enter_say w s a b = start (pass w (enter_task s a b)) (end w)
 
 -- a sequence is joined, and nothing else
 abbrev pub joined : PlainWorld → Option SlotEntry → Said

@@ -4,22 +4,22 @@
 ghost use Rattle.std.specs.Prelude.{◌≡◌, [], ◌∷◌, IfOk};
 ghost use Rattle.class_world.specs.Sound.{AllHold, Holds, IsNode};
 ghost use Rattle.class_world.specs.Claims.{of_operator_task, of_ended, Leaves};
-ghost use Rattle.class_world.specs.Reading.{Reading, task_of};
 ghost use Rattle.py_node.specs.declared.task.OperatorTask.TheVariants as operator;
 ghost use Rattle.class_table.specs.Turn.{list_of};
-ghost use Rattle.proto_ops.specs.Say.{total, left_slot, right_slot, is_not_implemented, enter_task, two_of};
-ghost use Rattle.proto_ops.specs.Rows.{Begins, Resumes, Sums, Entering, AreBoth, joining, entered, of_operator_kept};
+ghost use Rattle.proto_ops.specs.Say.{total, left_slot, right_slot, is_not_implemented, method_task, two_of};
+ghost use Rattle.proto_ops.specs.Rows.{Begins, Resumes, Sums, Enters, AsksSpecial, AreBoth, joining, entered, of_operator_kept};
 
 use class_table::candidates::Candidates;
+use class_world::args::native_task;
 use class_world::world::{Fixed, World};
 use py_node::built_in::BuiltIn;
-use py_node::entry::{IntNative, NativeEntry, SlotEntry, SlotId};
+use py_node::entry::{IntNative, SlotEntry, SlotId};
 use py_node::memory::OutOfMemory;
 use py_node::payload::Payload;
 use py_node::raised::{Cause, Kind, Raised};
-use py_node::refs::PyObjectRef;
+use py_node::refs::{PyObjectRef, PyStrInterned};
 use py_node::task::{
-    Answer, Args, Keywords, LaterTask, OperatorTask, PyNumberBinaryOp, Step, Task,
+    Answer, Args, AttributeTask, Keywords, LaterTask, OperatorTask, PyNumberBinaryOp, Step, Task,
 };
 use std::alloc::Global;
 
@@ -220,29 +220,54 @@ fn enter(
     ensures goes { IfOk result (λ step. Begins (operator.Enter entry a b) world.old world.new step) }
     ensures safe { Leaves of_operator_kept world.old world.new result }
 {
-    let task = entering(alloc, entry, a, b)?;
-    Ok(Step::Ask(task, OperatorKept::Pass))
+    match entry {
+        SlotEntry::Native(native) => {
+            let args = both(alloc, a, b)?;
+            let task = native_task(native, args, Vec::new(alloc));
+            Ok(Step::Ask(task, OperatorKept::Pass))
+        }
+        SlotEntry::Wrapper(slot) => enter_method(world, alloc, slot, a, b),
+        SlotEntry::Unhashable => Ok(Step::Ask(Task::Later(LaterTask::Native), OperatorKept::Pass)),
+    }
 }
 
-// The task of an entry.
-fn entering(
+// The special method that a wrapper stands for.
+fn enter_method(
+    world: &mut World,
     alloc: Global,
-    entry: SlotEntry,
+    slot: SlotId,
     a: PyObjectRef,
     b: PyObjectRef,
-) -> Result<Task, OutOfMemory>
-    ensures task { IfOk result (λ task. (t : Reading) → task_of t task ≡ enter_task entry a b) }
-    ensures says { IfOk result (λ task. Entering a b task) }
+) -> Result<Step<OperatorKept>, OutOfMemory>
+    requires { AllHold world.old (of_operator_task (operator.Enter (SlotEntry.Wrapper slot) a b)) }
+    ensures goes { IfOk result (λ step. Enters (SlotEntry.Wrapper slot) a b (λ t. method_task slot a b) world.old world.new step) }
+    ensures safe { Leaves of_operator_kept world.old world.new result }
 {
-    match entry {
-        SlotEntry::Native(NativeEntry::OfInt(native)) => {
-            let args = both(alloc, a, b)?;
-            Ok(Task::Operator(OperatorTask::Int(native, args, Vec::new(alloc))))
+    match slot {
+        SlotId::Add => {
+            let name = world.intern(alloc, "__add__")?;
+            special(alloc, name, a, b)
         }
-        SlotEntry::Native(_) => Ok(Task::Later(LaterTask::Native)),
-        SlotEntry::Wrapper(_) => Ok(Task::Later(LaterTask::Special)),
-        SlotEntry::Unhashable => Ok(Task::Later(LaterTask::Native)),
+        SlotId::RightAdd => {
+            let name = world.intern(alloc, "__radd__")?;
+            special(alloc, name, b, a)
+        }
+        _ => Ok(Step::Ask(Task::Later(LaterTask::Native), OperatorKept::Pass)),
     }
+}
+
+// A special method of an object, with another one.
+fn special(
+    alloc: Global,
+    name: PyStrInterned,
+    object: PyObjectRef,
+    other: PyObjectRef,
+) -> Result<Step<OperatorKept>, OutOfMemory>
+    ensures { IfOk result (λ step. AsksSpecial name object other step) }
+{
+    let args = vec![in alloc; other]?;
+    let task = AttributeTask::Special(object, name, args, Vec::new(alloc));
+    Ok(Step::Ask(Task::Attribute(task), OperatorKept::Pass))
 }
 
 // Two arguments.

@@ -80,6 +80,10 @@ base_of built_in.Super = Some 0
 base_of built_in.Iterator = Some 0
 base_of built_in.Slice = Some 0
 
+-- the flags of a class that a script makes: on the heap (2 ^ 9), can be a base (2 ^ 10), and gives its objects a dict (2 ^ 40)
+abbrev pub heap_flags : ℕ
+heap_flags = 1099511629312
+
 -- every one is immutable (2 ^ 8). Some can be bases (2 ^ 10), give their objects a dict (2 ^ 40), or mark descriptors of methods (2 ^ 17)
 unfoldable pub flags_of : BuiltIn → ℕ
 flags_of built_in.Object = 1280

@@ -1,5 +1,5 @@
 -- When two natives, or two entries of slots, are the same.
-use Rattle.std.specs.Prelude.{ℕ, Bool, false, eqb}
+use Rattle.std.specs.Prelude.{ℕ, Bool, false, true, eqb}
 use Rattle.py_node.specs.declared.entry.ObjectNative.{ObjectNative}
 use Rattle.py_node.specs.declared.entry.TypeNative.{TypeNative}
 use Rattle.py_node.specs.declared.entry.IntNative.{IntNative}
@@ -12,7 +12,7 @@ use Rattle.py_node.specs.declared.entry.TypeNative.TheVariants as type
 use Rattle.py_node.specs.declared.entry.IntNative.TheVariants as int
 use Rattle.py_node.specs.declared.entry.CallableNative.TheVariants as callable
 use Rattle.py_node.specs.declared.entry.Property.TheVariants as property
-use Rattle.py_node.specs.declared.entry.NativeEntry.TheVariants.{OfObject, OfType, OfInt, OfCallable, Getter, Setter}
+use Rattle.py_node.specs.declared.entry.NativeEntry.TheVariants.{OfObject, OfType, OfInt, OfCallable, Getter, Setter, NewWrapper}
 use Rattle.py_node.specs.declared.entry.SlotEntry.TheVariants.{Native, Wrapper}
 use Rattle.py_node.specs.Slots.{place_of}
 
@@ -91,6 +91,7 @@ is_same_native (OfInt a) (OfInt b) = eqb (int_place a) (int_place b)
 is_same_native (OfCallable a) (OfCallable b) = eqb (callable_place a) (callable_place b)
 is_same_native (Getter a) (Getter b) = eqb (property_place a) (property_place b)
 is_same_native (Setter a) (Setter b) = eqb (property_place a) (property_place b)
+is_same_native NewWrapper NewWrapper = true
 is_same_native _ _ = false
 
 -- whether two entries are one: the same native, or wrappers of the same slot

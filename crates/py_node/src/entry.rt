@@ -411,6 +411,8 @@ pub enum NativeEntry {
     OfCallable(CallableNative),
     Getter(Property),
     Setter(Property),
+    /// `__new__` of a built-in class by name: it wants a class as its first argument.
+    NewWrapper,
 }
 
 /// What a slot holds: a native, the wrapper that looks a special method up by the name of its slot,
@@ -542,6 +544,7 @@ impl NativeEntry {
             (NativeEntry::OfCallable(a), NativeEntry::OfCallable(b)) => a.place() == b.place(),
             (NativeEntry::Getter(a), NativeEntry::Getter(b)) => a.place() == b.place(),
             (NativeEntry::Setter(a), NativeEntry::Setter(b)) => a.place() == b.place(),
+            (NativeEntry::NewWrapper, NativeEntry::NewWrapper) => true,
             _ => false,
         }
     }

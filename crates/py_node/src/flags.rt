@@ -2,6 +2,7 @@
 
 ghost use Rattle.std.specs.Prelude.{⊤, ◌≡◌, ◌==◌, [], ◌∷◌, codes};
 ghost use Rattle.std.specs.Int.RustNames.{bit_and};
+ghost use Rattle.py_node.specs.BuiltIns.{heap_flags};
 
 use bitflags::{Flag, Flags, bitflag_items};
 
@@ -45,11 +46,14 @@ impl PyTypeFlags {
     /// The flags of a class for which none are given: none.
     pub const DEFAULT: PyTypeFlags = PyTypeFlags(0);
 
-    /// The flags of a class that a script makes: it is on the heap, and may have subclasses.
+    /// The flags of a class that a script makes: it is on the heap, may have subclasses, and gives
+    /// its objects a dict.
     pub fn heap_type_flags() -> PyTypeFlags
-        ensures { result.0 ≡ 1536 }
+        ensures { result.0 ≡ heap_flags }
     {
-        PyTypeFlags::HEAPTYPE.union(PyTypeFlags::BASETYPE)
+        PyTypeFlags::HEAPTYPE
+            .union(PyTypeFlags::BASETYPE)
+            .union(PyTypeFlags::HAS_DICT)
     }
 
     /// Whether all flags of `flag` are among these.

@@ -1,8 +1,8 @@
 // Tasks, what they answer, and the steps of their rows.
 
-use crate::entry::{IntNative, SlotEntry, SlotId};
+use crate::entry::{IntNative, ObjectNative, SlotEntry, TypeNative};
 use crate::raised::Raised;
-use crate::refs::{PyObjectRef, PyStrInterned};
+use crate::refs::{PyObjectRef, PyStrInterned, PyTypeRef};
 
 /// A binary operator of numbers.
 #[derive(Clone, Copy, PartialEq, Eq, Debug)]
@@ -35,6 +35,9 @@ pub type Keywords = Vec<(PyStrInterned, PyObjectRef)>;
 #[derive(Drop)]
 pub enum Task {
     Eval(EvalTask),
+    Attribute(AttributeTask),
+    Call(CallTask),
+    Class(ClassTask),
     Operator(OperatorTask),
     Later(LaterTask),
 }
@@ -43,6 +46,45 @@ pub enum Task {
 #[derive(Drop)]
 pub enum EvalTask {
     Eval(u64),
+}
+
+/// A task on attributes, special methods and descriptors.
+#[derive(Drop)]
+pub enum AttributeTask {
+    /// Gives an object's attribute a value.
+    SetAttr(PyObjectRef, PyStrInterned, PyObjectRef),
+    /// Gives a class's attribute a value.
+    TypeSet(PyTypeRef, PyStrInterned, PyObjectRef),
+    /// Calls the special method of a name that an object's class has.
+    Special(PyObjectRef, PyStrInterned, Args, Keywords),
+    /// Binds a value that was found for an object, if any, and a class.
+    Bind(PyObjectRef, Option<PyObjectRef>, PyObjectRef),
+    /// What a descriptor gives for an object and a class, of which each may be missing.
+    DescrGet(PyObjectRef, Option<PyObjectRef>, Option<PyObjectRef>),
+}
+
+/// A task on calls, and the natives of `object`.
+#[derive(Drop)]
+pub enum CallTask {
+    /// Calls an object.
+    Call(PyObjectRef, Args, Keywords),
+    /// Runs the body of a function.
+    Body(PyObjectRef, Args, Keywords),
+    /// Calls a class.
+    TypeCall(PyTypeRef, Args, Keywords),
+    /// Makes an object of the second class, as the first one makes objects.
+    New(PyTypeRef, PyTypeRef, Args, Keywords),
+    /// Initialises an object.
+    Init(PyObjectRef, Args, Keywords),
+    Object(ObjectNative, Args, Keywords),
+}
+
+/// A task on the creation of classes, and the natives of `type`.
+#[derive(Drop)]
+pub enum ClassTask {
+    /// Makes a class of a metaclass.
+    MakeClass(PyTypeRef, Args, Keywords),
+    Type(TypeNative, Args, Keywords),
 }
 
 /// A task on operators, and the natives of `int`.
@@ -58,7 +100,10 @@ pub enum OperatorTask {
 #[derive(Clone, Copy, PartialEq, Eq, Debug)]
 pub enum LaterTask {
     Concat,
-    Special,
+    DescrGet,
+    DescrSet,
+    GenericSet,
+    GetAttr,
     Native,
 }
 

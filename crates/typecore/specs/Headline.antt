@@ -1,15 +1,20 @@
--- What the program writes: the replies of the plain machine to the script that the input spells.
-use Rattle.std.specs.Prelude.{◌≡◌, ℕ, List, Ok}
+-- What the program writes: the replies of the plain machine to the script that the input spells, and the classes that the script made.
+use Rattle.std.specs.Prelude.{◌≡◌, ℕ, ◌++◌, List, Ok}
 use Rattle.py_node.specs.Tree.{Text, Tree}
 use Rattle.reply_text.specs.Lines.{replies_text}
 use Rattle.script_text.specs.Script.{script_of}
-use Rattle.plain_machine.specs.Answer.{plain_run}
+use Rattle.plain_machine.specs.Answer.{Run, plain_run}
+use Rattle.plain_machine.specs.ClassText.{classes_text}
 use Rattle.plain_machine.specs.Start.{start}
 use Rattle.vm_eval.specs.Say.{say}
 
--- the text of a run: the replies of a new plain machine to the commands, each with so many units
+-- what is written for a run: its replies, and then the classes that scripts made in the world after it
+abbrev pub text_of : Run → Text
+text_of run = replies_text run.replies ++ classes_text run.world
+
+-- the text of a run of a new plain machine: of these commands, each with so many units
 abbrev pub run_text : List Tree → ℕ → Text
-run_text commands units = replies_text (plain_run say start commands units).replies
+run_text commands units = text_of (plain_run say start commands units)
 
 -- bytes spell a script, and this is the text of its run
 abbrev pub IsTextOf : Text → ℕ → Text → Type 0

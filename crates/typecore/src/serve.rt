@@ -12,6 +12,7 @@ ghost use Rattle.typecore.specs.Status.{IsDoneOrPoor};
 ghost use Rattle.vm_eval.specs.Runs.{trees_in};
 
 use crate::status::Status;
+use class_world::classes::push_classes;
 use outside::read_all::{ReadEnd, read_all};
 use outside::sink::Sink;
 use outside::source::Source;
@@ -25,7 +26,7 @@ use std::alloc::Global;
 use vm_eval::machine::VirtualMachine;
 
 /// Reads a script to the source's end, runs each command of it with the units that the words give, and
-/// writes the replies to the sink. Nothing is written before all was read and run.
+/// writes the replies and the classes that it made to the sink. Nothing is written before all was read and run.
 pub fn serve<S: Source, K: Sink>(
     alloc: Global,
     words: &[String],
@@ -69,7 +70,7 @@ pub fn serve<S: Source, K: Sink>(
     }
 }
 
-// Runs the script that bytes spell, and writes the replies.
+// Runs the script that bytes spell, and writes the text of the run.
 fn answer<K: Sink>(alloc: Global, bytes: &[u8], units: u64, sink: &mut K) -> Status
     ensures done { result ≡ Status.Done → (text : List ℕ) × IsTextOf bytes.now units text
         × ForSome (K.taken sink.old) (λ old. K.taken sink.new ≡ Some (old ++ text)) }
@@ -94,25 +95,29 @@ fn answer<K: Sink>(alloc: Global, bytes: &[u8], units: u64, sink: &mut K) -> Sta
     }
 }
 
-// The text of the replies to the script that bytes spell.
+// The text of the run of the script that bytes spell.
 fn text_of(alloc: Global, bytes: &[u8], units: u64) -> Result<Vec<u8>, ScriptFault>
     ensures text { IfOk result (λ v. IsTextOf bytes.now units v.items) }
     ensures script { (e : Refusal) → result ≡ Err (ScriptFault.Script e) → script_of bytes.now ≡ Err e }
 {
     let commands = read_script(alloc, bytes)?;
-    match replies_text(alloc, &commands, units) {
+    match run_text(alloc, &commands, units) {
         Ok(text) => Ok(text),
         Err(error) => Err(ScriptFault::OutOfMemory(error)),
     }
 }
 
-// The text of the replies to commands.
-fn replies_text(alloc: Global, commands: &[Command], units: u64) -> Result<Vec<u8>, OutOfMemory>
+// The text of the replies to commands, and of the classes that they made.
+fn run_text(alloc: Global, commands: &[Command], units: u64) -> Result<Vec<u8>, OutOfMemory>
     ensures { IfOk result (λ v. v.items ≡ run_text (trees_in commands.now) units) }
 {
     let mut vm = VirtualMachine::new(alloc)?;
     match vm.run(alloc, commands, units) {
-        Ok(replies) => write_replies(alloc, &replies),
+        Ok(replies) => {
+            let mut text = write_replies(alloc, &replies)?;
+            push_classes(&mut text, vm.world())?;
+            Ok(text)
+        }
         Err(_) => Err(OutOfMemory),
     }
 }

@@ -60,15 +60,105 @@ fn a_script_is_answered(rt: HostRuntime) -> Result<(), Fail> {
             r#"[["bind","int",null],["name","int"],["func","f",["x"],["name","x"]]]"#,
             "= None\n= None\n= <function object>\n",
         ),
-        (
-            "run 2",
-            r#"[["call",["name","int"],[]]]"#,
-            "! NotImplementedError NotYet\n",
-        ),
     ] {
         let (status, written) = served(rt.alloc(), units, script.as_bytes(), &[], &[])?;
         assert_eq!(rt; status, Status::Done, "at {script}");
         assert!(rt; written.as_slice() == text.as_bytes(), "at {script}");
+    }
+    Ok(())
+}
+
+// Scripts that call, with what is written before the lines of classes, and how these end.
+#[test]
+fn calls_are_answered(rt: HostRuntime) -> Result<(), Fail> {
+    for (script, replies, classes) in [
+        (
+            r#"[["call",["func","f",["x","y"],["op","+",["name","x"],["name","y"]]],[1,2]]]"#,
+            "call f(1, 2)\n= 3\n",
+            "",
+        ),
+        (
+            r#"[["call",["func","f",["x"],null],[]],["call",["func","f",[],null],[1]]]"#,
+            "! TypeError ArgCount\n! TypeError ArgCount\n",
+            "",
+        ),
+        (
+            r#"[["call",1,[]],["call",["name","type"],[5]],["call",["name","type"],[]]]"#,
+            "! TypeError NotCallable\n= <class 'int'>\n! TypeError TypeArgs\n",
+            "",
+        ),
+        (
+            r#"[["setattr",["name","int"],"x",1],["setattr",1,"x",1]]"#,
+            "! TypeError ImmutableType\n! NotImplementedError NotYet\n",
+            "",
+        ),
+        (
+            r#"[["class","A",[["name","bool"]],[]],["class","A\u0000",[],[]]]"#,
+            "! TypeError NotBaseType\n! ValueError NullInName\n",
+            "",
+        ),
+        (
+            r#"[["bind","A",["class","A",[],[["__init__",["func","i",["s"],5]]]]],["call",["name","A"],[]]]"#,
+            "= <class 'A'>\ncall i(<A object>)\n! TypeError InitNotNone\n",
+            "class A: A, object\nslots A: hash repr getattro setattro richcompare init\n",
+        ),
+        (
+            r#"[["bind","A",["class","A",[],[["__new__",["func","n",["c","x"],["name","x"]]]]]],["call",["name","A"],["z"]]]"#,
+            "= <class 'A'>\ncall n(<class 'A'>, \"z\")\n= \"z\"\n",
+            "class A: A, object\nslots A: hash repr getattro setattro richcompare init new\n",
+        ),
+        (
+            r#"[["bind","A",["class","A",[],[["__eq__",null]]]],["call",["call",["name","A"],[]],[]],["setattr",["name","A"],"__call__",["func","c",["s"],["name","s"]]],["call",["call",["name","A"],[]],[]]]"#,
+            "= <class 'A'>\n! TypeError NotCallable\n= None\ncall c(<A object>)\n= <A object>\n",
+            "class A: A, object\nslots A: hash! call repr getattro setattro richcompare init\n",
+        ),
+    ] {
+        let (status, written) = served(rt.alloc(), "run 1000", script.as_bytes(), &[], &[])?;
+        assert_eq!(rt; status, Status::Done, "at {script}");
+        let (front, back) = written.split_at(replies.len().min(written.len()));
+        assert!(rt; front == replies.as_bytes(), "at {script}");
+        assert!(rt; back == classes.as_bytes(), "at {script}");
+    }
+    Ok(())
+}
+
+// The late attribute of a base, and the reflected method of a class that derives from the other operand's.
+#[test]
+fn classes_are_told(rt: HostRuntime) -> Result<(), Fail> {
+    for (script, text) in [
+        (
+            r#"[["bind","A",["class","A",[],[]]],["bind","B",["class","B",[["name","A"]],[]]],["setattr",["name","A"],"__add__",["func","add",["s","o"],42]],["op","+",["call",["name","B"],[]],1]]"#,
+            "= <class 'A'>\n= <class 'B'>\n= None\ncall add(<B object>, 1)\n= 42\nclass A: A, object\nslots A: add hash repr getattro setattro richcompare init\nclass B: B, A, object\nslots B: add hash repr getattro setattro richcompare init\n",
+        ),
+        (
+            r#"[["bind","A",["class","A",[],[["__add__",["func","add",["s","o"],3]],["__radd__",["func","radd",["s","o"],7]]]]],["bind","B",["class","B",[["name","A"]],[]]],["op","+",["call",["name","A"],[]],["call",["name","B"],[]]]]"#,
+            "= <class 'A'>\n= <class 'B'>\ncall radd(<B object>, <A object>)\n= 7\nclass A: A, object\nslots A: add right_add hash repr getattro setattro richcompare init\nclass B: B, A, object\nslots B: add right_add hash repr getattro setattro richcompare init\n",
+        ),
+    ] {
+        let (status, written) = served(rt.alloc(), "run 1000", script.as_bytes(), &[], &[])?;
+        assert_eq!(rt; status, Status::Done, "at {script}");
+        assert!(rt; written.as_slice() == text.as_bytes(), "at {script}");
+    }
+    Ok(())
+}
+
+// A function that calls itself: its bodies end at the limit of the depth, or with its units.
+#[test]
+fn a_function_calls_itself(rt: HostRuntime) -> Result<(), Fail> {
+    let script =
+        r#"[["bind","f",["func","f",[],["call",["name","f"],[]]]],["call",["name","f"],[]],1]"#;
+    for (words, started, end) in [
+        ("run 1000000", 333, "! RecursionError DepthLimit\n= 1\n"),
+        ("run 50", 12, "? Budget\n= 1\n"),
+    ] {
+        let mut text = b"= <function object>\n".to_vec(rt.alloc())?;
+        for _ in 0..started {
+            text.extend_from_slice(b"call f()\n")?;
+        }
+        text.extend_from_slice(end.as_bytes())?;
+        let (status, written) = served(rt.alloc(), words, script.as_bytes(), &[], &[])?;
+        assert_eq!(rt; status, Status::Done, "at {words}");
+        assert!(rt; written.as_slice() == text.as_slice(), "at {words}");
     }
     Ok(())
 }

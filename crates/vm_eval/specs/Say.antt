@@ -7,7 +7,7 @@ use Rattle.py_node.specs.declared.task.Answer.{Answer}
 use Rattle.py_node.specs.declared.task.Task.{Task}
 use Rattle.py_node.specs.declared.task.Step.{Step}
 use Rattle.py_node.specs.declared.task.Step.TheVariants.{Ask, End}
-use Rattle.plain_machine.specs.Plain.{PlainTask, ToEval, ToOperator, ToLater, Saying}
+use Rattle.plain_machine.specs.Plain.{PlainTask, ToEval, ToAttribute, ToCall, ToClass, ToOperator, ToLater, Saying}
 use Rattle.plain_machine.specs.Row.{end, fault}
 use Rattle.plain_machine.specs.Rows.{Pending, fresh, given}
 use Rattle.class_world.specs.declared.world.World.{World}
@@ -16,14 +16,23 @@ use Rattle.class_world.specs.Rows.{Goes}
 use Rattle.class_world.specs.Sound.{Claim}
 use Rattle.eval_forms.specs.Say.{eval_say}
 use Rattle.eval_forms.specs.Rows.{eval_stands, of_eval_kept}
+use Rattle.proto_attr.specs.Say.{attribute_say}
+use Rattle.proto_attr.specs.Rows.{attribute_stands, of_attribute_kept}
+use Rattle.proto_call.specs.Say.{call_job_say}
+use Rattle.proto_call.specs.Rows.{call_stands, of_call_kept}
+use Rattle.class_make.specs.Say.{class_job_say}
+use Rattle.class_make.specs.Rows.{class_stands, of_class_kept}
 use Rattle.proto_ops.specs.Say.{operator_say}
 use Rattle.proto_ops.specs.Rows.{operator_stands, of_operator_kept}
 use Rattle.vm_eval.specs.declared.stack.Kept.{Kept}
-use Rattle.vm_eval.specs.declared.stack.Kept.TheVariants.{ForEval, ForOperator}
+use Rattle.vm_eval.specs.declared.stack.Kept.TheVariants.{ForEval, ForAttribute, ForCall, ForClass, ForOperator}
 
 -- what a task's row says, by the group that the task is in. What no stage so far has named ends with NotYet
 unfoldable pub say : Saying PlainTask
 say w (ToEval job) = eval_say w job
+say w (ToAttribute job) = attribute_say w job
+say w (ToCall job) = call_job_say w job
+say w (ToClass job) = class_job_say w job
 say w (ToOperator job) = operator_say w job
 say w (ToLater job) = end w (fault NotImplementedError NotYet)
 
@@ -38,6 +47,9 @@ step_among for (End r) = End r
 
 unfoldable pub stands : Reading → Kept → Pending PlainTask
 stands t (ForEval kept) = among ToEval (eval_stands t kept)
+stands t (ForAttribute kept) = among ToAttribute (attribute_stands t kept)
+stands t (ForCall kept) = among ToCall (call_stands t kept)
+stands t (ForClass kept) = among ToClass (class_stands t kept)
 stands t (ForOperator kept) = among ToOperator (operator_stands t kept)
 
 abbrev pub Begins : Task → World → World → Step Kept → Type 0
@@ -48,4 +60,7 @@ Resumes kept r = Goes say stands (λ t. given (stands t kept) r)
 
 abbrev pub of_kept : Kept → List Claim
 of_kept (ForEval kept) = of_eval_kept kept
+of_kept (ForAttribute kept) = of_attribute_kept kept
+of_kept (ForCall kept) = of_call_kept kept
+of_kept (ForClass kept) = of_class_kept kept
 of_kept (ForOperator kept) = of_operator_kept kept

@@ -2,7 +2,7 @@
 
 ghost use Rattle.std.specs.Prelude.{◌≡◌, [], IfErr, IfOk, OnOk, OnErr, Err, IsTrue, false, true};
 ghost use Rattle.plain_machine.specs.Start.{start};
-ghost use Rattle.class_world.specs.Reading.{Reading, plain, IsReadable};
+ghost use Rattle.class_world.specs.Reading.{Reading, Reads, plain, IsReadable};
 ghost use Rattle.class_world.specs.Sound.{Grows};
 ghost use Rattle.vm_eval.specs.Runs.{Runs};
 
@@ -41,7 +41,7 @@ impl Model for VirtualMachine {
 impl VirtualMachine {
     /// A new machine, with the built-in classes and no variables. Its frames are reserved.
     pub fn new(alloc: Global) -> Result<VirtualMachine, OutOfMemory>
-        ensures start { IfOk result (λ vm. (t : Reading) → plain t vm.world ≡ start) }
+        ensures start { IfOk result (λ vm. (t : Reading) → Reads t vm.world → plain t vm.world ≡ start) }
         ensures clear { IfOk result (λ vm. vm.failed ≡ false) }
     {
         let world = World::new(alloc)?;

@@ -4,12 +4,18 @@ ghost use Rattle.std.specs.Prelude.{◌≡◌, ◌<◌, [], ◌∷◌, ◌++◌,
 ghost use Rattle.class_world.specs.Sound.{AllHold, Grows, of_each};
 ghost use Rattle.class_world.specs.Claims.{of_task, of_ended, of_step, Leaves};
 ghost use Rattle.eval_forms.specs.Rows.{of_eval_kept};
+ghost use Rattle.proto_attr.specs.Rows.{of_attribute_kept};
+ghost use Rattle.proto_call.specs.Rows.{of_call_kept};
+ghost use Rattle.class_make.specs.Rows.{of_class_kept};
 ghost use Rattle.proto_ops.specs.Rows.{of_operator_kept};
 ghost use Rattle.vm_eval.specs.Say.{Begins, Resumes, step_among, of_kept};
 ghost use Rattle.vm_eval.specs.Stack.{Answers, Keeps, turns_left, of_turn, of_end};
 
+use class_make::ClassKept;
 use class_world::world::World;
 use eval_forms::EvalKept;
+use proto_attr::AttributeKept;
+use proto_call::CallKept;
 use proto_ops::OperatorKept;
 use py_node::memory::OutOfMemory;
 use py_node::raised::{Cause, Kind, Raised};
@@ -23,6 +29,9 @@ pub(crate) const DEPTH: usize = 1000;
 #[derive(Drop)]
 pub enum Kept {
     ForEval(EvalKept),
+    ForAttribute(AttributeKept),
+    ForCall(CallKept),
+    ForClass(ClassKept),
     ForOperator(OperatorKept),
 }
 
@@ -43,6 +52,18 @@ fn begin(world: &mut World, alloc: Global, task: Task) -> Result<Step<Kept>, Out
         Task::Eval(task) => {
             let step = eval_forms::begin(world, alloc, task)?;
             Ok(of_eval(step))
+        }
+        Task::Attribute(task) => {
+            let step = proto_attr::begin(world, alloc, task)?;
+            Ok(of_attribute(step))
+        }
+        Task::Call(task) => {
+            let step = proto_call::begin(world, alloc, task)?;
+            Ok(of_call(step))
+        }
+        Task::Class(task) => {
+            let step = class_make::begin(world, alloc, task)?;
+            Ok(of_class(step))
         }
         Task::Operator(task) => {
             let step = proto_ops::begin(world, alloc, task)?;
@@ -72,6 +93,18 @@ fn resume(
             let step = eval_forms::resume(world, alloc, kept, answer)?;
             Ok(of_eval(step))
         }
+        Kept::ForAttribute(kept) => {
+            let step = proto_attr::resume(world, alloc, kept, answer)?;
+            Ok(of_attribute(step))
+        }
+        Kept::ForCall(kept) => {
+            let step = proto_call::resume(world, alloc, kept, answer)?;
+            Ok(of_call(step))
+        }
+        Kept::ForClass(kept) => {
+            let step = class_make::resume(world, alloc, kept, answer)?;
+            Ok(of_class(step))
+        }
         Kept::ForOperator(kept) => {
             let step = proto_ops::resume(world, kept, answer)?;
             Ok(of_operator(step))
@@ -86,6 +119,39 @@ fn of_eval(step: Step<EvalKept>) -> Step<Kept>
 {
     match step {
         Step::Ask(task, kept) => Step::Ask(task, Kept::ForEval(kept)),
+        Step::End(answer) => Step::End(answer),
+    }
+}
+
+// A step of an attribute, among all steps.
+fn of_attribute(step: Step<AttributeKept>) -> Step<Kept>
+    ensures step { result ≡ step_among Kept.ForAttribute step }
+    ensures says { of_step of_kept result ≡ of_step of_attribute_kept step }
+{
+    match step {
+        Step::Ask(task, kept) => Step::Ask(task, Kept::ForAttribute(kept)),
+        Step::End(answer) => Step::End(answer),
+    }
+}
+
+// A step of a call, among all steps.
+fn of_call(step: Step<CallKept>) -> Step<Kept>
+    ensures step { result ≡ step_among Kept.ForCall step }
+    ensures says { of_step of_kept result ≡ of_step of_call_kept step }
+{
+    match step {
+        Step::Ask(task, kept) => Step::Ask(task, Kept::ForCall(kept)),
+        Step::End(answer) => Step::End(answer),
+    }
+}
+
+// A step of the creation of a class, among all steps.
+fn of_class(step: Step<ClassKept>) -> Step<Kept>
+    ensures step { result ≡ step_among Kept.ForClass step }
+    ensures says { of_step of_kept result ≡ of_step of_class_kept step }
+{
+    match step {
+        Step::Ask(task, kept) => Step::Ask(task, Kept::ForClass(kept)),
         Step::End(answer) => Step::End(answer),
     }
 }

@@ -1,29 +1,103 @@
-use Rattle.std.proofs.Common.{length, ap, sym, subst, ◌∙◌}
-use Rattle.class_world.specs.Sound.{operands_at}
-use Rattle.eval_forms.specs.Rows.{IsOwn}
-use Rattle.eval_forms.proofs.Operands.{own-later, own-add, own-sum, sum-holds, one-holds, own-func}
+use Rattle.std.proofs.Common.{length, map, ap, sym, subst, ◌∙◌}
+use Rattle.py_node.specs.declared.refs.PyStrInterned.{PyStrInterned}
+use Rattle.plain_machine.specs.Plain.{PlainWorld}
+use Rattle.class_world.specs.declared.world.World.{World}
+use Rattle.class_world.specs.Claims.{of_step}
+use Rattle.class_world.specs.Reading.{Reading}
+use Rattle.class_world.specs.Sound.{Holds, AllHold, AreNodes, operands_at}
+use Rattle.class_world.proofs.Stored.{ok-map}
+use Rattle.eval_forms.specs.Say.{set_attr_say, call_say, add_of, class_say, two_of}
+use Rattle.eval_forms.specs.Rows.{IsOwn, Takes, Continues, of_eval_kept}
+use Rattle.eval_forms.proofs.ClassForm.{takes-same}
+use Rattle.eval_forms.proofs.Operands.{own-takes, says-set, says-call, says-add, says-class, class-long, class-names, set-name, own-sum, one-holds, own-func}
 use Rattle.class_world.proofs.Growth.{grows-itself}
 use Rattle.eval_forms.proofs.own_step.Goals as goal
 
+pub returns-in-SetAttr-clause-goes : goal.returns-in-SetAttr-clause-goes
+returns-in-SetAttr-clause-goes c =
+    let w = c.args.world.now in
+    let f = c.form.result.now in
+    let own = subst (λ o. IsOwn o f) c.in-SetAttr.is c.in_ok-constant.ensures in
+    let long = ap (λ o. length (operands_at o)) (sym c.form.ensures.stored) ∙ c.requires.all in
+    let goes = rw c.deref-in-SetAttr.ensures.value at c.set_attr_step-step.ensures.goes in
+    own-takes w w c.args.e f c.args.values.items (λ t u. set_attr_say u (t.text c.in-SetAttr.name.0) (two_of c.args.values.items)) c.set_attr_step-step.result c.form.ensures.stored long (says-set c.in-SetAttr.name c.args.values.items f own) (goes w)
+
+pub returns-in-SetAttr-clause-safe : goal.returns-in-SetAttr-clause-safe
+returns-in-SetAttr-clause-safe c =
+    let w = c.args.world.now in
+    let f = c.form.result.now in
+    let own = subst (λ o. IsOwn o f) c.in-SetAttr.is c.in_ok-constant.ensures in
+    let safe = rw c.deref-in-SetAttr.ensures.value at c.set_attr_step-step.ensures.safe in
+    (grows-itself w, safe w (set-name w c.in-SetAttr.name f own c.form.ensures.holds) c.requires.values)
+
+pub returns-in-Call-clause-goes : goal.returns-in-Call-clause-goes
+returns-in-Call-clause-goes c =
+    let w = c.args.world.now in
+    let f = c.form.result.now in
+    let vs = c.args.values.items in
+    let own = subst (λ o. IsOwn o f) c.in-Call.is c.in_ok-constant.ensures in
+    let long = ap (λ o. length (operands_at o)) (sym c.form.ensures.stored) ∙ c.requires.all in
+    let goes = rw c.deref-in-Call.ensures.value at c.call_step.ensures.goes in
+    ok-map (λ step. (v : World) → Takes (λ t u. call_say u vs) v v step) (λ step. Continues c.args.e vs w w step) c.call_step.result (λ step k. own-takes w w c.args.e f vs (λ t u. call_say u vs) step c.form.ensures.stored long (says-call vs f own) (k w)) goes
+
+pub returns-in-Call-clause-safe : goal.returns-in-Call-clause-safe
+returns-in-Call-clause-safe c =
+    let w = c.args.world.now in
+    let vs = c.args.values.items in
+    let safe = rw c.deref-in-Call.ensures.value at c.call_step.ensures.safe in
+    (grows-itself w, ok-map (λ step. (v : World) → Holds v (AreNodes vs) → AllHold v (of_step of_eval_kept step)) (λ step. AllHold w (of_step of_eval_kept step)) c.call_step.result (λ step k. k w c.requires.values) safe)
+
 pub returns-in-Op-Add-clause-goes : goal.returns-in-Op-Add-clause-goes
 returns-in-Op-Add-clause-goes c =
+    let w = c.args.world.now in
     let f = c.form.result.now in
+    let vs = c.args.values.items in
     let own = own-sum f _ c.in-Op-Add.field-0 c.in-Op-Add.is c.in_ok-constant.ensures in
     let long = ap (λ o. length (operands_at o)) (sym c.form.ensures.stored) ∙ c.requires.all in
-    let is = rw c.deref-in-Op-Add.ensures.value at c.add_step-step.ensures in
-    rw is (own-add c.args.world.now c.args.e f c.args.values.items c.form.ensures.stored long own)
+    let goes = rw c.deref-in-Op-Add.ensures.value at c.add_step-step.ensures.goes in
+    own-takes w w c.args.e f vs (λ t u. add_of u (two_of vs)) c.add_step-step.result c.form.ensures.stored long (says-add vs f own) (goes w)
 
 pub returns-in-Op-Add-clause-safe : goal.returns-in-Op-Add-clause-safe
 returns-in-Op-Add-clause-safe c =
-    let is = rw c.deref-in-Op-Add.ensures.value at c.add_step-step.ensures in
-    rw is (grows-itself c.args.world.now, sum-holds c.args.world.now c.args.values.items c.requires.values)
+    let w = c.args.world.now in
+    let safe = rw c.deref-in-Op-Add.ensures.value at c.add_step-step.ensures.safe in
+    (grows-itself w, safe w c.requires.values)
+
+pub class_step-requires-clause-name : goal.class_step-requires-clause-name
+class_step-requires-clause-name c =
+    let f = c.form.result.now in
+    let own = subst (λ o. IsOwn o f) c.in-Class.is c.in_ok-constant.ensures in
+    (class-names c.args.world.now c.in-Class.name c.in-Class.bases c.in-Class.names f own c.form.ensures.holds).0
+
+pub class_step-requires-clause-names : goal.class_step-requires-clause-names
+class_step-requires-clause-names c =
+    let f = c.form.result.now in
+    let own = subst (λ o. IsOwn o f) c.in-Class.is c.in_ok-constant.ensures in
+    rw c.deref-in-Class.ensures.value (class-names c.args.world.now c.in-Class.name c.in-Class.bases c.in-Class.names f own c.form.ensures.holds).1
+
+pub class_step-requires-clause-all : goal.class_step-requires-clause-all
+class_step-requires-clause-all c =
+    let f = c.form.result.now in
+    let own = subst (λ o. IsOwn o f) c.in-Class.is c.in_ok-constant.ensures in
+    let long = ap (λ o. length (operands_at o)) (sym c.form.ensures.stored) ∙ c.requires.all in
+    rw (c.deref-in-Class-2.ensures.value, c.deref-in-Class.ensures.value) (sym long ∙ class-long c.in-Class.name c.in-Class.bases c.in-Class.names f own)
 
 pub returns-clause-goes : goal.returns-clause-goes
 returns-clause-goes c =
+    let w = c.args.world.now in
+    let new = c.class_step.new.world in
     let f = c.form.result.now in
-    let own = subst (λ o. IsOwn o f) c.in-Later.is c.in_ok-constant.ensures in
+    let vs = c.args.values.items in
+    let x = c.in-Class.name in
+    let n = c.in-Class.bases in
+    let xs = c.in-Class.names in
+    let own = subst (λ o. IsOwn o f) c.in-Class.is c.in_ok-constant.ensures in
     let long = ap (λ o. length (operands_at o)) (sym c.form.ensures.stored) ∙ c.requires.all in
-    rw c.not_yet-raised.ensures (own-later c.args.world.now c.args.e f c.args.values.items c.form.ensures.stored long own)
+    let row = λ (t : Reading) (u : PlainWorld). class_say u (t.text x.0) n (map (λ (y : PyStrInterned). t.text y.0) xs.items) vs in
+    let goes = takes-same (λ t u. class_say u (t.text x.0) n (map (λ y. t.text y.0) c.deref-in-Class.result.now) c.deref-in-Class-2.result.now) row w new c.class_step.result (λ t.
+    ap (λ ys. λ u. class_say u (t.text x.0) n (map (λ y. t.text y.0) ys) c.deref-in-Class-2.result.now) c.deref-in-Class.ensures.value
+    ∙ ap (λ zs. λ u. class_say u (t.text x.0) n (map (λ y. t.text y.0) xs.items) zs) c.deref-in-Class-2.ensures.value) c.class_step.ensures.goes in
+    ok-map (λ step. Takes row w new step) (λ step. Continues c.args.e vs w new step) c.class_step.result (λ step k. own-takes w new c.args.e f vs row step c.form.ensures.stored long (says-class x n xs vs f own) k) goes
 
 pub bind_step-requires-clause-value : goal.bind_step-requires-clause-value
 bind_step-requires-clause-value c =

@@ -1,9 +1,21 @@
-use Rattle.vm_eval.proofs.Groups.{eval-begins, operator-begins, later-begins}
+use Rattle.vm_eval.proofs.Groups.{eval-begins, attribute-begins, call-begins, class-begins, operator-begins, later-begins}
 use Rattle.vm_eval.proofs.stack.begin.Goals as goal
 
 pub returns-in_ok-step-in-Eval-clause-goes : goal.returns-in_ok-step-in-Eval-clause-goes
 returns-in_ok-step-in-Eval-clause-goes c =
     eval-begins c.args.task c.in-Eval.task _ _ c.in_ok-step-in-Eval.step c.of_eval.result c.in-Eval.is c.of_eval.ensures.step c.in_ok-step-in-Eval.ensures.goes
+
+pub returns-in_ok-step-in-Attribute-clause-goes : goal.returns-in_ok-step-in-Attribute-clause-goes
+returns-in_ok-step-in-Attribute-clause-goes c =
+    attribute-begins c.args.task c.in-Attribute.task _ _ c.in_ok-step-in-Attribute.step c.of_attribute.result c.in-Attribute.is c.of_attribute.ensures.step c.in_ok-step-in-Attribute.ensures.goes
+
+pub returns-in_ok-step-in-Call-clause-goes : goal.returns-in_ok-step-in-Call-clause-goes
+returns-in_ok-step-in-Call-clause-goes c =
+    call-begins c.args.task c.in-Call.task _ _ c.in_ok-step-in-Call.step c.of_call.result c.in-Call.is c.of_call.ensures.step c.in_ok-step-in-Call.ensures.goes
+
+pub returns-in_ok-step-in-Class-clause-goes : goal.returns-in_ok-step-in-Class-clause-goes
+returns-in_ok-step-in-Class-clause-goes c =
+    class-begins c.args.task c.in-Class.task _ _ c.in_ok-step-in-Class.step c.of_class.result c.in-Class.is c.of_class.ensures.step c.in_ok-step-in-Class.ensures.goes
 
 pub returns-in_ok-step-in-Operator-clause-goes : goal.returns-in_ok-step-in-Operator-clause-goes
 returns-in_ok-step-in-Operator-clause-goes c =

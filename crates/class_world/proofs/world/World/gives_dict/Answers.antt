@@ -1,4 +1,4 @@
-use Rattle.std.proofs.Common.{◌≡◌, sym, ◌∙◌}
+use Rattle.std.proofs.Common.{sym, ◌∙◌}
 use Rattle.class_world.specs.contracts.world.World.{the_view}
 use Rattle.class_world.specs.Sound.{Holds, IsClass}
 use Rattle.class_world.proofs.Claims.{opened-one}

@@ -1,8 +1,8 @@
-use Rattle.class_world.proofs.StartSound.{started-sound, started-plain}
+use Rattle.std.proofs.Common.{ap, ◌∙◌}
+use Rattle.plain_machine.specs.BuiltInAttrs.{built_in_attrs}
+use Rattle.plain_machine.specs.Start.{start, with_attrs}
 use Rattle.class_world.proofs.world.World.new.Goals as goal
 
-pub invariant_of-result : goal.invariant_of-result
-invariant_of-result c = rw (c.in_ok-names.ensures, c.new.ensures.items, c.in_ok-nodes.ensures, c.in_ok-classes.ensures, c.new-2.ensures, c.new-3.ensures.items, c.new-4.ensures.items) started-sound
-
 pub returns-clause-start : goal.returns-clause-start
-returns-clause-start c = λ t. rw (c.in_ok-names.ensures, c.new.ensures.items, c.in_ok-nodes.ensures, c.in_ok-classes.ensures, c.new-2.ensures, c.new-3.ensures.items, c.new-4.ensures.items) (started-plain t)
+unfolding start
+returns-clause-start c = λ t r. c.in_ok-add_own_attrs.ensures.added t r ∙ ap (λ w. with_attrs w built_in_attrs) (c.in_ok-world.ensures t)

@@ -1,0 +1,20 @@
+use Rattle.std.proofs.Common.{string_bytes}
+use Rattle.class_world.specs.Reading.{plain, bindings}
+use Rattle.class_world.proofs.Claims.{all-grow}
+use Rattle.class_make.specs.Say.{made, made_unless}
+use Rattle.class_make.proofs.Making.{goes-from, made-read}
+use Rattle.class_make.proofs.hook.made.Goals as goal
+
+pub made_unless-requires-clause-attrs : goal.made_unless-requires-clause-attrs
+made_unless-requires-clause-attrs c = all-grow _ _ c.in_ok-refusal.ensures.grows _ c.requires.attrs
+
+pub made_unless-requires-clause-kw : goal.made_unless-requires-clause-kw
+made_unless-requires-clause-kw c = all-grow _ _ c.in_ok-refusal.ensures.grows _ c.requires.kw
+
+pub returns-clause-goes : goal.returns-clause-goes
+returns-clause-goes c =
+    let e = c.in_ok-refusal.ensures in
+    let old = c.args.world.now in
+    goes-from c.args.kw.items (λ t u. made c.args.meta.0 (string_bytes c.args.name) c.args.base.0 (u, bindings t c.args.attrs)) (λ t u. made_unless c.in_ok-refusal.refusal c.args.meta.0 (string_bytes c.args.name) c.args.base.0 (u, bindings t c.args.attrs)) old c.refusal.new.world c.made_unless.new.world c.made_unless.result (λ t r.
+    (e.reads t r, made-read (plain t old) (plain t c.refusal.new.world) c.args.meta.0 (string_bytes c.args.name) c.args.base.0 (bindings t c.args.attrs) c.in_ok-refusal.refusal (e.same t) (e.why t r)))
+    c.made_unless.ensures.goes

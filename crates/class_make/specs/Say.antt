@@ -1,0 +1,251 @@
+-- What the rows of the creation of classes say.
+use Rattle.std.specs.Prelude.{ℕ, ◌^◌, Bool, false, cond, not, eqb, ◌&&◌, ◌||◌, codes, List, [], ◌∷◌, Option, Some, None, is_some, map, length, filter, Err}
+use Rattle.py_node.specs.declared.refs.PyObjectRef.{PyObjectRef}
+use Rattle.py_node.specs.declared.raised.Raised.{Raised as Fault}
+use Rattle.py_node.specs.declared.raised.Kind.TheVariants.{TypeError, ValueError, NotImplementedError}
+use Rattle.py_node.specs.declared.raised.Cause.TheVariants.{ArgCount, MetaclassConflict, NamespaceKey, NotBaseType, NotYet, NullInName, QualnameType, SelfType, TypeArgs, TypeArgTypes, UnsafeNew}
+use Rattle.py_node.specs.declared.entry.SlotId.TheVariants.{New}
+use Rattle.py_node.specs.declared.entry.NativeEntry.TheVariants.{Getter, Setter}
+use Rattle.py_node.specs.declared.entry.Property.TheVariants as property
+use Rattle.py_node.specs.declared.entry.TypeNative.{TypeNative}
+use Rattle.py_node.specs.declared.entry.TypeNative.TheVariants as type
+use Rattle.py_node.specs.declared.task.LaterTask.TheVariants as later
+use Rattle.py_node.specs.Attributes.{value_of, with_value}
+use Rattle.py_node.specs.BuiltIns.{heap_flags}
+use Rattle.py_node.specs.Tree.{Text}
+use Rattle.class_model.specs.Class.{found_past, is_sub}
+use Rattle.class_model.specs.Slot.{entry}
+use Rattle.class_model.specs.BuiltIn.{natives_of}
+use Rattle.plain_machine.specs.Plain.{Datum, AText, ATuple, ADict, AClassMethod, AGetSet, PlainWorld, Bindings, ClassJob, DoMakeClass, DoType, DoBind, DoCall, DoNew, ToAttribute, ToCall, ToClass, ToLater, Made, Said, Asks, Ends}
+use Rattle.plain_machine.specs.World.{ref, is_text, datum_at, class_at, text_keys, with_node, next_node, with_new_class}
+use Rattle.plain_machine.specs.Objects.{type_object, class_number, special_at, class_has_flag, nearest_built_in, with_definers}
+use Rattle.plain_machine.specs.Row.{Row, start, build, pass, end, value, fault, none, on_value, on_done}
+
+abbrev pub the_object : ℕ
+the_object = 0
+
+abbrev pub the_type : ℕ
+the_type = 1
+
+abbrev pub the_str : ℕ
+the_str = 6
+
+abbrev pub the_function : ℕ
+the_function = 10
+
+abbrev pub the_getset : ℕ
+the_getset = 15
+
+abbrev pub the_class_method : ℕ
+the_class_method = 18
+
+abbrev pub is_class : Option ℕ → ℕ → Bool
+is_class None d = false
+is_class (Some c) d = eqb c d
+
+-- the attributes of a namespace
+
+abbrev pub has_name : Bindings → Text → Bool
+has_name attrs x = is_some (value_of (λ y. is_text y x) attrs)
+
+abbrev pub text_of : Option Datum → Option Text
+text_of (Some (AText x)) = Some x
+text_of _ = None
+
+-- the names with one more, where its key is a text
+abbrev pub named : Bindings → PyObjectRef → Option Text → Option Bindings
+named attrs v None = None
+named attrs v (Some x) = Some (with_value is_text attrs x v)
+
+abbrev pub namespace_from : PlainWorld → Option Bindings → List (PyObjectRef × PyObjectRef) → Option Bindings
+namespace_from w None es = None
+namespace_from w (Some attrs) [] = Some attrs
+namespace_from w (Some attrs) (e ∷ es) = namespace_from w (named attrs e.1 (text_of (datum_at w e.0))) es
+
+-- a dict's texts with their values, where all its keys are texts
+abbrev pub namespace : PlainWorld → List (PyObjectRef × PyObjectRef) → Option Bindings
+namespace w es = namespace_from w (Some []) es
+
+-- a world, and the attributes that a class is to have
+abbrev pub Space : Type 0
+Space = PlainWorld × Bindings
+
+-- a new object under a name
+unfoldable pub put : Space → Text → ℕ → Datum → Space
+put s x c d = (with_node s.0 c d, with_value is_text s.1 x (next_node s.0 c))
+
+-- the same, where the name has no value
+unfoldable pub give : Space → Text → ℕ → Datum → Space
+give s x c d = cond (has_name s.1 x) s (put s x c d)
+
+-- a function under a name becomes a new class method of it
+unfoldable pub wrap_value : Space → Text → Option PyObjectRef → Space
+wrap_value s x None = s
+wrap_value s x (Some v) = cond (is_class (class_at s.0 v) the_function) (put s x the_class_method (AClassMethod v)) s
+
+unfoldable pub wrap : Text → Space → Space
+wrap x s = wrap_value s x (value_of (λ y. is_text y x) s.1)
+
+-- the qualified name is the name, where none is given
+unfoldable pub qualify : Text → Space → Space
+qualify name s = give s (codes "__qualname__") the_str (AText name)
+
+-- objects that are compared by a method of their own have no hash, unless one is given
+unfoldable pub unhash : Space → Space
+unhash s = cond (has_name s.1 (codes "__eq__") && not (has_name s.1 (codes "__hash__"))) (s.0, with_value is_text s.1 (codes "__hash__") none) s
+
+-- the attribute that reads and sets an object's dict
+unfoldable pub give_dict : Space → Space
+give_dict s =
+    give s (codes "__dict__") the_getset (AGetSet the_object (codes "__dict__") (Some (Getter property.Dict)) (Some (Setter property.Dict)))
+
+unfoldable pub completed : Text → Space → Space
+completed name s = give_dict (unhash (qualify name (wrap (codes "__class_getitem__") (wrap (codes "__init_subclass__") s))))
+
+-- the class is made, and then told of
+
+abbrev pub is_text_at : PlainWorld → Option PyObjectRef → Bool
+is_text_at w None = false
+is_text_at w (Some r) = is_some (text_of (datum_at w r))
+
+-- whether the class of one of some values has a name
+abbrev pub some_has : PlainWorld → Text → List PyObjectRef → Bool
+some_has w x [] = false
+some_has w x (r ∷ rs) = is_some (special_at w r x) || some_has w x rs
+
+-- whether a value wants to know the name under which its class has it
+abbrev pub wants_name : PlainWorld → List PyObjectRef → Bool
+wants_name w rs = some_has w (codes "__set_name__") rs
+
+abbrev pub values_of : {K : Type 0} → List (K × PyObjectRef) → List PyObjectRef
+values_of attrs = map (λ a. a.1) attrs
+
+-- the class that is made last is known to those past it along its linearisation by `__init_subclass__`
+abbrev pub hook : PlainWorld → PyObjectRef → Option PyObjectRef → Said
+hook w class None = Ends w (value class)
+hook w class (Some m) = Asks w (Made class ∷ []) (ToAttribute (DoBind m None class))
+
+abbrev pub told_of : PlainWorld → ℕ → PyObjectRef → List PyObjectRef → Said
+told_of w c class values =
+    cond (wants_name w values) (Ends w (fault NotImplementedError NotYet)) (hook w class (found_past is_text w.classes c (codes "__init_subclass__")))
+
+abbrev pub new_class : PlainWorld → ℕ → Text → ℕ → Bindings → PlainWorld
+new_class w meta name base attrs =
+    with_new_class w meta (record { name = name; node = ref (length w.nodes); bases = base ∷ []; attrs = attrs; members = []; flags = heap_flags })
+
+-- a class with members of its own is for later. The qualified name must be a text
+abbrev pub refusal_by : Bool → Bool → Option Fault
+refusal_by has_slots is_named =
+    cond has_slots (Some (record { kind = NotImplementedError; cause = NotYet })) (cond is_named None (Some (record { kind = TypeError; cause = QualnameType })))
+
+unfoldable pub refusal : Space → Option Fault
+refusal s =
+    refusal_by (has_name s.1 (codes "__slots__")) (is_text_at s.0 (value_of (λ y. is_text y (codes "__qualname__")) s.1))
+
+unfoldable pub made_unless : Option Fault → ℕ → Text → ℕ → Space → Said
+made_unless (Some x) meta name base s = Ends s.0 (Err x)
+made_unless None meta name base s =
+    told_of (with_definers (new_class s.0 meta name base s.1) (length s.0.classes) (values_of s.1)) (length s.0.classes) (ref (length s.0.nodes)) (values_of s.1)
+
+unfoldable pub made : ℕ → Text → ℕ → Space → Said
+made meta name base s = made_unless (refusal s) meta name base s
+
+abbrev pub with_namespace : PlainWorld → ℕ → Text → ℕ → Option Bindings → Said
+with_namespace w meta name base None = Ends w (fault TypeError NamespaceKey)
+with_namespace w meta name base (Some attrs) = made meta name base (completed name (w, attrs))
+
+-- the base must be one that classes can have
+abbrev pub on_base : PlainWorld → ℕ → Text → ℕ → List (PyObjectRef × PyObjectRef) → Said
+on_base w meta name base es =
+    cond (class_has_flag w (2 ^ 10) (Some base)) (with_namespace w meta name base (namespace w es)) (Ends w (fault TypeError NotBaseType))
+
+-- the metaclass: the given one, or that of the base where it derives from the given one
+abbrev pub winner : PlainWorld → ℕ → Option ℕ → Option ℕ
+winner w meta None = None
+winner w meta (Some d) = cond (is_sub w.classes meta d) (Some meta) (cond (is_sub w.classes d meta) (Some d) None)
+
+-- another metaclass that makes its objects itself is asked for the class
+abbrev pub by_winner : PlainWorld → ℕ → Option ℕ → Text → ℕ → List (PyObjectRef × PyObjectRef) → List PyObjectRef → Bindings → Said
+by_winner w meta None name base es args kw = Ends w (fault TypeError MetaclassConflict)
+by_winner w meta (Some c) name base es args kw =
+    cond (not (eqb c meta) && is_some (entry text_keys natives_of w.classes c New)) (pass w (ToCall (DoNew c c args kw))) (on_base w c name base es)
+
+-- a base that is no class is asked for others. More than one base is for later
+abbrev pub by_base : PlainWorld → ℕ → Text → PyObjectRef → Option ℕ → List (PyObjectRef × PyObjectRef) → List PyObjectRef → Bindings → Said
+by_base w meta name b None es args kw = pass w (ToLater later.GetAttr)
+by_base w meta name b (Some c) es args kw = by_winner w meta (winner w meta (class_at w b)) name c es args kw
+
+abbrev pub by_bases : PlainWorld → ℕ → Text → List PyObjectRef → List (PyObjectRef × PyObjectRef) → List PyObjectRef → Bindings → Said
+by_bases w meta name [] es args kw = on_base w meta name the_object es
+by_bases w meta name (b ∷ []) es args kw = by_base w meta name b (class_number (datum_at w b)) es args kw
+by_bases w meta name _ es args kw = Ends w (fault NotImplementedError NotYet)
+
+abbrev pub has_null : Text → Bool
+has_null [] = false
+has_null (b ∷ bs) = eqb b 0 || has_null bs
+
+abbrev pub tuple_of : Option Datum → Option (List PyObjectRef)
+tuple_of (Some (ATuple rs)) = Some rs
+tuple_of _ = None
+
+abbrev pub dict_of : Option Datum → Option (List (PyObjectRef × PyObjectRef))
+dict_of (Some (ADict es)) = Some es
+dict_of _ = None
+
+abbrev pub by_parts : PlainWorld → ℕ → Option Text → Option (List PyObjectRef) → Option (List (PyObjectRef × PyObjectRef)) → List PyObjectRef → Bindings → Said
+by_parts w meta (Some name) (Some bases) (Some es) args kw =
+    cond (has_null name) (Ends w (fault ValueError NullInName)) (by_bases w meta name bases es args kw)
+by_parts w meta _ _ _ args kw = Ends w (fault TypeError TypeArgTypes)
+
+abbrev pub from_three : PlainWorld → ℕ → Option (PyObjectRef × (PyObjectRef × PyObjectRef)) → List PyObjectRef → Bindings → Said
+from_three w meta None args kw = Ends w (fault TypeError TypeArgs)
+from_three w meta (Some (n, (b, d))) args kw = by_parts w meta (text_of (datum_at w n)) (tuple_of (datum_at w b)) (dict_of (datum_at w d)) args kw
+
+-- the one argument, without keywords
+abbrev pub one_of : {K : Type 0} → List PyObjectRef → List (K × PyObjectRef) → Option PyObjectRef
+one_of (o ∷ []) [] = Some o
+one_of _ kw = None
+
+abbrev pub three_of : List PyObjectRef → Option (PyObjectRef × (PyObjectRef × PyObjectRef))
+three_of (n ∷ (b ∷ (d ∷ []))) = Some (n, (b, d))
+three_of _ = None
+
+abbrev pub by_one : PlainWorld → ℕ → Option PyObjectRef → List PyObjectRef → Bindings → Said
+by_one w meta (Some o) args kw = cond (eqb meta the_type) (Ends w (value (type_object w o))) (Ends w (fault TypeError TypeArgs))
+by_one w meta None args kw = from_three w meta (three_of args) args kw
+
+-- `type` of one object, without keywords, is the object's class. A class is made from a name, bases and a namespace
+abbrev pub make_class_by : PlainWorld → ℕ → List PyObjectRef → Bindings → Said
+make_class_by w meta args kw = by_one w meta (one_of args kw) args kw
+
+-- the metaclass of a class is no keyword of the hook
+abbrev pub without_metaclass : Bindings → Bindings
+without_metaclass kw = filter (λ k. not (is_text k.0 (codes "metaclass"))) kw
+
+-- the bound hook is called, and then the class is the answer
+abbrev pub make_class_say : PlainWorld → ℕ → List PyObjectRef → Bindings → Row
+make_class_say w meta args kw =
+    build w (make_class_by w meta args kw) (λ class r. on_value w r (λ b.
+    start (pass w (ToCall (DoCall b [] (without_metaclass kw)))) (λ s. on_done w s (end w (value class)))))
+
+-- the native that makes the objects of `type`
+
+abbrev pub type_new_of : PlainWorld → Option ℕ → List PyObjectRef → Bindings → Said
+type_new_of w None args kw = Ends w (fault TypeError SelfType)
+type_new_of w (Some c) args kw =
+    cond (is_class (nearest_built_in w.classes c) the_type) (pass w (ToClass (DoMakeClass c args kw))) (Ends w (fault TypeError UnsafeNew))
+
+abbrev pub type_new : PlainWorld → List PyObjectRef → Bindings → Said
+type_new w [] kw = Ends w (fault TypeError ArgCount)
+type_new w (c ∷ args) kw = type_new_of w (class_number (datum_at w c)) args kw
+
+abbrev pub type_by : PlainWorld → TypeNative → List PyObjectRef → Bindings → Said
+type_by w type.New args kw = type_new w args kw
+type_by w _ args kw = Ends w (fault NotImplementedError NotYet)
+
+abbrev pub type_say : PlainWorld → TypeNative → List PyObjectRef → Bindings → Row
+type_say w n args kw = start (type_by w n args kw) (end w)
+
+unfoldable pub class_job_say : PlainWorld → ClassJob → Row
+class_job_say w (DoMakeClass c args kw) told = make_class_say w c args kw told
+class_job_say w (DoType n args kw) told = type_say w n args kw told

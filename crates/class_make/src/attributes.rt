@@ -1,0 +1,248 @@
+// The attributes of a class to be, and what its creation adds to them.
+
+ghost use Rattle.std.specs.Prelude.{◌≡◌, ◌&&◌, not, is_some, IfOk, IfSome};
+ghost use Rattle.py_node.specs.Attributes.{value_of, is_same_name};
+ghost use Rattle.plain_machine.specs.World.{class_at};
+ghost use Rattle.class_world.specs.Reading.{Reading, Reads, bindings, datum, plain};
+ghost use Rattle.class_world.specs.Sound.{IsNode, IsName, IsClass, Holds, AllHold, Grows, of_binding, of_each, of_payload};
+ghost use Rattle.class_make.specs.Say.{has_name, is_class, the_function, put, give, wrap_value, wrap, qualify, unhash, give_dict, completed};
+ghost use Rattle.class_make.specs.Rows.{Becomes};
+
+use class_world::world::{Fixed, World};
+use py_node::attributes::PyAttributes;
+use py_node::built_in::BuiltIn;
+use py_node::entry::{NativeEntry, Property};
+use py_node::memory::OutOfMemory;
+use py_node::payload::{GetSet, Payload};
+use py_node::refs::{PyObjectRef, PyStrInterned, PyTypeRef};
+use std::alloc::Global;
+
+/// The attributes of a class of this name: class methods where its hooks are functions, a qualified
+/// name, no hash where it compares its objects itself, and the attribute that reads an object's dict.
+pub(crate) fn completed(
+    world: &mut World,
+    alloc: Global,
+    name: &str,
+    attrs: PyAttributes,
+) -> Result<PyAttributes, OutOfMemory>
+    requires { AllHold world.old (of_each of_binding attrs) }
+    ensures becomes { IfOk result (λ a. Becomes (λ t. completed name.now) world.old attrs world.new a) }
+    ensures holds { IfOk result (λ a. AllHold world.new (of_each of_binding a)) }
+    ensures reads { (t : Reading) → Reads t world.new → Reads t world.old }
+    ensures grows { Grows world.old world.new }
+{
+    let told = wrap(world, alloc, "__init_subclass__", attrs)?;
+    let wrapped = wrap(world, alloc, "__class_getitem__", told)?;
+    let qualified = qualify(world, alloc, name, wrapped)?;
+    let unhashed = unhash(world, alloc, qualified)?;
+    let all = give_dict(world, alloc, unhashed)?;
+    Ok(all)
+}
+
+// A function under a name becomes a class method of it.
+fn wrap(
+    world: &mut World,
+    alloc: Global,
+    text: &str,
+    attrs: PyAttributes,
+) -> Result<PyAttributes, OutOfMemory>
+    requires { AllHold world.old (of_each of_binding attrs) }
+    ensures becomes { IfOk result (λ a. Becomes (λ t. wrap text.now) world.old attrs world.new a) }
+    ensures holds { IfOk result (λ a. AllHold world.new (of_each of_binding a)) }
+    ensures reads { (t : Reading) → Reads t world.new → Reads t world.old }
+    ensures grows { Grows world.old world.new }
+{
+    let name = world.intern(alloc, text)?;
+    let value = attrs.get(name);
+    let more = wrap_value(world, alloc, name, value, attrs)?;
+    Ok(more)
+}
+
+// The same, with the value of the name.
+#[tactic(auto, unfolding(crate::specs::Say::wrap_value))]
+fn wrap_value(
+    world: &mut World,
+    alloc: Global,
+    name: PyStrInterned,
+    value: Option<PyObjectRef>,
+    attrs: PyAttributes,
+) -> Result<PyAttributes, OutOfMemory>
+    requires name { Holds world.old (IsName name) }
+    requires value { IfSome value (λ r. Holds world.old (IsNode r)) }
+    requires attrs { AllHold world.old (of_each of_binding attrs) }
+    ensures becomes { IfOk result (λ a. Becomes (λ t s. wrap_value s (t.text name.0) value) world.old attrs world.new a) }
+    ensures holds { IfOk result (λ a. AllHold world.new (of_each of_binding a)) }
+    ensures reads { (t : Reading) → Reads t world.new → Reads t world.old }
+    ensures grows { Grows world.old world.new }
+{
+    match value {
+        None => Ok(attrs),
+        Some(value) => {
+            if !is_function(world, value) {
+                return Ok(attrs);
+            }
+            let class = world.built_in(BuiltIn::ClassMethod);
+            let more = put(
+                world,
+                alloc,
+                name,
+                class,
+                Payload::ClassMethod(value),
+                attrs,
+            )?;
+            Ok(more)
+        }
+    }
+}
+
+// Whether an object is a function of a script.
+#[tactic(auto, unfolding(py_node::specs::BuiltIns::place_of))]
+fn is_function(world: &World, node: PyObjectRef) -> bool
+    requires { Holds world.now (IsNode node) }
+    ensures { (t : Reading) → is_class (class_at (plain t world.now) node) the_function ≡ result }
+{
+    let class = world.class_of(node);
+    let function = world.built_in(BuiltIn::Function);
+    class.0 == function.0
+}
+
+// The qualified name is the name, where none is given.
+fn qualify(
+    world: &mut World,
+    alloc: Global,
+    name: &str,
+    attrs: PyAttributes,
+) -> Result<PyAttributes, OutOfMemory>
+    requires { AllHold world.old (of_each of_binding attrs) }
+    ensures becomes { IfOk result (λ a. Becomes (λ t. qualify name.now) world.old attrs world.new a) }
+    ensures holds { IfOk result (λ a. AllHold world.new (of_each of_binding a)) }
+    ensures reads { (t : Reading) → Reads t world.new → Reads t world.old }
+    ensures grows { Grows world.old world.new }
+{
+    let qualname = world.intern(alloc, "__qualname__")?;
+    let text = String::from_str(alloc, name)?;
+    let class = world.built_in(BuiltIn::Str);
+    let more = give(world, alloc, qualname, class, Payload::Text(text), attrs)?;
+    Ok(more)
+}
+
+// Objects that are compared by a method of their own have no hash, unless one is given.
+fn unhash(
+    world: &mut World,
+    alloc: Global,
+    attrs: PyAttributes,
+) -> Result<PyAttributes, OutOfMemory>
+    requires { AllHold world.old (of_each of_binding attrs) }
+    ensures becomes { IfOk result (λ a. Becomes (λ t. unhash) world.old attrs world.new a) }
+    ensures holds { IfOk result (λ a. AllHold world.new (of_each of_binding a)) }
+    ensures reads { (t : Reading) → Reads t world.new → Reads t world.old }
+    ensures grows { Grows world.old world.new }
+{
+    let eq = world.intern(alloc, "__eq__")?;
+    let hash = world.intern(alloc, "__hash__")?;
+    if !is_unhashed(&attrs, eq, hash) {
+        return Ok(attrs);
+    }
+    let none = world.fixed(Fixed::None);
+    let mut attrs = attrs;
+    attrs.insert(hash, none)?;
+    Ok(attrs)
+}
+
+// Whether one of two names is there without the other.
+fn is_unhashed(attrs: &PyAttributes, eq: PyStrInterned, hash: PyStrInterned) -> bool
+    ensures { result ≡ is_some (value_of (λ k. is_same_name k eq) attrs.now) && not (is_some (value_of (λ k. is_same_name k hash) attrs.now)) }
+{
+    attrs.contains(eq) && !attrs.contains(hash)
+}
+
+// The attribute that reads and sets an object's dict.
+fn give_dict(
+    world: &mut World,
+    alloc: Global,
+    attrs: PyAttributes,
+) -> Result<PyAttributes, OutOfMemory>
+    requires { AllHold world.old (of_each of_binding attrs) }
+    ensures becomes { IfOk result (λ a. Becomes (λ t. give_dict) world.old attrs world.new a) }
+    ensures holds { IfOk result (λ a. AllHold world.new (of_each of_binding a)) }
+    ensures reads { (t : Reading) → Reads t world.new → Reads t world.old }
+    ensures grows { Grows world.old world.new }
+{
+    let name = world.intern(alloc, "__dict__")?;
+    let dict = GetSet {
+        class: world.built_in(BuiltIn::Object),
+        name,
+        getter: Some(NativeEntry::Getter(Property::Dict)),
+        setter: Some(NativeEntry::Setter(Property::Dict)),
+    };
+    let class = world.built_in(BuiltIn::GetSetDescriptor);
+    let more = give(world, alloc, name, class, Payload::GetSet(dict), attrs)?;
+    Ok(more)
+}
+
+// A new object under a name that has no value.
+#[tactic(auto, unfolding(crate::specs::Say::give))]
+fn give(
+    world: &mut World,
+    alloc: Global,
+    name: PyStrInterned,
+    class: PyTypeRef,
+    payload: Payload,
+    attrs: PyAttributes,
+) -> Result<PyAttributes, OutOfMemory>
+    requires name { Holds world.old (IsName name) }
+    requires class { Holds world.old (IsClass class.0) }
+    requires payload { AllHold world.old (of_payload payload) }
+    requires attrs { AllHold world.old (of_each of_binding attrs) }
+    ensures becomes { IfOk result (λ a. Becomes (λ t s. give s (t.text name.0) class.0 (datum t payload)) world.old attrs world.new a) }
+    ensures holds { IfOk result (λ a. AllHold world.new (of_each of_binding a)) }
+    ensures reads { (t : Reading) → Reads t world.new → Reads t world.old }
+    ensures grows { Grows world.old world.new }
+{
+    if attrs.contains(name) {
+        return Ok(attrs);
+    }
+    let more = put(world, alloc, name, class, payload, attrs)?;
+    Ok(more)
+}
+
+// A new object under a name.
+#[tactic(auto, unfolding(crate::specs::Say::put))]
+fn put(
+    world: &mut World,
+    alloc: Global,
+    name: PyStrInterned,
+    class: PyTypeRef,
+    payload: Payload,
+    attrs: PyAttributes,
+) -> Result<PyAttributes, OutOfMemory>
+    requires name { Holds world.old (IsName name) }
+    requires class { Holds world.old (IsClass class.0) }
+    requires payload { AllHold world.old (of_payload payload) }
+    requires attrs { AllHold world.old (of_each of_binding attrs) }
+    ensures becomes { IfOk result (λ a. Becomes (λ t s. put s (t.text name.0) class.0 (datum t payload)) world.old attrs world.new a) }
+    ensures holds { IfOk result (λ a. AllHold world.new (of_each of_binding a)) }
+    ensures reads { (t : Reading) → Reads t world.new → Reads t world.old }
+    ensures grows { Grows world.old world.new }
+{
+    let node = world.make_node(alloc, class, payload)?;
+    let mut attrs = attrs;
+    attrs.insert(name, node)?;
+    Ok(attrs)
+}
+
+/// Whether the attributes have a name.
+pub(crate) fn has_name(
+    world: &mut World,
+    alloc: Global,
+    attrs: &PyAttributes,
+    text: &str,
+) -> Result<bool, OutOfMemory>
+    ensures has { IfOk result (λ b. (t : Reading) → Reads t world.new → has_name (bindings t attrs.now) text.now ≡ b) }
+    ensures same { (t : Reading) → plain t world.new ≡ plain t world.old }
+    ensures reads { (t : Reading) → Reads t world.new → Reads t world.old }
+    ensures grows { Grows world.old world.new }
+{
+    let name = world.intern(alloc, text)?;
+    Ok(attrs.contains(name))
+}

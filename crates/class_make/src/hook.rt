@@ -1,0 +1,312 @@
+// A class that is made, and how it is told of.
+
+ghost use Rattle.std.specs.Prelude.{◌≡◌, filter, not, string_bytes, Ok, IfOk, IfSome};
+ghost use Rattle.py_node.specs.declared.task.Answer.TheVariants as answer;
+ghost use Rattle.py_node.specs.Attributes.{is_same_name};
+ghost use Rattle.plain_machine.specs.Objects.{with_definers, wrapped_function};
+ghost use Rattle.plain_machine.specs.World.{datum_at};
+ghost use Rattle.class_world.specs.Claims.{of_ended, of_step, Leaves};
+ghost use Rattle.class_world.specs.Reading.{Reading, Reads, bindings, plain};
+ghost use Rattle.class_world.specs.Sound.{IsNode, AreNodes, IsClass, Holds, AllHold, Grows, of_binding, of_each};
+ghost use Rattle.class_make.specs.Say.{is_text_at, some_has, values_of, hook, told_of, refusal, refusal_by, made, made_unless};
+ghost use Rattle.class_make.specs.Rows.{Makes, Resumes, of_class_kept};
+
+use crate::ClassKept;
+use crate::attributes::has_name;
+use crate::namespace::text_at;
+use class_world::world::World;
+use py_node::attributes::PyAttributes;
+use py_node::flags::PyTypeFlags;
+use py_node::memory::OutOfMemory;
+use py_node::payload::Payload;
+use py_node::raised::{Cause, Kind, Raised};
+use py_node::refs::{PyObjectRef, PyStrInterned, PyTypeRef};
+use py_node::task::{Answer, AttributeTask, CallTask, Keywords, Step, Task};
+use std::alloc::Global;
+
+/// Makes a class with these attributes, unless they are refused.
+pub(crate) fn made(
+    world: &mut World,
+    alloc: Global,
+    meta: PyTypeRef,
+    name: String,
+    base: PyTypeRef,
+    attrs: PyAttributes,
+    kw: Keywords,
+) -> Result<Step<ClassKept>, OutOfMemory>
+    requires meta { Holds world.old (IsClass meta.0) }
+    requires base { Holds world.old (IsClass base.0) }
+    requires attrs { AllHold world.old (of_each of_binding attrs) }
+    requires kw { AllHold world.old (of_each of_binding kw.items) }
+    ensures goes { IfOk result (λ step. Makes kw.items (λ t u. made meta.0 (string_bytes name) base.0 (u, bindings t attrs)) world.old world.new step) }
+    ensures safe { Leaves of_class_kept world.old world.new result }
+{
+    let refusal = refusal(world, alloc, &attrs)?;
+    made_unless(world, alloc, refusal, meta, name, base, attrs, kw)
+}
+
+// Why a class cannot have the attributes, if it cannot.
+fn refusal(
+    world: &mut World,
+    alloc: Global,
+    attrs: &PyAttributes,
+) -> Result<Option<Raised>, OutOfMemory>
+    requires { AllHold world.old (of_each of_binding attrs.now) }
+    ensures why { IfOk result (λ o. (t : Reading) → Reads t world.new → refusal (plain t world.old, bindings t attrs.now) ≡ o) }
+    ensures same { (t : Reading) → plain t world.new ≡ plain t world.old }
+    ensures reads { (t : Reading) → Reads t world.new → Reads t world.old }
+    ensures grows { Grows world.old world.new }
+{
+    let has_slots = has_name(world, alloc, attrs, "__slots__")?;
+    let qualname = world.intern(alloc, "__qualname__")?;
+    let is_named = is_text_at(world, alloc, attrs.get(qualname))?;
+    let refusal = refusal_by(has_slots, is_named);
+    Ok(refusal)
+}
+
+// Why a class cannot be made: it has members of its own, or its qualified name is no text.
+fn refusal_by(has_slots: bool, is_named: bool) -> Option<Raised>
+    ensures { result ≡ refusal_by has_slots is_named }
+{
+    if has_slots {
+        return Some(Raised {
+            kind: Kind::NotImplementedError,
+            cause: Cause::NotYet,
+        });
+    }
+    if is_named {
+        return None;
+    }
+    Some(Raised {
+        kind: Kind::TypeError,
+        cause: Cause::QualnameType,
+    })
+}
+
+// Whether there is an object, and it holds a text.
+fn is_text_at(world: &World, alloc: Global, node: Option<PyObjectRef>) -> Result<bool, OutOfMemory>
+    requires { IfSome node (λ r. Holds world.now (IsNode r)) }
+    ensures { IfOk result (λ b. (t : Reading) → is_text_at (plain t world.now) node ≡ b) }
+{
+    match node {
+        None => Ok(false),
+        Some(node) => {
+            let text = text_at(world, alloc, node)?;
+            Ok(text.is_some())
+        }
+    }
+}
+
+// Makes a class, where nothing is refused.
+#[tactic(auto, unfolding(crate::specs::Say::class_job_say, crate::specs::Say::made_unless))]
+fn made_unless(
+    world: &mut World,
+    alloc: Global,
+    refusal: Option<Raised>,
+    meta: PyTypeRef,
+    name: String,
+    base: PyTypeRef,
+    attrs: PyAttributes,
+    kw: Keywords,
+) -> Result<Step<ClassKept>, OutOfMemory>
+    requires meta { Holds world.old (IsClass meta.0) }
+    requires base { Holds world.old (IsClass base.0) }
+    requires attrs { AllHold world.old (of_each of_binding attrs) }
+    requires kw { AllHold world.old (of_each of_binding kw.items) }
+    ensures goes { IfOk result (λ step. Makes kw.items (λ t u. made_unless refusal meta.0 (string_bytes name) base.0 (u, bindings t attrs)) world.old world.new step) }
+    ensures safe { Leaves of_class_kept world.old world.new result }
+{
+    match refusal {
+        Some(raised) => Ok(Step::End(Err(raised))),
+        None => {
+            let values = values_of(alloc, &attrs)?;
+            let flags = PyTypeFlags::heap_type_flags();
+            let (class, node) = world.make_class(alloc, meta, name, Some(base), attrs, flags)?;
+            define_all(world, class, &values);
+            told_of(world, alloc, class, node, &values, kw)
+        }
+    }
+}
+
+// The values of the attributes.
+fn values_of(alloc: Global, attrs: &PyAttributes) -> Result<Vec<PyObjectRef>, OutOfMemory>
+    ensures { IfOk result (λ v. v.items ≡ values_of attrs.now) }
+{
+    let mut values = Vec::new(alloc);
+    for i in 0..attrs.len() {
+        let (_, value) = attrs.at(i);
+        values.push(value)?;
+    }
+    Ok(values)
+}
+
+// Each function among some values that no class defines yet is defined by this class.
+fn define_all(world: &mut World, class: PyTypeRef, values: &[PyObjectRef])
+    requires class { Holds world.old (IsClass class.0) }
+    requires values { Holds world.old (AreNodes values.now) }
+    ensures set { (t : Reading) → plain t world.new ≡ with_definers (plain t world.old) class.0 values.now }
+    ensures reads { (t : Reading) → Reads t world.new → Reads t world.old }
+    ensures grows { Grows world.old world.new }
+{
+    for value in values {
+        let func = wrapped_function(world, *value);
+        world.set_definer(class, func);
+    }
+}
+
+// The function that a value of a namespace is, or wraps.
+fn wrapped_function(world: &World, value: PyObjectRef) -> PyObjectRef
+    requires { Holds world.now (IsNode value) }
+    ensures function { (t : Reading) → wrapped_function value (datum_at (plain t world.now) value) ≡ result }
+    ensures node { Holds world.now (IsNode result) }
+{
+    match world.payload(value) {
+        Payload::ClassMethod(func) => *func,
+        _ => value,
+    }
+}
+
+// A class is told of, unless a value wants to know its name.
+fn told_of(
+    world: &mut World,
+    alloc: Global,
+    class: PyTypeRef,
+    node: PyObjectRef,
+    values: &[PyObjectRef],
+    kw: Keywords,
+) -> Result<Step<ClassKept>, OutOfMemory>
+    requires class { Holds world.old (IsClass class.0) }
+    requires node { Holds world.old (IsNode node) }
+    requires values { Holds world.old (AreNodes values.now) }
+    requires kw { AllHold world.old (of_each of_binding kw.items) }
+    ensures goes { IfOk result (λ step. Makes kw.items (λ t u. told_of u class.0 node values.now) world.old world.new step) }
+    ensures safe { Leaves of_class_kept world.old world.new result }
+{
+    let set_name = world.intern(alloc, "__set_name__")?;
+    if some_has(world, set_name, values) {
+        return Ok(Step::End(Err(Raised {
+            kind: Kind::NotImplementedError,
+            cause: Cause::NotYet,
+        })));
+    }
+    let init_subclass = world.intern(alloc, "__init_subclass__")?;
+    let method = world.class_attr_past(class, init_subclass);
+    let step = hook(world, node, method, kw);
+    Ok(step)
+}
+
+// Whether the class of one of some values has a name.
+fn some_has(world: &World, name: PyStrInterned, values: &[PyObjectRef]) -> bool
+    requires { Holds world.now (AreNodes values.now) }
+    ensures { (t : Reading) → Reads t world.now → some_has (plain t world.now) (t.text name.0) values.now ≡ result }
+{
+    for value in values {
+        if world.special(*value, name).is_some() {
+            return true;
+        }
+    }
+    false
+}
+
+// The class is the answer where there is no hook. A hook is bound first.
+fn hook(
+    world: &World,
+    class: PyObjectRef,
+    method: Option<PyObjectRef>,
+    kw: Keywords,
+) -> Step<ClassKept>
+    requires class { Holds world.now (IsNode class) }
+    requires method { IfSome method (λ r. Holds world.now (IsNode r)) }
+    requires kw { AllHold world.now (of_each of_binding kw.items) }
+    ensures goes { Makes kw.items (λ t u. hook u class method) world.now world.now result }
+    ensures safe { AllHold world.now (of_step of_class_kept result) }
+{
+    let _class = world.class_of(class);
+    match method {
+        None => Step::End(Ok(Answer::Value(class))),
+        Some(method) => Step::Ask(
+            Task::Attribute(AttributeTask::Bind(method, None, class)),
+            ClassKept::AfterBind(class, kw),
+        ),
+    }
+}
+
+/// The hook is bound, and is called with the keywords of the class.
+pub(crate) fn bound(
+    world: &mut World,
+    alloc: Global,
+    class: PyObjectRef,
+    kw: Keywords,
+    answer: Result<Answer, Raised>,
+) -> Result<Step<ClassKept>, OutOfMemory>
+    requires class { Holds world.old (IsNode class) }
+    requires kw { AllHold world.old (of_each of_binding kw.items) }
+    requires answer { AllHold world.old (of_ended answer) }
+    ensures goes { IfOk result (λ step. Resumes (ClassKept.AfterBind class kw) answer world.old world.new step) }
+    ensures safe { Leaves of_class_kept world.old world.new result }
+{
+    match answer {
+        Err(raised) => Ok(Step::End(Err(raised))),
+        Ok(answer) => match answer {
+            Answer::Done => Ok(Step::End(Ok(Answer::Done))),
+            Answer::Value(method) => call_hook(world, alloc, class, kw, method),
+        },
+    }
+}
+
+// Calls the bound hook.
+fn call_hook(
+    world: &mut World,
+    alloc: Global,
+    class: PyObjectRef,
+    kw: Keywords,
+    method: PyObjectRef,
+) -> Result<Step<ClassKept>, OutOfMemory>
+    requires class { Holds world.old (IsNode class) }
+    requires kw { AllHold world.old (of_each of_binding kw.items) }
+    requires method { Holds world.old (IsNode method) }
+    ensures goes { IfOk result (λ step. Resumes (ClassKept.AfterBind class kw) (Ok (answer.Value method)) world.old world.new step) }
+    ensures safe { Leaves of_class_kept world.old world.new result }
+{
+    let metaclass = world.intern(alloc, "metaclass")?;
+    let kw = without(alloc, metaclass, &kw)?;
+    Ok(Step::Ask(
+        Task::Call(CallTask::Call(method, Vec::new(alloc), kw)),
+        ClassKept::AfterHook(class),
+    ))
+}
+
+// The keywords without one.
+fn without(
+    alloc: Global,
+    name: PyStrInterned,
+    kw: &[(PyStrInterned, PyObjectRef)],
+) -> Result<Keywords, OutOfMemory>
+    ensures { IfOk result (λ v. v.items ≡ filter (λ k. not (is_same_name k.0 name)) kw.now) }
+{
+    let mut rest = Vec::new(alloc);
+    for (key, value) in kw {
+        if key.0 != name.0 {
+            rest.push((*key, *value))?;
+        }
+    }
+    Ok(rest)
+}
+
+/// The hook was called, and the class is the answer.
+pub(crate) fn called(
+    world: &World,
+    class: PyObjectRef,
+    answer: Result<Answer, Raised>,
+) -> Step<ClassKept>
+    requires class { Holds world.now (IsNode class) }
+    requires answer { AllHold world.now (of_ended answer) }
+    ensures goes { Resumes (ClassKept.AfterHook class) answer world.now world.now result }
+    ensures safe { AllHold world.now (of_step of_class_kept result) }
+{
+    let _class = world.class_of(class);
+    match answer {
+        Err(raised) => Step::End(Err(raised)),
+        Ok(_) => Step::End(Ok(Answer::Value(class))),
+    }
+}

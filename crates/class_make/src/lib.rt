@@ -1,0 +1,72 @@
+// The rows of the creation of classes, each a small automaton: `begin` and `resume`.
+#![tactic(auto, unfolding(crate::specs::Say::class_job_say))]
+
+ghost use Rattle.std.specs.Prelude.{◌≡◌, IfOk};
+ghost use Rattle.class_world.specs.Sound.{AllHold};
+ghost use Rattle.class_world.specs.Claims.{of_class_task, of_ended, Leaves};
+ghost use Rattle.class_make.specs.Rows.{Begins, Resumes, of_class_kept};
+
+mod attributes;
+mod hook;
+mod make;
+mod namespace;
+mod type_new;
+
+use crate::hook::{bound, called};
+use crate::make::make_class;
+use crate::type_new::type_native;
+use class_world::world::World;
+use py_node::memory::OutOfMemory;
+use py_node::raised::Raised;
+use py_node::refs::PyObjectRef;
+use py_node::task::{Answer, ClassTask, Keywords, Step};
+use std::alloc::Global;
+
+/// What a row of the creation of classes keeps while it waits for an answer.
+#[derive(Drop)]
+pub enum ClassKept {
+    /// The answer is passed on.
+    Pass,
+    /// The class, and the keywords that it was made with: `__init_subclass__` is being bound to it.
+    AfterBind(PyObjectRef, Keywords),
+    /// The class: `__init_subclass__` is being called.
+    AfterHook(PyObjectRef),
+}
+
+/// Begins a task.
+pub fn begin(
+    world: &mut World,
+    alloc: Global,
+    task: ClassTask,
+) -> Result<Step<ClassKept>, OutOfMemory>
+    requires { AllHold world.old (of_class_task task) }
+    ensures goes { IfOk result (λ step. Begins task world.old world.new step) }
+    ensures safe { Leaves of_class_kept world.old world.new result }
+{
+    match task {
+        ClassTask::MakeClass(class, args, kw) => make_class(world, alloc, class, args, kw),
+        ClassTask::Type(native, args, kw) => type_native(world, alloc, native, args, kw),
+    }
+}
+
+/// Goes on with a task that was given an answer.
+pub fn resume(
+    world: &mut World,
+    alloc: Global,
+    kept: ClassKept,
+    answer: Result<Answer, Raised>,
+) -> Result<Step<ClassKept>, OutOfMemory>
+    requires kept { AllHold world.old (of_class_kept kept) }
+    requires answer { AllHold world.old (of_ended answer) }
+    ensures goes { IfOk result (λ step. Resumes kept answer world.old world.new step) }
+    ensures safe { Leaves of_class_kept world.old world.new result }
+{
+    match kept {
+        ClassKept::Pass => Ok(Step::End(answer)),
+        ClassKept::AfterBind(class, kw) => bound(world, alloc, class, kw, answer),
+        ClassKept::AfterHook(class) => {
+            let step = called(world, class, answer);
+            Ok(step)
+        }
+    }
+}

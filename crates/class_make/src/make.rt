@@ -1,0 +1,363 @@
+// The making of a class from a name, a tuple of bases and a namespace.
+
+ghost use Rattle.std.specs.Prelude.{◌≡◌, ◌^◌, ◌&&◌, not, eqb, is_some, map, option_map, string_bytes, Err, Some, IfOk, IfSome};
+ghost use Rattle.py_node.specs.declared.entry.SlotId.TheVariants.{New};
+ghost use Rattle.class_model.specs.BuiltIn.{natives_of};
+ghost use Rattle.class_model.specs.Slot.{entry};
+ghost use Rattle.plain_machine.specs.Objects.{class_has_flag};
+ghost use Rattle.plain_machine.specs.World.{text_keys};
+ghost use Rattle.class_world.specs.Claims.{of_class_task, of_args, Leaves};
+ghost use Rattle.class_world.specs.Reading.{Reading, Reads, bindings, plain};
+ghost use Rattle.class_world.specs.Sound.{IsNode, AreNodes, IsClass, Holds, AllHold, of_binding, of_class_ref, of_each, of_option};
+ghost use Rattle.class_make.specs.Say.{by_base, by_bases, by_one, by_parts, by_winner, from_three, has_null, on_base, one_of, the_type, three_of, with_namespace, winner};
+ghost use Rattle.class_make.specs.Rows.{Begins, Makes, of_class_kept};
+ghost use Rattle.py_node.specs.declared.task.ClassTask.TheVariants as class_task;
+
+use crate::ClassKept;
+use crate::attributes::completed;
+use crate::hook::made;
+use crate::namespace::{Entries, dict_at, namespace, text_at, tuple_at};
+use class_world::world::World;
+use py_node::attributes::PyAttributes;
+use py_node::built_in::BuiltIn;
+use py_node::entry::SlotId;
+use py_node::flags::PyTypeFlags;
+use py_node::memory::OutOfMemory;
+use py_node::raised::{Cause, Kind, Raised};
+use py_node::refs::{PyObjectRef, PyStrInterned, PyTypeRef};
+use py_node::task::{Answer, Args, CallTask, Keywords, LaterTask, Step, Task};
+use std::alloc::Global;
+
+/// Three arguments.
+type Three = (PyObjectRef, (PyObjectRef, PyObjectRef));
+
+/// The class of an object, or a new class.
+pub(crate) fn make_class(
+    world: &mut World,
+    alloc: Global,
+    meta: PyTypeRef,
+    args: Args,
+    kw: Keywords,
+) -> Result<Step<ClassKept>, OutOfMemory>
+    requires { AllHold world.old (of_class_task (class_task.MakeClass meta args kw)) }
+    ensures goes { IfOk result (λ step. Begins (class_task.MakeClass meta args kw) world.old world.new step) }
+    ensures safe { Leaves of_class_kept world.old world.new result }
+{
+    let one = one_of(&args, &kw);
+    by_one(world, alloc, meta, one, args, kw)
+}
+
+// The one argument, without keywords.
+fn one_of(args: &[PyObjectRef], kw: &[(PyStrInterned, PyObjectRef)]) -> Option<PyObjectRef>
+    ensures { result ≡ one_of args.now kw.now }
+{
+    match args {
+        [only] if kw.is_empty() => Some(*only),
+        _ => None,
+    }
+}
+
+// Three arguments.
+fn three_of(args: &[PyObjectRef]) -> Option<Three>
+    ensures { result ≡ three_of args.now }
+{
+    match args {
+        [name, bases, namespace] => Some((*name, (*bases, *namespace))),
+        _ => None,
+    }
+}
+
+// The class of the one argument, or a new class from three.
+fn by_one(
+    world: &mut World,
+    alloc: Global,
+    meta: PyTypeRef,
+    one: Option<PyObjectRef>,
+    args: Args,
+    kw: Keywords,
+) -> Result<Step<ClassKept>, OutOfMemory>
+    requires meta { Holds world.old (IsClass meta.0) }
+    requires one { IfSome one (λ r. Holds world.old (IsNode r)) }
+    requires rest { AllHold world.old (of_args args.items kw.items) }
+    ensures goes { IfOk result (λ step. Makes kw.items (λ t u. by_one u meta.0 one args.items (bindings t kw.items)) world.old world.new step) }
+    ensures safe { Leaves of_class_kept world.old world.new result }
+{
+    match one {
+        Some(object) => {
+            if is_type(world, meta) {
+                return Ok(Step::End(Ok(Answer::Value(world.type_object(object)))));
+            }
+            Ok(refused(Kind::TypeError, Cause::TypeArgs))
+        }
+        None => {
+            let three = three_of(&args);
+            from_three(world, alloc, meta, three, args, kw)
+        }
+    }
+}
+
+// Whether a class is `type`.
+#[tactic(auto, unfolding(py_node::specs::BuiltIns::place_of))]
+fn is_type(world: &World, class: PyTypeRef) -> bool
+    ensures { result ≡ eqb class.0 the_type }
+{
+    let of_type = world.built_in(BuiltIn::TypeType);
+    class.0 == of_type.0
+}
+
+/// A fault.
+pub(crate) fn refused(kind: Kind, cause: Cause) -> Step<ClassKept>
+    ensures { result ≡ Step.End (Err (record { kind = kind; cause = cause })) }
+{
+    Step::End(Err(Raised { kind, cause }))
+}
+
+// A new class from three arguments.
+fn from_three(
+    world: &mut World,
+    alloc: Global,
+    meta: PyTypeRef,
+    three: Option<Three>,
+    args: Args,
+    kw: Keywords,
+) -> Result<Step<ClassKept>, OutOfMemory>
+    requires meta { Holds world.old (IsClass meta.0) }
+    requires three { IfSome three (λ p. Holds world.old (IsNode p.0) × (Holds world.old (IsNode p.1.0) × Holds world.old (IsNode p.1.1))) }
+    requires rest { AllHold world.old (of_args args.items kw.items) }
+    ensures goes { IfOk result (λ step. Makes kw.items (λ t u. from_three u meta.0 three args.items (bindings t kw.items)) world.old world.new step) }
+    ensures safe { Leaves of_class_kept world.old world.new result }
+{
+    match three {
+        None => Ok(refused(Kind::TypeError, Cause::TypeArgs)),
+        Some((name, (bases, entries))) => {
+            let name = text_at(world, alloc, name)?;
+            let bases = tuple_at(world, alloc, bases)?;
+            let entries = dict_at(world, alloc, entries)?;
+            by_parts(world, alloc, meta, name, bases, entries, args, kw)
+        }
+    }
+}
+
+// A new class from a text, a tuple and a dict.
+fn by_parts(
+    world: &mut World,
+    alloc: Global,
+    meta: PyTypeRef,
+    name: Option<String>,
+    bases: Option<Args>,
+    entries: Option<Entries>,
+    args: Args,
+    kw: Keywords,
+) -> Result<Step<ClassKept>, OutOfMemory>
+    requires meta { Holds world.old (IsClass meta.0) }
+    requires bases { IfSome bases (λ rs. Holds world.old (AreNodes rs.items)) }
+    requires keys { IfSome entries (λ es. Holds world.old (AreNodes (map (λ e. e.0) es.items))) }
+    requires values { IfSome entries (λ es. Holds world.old (AreNodes (map (λ e. e.1) es.items))) }
+    requires rest { AllHold world.old (of_args args.items kw.items) }
+    ensures goes { IfOk result (λ step. Makes kw.items (λ t u. by_parts u meta.0 (option_map (λ s. string_bytes s) name) (option_map (λ rs. rs.items) bases) (option_map (λ es. es.items) entries) args.items (bindings t kw.items)) world.old world.new step) }
+    ensures safe { Leaves of_class_kept world.old world.new result }
+{
+    match (name, bases, entries) {
+        (Some(name), Some(bases), Some(entries)) => {
+            if has_null(name.as_str()) {
+                return Ok(refused(Kind::ValueError, Cause::NullInName));
+            }
+            by_bases(world, alloc, meta, name, bases, entries, args, kw)
+        }
+        _ => Ok(refused(Kind::TypeError, Cause::TypeArgTypes)),
+    }
+}
+
+// Whether a name has a null character.
+fn has_null(name: &str) -> bool
+    ensures { result ≡ has_null name.now }
+{
+    let bytes = name.as_bytes();
+    for byte in bytes {
+        if *byte == 0 {
+            return true;
+        }
+    }
+    false
+}
+
+// A new class of these bases. None stands for `object`, and more than one are for later.
+fn by_bases(
+    world: &mut World,
+    alloc: Global,
+    meta: PyTypeRef,
+    name: String,
+    bases: Args,
+    entries: Entries,
+    args: Args,
+    kw: Keywords,
+) -> Result<Step<ClassKept>, OutOfMemory>
+    requires meta { Holds world.old (IsClass meta.0) }
+    requires bases { Holds world.old (AreNodes bases.items) }
+    requires keys { Holds world.old (AreNodes (map (λ e. e.0) entries.items)) }
+    requires values { Holds world.old (AreNodes (map (λ e. e.1) entries.items)) }
+    requires rest { AllHold world.old (of_args args.items kw.items) }
+    ensures goes { IfOk result (λ step. Makes kw.items (λ t u. by_bases u meta.0 (string_bytes name) bases.items entries.items args.items (bindings t kw.items)) world.old world.new step) }
+    ensures safe { Leaves of_class_kept world.old world.new result }
+{
+    match bases.as_slice() {
+        [] => {
+            let object = world.built_in(BuiltIn::Object);
+            on_base(world, alloc, meta, name, object, entries, kw)
+        }
+        [base] => {
+            let base = *base;
+            let class = world.class_number(base);
+            by_base(world, alloc, meta, name, base, class, entries, args, kw)
+        }
+        _ => Ok(refused(Kind::NotImplementedError, Cause::NotYet)),
+    }
+}
+
+// A new class of one base. One that is no class is asked for others.
+fn by_base(
+    world: &mut World,
+    alloc: Global,
+    meta: PyTypeRef,
+    name: String,
+    base: PyObjectRef,
+    class: Option<PyTypeRef>,
+    entries: Entries,
+    args: Args,
+    kw: Keywords,
+) -> Result<Step<ClassKept>, OutOfMemory>
+    requires meta { Holds world.old (IsClass meta.0) }
+    requires base { Holds world.old (IsNode base) }
+    requires class { AllHold world.old (of_option of_class_ref class) }
+    requires keys { Holds world.old (AreNodes (map (λ e. e.0) entries.items)) }
+    requires values { Holds world.old (AreNodes (map (λ e. e.1) entries.items)) }
+    requires rest { AllHold world.old (of_args args.items kw.items) }
+    ensures goes { IfOk result (λ step. Makes kw.items (λ t u. by_base u meta.0 (string_bytes name) base (option_map (λ c. c.0) class) entries.items args.items (bindings t kw.items)) world.old world.new step) }
+    ensures safe { Leaves of_class_kept world.old world.new result }
+{
+    match class {
+        None => Ok(Step::Ask(Task::Later(LaterTask::GetAttr), ClassKept::Pass)),
+        Some(class) => {
+            let of_base = world.class_of(base);
+            let winner = winner(world, meta, of_base);
+            by_winner(world, alloc, meta, winner, name, class, entries, args, kw)
+        }
+    }
+}
+
+// The metaclass of a class to be: the given one, or that of the base where it derives from it.
+fn winner(world: &World, meta: PyTypeRef, of_base: PyTypeRef) -> Option<PyTypeRef>
+    requires meta { Holds world.now (IsClass meta.0) }
+    requires base { Holds world.now (IsClass of_base.0) }
+    ensures winner { (t : Reading) → winner (plain t world.now) meta.0 (Some of_base.0) ≡ option_map (λ c. c.0) result }
+    ensures class { AllHold world.now (of_option of_class_ref result) }
+{
+    if world.is_sub(meta, of_base) {
+        Some(meta)
+    } else if world.is_sub(of_base, meta) {
+        Some(of_base)
+    } else {
+        None
+    }
+}
+
+// A new class of this metaclass. Another one that makes its objects itself is asked for it.
+fn by_winner(
+    world: &mut World,
+    alloc: Global,
+    meta: PyTypeRef,
+    winner: Option<PyTypeRef>,
+    name: String,
+    base: PyTypeRef,
+    entries: Entries,
+    args: Args,
+    kw: Keywords,
+) -> Result<Step<ClassKept>, OutOfMemory>
+    requires winner { AllHold world.old (of_option of_class_ref winner) }
+    requires base { Holds world.old (IsClass base.0) }
+    requires keys { Holds world.old (AreNodes (map (λ e. e.0) entries.items)) }
+    requires values { Holds world.old (AreNodes (map (λ e. e.1) entries.items)) }
+    requires rest { AllHold world.old (of_args args.items kw.items) }
+    ensures goes { IfOk result (λ step. Makes kw.items (λ t u. by_winner u meta.0 (option_map (λ c. c.0) winner) (string_bytes name) base.0 entries.items args.items (bindings t kw.items)) world.old world.new step) }
+    ensures safe { Leaves of_class_kept world.old world.new result }
+{
+    match winner {
+        None => Ok(refused(Kind::TypeError, Cause::MetaclassConflict)),
+        Some(class) => {
+            if makes_itself(world, class, meta) {
+                return Ok(Step::Ask(
+                    Task::Call(CallTask::New(class, class, args, kw)),
+                    ClassKept::Pass,
+                ));
+            }
+            on_base(world, alloc, class, name, base, entries, kw)
+        }
+    }
+}
+
+// Whether another metaclass than the given one makes its objects itself.
+fn makes_itself(world: &World, class: PyTypeRef, meta: PyTypeRef) -> bool
+    requires { Holds world.now (IsClass class.0) }
+    ensures { (t : Reading) → Reads t world.now → not (eqb class.0 meta.0) && is_some (entry text_keys natives_of (plain t world.now).classes class.0 New) ≡ result }
+{
+    class.0 != meta.0 && world.own_slot(class, SlotId::New).is_some()
+}
+
+// Whether a class is one that classes can have as their base.
+fn can_be_base(world: &World, class: PyTypeRef) -> bool
+    requires { Holds world.now (IsClass class.0) }
+    ensures { (t : Reading) → class_has_flag (plain t world.now) (2 ^ 10) (Some class.0) ≡ result }
+{
+    world.class_flag(class, PyTypeFlags::BASETYPE)
+}
+
+// A new class on a base, which must be one that classes can have.
+fn on_base(
+    world: &mut World,
+    alloc: Global,
+    meta: PyTypeRef,
+    name: String,
+    base: PyTypeRef,
+    entries: Entries,
+    kw: Keywords,
+) -> Result<Step<ClassKept>, OutOfMemory>
+    requires meta { Holds world.old (IsClass meta.0) }
+    requires base { Holds world.old (IsClass base.0) }
+    requires keys { Holds world.old (AreNodes (map (λ e. e.0) entries.items)) }
+    requires values { Holds world.old (AreNodes (map (λ e. e.1) entries.items)) }
+    requires kw { AllHold world.old (of_each of_binding kw.items) }
+    ensures goes { IfOk result (λ step. Makes kw.items (λ t u. on_base u meta.0 (string_bytes name) base.0 entries.items) world.old world.new step) }
+    ensures safe { Leaves of_class_kept world.old world.new result }
+{
+    if !can_be_base(world, base) {
+        return Ok(refused(Kind::TypeError, Cause::NotBaseType));
+    }
+    let attrs = namespace(world, alloc, &entries)?;
+    with_namespace(world, alloc, meta, name, base, attrs, kw)
+}
+
+// A new class with a namespace, all of whose keys must be texts.
+fn with_namespace(
+    world: &mut World,
+    alloc: Global,
+    meta: PyTypeRef,
+    name: String,
+    base: PyTypeRef,
+    attrs: Option<PyAttributes>,
+    kw: Keywords,
+) -> Result<Step<ClassKept>, OutOfMemory>
+    requires meta { Holds world.old (IsClass meta.0) }
+    requires base { Holds world.old (IsClass base.0) }
+    requires attrs { IfSome attrs (λ a. AllHold world.old (of_each of_binding a)) }
+    requires kw { AllHold world.old (of_each of_binding kw.items) }
+    ensures goes { IfOk result (λ step. Makes kw.items (λ t u. with_namespace u meta.0 (string_bytes name) base.0 (option_map (λ a. bindings t a) attrs)) world.old world.new step) }
+    ensures safe { Leaves of_class_kept world.old world.new result }
+{
+    match attrs {
+        None => Ok(refused(Kind::TypeError, Cause::NamespaceKey)),
+        Some(attrs) => {
+            let attrs = completed(world, alloc, name.as_str(), attrs)?;
+            made(world, alloc, meta, name, base, attrs, kw)
+        }
+    }
+}

@@ -1,0 +1,103 @@
+// The natives of `type`.
+
+ghost use Rattle.std.specs.Prelude.{◌≡◌, option_map, IfOk};
+ghost use Rattle.plain_machine.specs.Objects.{nearest_built_in};
+ghost use Rattle.class_world.specs.Claims.{of_class_task, of_args, of_step, Leaves};
+ghost use Rattle.class_world.specs.Reading.{Reading, bindings, plain};
+ghost use Rattle.class_world.specs.Sound.{IsClass, Holds, AllHold, of_class_ref, of_option};
+ghost use Rattle.class_make.specs.Say.{is_class, the_type, type_new, type_new_of};
+ghost use Rattle.class_make.specs.Rows.{Begins, Types, of_class_kept};
+ghost use Rattle.py_node.specs.declared.task.ClassTask.TheVariants as class_task;
+
+use crate::ClassKept;
+use crate::make::refused;
+use class_world::args::copy_args;
+use class_world::world::World;
+use py_node::built_in::BuiltIn;
+use py_node::entry::TypeNative;
+use py_node::memory::OutOfMemory;
+use py_node::raised::{Cause, Kind};
+use py_node::refs::PyTypeRef;
+use py_node::task::{Args, ClassTask, Keywords, Step, Task};
+use std::alloc::Global;
+
+/// A native of `type`.
+pub(crate) fn type_native(
+    world: &mut World,
+    alloc: Global,
+    native: TypeNative,
+    args: Args,
+    kw: Keywords,
+) -> Result<Step<ClassKept>, OutOfMemory>
+    requires { AllHold world.old (of_class_task (class_task.Type native args kw)) }
+    ensures goes { IfOk result (λ step. Begins (class_task.Type native args kw) world.old world.new step) }
+    ensures safe { Leaves of_class_kept world.old world.new result }
+{
+    match native {
+        TypeNative::New => type_new(world, alloc, args, kw),
+        _ => Ok(refused(Kind::NotImplementedError, Cause::NotYet)),
+    }
+}
+
+// The native that makes the objects of `type`: its first argument is the metaclass.
+fn type_new(
+    world: &mut World,
+    alloc: Global,
+    args: Args,
+    kw: Keywords,
+) -> Result<Step<ClassKept>, OutOfMemory>
+    requires { AllHold world.old (of_args args.items kw.items) }
+    ensures goes { IfOk result (λ step. Types (λ t u. type_new u args.items (bindings t kw.items)) world.old world.new step) }
+    ensures safe { Leaves of_class_kept world.old world.new result }
+{
+    match args.as_slice() {
+        [] => Ok(refused(Kind::TypeError, Cause::ArgCount)),
+        [class, rest @ ..] => {
+            let class = world.class_number(*class);
+            let rest = copy_args(alloc, rest)?;
+            let step = type_new_of(world, class, rest, kw);
+            Ok(step)
+        }
+    }
+}
+
+// The same, with what the first argument stands for.
+fn type_new_of(world: &World, class: Option<PyTypeRef>, args: Args, kw: Keywords) -> Step<ClassKept>
+    requires class { AllHold world.now (of_option of_class_ref class) }
+    requires rest { AllHold world.now (of_args args.items kw.items) }
+    ensures goes { Types (λ t u. type_new_of u (option_map (λ c. c.0) class) args.items (bindings t kw.items)) world.now world.now result }
+    ensures safe { AllHold world.now (of_step of_class_kept result) }
+{
+    match class {
+        None => refused(Kind::TypeError, Cause::SelfType),
+        Some(class) => {
+            if !makes_classes(world, class) {
+                return refused(Kind::TypeError, Cause::UnsafeNew);
+            }
+            Step::Ask(
+                Task::Class(ClassTask::MakeClass(class, args, kw)),
+                ClassKept::Pass,
+            )
+        }
+    }
+}
+
+// Whether the objects of a class are classes.
+#[tactic(auto, unfolding(py_node::specs::BuiltIns::place_of))]
+fn makes_classes(world: &World, class: PyTypeRef) -> bool
+    requires { Holds world.now (IsClass class.0) }
+    ensures { (t : Reading) → is_class (nearest_built_in (plain t world.now).classes class.0) the_type ≡ result }
+{
+    let of_type = world.built_in(BuiltIn::TypeType);
+    is_place(world.nearest_built_in(class), of_type)
+}
+
+// Whether there is a class, and it is this one.
+fn is_place(class: Option<PyTypeRef>, other: PyTypeRef) -> bool
+    ensures { result ≡ is_class (option_map (λ c. c.0) class) other.0 }
+{
+    match class {
+        None => false,
+        Some(class) => class.0 == other.0,
+    }
+}

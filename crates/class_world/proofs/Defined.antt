@@ -1,0 +1,101 @@
+-- A function that a class defines, in a world.
+use Rattle.std.proofs.Common.{◌≡◌, ℕ, zero, suc, ◌<◌, List, [], ◌∷◌, length, Option, Some, None, refl, sym, ap, ◌∙◌, subst, arith, get_or, map}
+use Rattle.std.specs.Prelude.{slice_set, option_map}
+use Rattle.py_node.specs.declared.refs.PyObjectRef.{PyObjectRef}
+use Rattle.py_node.specs.declared.refs.PyTypeRef.{PyTypeRef}
+use Rattle.py_node.specs.declared.payload.Node.{Node as StoredNode}
+use Rattle.py_node.specs.declared.payload.Payload.{Payload}
+use Rattle.py_node.specs.declared.payload.Payload.TheVariants as payload
+use Rattle.plain_machine.specs.Plain.{AFunction, Node}
+use Rattle.plain_machine.specs.Objects.{or_class, defined_by, with_datum_in, with_definer}
+use Rattle.class_world.specs.Held.{Held}
+use Rattle.class_world.specs.Reading.{Reading, spelled, datum, node_of, plain}
+use Rattle.class_world.specs.Sound.{Claim, IsClass, Holds, AllHold, Grows, Sound, of_option, of_class_ref, of_node_ref, of_payload, of_node, of_each}
+use Rattle.class_world.specs.Defined.{or_class_ref, defined_payload, defined_node}
+use Rattle.class_world.proofs.Claims.{all-grow, all-append, all-first, all-rest, each-get, got}
+use Rattle.class_world.proofs.Growth.{grows}
+use Rattle.class_world.proofs.Changes.{fixed-grow, built_in-grow}
+
+set-length : {A : Type 0} (xs : List A) (n : ℕ) (x : A) → length (slice_set xs n x) ≡ length xs
+set-length [] n x = refl
+set-length (y ∷ xs) zero x = refl
+set-length (y ∷ xs) (suc n) x = ap suc (set-length xs n x)
+
+each-set : {A : Type 0} (w : Held) (of : A → List Claim) (xs : List A) (n : ℕ) (x : A) → AllHold w (of_each of xs) → AllHold w (of x) → AllHold w (of_each of (slice_set xs n x))
+each-set w of [] n x h k = h
+each-set w of (y ∷ xs) zero x h k = all-append w (of x) _ k (all-rest w (of y) _ h)
+each-set w of (y ∷ xs) (suc n) x h k = all-append w (of y) _ (all-first w (of y) _ h) (each-set w of xs n x (all-rest w (of y) _ h) k)
+
+-- where another class defines a function, nothing else of it changes
+payload-holds : (w : Held) (c : PyTypeRef) (p : Payload) → Holds w (IsClass c.0) → AllHold w (of_payload p) → AllHold w (of_payload (defined_payload c p))
+payload-holds w c payload.Object k h = h
+payload-holds w c (payload.Class d) k h = h
+payload-holds w c (payload.Number z) k h = h
+payload-holds w c (payload.Text s) k h = h
+payload-holds w c (payload.Tuple rs) k h = h
+payload-holds w c (payload.Dict es) k h = h
+payload-holds w c (payload.Function f) k h = (h.0, (h.1.0, (h.1.1.0, go f.class h.1.1.1)))
+  where
+    go : (o : Option PyTypeRef) → AllHold w (of_option of_class_ref o) → AllHold w (of_option of_class_ref (or_class_ref o c))
+    go None p = (k, tt)
+    go (Some d) p = p
+payload-holds w c (payload.Method m) k h = h
+payload-holds w c (payload.NativeFunction f) k h = h
+payload-holds w c (payload.BuiltinMethod m) k h = h
+payload-holds w c (payload.MethodDescriptor m) k h = h
+payload-holds w c (payload.GetSet g) k h = h
+payload-holds w c (payload.ClassMethod r) k h = h
+
+node-holds : (w : Held) (c : PyTypeRef) (n : StoredNode) → Holds w (IsClass c.0) → AllHold w (of_node n) → AllHold w (of_node (defined_node c n))
+node-holds w c n k h =
+    let dict = of_option of_node_ref n.dict in
+    (h.0, all-append w dict _ (all-first w dict _ h.1) (payload-holds w c n.payload k (all-rest w dict _ h.1)))
+
+payload-read : (t : Reading) (c : PyTypeRef) (p : Payload) → datum t (defined_payload c p) ≡ defined_by c.0 (datum t p)
+payload-read t c payload.Object = refl
+payload-read t c (payload.Class d) = refl
+payload-read t c (payload.Number z) = refl
+payload-read t c (payload.Text s) = refl
+payload-read t c (payload.Tuple rs) = refl
+payload-read t c (payload.Dict es) = refl
+payload-read t c (payload.Function f) = ap (AFunction (spelled t f.name) (map (spelled t) f.params.items) f.rest (t.tree f.body)) (go f.class)
+  where
+    go : (o : Option PyTypeRef) → option_map (λ d. d.0) (or_class_ref o c) ≡ or_class (option_map (λ d. d.0) o) c.0
+    go None = refl
+    go (Some d) = refl
+payload-read t c (payload.Method m) = refl
+payload-read t c (payload.NativeFunction f) = refl
+payload-read t c (payload.BuiltinMethod m) = refl
+payload-read t c (payload.MethodDescriptor m) = refl
+payload-read t c (payload.GetSet g) = refl
+payload-read t c (payload.ClassMethod r) = refl
+
+-- the other nodes stay
+nodes-read : (t : Reading) (c : PyTypeRef) (ns : List StoredNode) (i : ℕ) (n : StoredNode) → i < length ns → n ≡ get_or ns i n → map (node_of t) (slice_set ns i (defined_node c n)) ≡ with_datum_in (defined_by c.0) (map (node_of t) ns) i
+nodes-read t c [] i n l e = absurd (omega arith)
+nodes-read t c (m ∷ ns) zero n l e =
+    ap (λ n. node_of t (defined_node c n) ∷ map (node_of t) ns) e
+    ∙ ap (λ d. record (node_of t m) { datum = d } ∷ map (node_of t) ns) (payload-read t c m.payload)
+nodes-read t c (m ∷ ns) (suc i) n l e = ap (λ ms. node_of t m ∷ ms) (nodes-read t c ns i n (omega arith) e)
+
+module _ (w : Held) (c : PyTypeRef) (r : PyObjectRef) (n new : StoredNode) where
+  abbrev defined : Held
+  defined = record w { nodes = slice_set w.nodes r.0 new }
+
+  pub define-grows : Grows w defined
+  define-grows =
+      let l = set-length w.nodes r.0 new in
+      grows w defined (omega arith) (omega arith) (λ m f h. h) (omega arith) (omega arith)
+
+  pub define-sound : r.0 < length w.nodes → n ≡ get_or w.nodes r.0 n → new ≡ defined_node c n → Holds w (IsClass c.0) → Sound w → Sound defined
+  define-sound l e k h s =
+      let go = all-grow w defined define-grows in
+      let here = each-get w of_node w.nodes r.0 n (got w.nodes r.0 n l e) s.nodes in
+      let there = subst (λ m. AllHold w (of_node m)) (sym k) (node-holds w c n h here) in
+      record { forms = go _ s.forms; below = s.below; nodes = go _ (each-set w of_node w.nodes r.0 new s.nodes there); classes = go _ s.classes; vars = go _ s.vars; scopes = go _ s.scopes; fixed = fixed-grow w defined s.fixed define-grows; built_in = built_in-grow w defined s.built_in define-grows; special = s.special }
+
+  pub define-read : (now : Held) → w ≡ now → r.0 < length w.nodes → n ≡ get_or w.nodes r.0 n → new ≡ defined_node c n → (t : Reading) → plain t defined ≡ with_definer (plain t now) c.0 r
+  unfolding plain
+  define-read now v l e k t =
+      subst (λ u. plain t defined ≡ with_definer (plain t u) c.0 r) v
+      (ap (λ (m : StoredNode). plain t (record w { nodes = slice_set w.nodes r.0 m })) k ∙ ap (λ (ns : List Node). record (plain t w) { nodes = ns }) (nodes-read t c w.nodes r.0 n l e))

@@ -1,0 +1,7 @@
+use Rattle.std.proofs.Common.{ap, ◌∙◌}
+use Rattle.plain_machine.specs.Objects.{object_for}
+use Rattle.class_world.specs.Reading.{plain}
+use Rattle.class_world.proofs.world.World.type_object.Goals as goal
+
+pub returns-clause-object : goal.returns-clause-object
+returns-clause-object c = λ t. ap (object_for (plain t c.args.self.now)) (c.class_of-class.ensures.reads t) ∙ c.class_object.ensures.object t

@@ -1,0 +1,22 @@
+-- Functions as they are stored, and the classes that define them.
+use Rattle.std.specs.Prelude.{Option, Some, None}
+use Rattle.py_node.specs.declared.payload.Function.{Function}
+use Rattle.py_node.specs.declared.payload.Node.{Node}
+use Rattle.py_node.specs.declared.payload.Payload.{Payload}
+use Rattle.py_node.specs.declared.payload.Payload.TheVariants as payload
+use Rattle.py_node.specs.declared.refs.PyTypeRef.{PyTypeRef}
+
+abbrev pub or_class_ref : Option PyTypeRef → PyTypeRef → Option PyTypeRef
+or_class_ref None c = Some c
+or_class_ref (Some d) c = Some d
+
+abbrev pub defined_function : PyTypeRef → Function → Function
+defined_function c f = record f { class = or_class_ref f.class c }
+
+-- a function that no class defines yet is defined by this one
+abbrev pub defined_payload : PyTypeRef → Payload → Payload
+defined_payload c (payload.Function f) = payload.Function (defined_function c f)
+defined_payload c p = p
+
+abbrev pub defined_node : PyTypeRef → Node → Node
+defined_node c n = record n { payload = defined_payload c n.payload }

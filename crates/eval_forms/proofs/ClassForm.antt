@@ -1,0 +1,122 @@
+-- The class form: names with their values, and the new objects of a class.
+use Rattle.std.proofs.Common.{◌≡◌, ℕ, zero, suc, List, [], ◌∷◌, ◌++◌, length, take, drop, map, Some, Ok, Err, arith, refl, sym, ap, ◌∙◌, subst}
+use Rattle.std.specs.Prelude.{slice_get, Result, IfOk}
+use Rattle.py_node.specs.Tree.{Text}
+use Rattle.py_node.specs.declared.memory.OutOfMemory.{OutOfMemory}
+use Rattle.py_node.specs.declared.task.Step.{Step}
+use Rattle.py_node.specs.declared.task.Step.TheVariants.{Ask}
+use Rattle.py_node.specs.declared.task.Task.{Task}
+use Rattle.py_node.specs.declared.refs.PyObjectRef.{PyObjectRef}
+use Rattle.py_node.specs.declared.refs.PyStrInterned.{PyStrInterned}
+use Rattle.py_node.specs.Attributes.{with_value, is_same_name}
+use Rattle.plain_machine.specs.Plain.{PlainWorld, Bindings, AText, ATuple, DoCall, ToCall, Said, Asks}
+use Rattle.plain_machine.specs.Row.{Row, start, end}
+use Rattle.plain_machine.specs.World.{is_text, with_node, next_node}
+use Rattle.class_world.specs.Held.{Held}
+use Rattle.class_world.specs.Reading.{Reading, Reads, bindings, plain, task_of}
+use Rattle.class_world.specs.declared.world.World.{World}
+use Rattle.class_world.specs.Sound.{Grows, Holds, AllHold, IsName, AreNames, IsNode, AreNodes, of_each, of_binding, of_option, of_node_ref}
+use Rattle.class_world.proofs.Bound.{with_value-read, with_value-holds}
+use Rattle.class_world.proofs.Claims.{each-get, no-nodes, more-nodes, node-in}
+use Rattle.class_world.proofs.Stored.{map-push}
+use Rattle.eval_forms.specs.Say.{Pairs, merged, keyed, metaclass, with_dict, call_with, class_by, eval_say, the_str, the_tuple}
+use Rattle.eval_forms.specs.declared.EvalKept.{EvalKept}
+use Rattle.eval_forms.specs.declared.EvalKept.TheVariants.{Pass}
+use Rattle.eval_forms.specs.Rows.{TakesAt, Takes}
+use Rattle.eval_forms.specs.ClassForm.{merged_names, ArePairs}
+
+pub drop-all : {A : Type 0} (xs : List A) → drop (length xs) xs ≡ []
+drop-all [] = refl
+drop-all (x ∷ xs) = drop-all xs
+
+-- the names are read as texts
+pub merged-read : (t : Reading) (named : List (PyStrInterned × PyObjectRef)) (xs : List PyStrInterned) (vs : List PyObjectRef) → bindings t (merged_names named xs vs) ≡ merged (bindings t named) (map (λ x. t.text x.0) xs) vs
+merged-read t named [] vs = refl
+merged-read t named (x ∷ xs) [] = refl
+merged-read t named (x ∷ xs) (v ∷ vs) = merged-read t (with_value is_same_name named x v) xs vs ∙ ap (λ bs. merged bs (map (λ x. t.text x.0) xs) vs) (with_value-read t named x v)
+
+-- what is said of the entry at a place
+pub entry-holds : (w : Held) (es : List (PyStrInterned × PyObjectRef)) (i : ℕ) (e : PyStrInterned × PyObjectRef) → AllHold w (of_each of_binding es) → slice_get es i ≡ Some e → Holds w (IsName e.0) × Holds w (IsNode e.1)
+entry-holds w es i e h k = let b = each-get w of_binding es i e k h in (b.0, b.1.0)
+
+pub drop-got : {A : Type 0} (xs : List A) (i : ℕ) (x : A) → slice_get xs i ≡ Some x → drop i xs ≡ x ∷ drop (suc i) xs
+drop-got [] i x e = cc
+drop-got (y ∷ xs) zero x e = let same : y ≡ x = cc in ap (λ z. z ∷ xs) same
+drop-got (y ∷ xs) (suc i) x e = drop-got xs i x e
+
+-- one text more
+pub keyed-next : (t : Reading) (u new : PlainWorld) (ps : Pairs) (es : List (PyStrInterned × PyObjectRef)) (i : ℕ) (e : PyStrInterned × PyObjectRef) (key : PyObjectRef) → drop i es ≡ e ∷ drop (suc i) es → new ≡ with_node u the_str (AText (t.text e.0.0)) → key ≡ next_node u the_str → keyed u ps (bindings t (drop i es)) ≡ keyed new (ps ++ (key, e.1) ∷ []) (bindings t (drop (suc i) es))
+keyed-next t u new ps es i e key d w k =
+    ap (λ es. keyed u ps (bindings t es)) d
+    ∙ ap (λ n. keyed n (ps ++ (next_node u the_str, e.1) ∷ []) (bindings t (drop (suc i) es))) (sym w)
+    ∙ ap (λ r. keyed new (ps ++ (r, e.1) ∷ []) (bindings t (drop (suc i) es))) (sym k)
+
+pub pairs-grow : (old new : Held) (ps : Pairs) → Grows old new → ArePairs old ps → ArePairs new ps
+pairs-grow old new ps g h = (g.still _ h.0, g.still _ h.1)
+
+pub pairs-push : (w : Held) (ps : Pairs) (key value : PyObjectRef) → ArePairs w ps → Holds w (IsNode key) → Holds w (IsNode value) → ArePairs w (ps ++ (key, value) ∷ [])
+pairs-push w ps key value h k v = (
+  subst (λ rs. Holds w (AreNodes rs)) (sym (map-push (λ p. p.0) ps (key, value))) (more-nodes w (map (λ p. p.0) ps) key h.0 k),
+  subst (λ rs. Holds w (AreNodes rs)) (sym (map-push (λ p. p.1) ps (key, value))) (more-nodes w (map (λ p. p.1) ps) value h.1 v),
+)
+
+-- the metaclass that is called, and the new objects that it is called with
+pub class-made : (u0 u1 u2 u3 : PlainWorld) (x : Text) (bs : List PyObjectRef) (es : Bindings) (meta name bases dict : PyObjectRef) → metaclass u0 (slice_get bs 0) ≡ meta → u1 ≡ with_node u0 the_str (AText x) → name ≡ next_node u0 the_str → u2 ≡ with_node u1 the_tuple (ATuple bs) → bases ≡ next_node u1 the_tuple → with_dict (keyed u2 [] es) ≡ (u3, dict) → class_by u0 x bs es ≡ Asks u3 [] (ToCall (DoCall meta (name ∷ bases ∷ dict ∷ []) []))
+class-made u0 u1 u2 u3 x bs es meta name bases dict m e1 n1 e2 n2 k =
+    ap (λ v. call_with (metaclass u0 (slice_get bs 0)) (next_node u0 the_str) (next_node v the_tuple) (with_dict (keyed (with_node v the_tuple (ATuple bs)) [] es))) (sym e1)
+    ∙ ap (λ v. call_with (metaclass u0 (slice_get bs 0)) (next_node u0 the_str) (next_node u1 the_tuple) (with_dict (keyed v [] es))) (sym e2)
+    ∙ ap (call_with (metaclass u0 (slice_get bs 0)) (next_node u0 the_str) (next_node u1 the_tuple)) k
+    ∙ ap (λ c. call_with c (next_node u0 the_str) (next_node u1 the_tuple) (u3, dict)) m
+    ∙ ap (λ r. call_with meta r (next_node u1 the_tuple) (u3, dict)) (sym n1)
+    ∙ ap (λ r. call_with meta name r (u3, dict)) (sym n2)
+
+-- parts of lists of nodes
+module _ (w : Held) where
+  pub cons-nodes : (r : PyObjectRef) (rs : List PyObjectRef) → Holds w (IsNode r) → Holds w (AreNodes rs) → Holds w (AreNodes (r ∷ rs))
+  unfolding Holds
+  cons-nodes r rs h k zero d l = h
+  cons-nodes r rs h k (suc i) d l = k i d (omega arith)
+
+  tail-nodes : (r : PyObjectRef) (rs : List PyObjectRef) → Holds w (AreNodes (r ∷ rs)) → Holds w (AreNodes rs)
+  unfolding Holds
+  tail-nodes r rs h i d l = h (suc i) d (omega arith)
+
+  pub take-nodes : (n : ℕ) (rs : List PyObjectRef) → Holds w (AreNodes rs) → Holds w (AreNodes (take n rs))
+  take-nodes zero rs h = no-nodes w
+  take-nodes (suc n) [] h = no-nodes w
+  take-nodes (suc n) (r ∷ rs) h = cons-nodes r (take n rs) (node-in w (r ∷ rs) 0 r h refl) (take-nodes n rs (tail-nodes r rs h))
+
+  pub drop-nodes : (n : ℕ) (rs : List PyObjectRef) → Holds w (AreNodes rs) → Holds w (AreNodes (drop n rs))
+  drop-nodes zero rs h = h
+  drop-nodes (suc n) [] h = h
+  drop-nodes (suc n) (r ∷ rs) h = drop-nodes n rs (tail-nodes r rs h)
+
+  first-name : (x : PyStrInterned) (xs : List PyStrInterned) → Holds w (AreNames (x ∷ xs)) → Holds w (IsName x)
+  unfolding Holds
+  first-name x xs h = h 0 x (omega arith)
+
+  tail-names : (x : PyStrInterned) (xs : List PyStrInterned) → Holds w (AreNames (x ∷ xs)) → Holds w (AreNames xs)
+  unfolding Holds
+  tail-names x xs h i d l = h (suc i) d (omega arith)
+
+  pub merged-holds : (named : List (PyStrInterned × PyObjectRef)) (xs : List PyStrInterned) (vs : List PyObjectRef) → AllHold w (of_each of_binding named) → Holds w (AreNames xs) → Holds w (AreNodes vs) → AllHold w (of_each of_binding (merged_names named xs vs))
+  merged-holds named [] vs h n k = h
+  merged-holds named (x ∷ xs) [] h n k = h
+  merged-holds named (x ∷ xs) (v ∷ vs) h n k =
+      merged-holds (with_value is_same_name named x v) xs vs (with_value-holds w named x v h (first-name x xs n) (node-in w (v ∷ vs) 0 v k refl)) (tail-names x xs n) (tail-nodes v vs k)
+
+  pub first-holds : (rs : List PyObjectRef) → Holds w (AreNodes rs) → AllHold w (of_option of_node_ref (slice_get rs 0))
+  first-holds [] h = tt
+  first-holds (r ∷ rs) h = (node-in w (r ∷ rs) 0 r h refl, tt)
+
+-- a step that a row takes, by another name of the row
+pub takes-same : (a b : Reading → PlainWorld → Row) (old new : World) (r : Result (Step EvalKept) OutOfMemory) → ((t : Reading) → a t ≡ b t) → IfOk r (λ step. Takes a old new step) → IfOk r (λ step. Takes b old new step)
+takes-same a b old new (Ok step) e h = λ t r. let here = h t r in (here.0, subst (λ row. TakesAt row t (row (plain t old) []) step new) (e t) here.1)
+takes-same a b old new (Err x) e h = tt
+
+-- what is asked at once, and passed on
+pub asks-takes : (old new : World) (said : Reading → PlainWorld → Said) (asked : Task) → ((t : Reading) → Reads t new → Reads t old × (said t (plain t old) ≡ Asks (plain t new) [] (task_of t asked))) → Takes (λ t u. start (said t u) (end u)) old new (Ask asked Pass)
+unfolding eval_say
+asks-takes old new said asked h = λ t r.
+    let here = h t r in
+    (here.0, subst (λ s. TakesAt (λ u. start (said t u) (end u)) t s (Ask asked Pass) new) (sym here.1) (refl, refl, (λ u s more. refl)))

@@ -1,0 +1,185 @@
+// The class form: a class's name, bases and entries are new objects, and a metaclass is called with them.
+
+ghost use Rattle.std.specs.Prelude.{◌≡◌, ◌+◌, [], ◌∷◌, length, map, slice_get, IfOk, OnOk};
+ghost use Rattle.plain_machine.specs.World.{with_node, next_node};
+ghost use Rattle.plain_machine.specs.Plain.{AText, ATuple};
+ghost use Rattle.plain_machine.specs.Row.{start, end};
+ghost use Rattle.class_world.specs.Sound.{AllHold, Grows, Holds, IsName, IsNode, AreNames, AreNodes, of_each, of_binding, of_option, of_node_ref};
+ghost use Rattle.class_world.specs.Claims.{Leaves};
+ghost use Rattle.class_world.specs.Reading.{Reading, Reads, bindings, plain};
+ghost use Rattle.py_node.specs.Attributes.{is_same_name};
+ghost use Rattle.eval_forms.specs.Say.{class_by, class_say, keyed, metaclass, with_dict, the_str, the_tuple};
+ghost use Rattle.eval_forms.specs.ClassForm.{merged_names, ArePairs};
+ghost use Rattle.eval_forms.specs.Rows.{Takes, of_eval_kept};
+
+use crate::EvalKept;
+use class_world::args::copy_args;
+use class_world::world::World;
+use py_node::attributes::PyAttributes;
+use py_node::built_in::BuiltIn;
+use py_node::memory::OutOfMemory;
+use py_node::payload::Payload;
+use py_node::refs::{PyObjectRef, PyStrInterned};
+use py_node::task::{CallTask, Step, Task};
+use std::alloc::Global;
+
+// A class, with the values of its bases and of its entries.
+pub(crate) fn class_step(
+    world: &mut World,
+    alloc: Global,
+    name: PyStrInterned,
+    bases: usize,
+    names: &[PyStrInterned],
+    values: &[PyObjectRef],
+) -> Result<Step<EvalKept>, OutOfMemory>
+    requires name { Holds world.old (IsName name) }
+    requires names { Holds world.old (AreNames names.now) }
+    requires values { Holds world.old (AreNodes values.now) }
+    requires all { length values.now ≡ bases + length names.now }
+    ensures goes { IfOk result (λ step. Takes (λ t u. class_say u (t.text name.0) bases (map (λ x. t.text x.0) names.now) values.now) world.old world.new step) }
+    ensures safe { Leaves of_eval_kept world.old world.new result }
+{
+    let (bases, values) = values.split_at(bases);
+    let entries = merge(alloc, names, values)?;
+    call_metaclass(world, alloc, name, bases, &entries)
+}
+
+// A metaclass is called with a class's name, bases and entries.
+#[tactic(auto, unfolding(crate::specs::Say::eval_say, py_node::specs::BuiltIns::place_of))]
+fn call_metaclass(
+    world: &mut World,
+    alloc: Global,
+    name: PyStrInterned,
+    bases: &[PyObjectRef],
+    entries: &PyAttributes,
+) -> Result<Step<EvalKept>, OutOfMemory>
+    requires name { Holds world.old (IsName name) }
+    requires bases { Holds world.old (AreNodes bases.now) }
+    requires entries { AllHold world.old (of_each of_binding entries.now) }
+    ensures goes { IfOk result (λ step. Takes (λ t u. start (class_by u (t.text name.0) bases.now (bindings t entries.now)) (end u)) world.old world.new step) }
+    ensures safe { Leaves of_eval_kept world.old world.new result }
+{
+    let meta = metaclass(world, first(bases));
+    let name = new_text(world, alloc, name)?;
+    let bases = new_tuple(world, alloc, bases)?;
+    let dict = new_dict(world, alloc, entries)?;
+    let args = vec![in alloc; name, bases, dict]?;
+    let task = CallTask::Call(meta, args, Vec::new(alloc));
+    Ok(Step::Ask(Task::Call(task), EvalKept::Pass))
+}
+
+// A new tuple.
+#[tactic(auto, unfolding(py_node::specs::BuiltIns::place_of))]
+fn new_tuple(
+    world: &mut World,
+    alloc: Global,
+    items: &[PyObjectRef],
+) -> Result<PyObjectRef, OutOfMemory>
+    requires { Holds world.old (AreNodes items.now) }
+    ensures made { OnOk result ((t : Reading) → plain t world.new ≡ with_node (plain t world.old) the_tuple (ATuple items.now)) }
+    ensures number { IfOk result (λ r. (t : Reading) → r ≡ next_node (plain t world.old) the_tuple) }
+    ensures reads { (t : Reading) → Reads t world.new → Reads t world.old }
+    ensures grows { Grows world.old world.new }
+    ensures node { IfOk result (λ r. Holds world.new (IsNode r)) }
+{
+    let copy = copy_args(alloc, items)?;
+    let class = world.built_in(BuiltIn::Tuple);
+    world.make_node(alloc, class, Payload::Tuple(copy))
+}
+
+// A new dict: a new text for each name, with its value.
+#[tactic(auto, unfolding(py_node::specs::BuiltIns::place_of))]
+fn new_dict(
+    world: &mut World,
+    alloc: Global,
+    entries: &PyAttributes,
+) -> Result<PyObjectRef, OutOfMemory>
+    requires { AllHold world.old (of_each of_binding entries.now) }
+    ensures made { IfOk result (λ r. (t : Reading) → Reads t world.new → with_dict (keyed (plain t world.old) [] (bindings t entries.now)) ≡ (plain t world.new, r)) }
+    ensures reads { (t : Reading) → Reads t world.new → Reads t world.old }
+    ensures grows { Grows world.old world.new }
+    ensures node { IfOk result (λ r. Holds world.new (IsNode r)) }
+{
+    let pairs = key_all(world, alloc, entries)?;
+    let class = world.built_in(BuiltIn::Dict);
+    world.make_node(alloc, class, Payload::Dict(pairs))
+}
+
+// The first of some objects.
+fn first(objects: &[PyObjectRef]) -> Option<PyObjectRef>
+    ensures { result ≡ slice_get objects.now 0 }
+{
+    objects.first().copied()
+}
+
+// The class of the first base, or `type`.
+#[tactic(auto, unfolding(py_node::specs::BuiltIns::place_of))]
+fn metaclass(world: &World, first: Option<PyObjectRef>) -> PyObjectRef
+    requires { AllHold world.now (of_option of_node_ref first) }
+    ensures meta { (t : Reading) → metaclass (plain t world.now) first ≡ result }
+    ensures node { Holds world.now (IsNode result) }
+{
+    match first {
+        None => {
+            let class = world.built_in(BuiltIn::TypeType);
+            world.class_object(class)
+        }
+        Some(base) => world.type_object(base),
+    }
+}
+
+// A new text: that of a name.
+#[tactic(auto, unfolding(py_node::specs::BuiltIns::place_of))]
+fn new_text(
+    world: &mut World,
+    alloc: Global,
+    name: PyStrInterned,
+) -> Result<PyObjectRef, OutOfMemory>
+    requires { Holds world.old (IsName name) }
+    ensures made { OnOk result ((t : Reading) → Reads t world.old → plain t world.new ≡ with_node (plain t world.old) the_str (AText (t.text name.0))) }
+    ensures number { IfOk result (λ r. (t : Reading) → r ≡ next_node (plain t world.old) the_str) }
+    ensures reads { (t : Reading) → Reads t world.new → Reads t world.old }
+    ensures grows { Grows world.old world.new }
+    ensures node { IfOk result (λ r. Holds world.new (IsNode r)) }
+{
+    let text = world.spelling(alloc, name)?;
+    let class = world.built_in(BuiltIn::Str);
+    world.make_node(alloc, class, Payload::Text(text))
+}
+
+// The names with their values, of which the last one counts.
+fn merge(
+    alloc: Global,
+    names: &[PyStrInterned],
+    values: &[PyObjectRef],
+) -> Result<PyAttributes, OutOfMemory>
+    requires { length names.now ≡ length values.now }
+    ensures { IfOk result (λ a. a ≡ merged_names [] names.now values.now) }
+{
+    let mut merged = PyAttributes::new(alloc);
+    for i in 0..names.len() {
+        merged.insert(names[i], values[i])?;
+    }
+    Ok(merged)
+}
+
+// New texts for names, with their values.
+fn key_all(
+    world: &mut World,
+    alloc: Global,
+    entries: &PyAttributes,
+) -> Result<Vec<(PyObjectRef, PyObjectRef)>, OutOfMemory>
+    requires { AllHold world.old (of_each of_binding entries.now) }
+    ensures keyed { IfOk result (λ v. (t : Reading) → Reads t world.new → keyed (plain t world.old) [] (bindings t entries.now) ≡ (plain t world.new, v.items)) }
+    ensures reads { (t : Reading) → Reads t world.new → Reads t world.old }
+    ensures grows { Grows world.old world.new }
+    ensures pairs { IfOk result (λ v. ArePairs world.new v.items) }
+{
+    let mut pairs = Vec::new(alloc);
+    for i in 0..entries.len() {
+        let (name, value) = entries.at(i);
+        let key = new_text(world, alloc, name)?;
+        pairs.push((key, value))?;
+    }
+    Ok(pairs)
+}

@@ -1,0 +1,52 @@
+-- What is written for the classes that scripts made.
+use Rattle.std.specs.Prelude.{ℕ, zero, suc, cond, List, [], ◌∷◌, ◌++◌, codes, map, length, Option, Some, None, slice_get, option_map}
+use Rattle.std.specs.List.{flat_map}
+use Rattle.py_node.specs.declared.entry.SlotId.{SlotId}
+use Rattle.py_node.specs.declared.entry.SlotEntry.{SlotEntry}
+use Rattle.py_node.specs.declared.entry.SlotEntry.TheVariants.{Native, Wrapper, Unhashable}
+use Rattle.py_node.specs.Slots.{printed_name, all_slots}
+use Rattle.py_node.specs.Tree.{Text}
+use Rattle.class_model.specs.Class.{Classes, lin}
+use Rattle.class_model.specs.Slot.{Keys, is_heap_at, entry}
+use Rattle.class_model.specs.BuiltIn.{natives_of}
+use Rattle.reply_text.specs.Classes.{class_lines}
+use Rattle.plain_machine.specs.Plain.{PlainWorld}
+use Rattle.plain_machine.specs.World.{text_keys, or_empty}
+
+-- the word for a filled slot: its printed name, and `hash!` where it forbids the hash
+abbrev pub entry_word : SlotId → SlotEntry → Text
+entry_word s (Native n) = printed_name s
+entry_word s (Wrapper u) = printed_name s
+entry_word s Unhashable = codes "hash!"
+
+abbrev pub slot_words : SlotId → Option SlotEntry → List Text
+slot_words s None = []
+slot_words s (Some e) = entry_word s e ∷ []
+
+-- the words for those of some slots that the class itself has, in order
+abbrev pub own_words : {K : Type 0} → Keys K → Classes K → ℕ → List SlotId → List Text
+own_words keys t c slots = flat_map (λ s. slot_words s (entry keys natives_of t c s)) slots
+
+abbrev pub name_at : {K : Type 0} → Classes K → ℕ → Text
+name_at t c = or_empty (option_map (λ k. k.name) (slice_get t c))
+
+abbrev pub names_along : {K : Type 0} → Classes K → Option (List ℕ) → List Text
+names_along t None = []
+names_along t (Some line) = map (name_at t) line
+
+-- both lines of a class: the names along its linearisation, and its own filled slots
+abbrev pub class_text : {K : Type 0} → Keys K → Classes K → ℕ → Text
+class_text keys t c = class_lines (name_at t c) (names_along t (lin t c)) (own_words keys t c all_slots)
+
+-- a class that no script made has no lines
+abbrev pub heap_text : {K : Type 0} → Keys K → Classes K → ℕ → Text
+heap_text keys t c = cond (is_heap_at (slice_get t c)) (class_text keys t c) []
+
+-- of the first n classes
+abbrev pub text_below : {K : Type 0} → Keys K → Classes K → ℕ → Text
+text_below keys t zero = []
+text_below keys t (suc n) = text_below keys t n ++ heap_text keys t n
+
+-- the lines of each class that a script made, by number
+unfoldable pub classes_text : PlainWorld → Text
+classes_text w = text_below text_keys w.classes (length w.classes)

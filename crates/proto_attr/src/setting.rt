@@ -1,0 +1,193 @@
+// How attributes are set.
+#![tactic(auto, unfolding(crate::specs::Say::attribute_say, py_node::specs::BuiltIns::place_of))]
+
+ghost use Rattle.std.specs.Prelude.{◌≡◌, Some, IfOk};
+ghost use Rattle.class_world.specs.Sound.{AllHold, Holds, IsClass, IsNode, of_option, of_node_ref, of_class_ref};
+ghost use Rattle.class_world.specs.Claims.{of_attribute_task, of_step, Leaves};
+ghost use Rattle.class_world.specs.Reading.{Reading, Reads, plain, spelled};
+ghost use Rattle.plain_machine.specs.Objects.{class_object, special_at};
+ghost use Rattle.py_node.specs.declared.task.AttributeTask.TheVariants as attribute;
+ghost use Rattle.proto_attr.specs.Say.{set_by, set_in_class, sets, type_set_by};
+ghost use Rattle.proto_attr.specs.Rows.{Begins, Starts, number, of_attribute_kept};
+
+use crate::AttributeKept;
+use crate::special::both;
+use class_world::world::World;
+use py_node::built_in::BuiltIn;
+use py_node::entry::{NativeEntry, ObjectNative, SlotEntry, SlotId, TypeNative};
+use py_node::memory::OutOfMemory;
+use py_node::payload::Payload;
+use py_node::raised::{Cause, Kind, Raised};
+use py_node::refs::{PyObjectRef, PyStrInterned, PyTypeRef};
+use py_node::task::{Answer, AttributeTask, LaterTask, Step, Task};
+use std::alloc::Global;
+
+// An object's attribute is set.
+pub(crate) fn set_attr(
+    world: &mut World,
+    alloc: Global,
+    o: PyObjectRef,
+    name: PyStrInterned,
+    value: PyObjectRef,
+) -> Result<Step<AttributeKept>, OutOfMemory>
+    requires { AllHold world.old (of_attribute_task (attribute.SetAttr o name value)) }
+    ensures goes { IfOk result (λ step. Begins (attribute.SetAttr o name value) world.old world.new step) }
+    ensures safe { Leaves of_attribute_kept world.old world.new result }
+{
+    let entry = world.slot(o, SlotId::Setattro);
+    set_by(world, alloc, entry, o, name, value)
+}
+
+// The same, by what the object's class has for that.
+fn set_by(
+    world: &mut World,
+    alloc: Global,
+    entry: Option<SlotEntry>,
+    o: PyObjectRef,
+    name: PyStrInterned,
+    value: PyObjectRef,
+) -> Result<Step<AttributeKept>, OutOfMemory>
+    requires { AllHold world.old (of_attribute_task (attribute.SetAttr o name value)) }
+    ensures goes { IfOk result (λ step. Starts (attribute.SetAttr o name value) (λ t w. set_by w entry o (spelled t name) value) world.old world.new step) }
+    ensures safe { Leaves of_attribute_kept world.old world.new result }
+{
+    match entry {
+        Some(SlotEntry::Wrapper(_)) => set_by_method(world, alloc, o, name, value),
+        Some(SlotEntry::Native(NativeEntry::OfObject(ObjectNative::SetAttr))) => {
+            Ok(later(LaterTask::GenericSet))
+        }
+        Some(SlotEntry::Native(NativeEntry::OfType(TypeNative::SetAttr))) => {
+            let step = set_as_class(world, o, name, value);
+            Ok(step)
+        }
+        _ => Ok(later(LaterTask::Native)),
+    }
+}
+
+// What no stage so far has named is asked, and its answer passed on.
+fn later(task: LaterTask) -> Step<AttributeKept>
+    ensures { result ≡ Step.Ask (Task.Later task) AttributeKept.Pass }
+{
+    Step::Ask(Task::Later(task), AttributeKept::Pass)
+}
+
+// A special method sets the attribute. It is given the name as a new text.
+fn set_by_method(
+    world: &mut World,
+    alloc: Global,
+    o: PyObjectRef,
+    name: PyStrInterned,
+    value: PyObjectRef,
+) -> Result<Step<AttributeKept>, OutOfMemory>
+    requires { AllHold world.old (of_attribute_task (attribute.SetAttr o name value)) }
+    ensures goes { IfOk result (λ step. Starts (attribute.SetAttr o name value) (λ t w. set_by w (Some (SlotEntry.Wrapper SlotId.Setattro)) o (spelled t name) value) world.old world.new step) }
+    ensures safe { Leaves of_attribute_kept world.old world.new result }
+{
+    let text = world.spelling(alloc, name)?;
+    let class = world.built_in(BuiltIn::Str);
+    let node = world.make_node(alloc, class, Payload::Text(text))?;
+    let method = world.intern(alloc, "__setattr__")?;
+    let args = both(alloc, node, value)?;
+    let task = AttributeTask::Special(o, method, args, Vec::new(alloc));
+    Ok(Step::Ask(Task::Attribute(task), AttributeKept::Pass))
+}
+
+// The attribute of an object that stands for a class, if it does.
+fn set_as_class(
+    world: &World,
+    o: PyObjectRef,
+    name: PyStrInterned,
+    value: PyObjectRef,
+) -> Step<AttributeKept>
+    requires { AllHold world.now (of_attribute_task (attribute.SetAttr o name value)) }
+    ensures goes { Starts (attribute.SetAttr o name value) (λ t w. set_by w (Some (SlotEntry.Native (NativeEntry.OfType TypeNative.SetAttr))) o (spelled t name) value) world.now world.now result }
+    ensures safe { AllHold world.now (of_step of_attribute_kept result) }
+{
+    let class = world.class_number(o);
+    set_in_class(world, class, o, name, value)
+}
+
+// The same, by that class.
+fn set_in_class(
+    world: &World,
+    class: Option<PyTypeRef>,
+    o: PyObjectRef,
+    name: PyStrInterned,
+    value: PyObjectRef,
+) -> Step<AttributeKept>
+    requires task { AllHold world.now (of_attribute_task (attribute.SetAttr o name value)) }
+    requires class { AllHold world.now (of_option of_class_ref class) }
+    ensures goes { Starts (attribute.SetAttr o name value) (λ t w. set_in_class w (number class) (spelled t name) value) world.now world.now result }
+    ensures safe { AllHold world.now (of_step of_attribute_kept result) }
+{
+    match class {
+        None => later(LaterTask::GenericSet),
+        Some(class) => {
+            let task = AttributeTask::TypeSet(class, name, value);
+            Step::Ask(Task::Attribute(task), AttributeKept::Pass)
+        }
+    }
+}
+
+// A class's attribute is set by what its metaclass has under the name, or else in the class itself.
+pub(crate) fn type_set(
+    world: &mut World,
+    class: PyTypeRef,
+    name: PyStrInterned,
+    value: PyObjectRef,
+) -> Result<Step<AttributeKept>, OutOfMemory>
+    requires { AllHold world.old (of_attribute_task (attribute.TypeSet class name value)) }
+    ensures goes { IfOk result (λ step. Begins (attribute.TypeSet class name value) world.old world.new step) }
+    ensures safe { Leaves of_attribute_kept world.old world.new result }
+{
+    let by_descriptor = has_setter(world, class, name);
+    let heap = world.class_is_heap(class);
+    type_set_by(world, by_descriptor, heap, class, name, value)
+}
+
+// Whether the value that a class's metaclass has under a name sets attributes.
+fn has_setter(world: &World, class: PyTypeRef, name: PyStrInterned) -> bool
+    requires { Holds world.now (IsClass class.0) }
+    ensures { (t : Reading) → Reads t world.now → sets (plain t world.now) (special_at (plain t world.now) (class_object (plain t world.now) class.0) (spelled t name)) ≡ result }
+{
+    let object = world.class_object(class);
+    let found = world.special(object, name);
+    sets(world, found)
+}
+
+// Whether a value that was found is one that sets attributes.
+fn sets(world: &World, found: Option<PyObjectRef>) -> bool
+    requires { AllHold world.now (of_option of_node_ref found) }
+    ensures { (t : Reading) → Reads t world.now → sets (plain t world.now) found ≡ result }
+{
+    match found {
+        None => false,
+        Some(value) => world.slot(value, SlotId::DescrSet).is_some(),
+    }
+}
+
+// A class's attribute is set, by what was read. The class must be made by a script.
+fn type_set_by(
+    world: &mut World,
+    by_descriptor: bool,
+    heap: bool,
+    class: PyTypeRef,
+    name: PyStrInterned,
+    value: PyObjectRef,
+) -> Result<Step<AttributeKept>, OutOfMemory>
+    requires { AllHold world.old (of_attribute_task (attribute.TypeSet class name value)) }
+    ensures goes { IfOk result (λ step. Starts (attribute.TypeSet class name value) (λ t w. type_set_by w by_descriptor heap class.0 (spelled t name) value) world.old world.new step) }
+    ensures safe { Leaves of_attribute_kept world.old world.new result }
+{
+    if by_descriptor {
+        return Ok(later(LaterTask::DescrSet));
+    }
+    if !heap {
+        return Ok(Step::End(Err(Raised {
+            kind: Kind::TypeError,
+            cause: Cause::ImmutableType,
+        })));
+    }
+    world.set_class_attr(class, name, value)?;
+    Ok(Step::End(Ok(Answer::Done)))
+}

@@ -1,0 +1,34 @@
+-- What was read stands in what is decided.
+use Rattle.std.proofs.Common.{◌≡◌, ℕ, zero, suc, ◌<◌, List, ◌∷◌, length, get_or, sym, subst, arith}
+use Rattle.py_node.specs.declared.refs.PyObjectRef.{PyObjectRef}
+use Rattle.py_node.specs.declared.task.Step.{Step}
+use Rattle.plain_machine.specs.Plain.{PlainWorld, CallJob, Said}
+use Rattle.plain_machine.specs.Rows.{Pending}
+use Rattle.class_world.specs.declared.world.World.{World}
+use Rattle.class_world.specs.Held.{Held}
+use Rattle.class_world.specs.Reading.{Reading, Reads, plain}
+use Rattle.class_world.specs.Rows.{Steps, Follows}
+use Rattle.class_world.specs.Sound.{IsNode, AreNodes, Holds}
+use Rattle.proto_call.specs.declared.CallKept.{CallKept}
+use Rattle.proto_call.specs.Say.{call_job_say}
+use Rattle.proto_call.specs.Rows.{call_stands}
+
+-- a decision by the value that was read is one by what the plain world has
+pub by-read : {A : Type 0} (p : Reading → Pending CallJob) (F : Reading → PlainWorld → A → Said) (read : Reading → PlainWorld → A) (value : A) (old new : World) (step : Step CallKept) → ((t : Reading) → Reads t old → read t (plain t old) ≡ value) → Follows call_job_say call_stands p (λ t u. F t u value) old new step → Follows call_job_say call_stands p (λ t u. F t u (read t u)) old new step
+by-read p F read value old new step r f = λ t q.
+    let h = f t q in
+    (h.0, subst (λ a. Steps call_job_say (call_stands t) t (p t).task (p t).told (F t (plain t old) a) step new) (sym (r t h.0)) h.1)
+
+-- a decision in a world that stands for the same plain world
+pub from-same : (p : Reading → Pending CallJob) (F : Reading → PlainWorld → Said) (old mid new : World) (step : Step CallKept) → ((t : Reading) → plain t mid ≡ plain t old) → ((t : Reading) → Reads t mid → Reads t old) → Follows call_job_say call_stands p F mid new step → Follows call_job_say call_stands p F old new step
+from-same p F old mid new step same reads f = λ t q.
+    let h = f t q in
+    (reads t h.0, subst (λ u. Steps call_job_say (call_stands t) t (p t).task (p t).told (F t u) step new) (same t) h.1)
+
+pub first-node : (w : Held) (r : PyObjectRef) (rs : List PyObjectRef) → Holds w (IsNode r) → Holds w (AreNodes rs) → Holds w (AreNodes (r ∷ rs))
+unfolding Holds
+first-node w r rs h k = λ i d l. one i d l
+  where
+    one : (i : ℕ) (d : PyObjectRef) → i < length (r ∷ rs) → (get_or (r ∷ rs) i d).0 < length w.nodes
+    one zero d l = h
+    one (suc i) d l = k i d (omega arith)

@@ -1,0 +1,123 @@
+-- How arguments fill parameters, as a reading has them.
+use Rattle.std.proofs.Common.{◌≡◌, ℕ, zero, suc, ◌-◌, ◌<◌, ◌≤◌, Bool, true, cond, not, ◌&&◌, ◌||◌, List, [], ◌∷◌, length, take, drop, min, get_or, map, Option, Some, None, is_some, is_none, refl, sym, ap, ◌∙◌, subst, arith}
+use Rattle.std.specs.List.{list_any, list_all}
+use Rattle.std.proofs.lemmas.List.Elements.{All-take, All-drop}
+use Rattle.py_node.specs.declared.refs.PyObjectRef.{PyObjectRef}
+use Rattle.py_node.specs.declared.refs.PyStrInterned.{PyStrInterned}
+use Rattle.py_node.specs.Attributes.{value_of, with_value, is_same_name}
+use Rattle.py_node.specs.Tree.{Text}
+use Rattle.plain_machine.specs.Plain.{Bindings}
+use Rattle.plain_machine.specs.World.{is_text}
+use Rattle.class_world.specs.Held.{Held}
+use Rattle.class_world.specs.Reading.{Reading, spelled, bindings}
+use Rattle.class_world.specs.Sound.{IsName, AreNames, IsNode, AreNodes, Holds, AllHold, of_binding, of_each}
+use Rattle.class_world.proofs.Bound.{value-read, with_value-read}
+use Rattle.proto_call.specs.Say.{but_last, filled, left_over, is_member, value_at, with_keywords, all_filled}
+
+abbrev Names : Type 0
+Names = List PyStrInterned
+
+abbrev Bound : Type 0
+Bound = List (PyStrInterned × PyObjectRef)
+
+pub but_last-read : (f : PyStrInterned → Text) (xs : Names) (n : ℕ) → n ≡ length xs - 1 → map f (take n xs) ≡ but_last (map f xs)
+but_last-read f [] zero e = refl
+but_last-read f [] (suc n) e = refl
+but_last-read f (x ∷ []) zero e = refl
+but_last-read f (x ∷ []) (suc n) e = absurd (omega arith)
+but_last-read f (x ∷ (y ∷ ys)) zero e = absurd (omega arith)
+but_last-read f (x ∷ (y ∷ ys)) (suc n) e = ap (λ ts. f x ∷ ts) (but_last-read f (y ∷ ys) n (omega arith))
+
+pub left_over-read : (f : PyStrInterned → Text) (xs : Names) (args : List PyObjectRef) (n : ℕ) → n ≡ min (length xs) (length args) → drop n args ≡ left_over (map f xs) args
+left_over-read f [] args zero e = refl
+left_over-read f [] args (suc n) e = absurd (omega arith)
+left_over-read f (x ∷ xs) [] zero e = refl
+left_over-read f (x ∷ xs) [] (suc n) e = absurd (omega arith)
+left_over-read f (x ∷ xs) (v ∷ vs) zero e = absurd (omega arith)
+left_over-read f (x ∷ xs) (v ∷ vs) (suc n) e = left_over-read f xs vs n (omega arith)
+
+pub names-take : (w : Held) (xs : Names) (n : ℕ) → Holds w (AreNames xs) → Holds w (AreNames (take n xs))
+unfolding Holds
+names-take w xs n h = All-take (λ x. x.0 < length w.names) n xs h
+
+pub nodes-drop : (w : Held) (rs : List PyObjectRef) (n : ℕ) → Holds w (AreNodes rs) → Holds w (AreNodes (drop n rs))
+unfolding Holds
+nodes-drop w rs n h = All-drop (λ r. r.0 < length w.nodes) n rs h
+
+-- an element of a list, whatever stands for one that is past it
+pub same-at : {A : Type 0} (xs : List A) (n : ℕ) (d e : A) → n < length xs → get_or xs n d ≡ get_or xs n e
+same-at [] n d e l = absurd (omega arith)
+same-at (x ∷ xs) zero d e l = refl
+same-at (x ∷ xs) (suc n) d e l = same-at xs n d e (omega arith)
+
+-- one name of a list, and one node
+pub name-at : (w : Held) (xs : Names) (n : ℕ) (x : PyStrInterned) → Holds w (AreNames xs) → n < length xs → x ≡ get_or xs n x → Holds w (IsName x)
+unfolding Holds
+name-at w xs n x h l e = subst (λ y. y.0 < length w.names) (sym e) (h n x l)
+
+pub node-at : (w : Held) (rs : List PyObjectRef) (n : ℕ) (r : PyObjectRef) → Holds w (AreNodes rs) → n < length rs → r ≡ get_or rs n r → Holds w (IsNode r)
+unfolding Holds
+node-at w rs n r h l e = subst (λ y. y.0 < length w.nodes) (sym e) (h n r l)
+
+none-not : {A : Type 0} (o : Option A) → is_none o ≡ not (is_some o)
+none-not None = refl
+none-not (Some x) = refl
+
+module _ (t : Reading) where
+  -- one more argument fills its parameter
+  pub filled-step : (vars : Bound) (xs : Names) (args : List PyObjectRef) (n : ℕ) (x : PyStrInterned) (v : PyObjectRef) → n < length xs → n < length args → x ≡ get_or xs n x → v ≡ get_or args n v → filled (bindings t (with_value is_same_name vars x v)) (map (spelled t) (drop (suc n) xs)) (drop (suc n) args) ≡ filled (bindings t vars) (map (spelled t) (drop n xs)) (drop n args)
+  filled-step vars [] args n x v l m e f = absurd (omega arith)
+  filled-step vars (y ∷ xs) [] n x v l m e f = absurd (omega arith)
+  filled-step vars (y ∷ xs) (u ∷ args) zero x v l m e f =
+      ap (λ vs. filled vs (map (spelled t) xs) args) (with_value-read t vars x v)
+      ∙ ap (λ (k : PyStrInterned). filled (with_value is_text (bindings t vars) (spelled t k) v) (map (spelled t) xs) args) e
+      ∙ ap (λ (r : PyObjectRef). filled (with_value is_text (bindings t vars) (spelled t y) r) (map (spelled t) xs) args) f
+  filled-step vars (y ∷ xs) (u ∷ args) (suc n) x v l m e f = filled-step vars xs args n x v (omega arith) (omega arith) e f
+
+  -- no parameter is left, or no argument
+  pub filled-end : (vars : Bindings) (xs : Names) (args : List PyObjectRef) (n : ℕ) → n ≡ min (length xs) (length args) → filled vars (map (spelled t) (drop n xs)) (drop n args) ≡ vars
+  filled-end vars [] args zero e = refl
+  filled-end vars [] args (suc n) e = absurd (omega arith)
+  filled-end vars (x ∷ xs) [] zero e = refl
+  filled-end vars (x ∷ xs) [] (suc n) e = absurd (omega arith)
+  filled-end vars (x ∷ xs) (v ∷ args) zero e = absurd (omega arith)
+  filled-end vars (x ∷ xs) (v ∷ args) (suc n) e = filled-end vars xs args n (omega arith)
+
+  pub is_member-read : (xs : Names) (x : PyStrInterned) → is_member (map (spelled t) xs) (spelled t x) ≡ list_any (λ y. is_same_name y x) xs
+  is_member-read [] x = refl
+  is_member-read (y ∷ xs) x =
+      ap (λ b. b || is_member (map (spelled t) xs) (spelled t x)) (t.same y.0 x.0) ∙ ap (λ b. is_same_name y x || b) (is_member-read xs x)
+
+  pub all_filled-read : (vars : Bound) (xs : Names) → all_filled (bindings t vars) (map (spelled t) xs) ≡ list_all (λ x. is_some (value_of (λ k. is_same_name k x) vars)) xs
+  all_filled-read vars [] = refl
+  all_filled-read vars (x ∷ xs) =
+      ap (λ o. is_some o && all_filled (bindings t vars) (map (spelled t) xs)) (value-read t vars x) ∙ ap (λ b. is_some (value_of (λ k. is_same_name k x) vars) && b) (all_filled-read vars xs)
+
+  -- a keyword that names a parameter fills it where it has no value
+  pub open-read : (ps : List Text) (vars : Bound) (x : PyStrInterned) (has : Bool) → is_member ps (spelled t x) ≡ true → has ≡ is_some (value_of (λ k. is_same_name k x) vars) → (is_member ps (spelled t x) && is_none (value_at (bindings t vars) (spelled t x))) ≡ not has
+  open-read ps vars x has e h =
+      ap (λ b. b && is_none (value_at (bindings t vars) (spelled t x))) e ∙ ap (λ o. is_none o) (value-read t vars x) ∙ none-not (value_of (λ k. is_same_name k x) vars) ∙ ap not (sym h)
+
+  -- the next keyword fills a parameter, where it may
+  pub keyword-step : (ps : List Text) (vars : Bindings) (kw : Bound) (n : ℕ) (k : PyStrInterned × PyObjectRef) → n < length kw → k ≡ get_or kw n k → with_keywords ps vars (bindings t (drop n kw)) ≡ cond (is_member ps (spelled t k.0) && is_none (value_at vars (spelled t k.0))) (with_keywords ps (with_value is_text vars (spelled t k.0) k.1) (bindings t (drop (suc n) kw))) None
+  keyword-step ps vars [] n k l e = absurd (omega arith)
+  keyword-step ps vars (j ∷ kw) zero k l e =
+      ap (λ (k : PyStrInterned × PyObjectRef). cond (is_member ps (spelled t k.0) && is_none (value_at vars (spelled t k.0))) (with_keywords ps (with_value is_text vars (spelled t k.0) k.1) (bindings t kw)) None) (sym e)
+  keyword-step ps vars (j ∷ kw) (suc n) k l e = keyword-step ps vars kw n k (omega arith) e
+
+  pub keyword-next : (ps : List Text) (vars : Bound) (kw : Bound) (n : ℕ) (k : PyStrInterned × PyObjectRef) → n < length kw → k ≡ get_or kw n k → (is_member ps (spelled t k.0) && is_none (value_at (bindings t vars) (spelled t k.0))) ≡ true → with_keywords ps (bindings t vars) (bindings t (drop n kw)) ≡ with_keywords ps (bindings t (with_value is_same_name vars k.0 k.1)) (bindings t (drop (suc n) kw))
+  keyword-next ps vars kw n k l e free =
+      keyword-step ps (bindings t vars) kw n k l e
+      ∙ ap (λ b. cond b (with_keywords ps (with_value is_text (bindings t vars) (spelled t k.0) k.1) (bindings t (drop (suc n) kw))) None) free
+      ∙ ap (λ vs. with_keywords ps vs (bindings t (drop (suc n) kw))) (sym (with_value-read t vars k.0 k.1))
+
+  pub keywords-end : (ps : List Text) (vars : Bindings) (kw : Bound) (n : ℕ) → length kw ≤ n → with_keywords ps vars (bindings t (drop n kw)) ≡ Some vars
+  keywords-end ps vars [] zero l = refl
+  keywords-end ps vars [] (suc n) l = refl
+  keywords-end ps vars (k ∷ kw) zero l = absurd (omega arith)
+  keywords-end ps vars (k ∷ kw) (suc n) l = keywords-end ps vars kw n (omega arith)
+
+pub binding-at : (w : Held) (bs : Bound) (n : ℕ) (b : PyStrInterned × PyObjectRef) → AllHold w (of_each of_binding bs) → n < length bs → b ≡ get_or bs n b → Holds w (IsName b.0) × Holds w (IsNode b.1)
+binding-at w [] n b h l e = absurd (omega arith)
+binding-at w (c ∷ bs) zero b h l e = subst (λ (b : PyStrInterned × PyObjectRef). Holds w (IsName b.0) × Holds w (IsNode b.1)) (sym e) (h.0, h.1.0)
+binding-at w (c ∷ bs) (suc n) b h l e = binding-at w bs n b h.1.1 (omega arith) e

@@ -1,0 +1,20 @@
+use Rattle.std.proofs.Common.{◌-◌, length, arith, get_or}
+use Rattle.class_world.specs.Reading.{spelled}
+use Rattle.py_node.specs.declared.refs.PyStrInterned.{PyStrInterned}
+use Rattle.proto_call.proofs.Entered.{last-read}
+use Rattle.proto_call.proofs.Filling.{name-at, same-at}
+use Rattle.proto_call.proofs.body.last_name.Goals as goal
+
+pub returns-in-len1-up-clause-spelled : goal.returns-in-len1-up-clause-spelled
+returns-in-len1-up-clause-spelled c = λ t r.
+    let xs = c.args.names.now in
+    let n = length xs - 1 in
+    let x : PyStrInterned = get_or xs n (record { 0 = 0 }) in
+    last-read (spelled t) xs n x (omega (arith, c.in-len1-up.len_at_least)) (same-at xs n (record { 0 = 0 }) x (omega (arith, c.in-len1-up.len_at_least)))
+
+pub returns-in-len1-up-clause-holds : goal.returns-in-len1-up-clause-holds
+returns-in-len1-up-clause-holds c =
+    let xs = c.args.names.now in
+    let n = length xs - 1 in
+    let x : PyStrInterned = get_or xs n (record { 0 = 0 }) in
+    name-at c.args.world.now xs n x c.requires (omega (arith, c.in-len1-up.len_at_least)) (same-at xs n (record { 0 = 0 }) x (omega (arith, c.in-len1-up.len_at_least)))

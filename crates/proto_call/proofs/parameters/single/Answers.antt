@@ -1,0 +1,11 @@
+use Rattle.std.proofs.Common.{◌-◌, length, refl}
+use Rattle.class_world.specs.Reading.{spelled}
+use Rattle.proto_call.proofs.Filling.{but_last-read, names-take}
+use Rattle.proto_call.proofs.parameters.single.Goals as goal
+
+pub returns-in-len1-up-clause-names : goal.returns-in-len1-up-clause-names
+returns-in-len1-up-clause-names c = λ t.
+    rw c.if-rest.true (but_last-read (spelled t) c.args.params.now (length c.args.params.now - 1) refl)
+
+pub returns-in-len1-up-clause-holds : goal.returns-in-len1-up-clause-holds
+returns-in-len1-up-clause-holds c = λ w h. names-take w c.args.params.now (length c.args.params.now - 1) h

@@ -1,0 +1,46 @@
+-- What the contracts of the row of a body say: its words, for a function of the code.
+use Rattle.std.specs.Prelude.{◌≡◌, List, Option, Some, None, map}
+use Rattle.py_node.specs.declared.refs.PyObjectRef.{PyObjectRef}
+use Rattle.py_node.specs.declared.refs.PyStrInterned.{PyStrInterned}
+use Rattle.py_node.specs.declared.payload.Function.{Function}
+use Rattle.py_node.specs.declared.payload.Payload.TheVariants as payload
+use Rattle.py_node.specs.declared.task.Step.{Step}
+use Rattle.plain_machine.specs.Plain.{Datum, PlainWorld, Bindings, DoBody, Said}
+use Rattle.plain_machine.specs.Rows.{fresh}
+use Rattle.class_world.specs.declared.world.World.{World}
+use Rattle.class_world.specs.Reading.{Reading, spelled, datum, bindings}
+use Rattle.class_world.specs.Rows.{Follows}
+use Rattle.class_world.specs.Sound.{Claim, of_payload}
+use Rattle.proto_call.specs.declared.CallKept.{CallKept}
+use Rattle.proto_call.specs.Say.{call_job_say, opened, by_keywords, by_place, body_by}
+use Rattle.proto_call.specs.Rows.{call_stands}
+
+-- the row of a body, whichever it is, begins with what is decided so
+abbrev pub Enters : (Reading → PlainWorld → Said) → World → World → Step CallKept → Type 0
+Enters said old new step =
+    (f : PyObjectRef) (args : List PyObjectRef) (kw : Reading → Bindings) → Follows call_job_say call_stands (λ t. fresh (DoBody f args (kw t))) said old new step
+
+abbrev pub datum_of : Reading → Option Function → Option Datum
+datum_of t None = None
+datum_of t (Some g) = Some (datum t (payload.Function g))
+
+-- what is said of a function's numbers
+abbrev pub of_function : Function → List Claim
+of_function g = of_payload (payload.Function g)
+
+-- the words of the row, for a function of the code
+
+abbrev pub opened_of : Function → PyObjectRef → List (PyStrInterned × PyObjectRef) → Reading → PlainWorld → Said
+opened_of g f vars t w = opened w f (spelled t g.name) (map (spelled t) g.params.items) (t.tree g.body) (bindings t vars)
+
+abbrev pub by_keywords_of : Function → PyObjectRef → List (PyStrInterned × PyObjectRef) → List (PyStrInterned × PyObjectRef) → Reading → PlainWorld → Said
+by_keywords_of g f vars kw t w =
+    by_keywords w f (spelled t g.name) (map (spelled t) g.params.items) g.rest (t.tree g.body) (bindings t vars) (bindings t kw)
+
+abbrev pub by_place_of : Function → PyObjectRef → List PyObjectRef → List (PyStrInterned × PyObjectRef) → Reading → PlainWorld → Said
+by_place_of g f args kw t w =
+    by_place w f (spelled t g.name) (map (spelled t) g.params.items) g.rest (t.tree g.body) args (bindings t kw)
+
+-- a body runs as that of this function, if of any
+abbrev pub RunsAs : Option Datum → Option Datum → Type 0
+RunsAs d e = (w : PlainWorld) (f : PyObjectRef) (args : List PyObjectRef) (kw : Bindings) → body_by w d f args kw ≡ body_by w e f args kw

@@ -1,0 +1,52 @@
+-- What the contracts of the rows of calls say.
+use Rattle.std.specs.Prelude.{false, List, [], ◌∷◌, Result}
+use Rattle.py_node.specs.declared.raised.Raised.{Raised as Fault}
+use Rattle.py_node.specs.declared.task.Answer.{Answer}
+use Rattle.py_node.specs.declared.task.CallTask.{CallTask}
+use Rattle.py_node.specs.declared.task.Step.{Step}
+use Rattle.plain_machine.specs.Plain.{PlainWorld, CallJob, DoCall, DoBody, DoTypeCall, DoInit, Answered, Chose, Said}
+use Rattle.plain_machine.specs.World.{ref}
+use Rattle.plain_machine.specs.Row.{value}
+use Rattle.plain_machine.specs.Rows.{Pending, fresh, given}
+use Rattle.class_world.specs.declared.world.World.{World}
+use Rattle.class_world.specs.Reading.{Reading, bindings, call_job}
+use Rattle.class_world.specs.Rows.{Goes, Follows}
+use Rattle.class_world.specs.Sound.{Claim, IsNode, IsClass}
+use Rattle.class_world.specs.Claims.{of_args}
+use Rattle.proto_call.specs.declared.CallKept.{CallKept}
+use Rattle.proto_call.specs.declared.CallKept.TheVariants.{Pass, Scope, AfterNew, AfterInit, AfterSpecialInit}
+use Rattle.proto_call.specs.Say.{call_job_say}
+
+-- the row that goes on, at each answer, just as the row that the code keeps this for
+abbrev pub call_stands : Reading → CallKept → Pending CallJob
+call_stands t Pass = record { task = DoCall (ref 0) [] []; told = [] }
+call_stands t Scope = record { task = DoBody (ref 0) [] []; told = [] }
+call_stands t (AfterNew c args kw) = record { task = DoTypeCall c.0 args.items (bindings t kw.items); told = [] }
+call_stands t (AfterInit o) = record { task = DoTypeCall 0 [] []; told = Answered (value o) ∷ [] }
+call_stands t AfterSpecialInit = record { task = DoInit (ref 0) [] []; told = Chose false ∷ [] }
+
+-- what is said of what is kept
+abbrev pub of_call_kept : CallKept → List Claim
+of_call_kept Pass = []
+of_call_kept Scope = []
+of_call_kept (AfterNew c args kw) = IsClass c.0 ∷ of_args args.items kw.items
+of_call_kept (AfterInit o) = IsNode o ∷ []
+of_call_kept AfterSpecialInit = []
+
+abbrev pub Begins : CallTask → World → World → Step CallKept → Type 0
+Begins task = Goes call_job_say call_stands (λ t. fresh (call_job t task))
+
+abbrev pub Resumes : CallKept → Result Answer Fault → World → World → Step CallKept → Type 0
+Resumes kept r = Goes call_job_say call_stands (λ t. given (call_stands t kept) r)
+
+-- a task begins with what is decided so
+abbrev pub Decides : CallTask → (Reading → PlainWorld → Said) → World → World → Step CallKept → Type 0
+Decides task = Follows call_job_say call_stands (λ t. fresh (call_job t task))
+
+-- a row goes on at an answer with what is decided so
+abbrev pub Continues : CallKept → Result Answer Fault → (Reading → PlainWorld → Said) → World → World → Step CallKept → Type 0
+Continues kept r = Follows call_job_say call_stands (λ t. given (call_stands t kept) r)
+
+-- any row ends as is decided so
+abbrev pub Closes : (Reading → PlainWorld → Said) → World → World → Step CallKept → Type 0
+Closes said old new step = (p : Reading → Pending CallJob) → Follows call_job_say call_stands p said old new step

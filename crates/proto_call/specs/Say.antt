@@ -1,0 +1,244 @@
+-- What the rows of calls say.
+use Rattle.std.specs.Prelude.{ℕ, Bool, true, false, cond, not, eqb, ◌&&◌, ◌||◌, codes, List, [], ◌∷◌, Option, Some, None, Ok, is_some, is_none, map}
+use Rattle.py_node.specs.declared.refs.PyObjectRef.{PyObjectRef}
+use Rattle.py_node.specs.declared.raised.Kind.TheVariants.{TypeError, AttributeError, NotImplementedError}
+use Rattle.py_node.specs.declared.raised.Cause.TheVariants.{AbstractMethods, ArgCount, CannotCreate, InitNotNone, NoSpecial, NotCallable, NotYet, SelfType, UnexpectedKeyword, UnsafeNew}
+use Rattle.py_node.specs.declared.entry.SlotId.TheVariants.{Call, Init, New}
+use Rattle.py_node.specs.declared.entry.SlotEntry.{SlotEntry}
+use Rattle.py_node.specs.declared.entry.SlotEntry.TheVariants.{Native, Wrapper}
+use Rattle.py_node.specs.declared.entry.NativeEntry.{NativeEntry}
+use Rattle.py_node.specs.declared.entry.NativeEntry.TheVariants.{OfType, OfCallable}
+use Rattle.py_node.specs.declared.entry.ObjectNative.{ObjectNative}
+use Rattle.py_node.specs.declared.entry.ObjectNative.TheVariants as object
+use Rattle.py_node.specs.declared.entry.TypeNative.TheVariants as type
+use Rattle.py_node.specs.declared.entry.CallableNative.TheVariants as callable
+use Rattle.py_node.specs.declared.task.Answer.TheVariants.{Done}
+use Rattle.py_node.specs.declared.task.LaterTask.TheVariants as later
+use Rattle.py_node.specs.Attributes.{value_of, with_value}
+use Rattle.py_node.specs.Tree.{Text, Tree}
+use Rattle.py_node.specs.Replies.{Started}
+use Rattle.class_model.specs.Class.{found}
+use Rattle.class_model.specs.Slot.{slot}
+use Rattle.class_model.specs.BuiltIn.{natives_of}
+use Rattle.plain_machine.specs.Plain.{Datum, AnObject, AClass, AFunction, AMethod, ANativeFunction, ABuiltinMethod, AMethodDescriptor, ATuple, PlainWorld, Bindings, DoEval, CallJob, DoCall, DoBody, DoTypeCall, DoNew, DoInit, DoObject, DoSpecial, PlainTask, ToEval, ToAttribute, ToCall, ToLater, Ended, Chose, Said, Asks, Ends}
+use Rattle.plain_machine.specs.World.{is_text, datum_at, slot_at, text_keys, with_node, next_node, with_scope, without_scope}
+use Rattle.plain_machine.specs.Objects.{class_object, class_number, is_instance, nearest_built_in}
+use Rattle.plain_machine.specs.Native.{native_task}
+use Rattle.plain_machine.specs.Show.{show}
+use Rattle.plain_machine.specs.Row.{Row, start, fork, ask, pass, end, value, fault, none, on_value, on_done}
+
+abbrev pub the_object : ℕ
+the_object = 0
+
+abbrev pub the_type : ℕ
+the_type = 1
+
+abbrev pub the_tuple : ℕ
+the_tuple = 7
+
+abbrev pub is_empty : {A : Type 0} → List A → Bool
+is_empty [] = true
+is_empty (x ∷ xs) = false
+
+-- Call
+
+abbrev pub with_self : Option PyObjectRef → List PyObjectRef → List PyObjectRef
+with_self None args = args
+with_self (Some r) args = r ∷ args
+
+-- what the native entry for calls does with what the object holds: a body runs, a bound function is called with its object first, a native is asked, a class makes an object
+abbrev pub call_native : PlainWorld → NativeEntry → Option Datum → PyObjectRef → List PyObjectRef → Bindings → PlainTask
+call_native w (OfCallable callable.CallFunction) d f args kw = ToCall (DoBody f args kw)
+call_native w (OfCallable callable.CallMethod) (Some (AMethod o g)) f args kw = ToCall (DoCall g (o ∷ args) kw)
+call_native w (OfCallable callable.CallNativeFunction) (Some (ANativeFunction x n o)) f args kw = native_task n (with_self o args) kw
+call_native w (OfCallable callable.CallBuiltinMethod) (Some (ABuiltinMethod x n o)) f args kw = native_task n (o ∷ args) kw
+call_native w (OfCallable callable.CallMethodDescriptor) (Some (AMethodDescriptor c x n flags)) f args kw = native_task n args kw
+call_native w (OfType type.Call) (Some (AClass c)) f args kw = ToCall (DoTypeCall c args kw)
+call_native w _ d f args kw = ToLater later.Native
+
+abbrev pub call_by : PlainWorld → Option SlotEntry → PyObjectRef → List PyObjectRef → Bindings → Said
+call_by w (Some (Native n)) f args kw = pass w (call_native w n (datum_at w f) f args kw)
+call_by w (Some (Wrapper s)) f args kw = pass w (ToAttribute (DoSpecial f (codes "__call__") args kw))
+call_by w _ f args kw = Ends w (fault TypeError NotCallable)
+
+abbrev pub call_say : PlainWorld → PyObjectRef → List PyObjectRef → Bindings → Row
+call_say w f args kw = start (call_by w (slot_at w f Call) f args kw) (end w)
+
+-- Body
+
+abbrev pub is_member : List Text → Text → Bool
+is_member [] x = false
+is_member (y ∷ ys) x = is_text y x || is_member ys x
+
+-- the parameters but the last
+abbrev pub but_last : List Text → List Text
+but_last [] = []
+but_last (x ∷ []) = []
+but_last (x ∷ (y ∷ ys)) = x ∷ but_last (y ∷ ys)
+
+abbrev pub last_of : List Text → Text
+last_of [] = []
+last_of (x ∷ []) = x
+last_of (x ∷ (y ∷ ys)) = last_of (y ∷ ys)
+
+-- the parameters that take one argument each: all, or all but the last where that takes the rest
+abbrev pub single : Bool → List Text → List Text
+single rest params = cond rest (but_last params) params
+
+-- arguments fill parameters by place
+abbrev pub filled : Bindings → List Text → List PyObjectRef → Bindings
+filled vars [] args = vars
+filled vars (x ∷ xs) [] = vars
+filled vars (x ∷ xs) (v ∷ vs) = filled (with_value is_text vars x v) xs vs
+
+-- the arguments past the parameters
+abbrev pub left_over : List Text → List PyObjectRef → List PyObjectRef
+left_over [] args = args
+left_over (x ∷ xs) [] = []
+left_over (x ∷ xs) (v ∷ vs) = left_over xs vs
+
+abbrev pub value_at : Bindings → Text → Option PyObjectRef
+value_at vars x = value_of (λ y. is_text y x) vars
+
+-- keywords fill parameters that have no value yet
+abbrev pub with_keywords : List Text → Bindings → Bindings → Option Bindings
+with_keywords params vars [] = Some vars
+with_keywords params vars (k ∷ kw) =
+    cond (is_member params k.0 && is_none (value_at vars k.0)) (with_keywords params (with_value is_text vars k.0 k.1) kw) None
+
+abbrev pub all_filled : Bindings → List Text → Bool
+all_filled vars [] = true
+all_filled vars (x ∷ xs) = is_some (value_at vars x) && all_filled vars xs
+
+abbrev pub value_text : PlainWorld → Option PyObjectRef → Text
+value_text w None = []
+value_text w (Some v) = show w v
+
+-- the text of a parameter's value
+abbrev pub shown : PlainWorld → Bindings → Text → Text
+shown w vars x = value_text w (value_at vars x)
+
+abbrev pub started : PlainWorld → Text → List Text → Bindings → Started
+started w x params vars = record { name = x; args = map (shown w vars) params }
+
+-- every parameter has a value: the body's scope opens, its start is noted, and it is evaluated
+abbrev pub opened : PlainWorld → PyObjectRef → Text → List Text → Tree → Bindings → Said
+opened w f x params body vars = pass (with_scope w (record { func = f; vars = vars }) (started w x params vars)) (ToEval (DoEval body))
+
+abbrev pub when_filled : PlainWorld → PyObjectRef → Text → List Text → Bool → Tree → Option Bindings → Said
+when_filled w f x params rest body None = Ends w (fault TypeError UnexpectedKeyword)
+when_filled w f x params rest body (Some vars) =
+    cond (all_filled vars (single rest params)) (opened w f x params body vars) (Ends w (fault TypeError ArgCount))
+
+abbrev pub by_keywords : PlainWorld → PyObjectRef → Text → List Text → Bool → Tree → Bindings → Bindings → Said
+by_keywords w f x params rest body vars kw = when_filled w f x params rest body (with_keywords (single rest params) vars kw)
+
+-- the arguments that are left over are a new tuple, for the parameter that takes the rest; without one there may be none
+abbrev pub by_place : PlainWorld → PyObjectRef → Text → List Text → Bool → Tree → List PyObjectRef → Bindings → Said
+by_place w f x params false body args kw =
+    cond (is_empty (left_over params args)) (by_keywords w f x params false body (filled [] params args) kw) (Ends w (fault TypeError ArgCount))
+by_place w f x params true body args kw =
+    by_keywords (with_node w the_tuple (ATuple (left_over (but_last params) args))) f x params true body
+    (with_value is_text (filled [] (but_last params) args) (last_of params) (next_node w the_tuple)) kw
+
+abbrev pub body_by : PlainWorld → Option Datum → PyObjectRef → List PyObjectRef → Bindings → Said
+body_by w (Some (AFunction x params rest body c)) f args kw = by_place w f x params rest body args kw
+body_by w _ f args kw = Ends w (fault TypeError NotCallable)
+
+-- the scope is taken away however the body ends
+abbrev pub body_say : PlainWorld → PyObjectRef → List PyObjectRef → Bindings → Row
+body_say w f args kw = start (body_by w (datum_at w f) f args kw) (λ r. end (without_scope w) r)
+
+-- TypeCall
+
+-- the new object is initialised, unless `type` was asked for a class, or the object isn't one of the class
+abbrev pub initialised : PlainWorld → ℕ → List PyObjectRef → Bindings → PyObjectRef → Said
+initialised w c args kw o = cond ((eqb c the_type && is_empty kw) || not (is_instance w o c)) (Ends w (value o)) (pass w (ToCall (DoInit o args kw)))
+
+abbrev pub type_call_say : PlainWorld → ℕ → List PyObjectRef → Bindings → Row
+type_call_say w c args kw =
+    ask w (ToCall (DoNew c c args kw)) (λ r. on_value w r (λ o. start (initialised w c args kw o) (λ s. on_done w s (end w (value o)))))
+
+-- New
+
+abbrev pub new_found : PlainWorld → Option PyObjectRef → ℕ → List PyObjectRef → Bindings → Said
+new_found w None c args kw = Ends w (fault AttributeError NoSpecial)
+new_found w (Some f) c args kw = pass w (ToCall (DoCall f (class_object w c ∷ args) kw))
+
+abbrev pub new_by : PlainWorld → Option SlotEntry → ℕ → List PyObjectRef → Bindings → Said
+new_by w (Some (Native n)) c args kw = pass w (native_task n (class_object w c ∷ args) kw)
+new_by w (Some (Wrapper s)) c args kw = new_found w (found is_text w.classes c (codes "__new__")) c args kw
+new_by w _ c args kw = Ends w (fault TypeError CannotCreate)
+
+abbrev pub new_say : PlainWorld → ℕ → ℕ → List PyObjectRef → Bindings → Row
+new_say w k c args kw = start (new_by w (slot text_keys natives_of w.classes k New) c args kw) (end w)
+
+-- Init
+
+abbrev pub init_by : PlainWorld → Option SlotEntry → PyObjectRef → List PyObjectRef → Bindings → Said
+init_by w (Some (Native n)) o args kw = Asks w (Chose true ∷ []) (native_task n (o ∷ args) kw)
+init_by w (Some (Wrapper s)) o args kw = Asks w (Chose false ∷ []) (ToAttribute (DoSpecial o (codes "__init__") args kw))
+init_by w _ o args kw = Ends w (Ok Done)
+
+-- a method that initialises must give None
+abbrev pub init_rest : PlainWorld → Bool → Ended → Row
+init_rest w native r = cond native (end w r) (on_value w r (λ v. cond (eqb v.0 23) (end w (value v)) (end w (fault TypeError InitNotNone))))
+
+abbrev pub init_say : PlainWorld → PyObjectRef → List PyObjectRef → Bindings → Row
+init_say w o args kw = fork (init_by w (slot_at w o Init) o args kw) (init_rest w)
+
+-- the natives of `object`
+
+abbrev pub has_items : Option Datum → Bool
+has_items (Some (ATuple rs)) = not (is_empty rs)
+has_items _ = false
+
+abbrev pub is_abstract : PlainWorld → Option PyObjectRef → Bool
+is_abstract w None = false
+is_abstract w (Some r) = has_items (datum_at w r)
+
+abbrev pub unless_abstract : PlainWorld → Bool → ℕ → Said
+unless_abstract w true c = Ends w (fault TypeError AbstractMethods)
+unless_abstract w false c = Ends (with_node w c AnObject) (value (next_node w c))
+
+-- a new object of a class, whose objects must be plain ones, and which may leave no method abstract
+abbrev pub created : PlainWorld → Option ℕ → ℕ → Said
+created w None c = Ends w (fault TypeError UnsafeNew)
+created w (Some b) c =
+    cond (not (eqb b the_object)) (Ends w (fault TypeError UnsafeNew)) (unless_abstract w (is_abstract w (found is_text w.classes c (codes "__abstractmethods__"))) c)
+
+abbrev pub new_of_class : PlainWorld → Option ℕ → Said
+new_of_class w None = Ends w (fault TypeError SelfType)
+new_of_class w (Some c) = created w (nearest_built_in w.classes c) c
+
+abbrev pub object_new : PlainWorld → List PyObjectRef → Said
+object_new w [] = Ends w (fault TypeError ArgCount)
+object_new w (c ∷ args) = new_of_class w (class_number (datum_at w c))
+
+-- any arguments will do
+abbrev pub object_init : PlainWorld → List PyObjectRef → Said
+object_init w [] = Ends w (fault TypeError ArgCount)
+object_init w (o ∷ args) = Ends w (value none)
+
+-- the class alone, and no keyword
+abbrev pub object_init_subclass : PlainWorld → List PyObjectRef → Bindings → Said
+object_init_subclass w (c ∷ []) [] = Ends w (value none)
+object_init_subclass w (c ∷ []) (k ∷ kw) = Ends w (fault TypeError UnexpectedKeyword)
+object_init_subclass w _ kw = Ends w (fault TypeError ArgCount)
+
+abbrev pub object_by : PlainWorld → ObjectNative → List PyObjectRef → Bindings → Said
+object_by w object.New args kw = object_new w args
+object_by w object.Init args kw = object_init w args
+object_by w object.InitSubclass args kw = object_init_subclass w args kw
+object_by w _ args kw = Ends w (fault NotImplementedError NotYet)
+
+abbrev pub object_say : PlainWorld → ObjectNative → List PyObjectRef → Bindings → Row
+object_say w n args kw = start (object_by w n args kw) (end w)
+
+unfoldable pub call_job_say : PlainWorld → CallJob → Row
+call_job_say w (DoCall f args kw) told = call_say w f args kw told
+call_job_say w (DoBody f args kw) told = body_say w f args kw told
+call_job_say w (DoTypeCall c args kw) told = type_call_say w c args kw told
+call_job_say w (DoNew k c args kw) told = new_say w k c args kw told
+call_job_say w (DoInit o args kw) told = init_say w o args kw told
+call_job_say w (DoObject n args kw) told = object_say w n args kw told

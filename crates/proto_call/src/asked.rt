@@ -1,0 +1,52 @@
+// What several rows ask, and how they refuse.
+
+ghost use Rattle.std.specs.Prelude.{◌≡◌, ◌∷◌, IfOk};
+ghost use Rattle.plain_machine.specs.Plain.{ToAttribute, DoSpecial};
+ghost use Rattle.class_world.specs.Sound.{AllHold, Holds, Grows, IsNode, AreNodes};
+ghost use Rattle.class_world.specs.Claims.{of_args, of_task};
+ghost use Rattle.class_world.specs.Reading.{Reading, Reads, bindings, plain, task_of};
+
+use crate::CallKept;
+use class_world::args::with_first;
+use class_world::world::World;
+use py_node::memory::OutOfMemory;
+use py_node::raised::{Cause, Kind, Raised};
+use py_node::refs::PyObjectRef;
+use py_node::task::{Args, AttributeTask, Keywords, Step, Task};
+use std::alloc::Global;
+
+/// The arguments with an object before them.
+pub(crate) fn bound(alloc: Global, object: PyObjectRef, args: Args) -> Result<Args, OutOfMemory>
+    ensures items { IfOk result (λ v. v.items ≡ object ∷ args.items) }
+    ensures holds { IfOk result (λ v. (w : World) → Holds w (IsNode object) → Holds w (AreNodes args.items) → Holds w (AreNodes v.items)) }
+{
+    let all = with_first(alloc, object, &args)?;
+    Ok(all)
+}
+
+/// The call of an object's special method.
+pub(crate) fn special(
+    world: &mut World,
+    alloc: Global,
+    object: PyObjectRef,
+    name: &str,
+    args: Args,
+    kw: Keywords,
+) -> Result<Task, OutOfMemory>
+    requires { AllHold world.old (IsNode object ∷ of_args args.items kw.items) }
+    ensures task { IfOk result (λ task. (t : Reading) → Reads t world.new → task_of t task ≡ ToAttribute (DoSpecial object name.now args.items (bindings t kw.items))) }
+    ensures same { (t : Reading) → plain t world.new ≡ plain t world.old }
+    ensures reads { (t : Reading) → Reads t world.new → Reads t world.old }
+    ensures grows { Grows world.old world.new }
+    ensures holds { IfOk result (λ task. AllHold world.new (of_task task)) }
+{
+    let name = world.intern(alloc, name)?;
+    Ok(Task::Attribute(AttributeTask::Special(object, name, args, kw)))
+}
+
+/// A fault of a call.
+pub(crate) fn refused(kind: Kind, cause: Cause) -> Step<CallKept>
+    ensures { result ≡ Step.End (Err (record { kind = kind; cause = cause })) }
+{
+    Step::End(Err(Raised { kind, cause }))
+}

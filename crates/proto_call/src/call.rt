@@ -1,0 +1,138 @@
+// The call of an object.
+
+ghost use Rattle.std.specs.Prelude.{◌≡◌, ◌∷◌, Some, IfOk};
+ghost use Rattle.py_node.specs.declared.task.CallTask.TheVariants as call;
+ghost use Rattle.plain_machine.specs.Plain.{PlainWorld};
+ghost use Rattle.plain_machine.specs.World.{datum_at};
+ghost use Rattle.class_world.specs.Sound.{AllHold, Holds, IsNode, AreNodes, of_payload, of_option, of_node_ref};
+ghost use Rattle.class_world.specs.Claims.{of_args, of_task, Leaves};
+ghost use Rattle.class_world.specs.Reading.{Reading, Reads, bindings, datum, plain, task_of};
+ghost use Rattle.proto_call.specs.Say.{call_native, call_by, with_self};
+ghost use Rattle.proto_call.specs.Rows.{Begins, Decides, of_call_kept};
+
+use crate::CallKept;
+use crate::asked::{bound, refused, special};
+use class_world::args::native_task;
+use class_world::world::World;
+use py_node::entry::{CallableNative, NativeEntry, SlotEntry, SlotId, TypeNative};
+use py_node::memory::OutOfMemory;
+use py_node::payload::Payload;
+use py_node::raised::{Cause, Kind};
+use py_node::refs::PyObjectRef;
+use py_node::task::{Args, CallTask, Keywords, LaterTask, Step, Task};
+use std::alloc::Global;
+
+/// An object is called as its class's entry for calls says.
+pub(crate) fn begin_call(
+    world: &mut World,
+    alloc: Global,
+    f: PyObjectRef,
+    args: Args,
+    kw: Keywords,
+) -> Result<Step<CallKept>, OutOfMemory>
+    requires { AllHold world.old (IsNode f ∷ of_args args.items kw.items) }
+    ensures goes { IfOk result (λ step. Begins (call.Call f args kw) world.old world.new step) }
+    ensures safe { Leaves of_call_kept world.old world.new result }
+{
+    let entry = world.slot(f, SlotId::Call);
+    call_by(world, alloc, entry, f, args, kw)
+}
+
+// An object is called by an entry: a native, or the special method.
+fn call_by(
+    world: &mut World,
+    alloc: Global,
+    entry: Option<SlotEntry>,
+    f: PyObjectRef,
+    args: Args,
+    kw: Keywords,
+) -> Result<Step<CallKept>, OutOfMemory>
+    requires { AllHold world.old (IsNode f ∷ of_args args.items kw.items) }
+    ensures goes { IfOk result (λ step. Decides (call.Call f args kw) (λ t u. call_by u entry f args.items (bindings t kw.items)) world.old world.new step) }
+    ensures safe { Leaves of_call_kept world.old world.new result }
+{
+    match entry {
+        Some(SlotEntry::Native(native)) => {
+            let task = native_call(world, alloc, native, f, args, kw)?;
+            Ok(Step::Ask(task, CallKept::Pass))
+        }
+        Some(SlotEntry::Wrapper(_)) => {
+            let task = special(world, alloc, f, "__call__", args, kw)?;
+            Ok(Step::Ask(task, CallKept::Pass))
+        }
+        _ => Ok(refused(Kind::TypeError, Cause::NotCallable)),
+    }
+}
+
+// What a native entry for calls asks for an object.
+fn native_call(
+    world: &World,
+    alloc: Global,
+    native: NativeEntry,
+    f: PyObjectRef,
+    args: Args,
+    kw: Keywords,
+) -> Result<Task, OutOfMemory>
+    requires { AllHold world.now (IsNode f ∷ of_args args.items kw.items) }
+    ensures task { IfOk result (λ task. (t : Reading) → task_of t task ≡ call_native (plain t world.now) native (datum_at (plain t world.now) f) f args.items (bindings t kw.items)) }
+    ensures holds { IfOk result (λ task. AllHold world.now (of_task task)) }
+{
+    let task = call_held(alloc, native, world.payload(f), f, args, kw)?;
+    Ok(task)
+}
+
+// The same for an object that holds this.
+fn call_held(
+    alloc: Global,
+    native: NativeEntry,
+    payload: &Payload,
+    f: PyObjectRef,
+    args: Args,
+    kw: Keywords,
+) -> Result<Task, OutOfMemory>
+    ensures task { IfOk result (λ task. (t : Reading) (u : PlainWorld) → task_of t task ≡ call_native u native (Some (datum t payload.now)) f args.items (bindings t kw.items)) }
+    ensures holds { IfOk result (λ task. (w : World) → AllHold w (IsNode f ∷ of_args args.items kw.items) → AllHold w (of_payload payload.now) → AllHold w (of_task task)) }
+{
+    match (native, payload) {
+        (NativeEntry::OfCallable(CallableNative::CallFunction), _) => {
+            Ok(Task::Call(CallTask::Body(f, args, kw)))
+        }
+        (NativeEntry::OfCallable(CallableNative::CallMethod), Payload::Method(method)) => {
+            let args = bound(alloc, method.target, args)?;
+            Ok(Task::Call(CallTask::Call(method.func, args, kw)))
+        }
+        (
+            NativeEntry::OfCallable(CallableNative::CallNativeFunction),
+            Payload::NativeFunction(func),
+        ) => {
+            let args = with_self(alloc, func.target, args)?;
+            Ok(native_task(func.entry, args, kw))
+        }
+        (
+            NativeEntry::OfCallable(CallableNative::CallBuiltinMethod),
+            Payload::BuiltinMethod(method),
+        ) => {
+            let args = bound(alloc, method.target, args)?;
+            Ok(native_task(method.entry, args, kw))
+        }
+        (
+            NativeEntry::OfCallable(CallableNative::CallMethodDescriptor),
+            Payload::MethodDescriptor(method),
+        ) => { Ok(native_task(method.entry, args, kw)) }
+        (NativeEntry::OfType(TypeNative::Call), Payload::Class(class)) => {
+            Ok(Task::Call(CallTask::TypeCall(*class, args, kw)))
+        }
+        _ => Ok(Task::Later(LaterTask::Native)),
+    }
+}
+
+// The arguments of a native function, after the object that it is bound to, if any.
+fn with_self(alloc: Global, target: Option<PyObjectRef>, args: Args) -> Result<Args, OutOfMemory>
+    ensures items { IfOk result (λ v. v.items ≡ with_self target args.items) }
+    ensures holds { IfOk result (λ v. (w : World) → AllHold w (of_option of_node_ref target) → Holds w (AreNodes args.items) → Holds w (AreNodes v.items)) }
+{
+    match target {
+        None => Ok(args),
+        Some(target) => bound(alloc, target, args),
+    }
+}

@@ -1,0 +1,170 @@
+// The call of a class, and the making of its object.
+
+ghost use Rattle.std.specs.Prelude.{◌≡◌, ◌&&◌, ◌∷◌, Ok, eqb, cond, IfOk};
+ghost use Rattle.py_node.specs.declared.task.CallTask.TheVariants as call;
+ghost use Rattle.plain_machine.specs.Plain.{ToCall, DoNew, DoInit, Ends};
+ghost use Rattle.plain_machine.specs.Row.{pass, value};
+ghost use Rattle.class_world.specs.Sound.{AllHold, Holds, Grows, IsNode, IsClass, of_option, of_node_ref};
+ghost use Rattle.class_world.specs.Claims.{of_args, of_step, of_task, Leaves};
+ghost use Rattle.class_world.specs.Reading.{Reading, Reads, bindings, plain, task_of};
+ghost use Rattle.proto_call.specs.Say.{the_type, is_empty, initialised, new_by, new_found};
+ghost use Rattle.proto_call.specs.Rows.{Begins, Decides, Continues, Resumes, of_call_kept};
+
+use crate::CallKept;
+use crate::asked::{bound, refused};
+use class_world::args::{copy_args, copy_keywords, native_task};
+use class_world::world::World;
+use py_node::built_in::BuiltIn;
+use py_node::entry::{SlotEntry, SlotId};
+use py_node::memory::OutOfMemory;
+use py_node::raised::{Cause, Kind};
+use py_node::refs::{PyObjectRef, PyStrInterned, PyTypeRef};
+use py_node::task::{Answer, Args, CallTask, Keywords, Step, Task};
+use std::alloc::Global;
+
+/// The call of a class: first the object is made, of the same arguments.
+pub(crate) fn begin_type_call(
+    world: &World,
+    alloc: Global,
+    class: PyTypeRef,
+    args: Args,
+    kw: Keywords,
+) -> Result<Step<CallKept>, OutOfMemory>
+    requires { AllHold world.now (IsClass class.0 ∷ of_args args.items kw.items) }
+    ensures goes { IfOk result (λ step. Begins (call.TypeCall class args kw) world.now world.now step) }
+    ensures safe { IfOk result (λ step. AllHold world.now (of_step of_call_kept step)) }
+{
+    let task = new_task(alloc, class, &args, &kw)?;
+    Ok(Step::Ask(task, CallKept::AfterNew(class, args, kw)))
+}
+
+// The task that makes an object of a class, of these arguments.
+fn new_task(
+    alloc: Global,
+    class: PyTypeRef,
+    args: &[PyObjectRef],
+    kw: &[(PyStrInterned, PyObjectRef)],
+) -> Result<Task, OutOfMemory>
+    ensures task { IfOk result (λ task. (t : Reading) → task_of t task ≡ ToCall (DoNew class.0 class.0 args.now (bindings t kw.now))) }
+    ensures holds { IfOk result (λ task. (w : World) → AllHold w (IsClass class.0 ∷ of_args args.now kw.now) → AllHold w (of_task task)) }
+{
+    let args = copy_args(alloc, args)?;
+    let kw = copy_keywords(alloc, kw)?;
+    Ok(Task::Call(CallTask::New(class, class, args, kw)))
+}
+
+/// The call of a class goes on with the object that was made.
+pub(crate) fn resume_type_call(
+    world: &World,
+    class: PyTypeRef,
+    args: Args,
+    kw: Keywords,
+    object: PyObjectRef,
+) -> Step<CallKept>
+    requires kept { AllHold world.now (IsClass class.0 ∷ of_args args.items kw.items) }
+    requires answer { Holds world.now (IsNode object) }
+    ensures goes { Resumes (CallKept.AfterNew class args kw) (Ok (Answer.Value object)) world.now world.now result }
+    ensures safe { AllHold world.now (of_step of_call_kept result) }
+{
+    let is_type = is_type_alone(class, &kw);
+    let is_instance = world.is_instance(object, class);
+    initialised(is_type || !is_instance, class, args, kw, object)
+}
+
+// Whether `type` was asked, with no keyword.
+#[tactic(auto, unfolding(py_node::specs::BuiltIns::place_of))]
+fn is_type_alone(class: PyTypeRef, kw: &[(PyStrInterned, PyObjectRef)]) -> bool
+    ensures { (t : Reading) → (eqb class.0 the_type && is_empty (bindings t kw.now)) ≡ result }
+{
+    class == BuiltIn::TypeType.class() && kw.is_empty()
+}
+
+// The new object is initialised, unless it is the answer as it is.
+fn initialised(
+    is_answer: bool,
+    class: PyTypeRef,
+    args: Args,
+    kw: Keywords,
+    object: PyObjectRef,
+) -> Step<CallKept>
+    ensures goes { (w : World) → Continues (CallKept.AfterNew class args kw) (Ok (Answer.Value object)) (λ t u. cond is_answer (Ends u (value object)) (pass u (ToCall (DoInit object args.items (bindings t kw.items))))) w w result }
+    ensures safe { (w : World) → AllHold w (IsClass class.0 ∷ of_args args.items kw.items) → Holds w (IsNode object) → AllHold w (of_step of_call_kept result) }
+{
+    if is_answer {
+        Step::End(Ok(Answer::Value(object)))
+    } else {
+        Step::Ask(
+            Task::Call(CallTask::Init(object, args, kw)),
+            CallKept::AfterInit(object),
+        )
+    }
+}
+
+/// An object of a class is made, as a class makes objects.
+pub(crate) fn begin_new(
+    world: &mut World,
+    alloc: Global,
+    by: PyTypeRef,
+    class: PyTypeRef,
+    args: Args,
+    kw: Keywords,
+) -> Result<Step<CallKept>, OutOfMemory>
+    requires { AllHold world.old (IsClass by.0 ∷ IsClass class.0 ∷ of_args args.items kw.items) }
+    ensures goes { IfOk result (λ step. Begins (call.New by class args kw) world.old world.new step) }
+    ensures safe { Leaves of_call_kept world.old world.new result }
+{
+    let entry = world.class_slot(by, SlotId::New);
+    new_by(world, alloc, entry, by, class, args, kw)
+}
+
+// An object is made by an entry: a native, or the method of that name.
+fn new_by(
+    world: &mut World,
+    alloc: Global,
+    entry: Option<SlotEntry>,
+    by: PyTypeRef,
+    class: PyTypeRef,
+    args: Args,
+    kw: Keywords,
+) -> Result<Step<CallKept>, OutOfMemory>
+    requires { AllHold world.old (IsClass class.0 ∷ of_args args.items kw.items) }
+    ensures goes { IfOk result (λ step. Decides (call.New by class args kw) (λ t u. new_by u entry class.0 args.items (bindings t kw.items)) world.old world.new step) }
+    ensures safe { Leaves of_call_kept world.old world.new result }
+{
+    match entry {
+        Some(SlotEntry::Native(native)) => {
+            let args = bound(alloc, world.class_object(class), args)?;
+            Ok(Step::Ask(native_task(native, args, kw), CallKept::Pass))
+        }
+        Some(SlotEntry::Wrapper(_)) => {
+            let name = world.intern(alloc, "__new__")?;
+            let method = world.class_attr(class, name);
+            new_found(world, alloc, method, by, class, args, kw)
+        }
+        _ => Ok(refused(Kind::TypeError, Cause::CannotCreate)),
+    }
+}
+
+// An object is made by the method that was found, if any.
+fn new_found(
+    world: &World,
+    alloc: Global,
+    method: Option<PyObjectRef>,
+    by: PyTypeRef,
+    class: PyTypeRef,
+    args: Args,
+    kw: Keywords,
+) -> Result<Step<CallKept>, OutOfMemory>
+    requires args { AllHold world.now (IsClass class.0 ∷ of_args args.items kw.items) }
+    requires method { AllHold world.now (of_option of_node_ref method) }
+    ensures goes { IfOk result (λ step. Decides (call.New by class args kw) (λ t u. new_found u method class.0 args.items (bindings t kw.items)) world.now world.now step) }
+    ensures safe { IfOk result (λ step. AllHold world.now (of_step of_call_kept step)) }
+{
+    match method {
+        None => Ok(refused(Kind::AttributeError, Cause::NoSpecial)),
+        Some(method) => {
+            let args = bound(alloc, world.class_object(class), args)?;
+            Ok(Step::Ask(Task::Call(CallTask::Call(method, args, kw)), CallKept::Pass))
+        }
+    }
+}

@@ -1,0 +1,75 @@
+// The initialisation of an object.
+
+ghost use Rattle.std.specs.Prelude.{◌≡◌, ◌∷◌, Ok, IfOk};
+ghost use Rattle.py_node.specs.declared.task.CallTask.TheVariants as call;
+ghost use Rattle.class_world.specs.Sound.{AllHold, Holds, IsNode};
+ghost use Rattle.class_world.specs.Claims.{of_args, of_step, Leaves};
+ghost use Rattle.class_world.specs.Reading.{bindings};
+ghost use Rattle.proto_call.specs.Say.{init_by};
+ghost use Rattle.proto_call.specs.Rows.{Begins, Decides, Resumes, of_call_kept};
+
+use crate::CallKept;
+use crate::asked::{bound, refused, special};
+use class_world::args::native_task;
+use class_world::world::{Fixed, World};
+use py_node::entry::{SlotEntry, SlotId};
+use py_node::memory::OutOfMemory;
+use py_node::raised::{Cause, Kind};
+use py_node::refs::PyObjectRef;
+use py_node::task::{Answer, Args, Keywords, Step};
+use std::alloc::Global;
+
+/// An object is initialised as its class's entry for that says.
+pub(crate) fn begin_init(
+    world: &mut World,
+    alloc: Global,
+    object: PyObjectRef,
+    args: Args,
+    kw: Keywords,
+) -> Result<Step<CallKept>, OutOfMemory>
+    requires { AllHold world.old (IsNode object ∷ of_args args.items kw.items) }
+    ensures goes { IfOk result (λ step. Begins (call.Init object args kw) world.old world.new step) }
+    ensures safe { Leaves of_call_kept world.old world.new result }
+{
+    let entry = world.slot(object, SlotId::Init);
+    init_by(world, alloc, entry, object, args, kw)
+}
+
+// An object is initialised by an entry, if there is one: a native, or the special method.
+fn init_by(
+    world: &mut World,
+    alloc: Global,
+    entry: Option<SlotEntry>,
+    object: PyObjectRef,
+    args: Args,
+    kw: Keywords,
+) -> Result<Step<CallKept>, OutOfMemory>
+    requires { AllHold world.old (IsNode object ∷ of_args args.items kw.items) }
+    ensures goes { IfOk result (λ step. Decides (call.Init object args kw) (λ t u. init_by u entry object args.items (bindings t kw.items)) world.old world.new step) }
+    ensures safe { Leaves of_call_kept world.old world.new result }
+{
+    match entry {
+        Some(SlotEntry::Native(native)) => {
+            let args = bound(alloc, object, args)?;
+            Ok(Step::Ask(native_task(native, args, kw), CallKept::Pass))
+        }
+        Some(SlotEntry::Wrapper(_)) => {
+            let task = special(world, alloc, object, "__init__", args, kw)?;
+            Ok(Step::Ask(task, CallKept::AfterSpecialInit))
+        }
+        _ => Ok(Step::End(Ok(Answer::Done))),
+    }
+}
+
+/// The method that initialised an object must have given None.
+pub(crate) fn resume_init(world: &World, given: PyObjectRef) -> Step<CallKept>
+    requires { Holds world.now (IsNode given) }
+    ensures goes { Resumes CallKept.AfterSpecialInit (Ok (Answer.Value given)) world.now world.now result }
+    ensures safe { AllHold world.now (of_step of_call_kept result) }
+{
+    if given == world.fixed(Fixed::None) {
+        Step::End(Ok(Answer::Value(given)))
+    } else {
+        refused(Kind::TypeError, Cause::InitNotNone)
+    }
+}

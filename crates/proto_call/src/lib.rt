@@ -1,0 +1,97 @@
+// The rows of calls, each a small automaton: `begin` and `resume`.
+#![tactic(auto, unfolding(crate::specs::Say::call_job_say))]
+
+ghost use Rattle.std.specs.Prelude.{IfOk};
+ghost use Rattle.class_world.specs.Sound.{AllHold};
+ghost use Rattle.class_world.specs.Claims.{of_call_task, of_ended, Leaves};
+ghost use Rattle.proto_call.specs.Rows.{Begins, Resumes, of_call_kept};
+
+use crate::body::begin_body;
+use crate::call::begin_call;
+use crate::create::{begin_new, begin_type_call, resume_type_call};
+use crate::init::{begin_init, resume_init};
+use crate::object::begin_object;
+use class_world::world::World;
+use py_node::memory::OutOfMemory;
+use py_node::raised::Raised;
+use py_node::refs::{PyObjectRef, PyTypeRef};
+use py_node::task::{Answer, Args, CallTask, Keywords, Step};
+use std::alloc::Global;
+
+mod asked;
+mod body;
+mod call;
+mod create;
+mod init;
+mod object;
+mod parameters;
+
+/// What a row of a call keeps while it waits for an answer.
+#[derive(Drop)]
+pub enum CallKept {
+    /// The answer is passed on.
+    Pass,
+    /// A body runs: its scope is taken away at its end.
+    Scope,
+    /// The call of a class waits for the object: the class, the arguments and the keywords.
+    AfterNew(PyTypeRef, Args, Keywords),
+    /// The call of a class waits until its object is initialised.
+    AfterInit(PyObjectRef),
+    /// The initialisation waits for `__init__`.
+    AfterSpecialInit,
+}
+
+/// Begins a task.
+pub fn begin(
+    world: &mut World,
+    alloc: Global,
+    task: CallTask,
+) -> Result<Step<CallKept>, OutOfMemory>
+    requires { AllHold world.old (of_call_task task) }
+    ensures goes { IfOk result (λ step. Begins task world.old world.new step) }
+    ensures safe { Leaves of_call_kept world.old world.new result }
+{
+    match task {
+        CallTask::Call(f, args, kw) => begin_call(world, alloc, f, args, kw),
+        CallTask::Body(f, args, kw) => begin_body(world, alloc, f, args, kw),
+        CallTask::TypeCall(class, args, kw) => begin_type_call(world, alloc, class, args, kw),
+        CallTask::New(by, class, args, kw) => begin_new(world, alloc, by, class, args, kw),
+        CallTask::Init(object, args, kw) => begin_init(world, alloc, object, args, kw),
+        CallTask::Object(native, args, kw) => begin_object(world, alloc, native, args, kw),
+    }
+}
+
+/// Goes on with a task that was given an answer.
+pub fn resume(
+    world: &mut World,
+    alloc: Global,
+    kept: CallKept,
+    answer: Result<Answer, Raised>,
+) -> Result<Step<CallKept>, OutOfMemory>
+    requires kept { AllHold world.old (of_call_kept kept) }
+    requires answer { AllHold world.old (of_ended answer) }
+    ensures goes { IfOk result (λ step. Resumes kept answer world.old world.new step) }
+    ensures safe { Leaves of_call_kept world.old world.new result }
+{
+    match kept {
+        CallKept::Pass => Ok(Step::End(answer)),
+        CallKept::Scope => {
+            world.close_scope();
+            Ok(Step::End(answer))
+        }
+        CallKept::AfterNew(class, args, kw) => match answer {
+            Err(raised) => Ok(Step::End(Err(raised))),
+            Ok(Answer::Done) => Ok(Step::End(Ok(Answer::Done))),
+            Ok(Answer::Value(object)) => Ok(resume_type_call(world, class, args, kw, object)),
+        },
+        CallKept::AfterInit(object) => match answer {
+            Err(raised) => Ok(Step::End(Err(raised))),
+            Ok(_) => Ok(Step::End(Ok(Answer::Value(object)))),
+        },
+        CallKept::AfterSpecialInit => match answer {
+            Err(raised) => Ok(Step::End(Err(raised))),
+            Ok(Answer::Done) => Ok(Step::End(Ok(Answer::Done))),
+            Ok(Answer::Value(given)) => Ok(resume_init(world, given)),
+        },
+    }
+}
