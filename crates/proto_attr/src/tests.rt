@@ -234,7 +234,7 @@ fn calls_special_methods(rt: HostRuntime) -> Result<(), Fail> {
     let (first, then) = call_special(&mut world, alloc, object, "__repr__")?;
     assert_eq!(rt; first, Seen::Bind(object, class, 2));
     assert_eq!(rt; then, Seen::Call(object, 2));
-    let (first, _) = call_special(&mut world, alloc, object, "__str__")?;
+    let (first, _) = call_special(&mut world, alloc, object, "__none__")?;
     assert_eq!(rt; first, Seen::Raised(Cause::NoSpecial));
     Ok(())
 }
