@@ -4,7 +4,7 @@ ghost use Rattle.std.specs.Prelude.{◌≡◌, ◌&&◌, not, is_some, IfOk, IfS
 ghost use Rattle.py_node.specs.Attributes.{value_of, is_same_name};
 ghost use Rattle.plain_machine.specs.World.{class_at};
 ghost use Rattle.class_world.specs.Reading.{Reading, Reads, bindings, datum, plain};
-ghost use Rattle.class_world.specs.Sound.{IsNode, IsName, IsClass, Holds, AllHold, Grows, of_binding, of_each, of_payload};
+ghost use Rattle.class_world.specs.Sound.{IsNode, IsName, IsClass, IsOf, home_of, Holds, AllHold, Grows, of_binding, of_each, of_payload};
 ghost use Rattle.class_make.specs.Say.{has_name, is_class, the_function, put, give, wrap_value, wrap, qualify, unhash, give_dict, completed};
 ghost use Rattle.class_make.specs.Rows.{Becomes};
 
@@ -192,6 +192,7 @@ fn give(
 ) -> Result<PyAttributes, OutOfMemory>
     requires name { Holds world.old (IsName name) }
     requires class { Holds world.old (IsClass class.0) }
+    requires of { Holds world.old (IsOf class.0 (home_of payload)) }
     requires payload { AllHold world.old (of_payload payload) }
     requires attrs { AllHold world.old (of_each of_binding attrs) }
     ensures becomes { IfOk result (λ a. Becomes (λ t s. give s (t.text name.0) class.0 (datum t payload)) world.old attrs world.new a) }
@@ -218,6 +219,7 @@ fn put(
 ) -> Result<PyAttributes, OutOfMemory>
     requires name { Holds world.old (IsName name) }
     requires class { Holds world.old (IsClass class.0) }
+    requires of { Holds world.old (IsOf class.0 (home_of payload)) }
     requires payload { AllHold world.old (of_payload payload) }
     requires attrs { AllHold world.old (of_each of_binding attrs) }
     ensures becomes { IfOk result (λ a. Becomes (λ t s. put s (t.text name.0) class.0 (datum t payload)) world.old attrs world.new a) }

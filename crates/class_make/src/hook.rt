@@ -5,9 +5,10 @@ ghost use Rattle.py_node.specs.declared.task.Answer.TheVariants as answer;
 ghost use Rattle.py_node.specs.Attributes.{is_same_name};
 ghost use Rattle.plain_machine.specs.Objects.{with_definers, wrapped_function};
 ghost use Rattle.plain_machine.specs.World.{datum_at};
+ghost use Rattle.py_node.specs.declared.built_in.BuiltIn.TheVariants.{TypeType};
 ghost use Rattle.class_world.specs.Claims.{of_ended, of_step, Leaves};
 ghost use Rattle.class_world.specs.Reading.{Reading, Reads, bindings, plain};
-ghost use Rattle.class_world.specs.Sound.{IsNode, AreNodes, IsClass, Holds, AllHold, Grows, of_binding, of_each};
+ghost use Rattle.class_world.specs.Sound.{IsNode, AreNodes, IsClass, IsOf, Holds, AllHold, Grows, of_binding, of_each};
 ghost use Rattle.class_make.specs.Say.{is_text_at, some_has, values_of, hook, told_of, refusal, refusal_by, made, made_unless};
 ghost use Rattle.class_make.specs.Rows.{Makes, Resumes, of_class_kept};
 
@@ -35,6 +36,7 @@ pub(crate) fn made(
     kw: Keywords,
 ) -> Result<Step<ClassKept>, OutOfMemory>
     requires meta { Holds world.old (IsClass meta.0) }
+    requires meta_of { Holds world.old (IsOf meta.0 TypeType) }
     requires base { Holds world.old (IsClass base.0) }
     requires attrs { AllHold world.old (of_each of_binding attrs) }
     requires kw { AllHold world.old (of_each of_binding kw.items) }
@@ -110,6 +112,7 @@ fn made_unless(
     kw: Keywords,
 ) -> Result<Step<ClassKept>, OutOfMemory>
     requires meta { Holds world.old (IsClass meta.0) }
+    requires meta_of { Holds world.old (IsOf meta.0 TypeType) }
     requires base { Holds world.old (IsClass base.0) }
     requires attrs { AllHold world.old (of_each of_binding attrs) }
     requires kw { AllHold world.old (of_each of_binding kw.items) }
@@ -121,7 +124,7 @@ fn made_unless(
         None => {
             let values = values_of(alloc, &attrs)?;
             let flags = PyTypeFlags::heap_type_flags();
-            let (class, node) = world.make_class(alloc, meta, name, Some(base), attrs, flags)?;
+            let (class, node) = world.make_class(alloc, meta, name, base, attrs, flags)?;
             define_all(world, class, &values);
             told_of(world, alloc, class, node, &values, kw)
         }

@@ -6,9 +6,10 @@ ghost use Rattle.class_model.specs.BuiltIn.{natives_of};
 ghost use Rattle.class_model.specs.Slot.{entry};
 ghost use Rattle.plain_machine.specs.Objects.{class_has_flag};
 ghost use Rattle.plain_machine.specs.World.{text_keys};
+ghost use Rattle.py_node.specs.declared.built_in.BuiltIn.TheVariants.{TypeType};
 ghost use Rattle.class_world.specs.Claims.{of_class_task, of_args, Leaves};
 ghost use Rattle.class_world.specs.Reading.{Reading, Reads, bindings, plain};
-ghost use Rattle.class_world.specs.Sound.{IsNode, AreNodes, IsClass, Holds, AllHold, of_binding, of_class_ref, of_each, of_option};
+ghost use Rattle.class_world.specs.Sound.{IsNode, AreNodes, IsClass, IsOf, Holding, Holds, AllHold, of_binding, of_class_ref, of_each, of_option};
 ghost use Rattle.class_make.specs.Say.{by_base, by_bases, by_one, by_parts, by_winner, from_three, has_null, on_base, one_of, the_type, three_of, with_namespace, winner};
 ghost use Rattle.class_make.specs.Rows.{Begins, Makes, of_class_kept};
 ghost use Rattle.py_node.specs.declared.task.ClassTask.TheVariants as class_task;
@@ -77,6 +78,7 @@ fn by_one(
     kw: Keywords,
 ) -> Result<Step<ClassKept>, OutOfMemory>
     requires meta { Holds world.old (IsClass meta.0) }
+    requires meta_of { Holds world.old (IsOf meta.0 TypeType) }
     requires one { IfSome one (λ r. Holds world.old (IsNode r)) }
     requires rest { AllHold world.old (of_args args.items kw.items) }
     ensures goes { IfOk result (λ step. Makes kw.items (λ t u. by_one u meta.0 one args.items (bindings t kw.items)) world.old world.new step) }
@@ -122,6 +124,7 @@ fn from_three(
     kw: Keywords,
 ) -> Result<Step<ClassKept>, OutOfMemory>
     requires meta { Holds world.old (IsClass meta.0) }
+    requires meta_of { Holds world.old (IsOf meta.0 TypeType) }
     requires three { IfSome three (λ p. Holds world.old (IsNode p.0) × (Holds world.old (IsNode p.1.0) × Holds world.old (IsNode p.1.1))) }
     requires rest { AllHold world.old (of_args args.items kw.items) }
     ensures goes { IfOk result (λ step. Makes kw.items (λ t u. from_three u meta.0 three args.items (bindings t kw.items)) world.old world.new step) }
@@ -150,6 +153,7 @@ fn by_parts(
     kw: Keywords,
 ) -> Result<Step<ClassKept>, OutOfMemory>
     requires meta { Holds world.old (IsClass meta.0) }
+    requires meta_of { Holds world.old (IsOf meta.0 TypeType) }
     requires bases { IfSome bases (λ rs. Holds world.old (AreNodes rs.items)) }
     requires keys { IfSome entries (λ es. Holds world.old (AreNodes (map (λ e. e.0) es.items))) }
     requires values { IfSome entries (λ es. Holds world.old (AreNodes (map (λ e. e.1) es.items))) }
@@ -193,6 +197,7 @@ fn by_bases(
     kw: Keywords,
 ) -> Result<Step<ClassKept>, OutOfMemory>
     requires meta { Holds world.old (IsClass meta.0) }
+    requires meta_of { Holds world.old (IsOf meta.0 TypeType) }
     requires bases { Holds world.old (AreNodes bases.items) }
     requires keys { Holds world.old (AreNodes (map (λ e. e.0) entries.items)) }
     requires values { Holds world.old (AreNodes (map (λ e. e.1) entries.items)) }
@@ -227,8 +232,10 @@ fn by_base(
     kw: Keywords,
 ) -> Result<Step<ClassKept>, OutOfMemory>
     requires meta { Holds world.old (IsClass meta.0) }
+    requires meta_of { Holds world.old (IsOf meta.0 TypeType) }
     requires base { Holds world.old (IsNode base) }
     requires class { AllHold world.old (of_option of_class_ref class) }
+    requires holding { IfSome class (λ c. Holds world.old (Holding base TypeType)) }
     requires keys { Holds world.old (AreNodes (map (λ e. e.0) entries.items)) }
     requires values { Holds world.old (AreNodes (map (λ e. e.1) entries.items)) }
     requires rest { AllHold world.old (of_args args.items kw.items) }
@@ -238,7 +245,7 @@ fn by_base(
     match class {
         None => Ok(Step::Ask(Task::Later(LaterTask::GetAttr), ClassKept::Pass)),
         Some(class) => {
-            let of_base = world.class_of(base);
+            let of_base = world.metaclass(base);
             let winner = winner(world, meta, of_base);
             by_winner(world, alloc, meta, winner, name, class, entries, args, kw)
         }
@@ -248,9 +255,12 @@ fn by_base(
 // The metaclass of a class to be: the given one, or that of the base where it derives from it.
 fn winner(world: &World, meta: PyTypeRef, of_base: PyTypeRef) -> Option<PyTypeRef>
     requires meta { Holds world.now (IsClass meta.0) }
+    requires meta_of { Holds world.now (IsOf meta.0 TypeType) }
     requires base { Holds world.now (IsClass of_base.0) }
+    requires base_of { Holds world.now (IsOf of_base.0 TypeType) }
     ensures winner { (t : Reading) → winner (plain t world.now) meta.0 (Some of_base.0) ≡ option_map (λ c. c.0) result }
     ensures class { AllHold world.now (of_option of_class_ref result) }
+    ensures of { IfSome result (λ c. Holds world.now (IsOf c.0 TypeType)) }
 {
     if world.is_sub(meta, of_base) {
         Some(meta)
@@ -274,6 +284,7 @@ fn by_winner(
     kw: Keywords,
 ) -> Result<Step<ClassKept>, OutOfMemory>
     requires winner { AllHold world.old (of_option of_class_ref winner) }
+    requires of { IfSome winner (λ c. Holds world.old (IsOf c.0 TypeType)) }
     requires base { Holds world.old (IsClass base.0) }
     requires keys { Holds world.old (AreNodes (map (λ e. e.0) entries.items)) }
     requires values { Holds world.old (AreNodes (map (λ e. e.1) entries.items)) }
@@ -322,6 +333,7 @@ fn on_base(
     kw: Keywords,
 ) -> Result<Step<ClassKept>, OutOfMemory>
     requires meta { Holds world.old (IsClass meta.0) }
+    requires meta_of { Holds world.old (IsOf meta.0 TypeType) }
     requires base { Holds world.old (IsClass base.0) }
     requires keys { Holds world.old (AreNodes (map (λ e. e.0) entries.items)) }
     requires values { Holds world.old (AreNodes (map (λ e. e.1) entries.items)) }
@@ -347,6 +359,7 @@ fn with_namespace(
     kw: Keywords,
 ) -> Result<Step<ClassKept>, OutOfMemory>
     requires meta { Holds world.old (IsClass meta.0) }
+    requires meta_of { Holds world.old (IsOf meta.0 TypeType) }
     requires base { Holds world.old (IsClass base.0) }
     requires attrs { IfSome attrs (λ a. AllHold world.old (of_each of_binding a)) }
     requires kw { AllHold world.old (of_each of_binding kw.items) }

@@ -1,10 +1,11 @@
 // The natives of `type`.
 
-ghost use Rattle.std.specs.Prelude.{◌≡◌, option_map, IfOk};
+ghost use Rattle.std.specs.Prelude.{◌≡◌, option_map, IfOk, IsTrue};
 ghost use Rattle.plain_machine.specs.Objects.{nearest_built_in};
+ghost use Rattle.py_node.specs.declared.built_in.BuiltIn.TheVariants.{TypeType};
 ghost use Rattle.class_world.specs.Claims.{of_class_task, of_args, of_step, Leaves};
 ghost use Rattle.class_world.specs.Reading.{Reading, bindings, plain};
-ghost use Rattle.class_world.specs.Sound.{IsClass, Holds, AllHold, of_class_ref, of_option};
+ghost use Rattle.class_world.specs.Sound.{IsClass, IsOf, Holds, AllHold, of_class_ref, of_option};
 ghost use Rattle.class_make.specs.Say.{is_class, the_type, type_new, type_new_of};
 ghost use Rattle.class_make.specs.Rows.{Begins, Types, of_class_kept};
 ghost use Rattle.py_node.specs.declared.task.ClassTask.TheVariants as class_task;
@@ -86,7 +87,8 @@ fn type_new_of(world: &World, class: Option<PyTypeRef>, args: Args, kw: Keywords
 #[tactic(auto, unfolding(py_node::specs::BuiltIns::place_of))]
 fn makes_classes(world: &World, class: PyTypeRef) -> bool
     requires { Holds world.now (IsClass class.0) }
-    ensures { (t : Reading) → is_class (nearest_built_in (plain t world.now).classes class.0) the_type ≡ result }
+    ensures makes { (t : Reading) → is_class (nearest_built_in (plain t world.now).classes class.0) the_type ≡ result }
+    ensures of { IsTrue result → Holds world.now (IsOf class.0 TypeType) }
 {
     let of_type = world.built_in(BuiltIn::TypeType);
     is_place(world.nearest_built_in(class), of_type)

@@ -12,4 +12,5 @@ pub mod Slots
 pub mod Solid
 pub mod Names
 pub mod Renamed
+pub mod Sound
 mod Checks

@@ -1,5 +1,5 @@
 -- Other keys change nothing.
-use Rattle.std.proofs.Common.{◌≡◌, ℕ, zero, suc, ◌<◌, Bool, cond, not, ◌||◌, eqb, List, [], ◌∷◌, ◌++◌, map, length, Option, Some, None, inl, inr, refl, ap, ◌∙◌}
+use Rattle.std.proofs.Common.{◌≡◌, ℕ, zero, suc, ◌<◌, Bool, cond, not, ◌&&◌, ◌||◌, eqb, List, [], ◌∷◌, ◌++◌, map, length, Option, Some, None, inl, inr, refl, ap, ◌∙◌}
 use Rattle.std.specs.Prelude.{nat_lt, slice_get, option_map, option_and_then}
 use Rattle.std.proofs.lemmas.List.{length-map}
 use Rattle.py_node.specs.declared.refs.PyObjectRef.{PyObjectRef}
@@ -120,9 +120,9 @@ module _ {K L : Type 0} (f : K → L) where
   layout-renamed t c =
       bind-agrees (λ line. Some (layout_along (renamed f t) line)) (λ line. Some (layout_along t line)) (lin (renamed f t) c) (lin t c) (lin-renamed t c) (λ line e. ap Some (layout_along-renamed t line))
 
-  pub is_place-renamed : (t : Classes K) (d i : ℕ) → is_place (renamed f t) d i ≡ is_place t d i
-  is_place-renamed t d i =
-      ap (nat_lt i) (get-renamed member_count member_count refl (λ k. length-map k.members f) t d)
+  pub is_place-renamed : (t : Classes K) (c d i : ℕ) → is_place (renamed f t) c d i ≡ is_place t c d i
+  is_place-renamed t c d i =
+      ap (λ o. is_along d o && nat_lt i (member_count (slice_get (renamed f t) d))) (layout-renamed t c) ∙ ap (λ n. is_along d (layout t c) && nat_lt i n) (get-renamed member_count member_count refl (λ k. length-map k.members f) t d)
 
   subclasses_from-renamed : (n : ℕ) (t : Classes K) (c : ℕ) → subclasses_from n (renamed f t) c ≡ subclasses_from n t c
   subclasses_from-renamed n [] c = refl

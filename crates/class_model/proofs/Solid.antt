@@ -181,7 +181,7 @@ module _ {K : Type 0} where
   base-root t k e = ap (option_and_then (best_of (with_class t k))) (bases_of-last t k [] e)
 
   module _ (same : K → K → Bool) (t : Classes K) (c : ℕ) (n : K) (v : PyObjectRef) where
-    bases_of-attr : (x : ℕ) → bases_of (with_class_attr same t c n v) x ≡ bases_of t x
+    pub bases_of-attr : (x : ℕ) → bases_of (with_class_attr same t c n v) x ≡ bases_of t x
     bases_of-attr x = get-changed (λ k. record k { attrs = with_value same k.attrs n v }) (option_map (λ (k : Class K). k.bases)) (λ k. refl) t c x
 
     pub is_solid-attr : (d : ℕ) → is_solid (with_class_attr same t c n v) d ≡ is_solid t d

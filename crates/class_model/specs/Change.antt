@@ -1,9 +1,9 @@
 -- How classes are changed, and the class that is to blame where new bases leave no order.
-use Rattle.std.specs.Prelude.{ℕ, zero, suc, Bool, false, cond, ◌&&◌, ◌||◌, List, [], ◌∷◌, ◌++◌, map, Option, Some, None, is_some, is_none}
+use Rattle.std.specs.Prelude.{ℕ, zero, suc, Bool, cond, ◌&&◌, List, [], ◌∷◌, ◌++◌, map, Option, Some, None, is_some, is_none}
 use Rattle.py_node.specs.declared.refs.PyObjectRef.{PyObjectRef}
 use Rattle.py_node.specs.Attributes.{with_value}
-use Rattle.class_model.specs.Order.{has, all_some}
-use Rattle.class_model.specs.Class.{Class, Classes, lin, is_sub}
+use Rattle.class_model.specs.Order.{all_some}
+use Rattle.class_model.specs.Class.{Class, Classes, lin}
 
 -- one more class
 abbrev pub with_class : {K : Type 0} → Classes K → Class K → Classes K

@@ -1,5 +1,5 @@
 -- Classes, and how an attribute of one is found.
-use Rattle.std.specs.Prelude.{ℕ, zero, suc, Bool, true, false, cond, ◌&&◌, ◌||◌, ◌==◌, eqb, List, [], ◌∷◌, map, length, Option, Some, None, slice_get, option_map, option_and_then, is_some}
+use Rattle.std.specs.Prelude.{ℕ, suc, Bool, false, cond, ◌==◌, List, [], ◌∷◌, map, length, Option, Some, None, slice_get, option_map, option_and_then}
 use Rattle.std.specs.Int.RustNames.{bit_and}
 use Rattle.py_node.specs.declared.refs.PyObjectRef.{PyObjectRef}
 use Rattle.py_node.specs.Attributes.{value_of}

@@ -1,6 +1,6 @@
 -- Solid classes, the best base of a class, and its layout.
 use Rattle.std.specs.Prelude.{ℕ, zero, suc, Bool, true, false, cond, not, ◌&&◌, ◌||◌, nat_lt, List, [], ◌∷◌, ◌++◌, map, length, Option, Some, None, slice_get, option_and_then}
-use Rattle.class_model.specs.Class.{Class, Classes, is_heap, is_sub, lin, bases_of}
+use Rattle.class_model.specs.Class.{Class, Classes, is_along, is_sub, lin, bases_of}
 
 -- how many classes are built in: they are the first
 abbrev pub built_ins : ℕ
@@ -61,5 +61,5 @@ member_count None = 0
 member_count (Some k) = length k.members
 
 -- a place of a class: a solid class of its layout, and an index below the number of its member names
-abbrev pub is_place : {K : Type 0} → Classes K → ℕ → ℕ → Bool
-is_place t d i = nat_lt i (member_count (slice_get t d))
+abbrev pub is_place : {K : Type 0} → Classes K → ℕ → ℕ → ℕ → Bool
+is_place t c d i = is_along d (layout t c) && nat_lt i (member_count (slice_get t d))

@@ -4,3 +4,4 @@ pub mod Layout
 pub mod Slot
 pub mod Change
 pub mod BuiltIn
+pub mod Sound

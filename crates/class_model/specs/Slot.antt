@@ -1,14 +1,14 @@
 -- What a class has in a slot, and what is read there.
-use Rattle.std.specs.Prelude.{ℕ, suc, Bool, true, false, cond, not, ◌&&◌, ◌||◌, eqb, List, [], ◌∷◌, map, Option, Some, None, slice_get, option_map, option_and_then, is_some}
+use Rattle.std.specs.Prelude.{ℕ, Bool, true, false, cond, not, ◌&&◌, ◌||◌, eqb, List, [], ◌∷◌, map, Option, Some, None, slice_get, option_map, option_and_then, is_some}
 use Rattle.py_node.specs.declared.refs.PyObjectRef.{PyObjectRef}
 use Rattle.py_node.specs.declared.entry.SlotId.{SlotId}
-use Rattle.py_node.specs.declared.entry.SlotId.TheVariants.{Hash, New, Repr}
+use Rattle.py_node.specs.declared.entry.SlotId.TheVariants.{Hash, New}
 use Rattle.py_node.specs.declared.entry.NativeEntry.{NativeEntry}
 use Rattle.py_node.specs.declared.entry.SlotEntry.{SlotEntry}
 use Rattle.py_node.specs.declared.entry.SlotEntry.TheVariants.{Native, Wrapper, Unhashable}
 use Rattle.py_node.specs.Slots.{Sort, ByItself, BySequence, ByMapping, Nearest, place_of, names_of, all_slots, sort_of}
 use Rattle.py_node.specs.Natives.{is_same_entry}
-use Rattle.class_model.specs.Class.{Class, Classes, is_heap, lin, is_sub, own_of, or_else, first_along, along, past_first}
+use Rattle.class_model.specs.Class.{Class, Classes, is_heap, lin, is_sub, own_of, first_along, along}
 
 -- how classes name their attributes: whether two keys are one, and the key of each special name by its place
 pub record Keys (K : Type 0) : Type 0 where

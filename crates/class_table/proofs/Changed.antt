@@ -12,12 +12,14 @@ use Rattle.class_model.specs.Order.{has}
 use Rattle.class_model.specs.Class.{Class, Classes, lin, subclasses}
 use Rattle.class_model.specs.Layout.{base, solid}
 use Rattle.class_model.specs.Slot.{entries}
+use Rattle.class_model.specs.Sound.{AreSound}
 use Rattle.class_model.specs.BuiltIn.{natives_of}
 use Rattle.class_model.specs.Change.{with_changed, with_class_attr}
 use Rattle.class_model.proofs.Changed.{lin-attr}
 use Rattle.class_model.proofs.Subclasses.{subclasses-attr}
 use Rattle.class_model.proofs.Slots.{entry-attr-away, entry-attr-other}
 use Rattle.class_model.proofs.Solid.{base-attr, solid-attr}
+use Rattle.class_model.proofs.Sound.{sound-attr}
 use Rattle.class_table.specs.Keys.{table_keys}
 use Rattle.class_table.specs.Kept.{Kept, class_of, plain}
 use Rattle.class_table.specs.Coherent.{HasLines, IsCoherent}
@@ -149,4 +151,5 @@ module _ (kept : List Kept) (ok : IsCoherent kept) (c : ℕ) (k : Kept) (within 
       base = λ d x e. ap (λ t. base t d) plain-final ∙ (all d x e).base;
       solid = λ d x e. ap (λ t. solid t d) plain-final ∙ (all d x e).solid;
       subclasses = λ d x e. (all d x e).subclasses ∙ ap (λ t. subclasses t d) (sym plain-final);
+      sound = subst AreSound (sym plain-final) (sound-attr is_same_name (plain kept) c n v ok.sound);
     }

@@ -10,11 +10,13 @@ use Rattle.class_model.specs.Order.{has, Holds}
 use Rattle.class_model.specs.Class.{Class, Classes, lin, subclasses}
 use Rattle.class_model.specs.Layout.{base, solid, best_of, derives_all, built_ins, is_empty, is_solid}
 use Rattle.class_model.specs.Slot.{entries}
+use Rattle.class_model.specs.Sound.{AreSound}
 use Rattle.class_model.specs.BuiltIn.{natives_of}
 use Rattle.class_model.specs.Change.{with_class}
 use Rattle.class_model.proofs.Changed.{lin-push, lin-root, lin-one_base, bases_of-last}
 use Rattle.class_model.proofs.Subclasses.{subclasses-push, subclasses-new}
 use Rattle.class_model.proofs.Slots.{entries-push}
+use Rattle.class_model.proofs.Sound.{sound-first, sound-below}
 use Rattle.class_model.proofs.Solid.{base-push, solid-push, is_solid-last, solid-root, solid-one_base, base-one_base, base-root}
 use Rattle.class_table.specs.Keys.{table_keys}
 use Rattle.class_table.specs.Kept.{Kept, class_of, plain}
@@ -121,6 +123,14 @@ module _ (kept : List Kept) (ok : IsCoherent kept) (new : Class PyStrInterned) w
             let w = slice_get_within kept b.0 k h in
             elim (subst P e q) [ inl r ↦ omega (arith, r, size) | inr r ↦ absurd r ];
       }
+
+  sound-none : (t : Classes PyStrInterned) → length t ≡ 0 → new.bases ≡ [] → AreSound (with_class t new)
+  sound-none [] l e = sound-first new e
+  sound-none (x ∷ t) l e = absurd (omega (arith, l))
+
+  sound-given : (below : Option PyTypeRef) → IsBelow (length kept) below → new.bases ≡ one_base below → AreSound (with_class (plain kept) new)
+  sound-given None l e = sound-none (plain kept) (size ∙ l) e
+  sound-given (Some b) l e = sound-below (plain kept) new ok.sound b.0 e (omega (arith, size, l))
 
   given : (below : Option PyTypeRef) → IsBelow (length kept) below → new.bases ≡ one_base below → Given kept new below
   given None l e = record {
@@ -252,6 +262,7 @@ module _ (kept : List Kept) (ok : IsCoherent kept) (new : Class PyStrInterned) (
       base = λ i x e. ap (λ t. base t i) plain-added ∙ (now i x e).base;
       solid = λ i x e. ap (λ t. solid t i) plain-added ∙ (now i x e).solid;
       subclasses = λ i x e. (now i x e).subclasses ∙ ap (λ t. subclasses t i) (sym plain-added);
+      sound = subst AreSound (sym plain-added) (sound-given kept ok new below inside bases);
     }
 
 pub added-at : (kept : List Kept) → IsCoherent kept → (new : Class PyStrInterned) (below : Option PyTypeRef) → IsBelow (length kept) below → new.bases ≡ one_base below → (stored : Kept) (n : ℕ) (before items cur found final : List Kept) → n ≡ length kept → before ≡ kept → IsFresh before n new below stored → ((d : Kept) → items ≡ noted d kept below n ++ stored ∷ []) → cur ≡ items → ((x : Kept) → found ≡ set cur n (settled (plain cur) n (get_or cur n x))) → final ≡ found → IsCoherent final × (plain final ≡ with_class (plain kept) new)

@@ -1,5 +1,5 @@
 -- The class that is to be made.
-use Rattle.std.specs.Prelude.{ℕ, ◌<◌, List, [], ◌∷◌, Option, Some, None, string_bytes}
+use Rattle.std.specs.Prelude.{◌≡◌, ℕ, ◌<◌, List, [], ◌∷◌, Option, Some, None, string_bytes}
 use Rattle.py_node.specs.declared.refs.PyTypeRef.{PyTypeRef}
 use Rattle.py_node.specs.declared.refs.PyStrInterned.{PyStrInterned}
 use Rattle.class_model.specs.Class.{Class}
@@ -9,9 +9,9 @@ abbrev pub one_base : Option PyTypeRef → List ℕ
 one_base None = []
 one_base (Some b) = b.0 ∷ []
 
--- the base, where there is one, is there
+-- the base is there. Only the first class has none
 abbrev pub IsBelow : ℕ → Option PyTypeRef → Type 0
-IsBelow n None = Unit {0}
+IsBelow n None = n ≡ 0
 IsBelow n (Some b) = b.0 < n
 
 -- the class that it stands for

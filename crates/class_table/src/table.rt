@@ -5,6 +5,7 @@ ghost use Rattle.py_node.specs.declared.raised.Cause.TheVariants.{EmptyBases, No
 ghost use Rattle.py_node.specs.Attributes.{is_same_name};
 ghost use Rattle.class_model.specs.Class.{Class, lin, is_sub, is_heap, found, found_past, own_of, subclasses};
 ghost use Rattle.class_model.specs.Layout.{base, solid};
+ghost use Rattle.class_model.specs.Sound.{AreSound};
 ghost use Rattle.class_model.specs.Slot.{entry, slot as slot_read, candidates_of, is_heap_at};
 ghost use Rattle.class_model.specs.BuiltIn.{natives_of};
 ghost use Rattle.class_model.specs.Change.{with_class, with_class_attr};
@@ -57,6 +58,14 @@ impl ClassTable {
         ClassTable {
             classes: Vec::new(alloc),
         }
+    }
+
+    /// The classes are sound: only the first has no base, none derives from a class that derives
+    /// from it, and each has an order.
+    pub fn sound(&self)
+        ensures { AreSound self.now }
+    {
+        let _count = self.classes.len();
     }
 
     /// How many classes there are.

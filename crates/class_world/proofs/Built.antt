@@ -1,10 +1,12 @@
 -- The fixed objects and the built-in classes are there.
-use Rattle.std.proofs.Common.{◌≡◌, ℕ, ◌<◌, length, subst, arith, lit<}
+use Rattle.std.proofs.Common.{◌≡◌, ℕ, ◌<◌, length, Some, refl, sym, subst, arith, lit<}
+use Rattle.std.specs.Prelude.{slice_get}
 use Rattle.py_node.specs.declared.refs.PyObjectRef.{PyObjectRef}
 use Rattle.py_node.specs.declared.built_in.BuiltIn.{BuiltIn}
-use Rattle.py_node.specs.BuiltIns.{place_of}
+use Rattle.py_node.specs.BuiltIns.{place_of, all_built_ins}
+use Rattle.plain_machine.specs.Sound.{holds_as}
 use Rattle.class_world.specs.Held.{Held}
-use Rattle.class_world.specs.Sound.{IsNode, IsClass, Holds, Sound}
+use Rattle.class_world.specs.Sound.{IsNode, IsClass, IsOf, Holds, Sound}
 use Rattle.class_world.specs.declared.world.Fixed.{Fixed}
 use Rattle.class_world.specs.declared.world.Fixed.TheVariants as fixed
 use Rattle.py_node.specs.declared.built_in.BuiltIn.TheVariants as built_in
@@ -42,6 +44,32 @@ place-low built_in.Super = lit< tt
 place-low built_in.Iterator = lit< tt
 place-low built_in.Slice = lit< tt
 
+pub place-at : (b : BuiltIn) → slice_get all_built_ins (place_of b) ≡ Some b
+unfolding place_of all_built_ins
+place-at built_in.Object = refl
+place-at built_in.TypeType = refl
+place-at built_in.NoneType = refl
+place-at built_in.NotImplementedType = refl
+place-at built_in.Int = refl
+place-at built_in.Bool = refl
+place-at built_in.Str = refl
+place-at built_in.Tuple = refl
+place-at built_in.List = refl
+place-at built_in.Dict = refl
+place-at built_in.Function = refl
+place-at built_in.Method = refl
+place-at built_in.BuiltinFunctionOrMethod = refl
+place-at built_in.BuiltinMethod = refl
+place-at built_in.MethodDescriptor = refl
+place-at built_in.GetSetDescriptor = refl
+place-at built_in.MemberDescriptor = refl
+place-at built_in.Property = refl
+place-at built_in.ClassMethod = refl
+place-at built_in.StaticMethod = refl
+place-at built_in.Super = refl
+place-at built_in.Iterator = refl
+place-at built_in.Slice = refl
+
 pub fixed-holds : (w now : Held) (o : Fixed) (r : PyObjectRef) → w ≡ now → Sound w → r.0 ≡ number_of_fixed o → Holds now (IsNode r)
 unfolding Holds
 fixed-holds w now o r v s e = let l = fixed-low o in let m = s.fixed in subst (λ w. r.0 < length w.nodes) v (omega arith)
@@ -53,3 +81,6 @@ built_in-holds w now b c v s e = let l = place-low b in let m = s.built_in in su
 pub built_in_node-holds : (w now : Held) (b : BuiltIn) (r : PyObjectRef) → w ≡ now → Sound w → r.0 ≡ place_of b → Holds now (IsNode r)
 unfolding Holds
 built_in_node-holds w now b r v s e = let l = place-low b in let m = s.fixed in subst (λ w. r.0 < length w.nodes) v (omega arith)
+
+pub built_in-of : (w now : Held) (b : BuiltIn) (c : ℕ) → w ≡ now → Sound w → c ≡ place_of b → Holds now (IsOf c (holds_as b))
+built_in-of w now b c v s e = subst (λ w. Holds w (IsOf c (holds_as b))) v (subst (λ c. Holds w (IsOf c (holds_as b))) (sym e) (s.own b))

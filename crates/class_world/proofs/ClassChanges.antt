@@ -1,5 +1,5 @@
 -- Classes that are changed or made.
-use Rattle.std.proofs.Common.{◌≡◌, ℕ, zero, suc, ◌^◌, ◌≤◌, Bool, true, false, [], ◌∷◌, ◌++◌, length, Option, Some, None, Result, Ok, Err, OnOk, OnErr, refl, sym, ap, ◌∙◌, subst, arith, length-append}
+use Rattle.std.proofs.Common.{◌≡◌, ℕ, zero, suc, ◌^◌, ◌≤◌, Bool, true, false, [], ◌∷◌, ◌++◌, length, Some, None, Result, Ok, Err, OnOk, OnErr, refl, sym, ap, ◌∙◌, subst, arith, length-append}
 use Rattle.py_node.specs.declared.refs.PyObjectRef.{PyObjectRef}
 use Rattle.py_node.specs.declared.refs.PyStrInterned.{PyStrInterned}
 use Rattle.py_node.specs.declared.refs.PyTypeRef.{PyTypeRef}
@@ -12,9 +12,13 @@ use Rattle.class_table.specs.New.{IsBelow}
 use Rattle.plain_machine.specs.World.{is_text, with_own_attr, with_new_class}
 use Rattle.class_world.specs.Held.{Held}
 use Rattle.class_world.specs.Reading.{Reading, spelled, node_of, plain}
-use Rattle.class_world.specs.Sound.{IsName, IsNode, IsClass, AreNames, Holds, AllHold, Grows, Sound, of_option, of_class_ref, of_binding, of_class, of_dict, of_node, of_each}
+use Rattle.class_world.specs.Sound.{IsName, IsNode, IsClass, IsOf, AreNames, Holds, AllHold, Grows, Sound, of_binding, of_class, of_dict, of_node, of_each}
 use Rattle.class_world.proofs.Claims.{all-grow, all-append, all-first, all-rest, each-push}
-use Rattle.class_world.proofs.Growth.{grows}
+use Rattle.py_node.specs.declared.built_in.BuiltIn.{BuiltIn}
+use Rattle.py_node.specs.declared.built_in.BuiltIn.TheVariants.{TypeType}
+use Rattle.plain_machine.specs.Sound.{held_by}
+use Rattle.class_world.proofs.Homes.{held_by-push, held_by-last, held_by-attr}
+use Rattle.class_world.proofs.Growth.{Like, keep-itself, keep-push, grows}
 use Rattle.class_world.proofs.Stored.{map-push, no-names}
 use Rattle.class_world.proofs.Changes.{fixed-grow, built_in-grow}
 use Rattle.class_world.proofs.Bound.{with_value-read, with_value-holds}
@@ -45,15 +49,15 @@ attr-holds w (j ∷ ks) (suc c) x r h n k =
     all-append w (of_class j) _ (all-first w (of_class j) _ h) (attr-holds w ks c x r (all-rest w (of_class j) _ h) n k)
 
 -- as many classes as before
-pub classes-grow : (w : Held) (ks : HeldClasses) → length ks ≡ length w.classes → Grows w (record w { classes = ks })
-classes-grow w ks l = grows w (record w { classes = ks }) (omega arith) (omega arith) (λ m f h. h) (omega arith) (omega arith)
+pub classes-grow : (w : Held) (ks : HeldClasses) → length ks ≡ length w.classes → Like w.classes ks → Grows w (record w { classes = ks })
+classes-grow w ks l k = grows w (record w { classes = ks }) (omega arith) (omega arith) (λ m f h. h) (omega arith) (keep-itself w.nodes) (omega arith) k
 
-classes-sound : (w : Held) (ks : HeldClasses) → length ks ≡ length w.classes → AllHold w (of_each of_class ks) → Sound w → Sound (record w { classes = ks })
-classes-sound w ks l h s =
+classes-sound : (w : Held) (ks : HeldClasses) → length ks ≡ length w.classes → Like w.classes ks → AllHold w (of_each of_class ks) → Sound w → Sound (record w { classes = ks })
+classes-sound w ks l k h s =
     let new = record w { classes = ks } in
-    let more = classes-grow w ks l in
+    let more = classes-grow w ks l k in
     let go = all-grow w new more in
-    record { forms = go _ s.forms; below = s.below; nodes = go _ s.nodes; classes = go _ h; vars = go _ s.vars; scopes = go _ s.scopes; fixed = fixed-grow w new s.fixed more; built_in = built_in-grow w new s.built_in more; special = s.special }
+    record { forms = go _ s.forms; below = s.below; nodes = go _ s.nodes; classes = go _ h; vars = go _ s.vars; scopes = go _ s.scopes; fixed = fixed-grow w new s.fixed more; built_in = built_in-grow w new s.built_in more; own = λ b. more.still _ (s.own b); special = s.special }
 
 -- an attribute is set, or memory ran out and nothing changed
 module _ {A E : Type 0} (w : Held) (c : ℕ) (x : PyStrInterned) (r : PyObjectRef) (ks : HeldClasses) where
@@ -61,10 +65,14 @@ module _ {A E : Type 0} (w : Held) (c : ℕ) (x : PyStrInterned) (r : PyObjectRe
   set-long (Ok a) p f = ap length p ∙ attr-length w.classes c x r
   set-long (Err e) p f = ap length f
 
+  pub set-like : (o : Result A E) → OnOk o (ks ≡ with_class_attr is_same_name w.classes c x r) → OnErr o (ks ≡ w.classes) → Like w.classes ks
+  set-like (Ok a) p f = λ d b h. ap (λ ks. held_by ks d) p ∙ held_by-attr is_same_name w.classes c x r d ∙ h
+  set-like (Err e) p f = λ d b h. ap (λ ks. held_by ks d) f ∙ h
+
   pub set-sound : (o : Result A E) → OnOk o (ks ≡ with_class_attr is_same_name w.classes c x r) → OnErr o (ks ≡ w.classes) → Sound w → Holds w (IsName x) → Holds w (IsNode r) → Sound (record w { classes = ks })
   set-sound (Ok a) p f s n k =
-      classes-sound w ks (set-long (Ok a) p f) (subst (λ ks. AllHold w (of_each of_class ks)) (sym p) (attr-holds w w.classes c x r s.classes n k)) s
-  set-sound (Err e) p f s n k = classes-sound w ks (set-long (Err e) p f) (subst (λ ks. AllHold w (of_each of_class ks)) (sym f) s.classes) s
+      classes-sound w ks (set-long (Ok a) p f) (set-like (Ok a) p f) (subst (λ ks. AllHold w (of_each of_class ks)) (sym p) (attr-holds w w.classes c x r s.classes n k)) s
+  set-sound (Err e) p f s n k = classes-sound w ks (set-long (Err e) p f) (set-like (Err e) p f) (subst (λ ks. AllHold w (of_each of_class ks)) (sym f) s.classes) s
 
   pub set-read : (now : Held) (o : Result A E) → OnOk o (ks ≡ with_class_attr is_same_name w.classes c x r) → w ≡ now → OnOk o ((t : Reading) → plain t (record w { classes = ks }) ≡ with_own_attr (plain t now) c (t.text x.0) r)
   unfolding plain
@@ -74,10 +82,9 @@ module _ {A E : Type 0} (w : Held) (c : ℕ) (x : PyStrInterned) (r : PyObjectRe
   set-read now (Err e) p v = tt
 
 -- a base that is there
-pub base-below : (w : Held) (b : Option PyTypeRef) → AllHold w (of_option of_class_ref b) → IsBelow (length w.classes) b
+pub base-below : (w : Held) (b : PyTypeRef) → Holds w (IsClass b.0) → IsBelow (length w.classes) (Some b)
 unfolding Holds
-base-below w None h = tt
-base-below w (Some b) h = h.0
+base-below w b h = h
 
 -- a class with its node
 module _ (w : Held) (meta : PyTypeRef) (k : Class PyStrInterned) where
@@ -88,7 +95,7 @@ module _ (w : Held) (meta : PyTypeRef) (k : Class PyStrInterned) where
   made-grows c =
       let n = length-append w.nodes (record { class = meta; dict = None; payload = payload.Class c } ∷ []) in
       let l = length-append w.classes (k ∷ []) in
-      grows w (class_made c) (omega arith) (omega arith) (λ m f h. h) (omega arith) (omega arith)
+      grows w (class_made c) (omega arith) (omega arith) (λ m f h. h) (omega arith) (keep-push w.nodes (record { class = meta; dict = None; payload = payload.Class c })) (omega arith) (held_by-push w.classes k)
 
   pub class-made : (c : PyTypeRef) → c.0 ≡ length w.classes → Holds (class_made c) (IsClass c.0)
   unfolding Holds
@@ -98,13 +105,17 @@ module _ (w : Held) (meta : PyTypeRef) (k : Class PyStrInterned) where
   unfolding Holds
   node-made c r e = let l = length-append w.nodes (record { class = meta; dict = None; payload = payload.Class c } ∷ []) in omega (arith, l, e)
 
+  pub class-made-of : (c : PyTypeRef) (d : ℕ) (b : BuiltIn) → c.0 ≡ length w.classes → k.bases ≡ d ∷ [] → Sound w → Holds w (IsOf d b) → Holds (class_made c) (IsOf c.0 b)
+  unfolding Holds
+  class-made-of c d b e q s h = ap (held_by (w.classes ++ k ∷ [])) e ∙ held_by-last w.classes k d b s.built_in q h
+
   dict-made : (new : Held) (b : Bool) → 23 ≤ length new.classes → AllHold new (of_dict b)
   unfolding Holds
   dict-made new true l = (omega arith, tt)
   dict-made new false l = tt
 
-  pub made-sound : (c : PyTypeRef) → c.0 ≡ length w.classes → k.node.0 ≡ length w.nodes → k.members ≡ [] → Holds w (IsClass meta.0) → AllHold w (of_each of_binding k.attrs) → Sound w → Sound (class_made c)
-  made-sound c e i q m a s =
+  pub made-sound : (c : PyTypeRef) → c.0 ≡ length w.classes → k.node.0 ≡ length w.nodes → k.members ≡ [] → Holds w (IsClass meta.0) → Holds w (IsOf meta.0 TypeType) → AllHold w (of_each of_binding k.attrs) → Sound w → Sound (class_made c)
+  made-sound c e i q m p a s =
       let new = class_made c in
       let more = made-grows c in
       let go = all-grow w new more in
@@ -115,12 +126,13 @@ module _ (w : Held) (meta : PyTypeRef) (k : Class PyStrInterned) where
       record {
         forms = go _ s.forms;
         below = s.below;
-        nodes = each-push new of_node w.nodes (record { class = meta; dict = None; payload = payload.Class c }) (go _ s.nodes) (more.still (IsClass meta.0) m, (class-made c e, tt));
+        nodes = each-push new of_node w.nodes (record { class = meta; dict = None; payload = payload.Class c }) (go _ s.nodes) (more.still (IsClass meta.0) m, (more.still (IsOf meta.0 TypeType) p, (class-made c e, tt)));
         classes = each-push new of_class w.classes k (go _ s.classes) (node, (members, rest));
         vars = go _ s.vars;
         scopes = go _ s.scopes;
         fixed = fixed-grow w new s.fixed more;
         built_in = many;
+        own = λ b. more.still _ (s.own b);
         special = s.special;
       }
 

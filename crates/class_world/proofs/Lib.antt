@@ -1,4 +1,5 @@
 pub mod Claims
+pub mod Homes
 pub mod Growth
 pub mod Readable
 pub mod Changes
@@ -14,3 +15,4 @@ pub mod StartParts
 pub mod StartSound
 pub mod OwnAttrs
 pub mod ClassText
+pub mod SoundWorld

@@ -1,5 +1,5 @@
 -- What a world's tables say of a reading, and what the plain world has at a number.
-use Rattle.std.proofs.Common.{◌≡◌, ℕ, zero, suc, ◌^◌, ◌<◌, List, [], ◌∷◌, ◌++◌, length, Option, Some, None, Bool, true, false, refl, sym, ap, ◌∙◌, subst, arith, map}
+use Rattle.std.proofs.Common.{◌≡◌, ℕ, zero, suc, ◌^◌, ◌<◌, List, [], ◌∷◌, ◌++◌, length, Option, Some, None, Bool, true, false, refl, sym, ap, ◌∙◌, subst, arith}
 use Rattle.std.specs.Prelude.{slice_get, option_map, IsTrue}
 use Rattle.py_node.specs.declared.refs.PyObjectRef.{PyObjectRef}
 use Rattle.py_node.specs.declared.payload.Node.{Node}
@@ -14,10 +14,10 @@ use Rattle.class_model.specs.Slot.{entry, slot, candidates_of}
 use Rattle.class_model.specs.BuiltIn.{natives_of}
 use Rattle.class_model.proofs.Renamed.{entry-renamed, slot-renamed, candidates_of-renamed}
 use Rattle.class_table.specs.Keys.{table_keys}
-use Rattle.plain_machine.specs.World.{node_at, class_at, datum_at, has_dict, flag_in, the_dict, text_keys, or_empty}
+use Rattle.plain_machine.specs.World.{node_at, has_dict, flag_in, the_dict, text_keys, or_empty}
 use Rattle.class_world.specs.Held.{Held}
-use Rattle.class_world.specs.Reading.{Reading, Reads, form_tree, node_of, datum, spelled, plain}
-use Rattle.class_world.specs.Sound.{Claim, IsClass, Holds, AllHold, Sound, of_node, of_dict, of_class, of_each}
+use Rattle.class_world.specs.Reading.{Reading, Reads, form_tree, node_of, spelled, plain}
+use Rattle.class_world.specs.Sound.{IsClass, Holds, AllHold, Sound, of_node, of_dict, of_class, of_each}
 use Rattle.class_world.proofs.Claims.{got-map, each-get, seen, all-first, all-rest, get-end, get-pushed}
 
 pub node-read : (w now : Held) (r : PyObjectRef) (n : Node) → w ≡ now → slice_get w.nodes r.0 ≡ Some n → (t : Reading) → node_at (plain t now) r ≡ Some (node_of t n)

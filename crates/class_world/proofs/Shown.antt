@@ -7,7 +7,7 @@ use Rattle.py_node.specs.declared.refs.PyObjectRef.{PyObjectRef}
 use Rattle.py_node.specs.declared.refs.PyStrInterned.{PyStrInterned}
 use Rattle.py_node.specs.Tree.{Text}
 use Rattle.reply_text.specs.Lines.{joined}
-use Rattle.class_model.specs.Class.{Class, Classes, renamed}
+use Rattle.class_model.specs.Class.{Classes, renamed}
 use Rattle.plain_machine.specs.Show.{dots, rest_text, item_texts, entry_text, tuple_text, dict_text, containers, text_within}
 use Rattle.class_world.specs.Held.{Held}
 use Rattle.class_world.specs.Reading.{Reading, spelled, plain}

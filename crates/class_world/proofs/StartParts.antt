@@ -1,8 +1,8 @@
 -- The parts of a new machine's world: loops over the built-in classes and the special names.
 use Rattle.std.proofs.Common.{◌≡◌, ℕ, zero, suc, ◌+◌, ◌<◌, ◌≤◌, Bool, true, false, List, [], ◌∷◌, ◌++◌, length, Option, Some, None, refl, sym, ap, ◌∙◌, subst, arith, get_or, take, map, true≢false}
-use Rattle.std.specs.Prelude.{◌&&◌, not, slice_get, ltb}
+use Rattle.std.specs.Prelude.{◌&&◌, not, slice_get, ltb, eqb}
 use Rattle.std.specs.Str.{bytes_eq}
-use Rattle.std.proofs.lemmas.Bool.{ltb-true}
+use Rattle.std.proofs.lemmas.Bool.{ltb-true, eqb-true}
 use Rattle.std.proofs.lemmas.Slice.Eq.{bytes_eq-Decides}
 use Rattle.py_node.specs.declared.refs.PyTypeRef.{PyTypeRef}
 use Rattle.py_node.specs.declared.built_in.BuiltIn.{BuiltIn}
@@ -83,9 +83,9 @@ pub special-distinct : AreDistinct special_names
 unfolding special_names
 special-distinct = differ-distinct special_names refl
 
--- whether a class's base has a place below the given one
+-- whether a class's base has a place below the given one. Only the first class has none
 abbrev base_below : ℕ → Option ℕ → Bool
-base_below n None = true
+base_below n None = eqb n 0
 base_below n (Some b) = ltb b n
 
 abbrev bases_below : ℕ → List BuiltIn → Bool
@@ -101,7 +101,8 @@ bases-at n (b ∷ bs) (suc i) d h l =
 
 -- the base of a class that is to be made, by the bases that it has
 pub one-below : (n : ℕ) (o : Option PyTypeRef) (b : Option ℕ) → one_base o ≡ bases_from b → base_below n b ≡ true → IsBelow n o
-one-below n None b e h = tt
+one-below n None None e h = eqb-true n 0 h
+one-below n None (Some b) e h = cc
 one-below n (Some c) None e h = cc
 one-below n (Some c) (Some b) e h = let same : c.0 ≡ b = cc in let l = ltb-true b n h in omega (arith, same, l)
 

@@ -1,10 +1,13 @@
 -- The world of a new machine is sound, and is the plain machine's.
-use Rattle.std.proofs.Common.{◌≡◌, ℕ, ◌^◌, ◌<◌, ◌≤◌, Bool, true, false, List, [], ◌∷◌, ◌++◌, length, refl, ap, arith, map}
+use Rattle.std.proofs.Common.{◌≡◌, ℕ, ◌^◌, ◌<◌, ◌≤◌, Bool, true, false, List, [], ◌∷◌, ◌++◌, length, Some, refl, ap, arith, map}
 use Rattle.std.specs.Prelude.{◌&&◌, ltb}
 use Rattle.std.proofs.lemmas.Bool.{ltb-true}
 use Rattle.py_node.specs.declared.refs.PyStrInterned.{PyStrInterned}
 use Rattle.py_node.specs.declared.built_in.BuiltIn.{BuiltIn}
-use Rattle.py_node.specs.BuiltIns.{place_of, all_built_ins}
+use Rattle.py_node.specs.declared.built_in.BuiltIn.TheVariants as built_in
+use Rattle.plain_machine.specs.Sound.{holds_as, held_by}
+use Rattle.py_node.specs.BuiltIns.{place_of, base_of, all_built_ins}
+use Rattle.class_model.specs.Order.{linear, least_order, arrangements, all_arrangements}
 use Rattle.py_node.specs.Slots.{special_names}
 use Rattle.class_model.specs.Class.{Class, has_flag, renamed}
 use Rattle.plain_machine.specs.Start.{built_class, class_node as plain_class_node, fixed_nodes as plain_fixed_nodes, bare}
@@ -25,17 +28,17 @@ abbrev built : BuiltIn → Class PyStrInterned
 built b = built_class b
 
 module _ (w : Held) where
-  nodes-hold : (n : ℕ) (bs : List BuiltIn) → places_below n bs ≡ true → 1 < length w.classes → n ≤ length w.classes → AllHold w (of_each of_node (map class_node bs))
+  nodes-hold : (n : ℕ) (bs : List BuiltIn) → places_below n bs ≡ true → 1 < length w.classes → held_by w.classes 1 ≡ Some built_in.TypeType → n ≤ length w.classes → AllHold w (of_each of_node (map class_node bs))
   unfolding Holds
-  nodes-hold n [] h l k = tt
-  nodes-hold n (b ∷ bs) h l k =
+  nodes-hold n [] h l m k = tt
+  nodes-hold n (b ∷ bs) h l m k =
       let both = split (ltb (place_of b) n) (places_below n bs) h in
       let below = ltb-true (place_of b) n both.0 in
-      (l, (omega (arith, below, k), nodes-hold n bs both.1 l k))
+      (l, (m, (omega (arith, below, k), nodes-hold n bs both.1 l m k)))
 
-  fixed-hold : 5 < length w.classes → AllHold w (of_each of_node fixed_nodes)
+  fixed-hold : 5 < length w.classes → held_by w.classes 2 ≡ Some built_in.Object → held_by w.classes 3 ≡ Some built_in.Object → held_by w.classes 5 ≡ Some built_in.Int → AllHold w (of_each of_node fixed_nodes)
   unfolding Holds
-  fixed-hold l = (omega arith, (omega arith, (omega arith, (omega arith, tt))))
+  fixed-hold l a b c = (omega arith, (a, (omega arith, (b, (omega arith, (c, (omega arith, (c, tt))))))))
 
   dict-holds : (b : Bool) → the_dict < length w.classes → AllHold w (of_dict b)
   unfolding Holds
@@ -54,17 +57,45 @@ module _ (w : Held) where
 abbrev pub started : Held
 started = record { names = special_names; forms = []; nodes = start_nodes; classes = map built all_built_ins; vars = []; scopes = []; calls = [] }
 
+-- by computing each linearisation
+started-own : (b : BuiltIn) → held_by started.classes (place_of b) ≡ Some (holds_as b)
+unfolding all_built_ins place_of base_of linear least_order all_arrangements arrangements
+started-own built_in.Object = refl
+started-own built_in.TypeType = refl
+started-own built_in.NoneType = refl
+started-own built_in.NotImplementedType = refl
+started-own built_in.Int = refl
+started-own built_in.Bool = refl
+started-own built_in.Str = refl
+started-own built_in.Tuple = refl
+started-own built_in.List = refl
+started-own built_in.Dict = refl
+started-own built_in.Function = refl
+started-own built_in.Method = refl
+started-own built_in.BuiltinFunctionOrMethod = refl
+started-own built_in.BuiltinMethod = refl
+started-own built_in.MethodDescriptor = refl
+started-own built_in.GetSetDescriptor = refl
+started-own built_in.MemberDescriptor = refl
+started-own built_in.Property = refl
+started-own built_in.ClassMethod = refl
+started-own built_in.StaticMethod = refl
+started-own built_in.Super = refl
+started-own built_in.Iterator = refl
+started-own built_in.Slice = refl
+
 pub started-sound : Sound started
-unfolding all_built_ins place_of
+unfolding all_built_ins place_of Holds
 started-sound = record {
   forms = tt;
   below = λ n x e. cc;
-  nodes = each-append started of_node (map class_node all_built_ins) fixed_nodes (nodes-hold started 23 all_built_ins refl (omega arith) (omega arith)) (fixed-hold started (omega arith));
+  nodes = each-append started of_node (map class_node all_built_ins) fixed_nodes (nodes-hold started 23 all_built_ins refl (omega arith) (started-own built_in.TypeType) (omega arith)) (fixed-hold started (omega arith) (started-own built_in.NoneType) (started-own built_in.NotImplementedType) (started-own built_in.Bool));
   classes = classes-hold started 23 all_built_ins refl (omega arith) (omega arith);
   vars = tt;
   scopes = tt;
   fixed = omega arith;
   built_in = omega arith;
+  own = started-own;
   special = λ n x e. e;
 }
 

@@ -20,8 +20,9 @@ use Rattle.py_node.specs.declared.task.OperatorTask.{OperatorTask}
 use Rattle.py_node.specs.declared.task.OperatorTask.TheVariants as operator
 use Rattle.py_node.specs.declared.task.Step.{Step}
 use Rattle.py_node.specs.declared.task.Step.TheVariants.{Ask, End}
+use Rattle.py_node.specs.declared.built_in.BuiltIn.TheVariants.{TypeType}
 use Rattle.class_world.specs.Held.{Held}
-use Rattle.class_world.specs.Sound.{AllHold, Grows, Claim, IsNode, AreNodes, IsName, IsClass, IsExpression, of_binding, of_each, of_option, of_node_ref}
+use Rattle.class_world.specs.Sound.{AllHold, Grows, Claim, IsNode, AreNodes, IsName, IsClass, IsOf, IsExpression, of_binding, of_each, of_option, of_node_ref}
 
 abbrev pub of_eval_task : EvalTask → List Claim
 of_eval_task (eval.Eval e) = IsExpression e ∷ []
@@ -46,7 +47,7 @@ of_call_task (call.Init o args kw) = IsNode o ∷ of_args args.items kw.items
 of_call_task (call.Object n args kw) = of_args args.items kw.items
 
 abbrev pub of_class_task : ClassTask → List Claim
-of_class_task (class.MakeClass c args kw) = IsClass c.0 ∷ of_args args.items kw.items
+of_class_task (class.MakeClass c args kw) = IsClass c.0 ∷ IsOf c.0 TypeType ∷ of_args args.items kw.items
 of_class_task (class.Type n args kw) = of_args args.items kw.items
 
 abbrev pub of_operator_task : OperatorTask → List Claim

@@ -1,5 +1,5 @@
 -- What is said of numbers, and that all that a world says of them is so.
-use Rattle.std.specs.Prelude.{◌≡◌, ℕ, ◌<◌, ◌≤◌, ◌^◌, Bool, true, false, List, [], ◌∷◌, ◌++◌, Option, Some, None, length, map, slice_get}
+use Rattle.std.specs.Prelude.{◌≡◌, ℕ, ◌<◌, ◌≤◌, ◌^◌, Bool, true, false, List, [], ◌∷◌, ◌++◌, Option, Some, None, length, map, slice_get, option_map, option_and_then, string_bytes}
 use Rattle.std.specs.List.{All}
 use Rattle.py_node.specs.declared.refs.PyObjectRef.{PyObjectRef}
 use Rattle.py_node.specs.declared.refs.PyStrInterned.{PyStrInterned}
@@ -10,8 +10,12 @@ use Rattle.py_node.specs.declared.payload.Payload.TheVariants as payload
 use Rattle.py_node.specs.declared.payload.Form.{Form}
 use Rattle.py_node.specs.declared.payload.Form.TheVariants as form
 use Rattle.py_node.specs.Slots.{special_names}
+use Rattle.py_node.specs.declared.built_in.BuiltIn.{BuiltIn}
+use Rattle.py_node.specs.declared.built_in.BuiltIn.TheVariants as built_in
+use Rattle.py_node.specs.BuiltIns.{place_of}
 use Rattle.class_model.specs.Class.{Class, has_flag}
 use Rattle.plain_machine.specs.World.{the_dict}
+use Rattle.plain_machine.specs.Sound.{holds_as, held_by, Key, NumberKey, TextKey, AreKeys}
 use Rattle.class_world.specs.declared.scope.Scope.{Scope}
 use Rattle.class_world.specs.Held.{Held}
 use Rattle.class_world.specs.Tables.{AreBelow}
@@ -25,6 +29,12 @@ pub data Claim : Type 0 where
   IsName : PyStrInterned → Claim
   AreNames : List PyStrInterned → Claim
   IsClass : ℕ → Claim
+  -- the class's objects hold what those of a built-in class do
+  IsOf : ℕ → BuiltIn → Claim
+  -- the object holds what those of a built-in class do
+  Holding : PyObjectRef → BuiltIn → Claim
+  -- the objects are numbers or texts, no two of them alike
+  KeysDiffer : List PyObjectRef → Claim
   -- the expression has more operands than so many
   HasOperand : ℕ → ℕ → Claim
 
@@ -43,6 +53,34 @@ abbrev pub operands_at : Option Form → List ℕ
 operands_at None = []
 operands_at (Some f) = operands f
 
+-- the built-in class whose objects hold such
+abbrev pub home_of : Payload → BuiltIn
+home_of payload.Object = built_in.Object
+home_of (payload.Class c) = built_in.TypeType
+home_of (payload.Number z) = built_in.Int
+home_of (payload.Text s) = built_in.Str
+home_of (payload.Tuple rs) = built_in.Tuple
+home_of (payload.Dict es) = built_in.Dict
+home_of (payload.Function f) = built_in.Function
+home_of (payload.Method m) = built_in.Method
+home_of (payload.NativeFunction f) = built_in.BuiltinFunctionOrMethod
+home_of (payload.BuiltinMethod m) = built_in.BuiltinMethod
+home_of (payload.MethodDescriptor m) = built_in.MethodDescriptor
+home_of (payload.GetSet g) = built_in.GetSetDescriptor
+home_of (payload.ClassMethod r) = built_in.ClassMethod
+
+abbrev pub home_at : List Node → ℕ → Option BuiltIn
+home_at ns n = option_map (λ x. home_of x.payload) (slice_get ns n)
+
+-- what a node holds as the key of a dict
+abbrev pub key_in : Payload → Option Key
+key_in (payload.Number z) = Some (NumberKey z)
+key_in (payload.Text s) = Some (TextKey (string_bytes s))
+key_in _ = None
+
+abbrev pub held_key : List Node → PyObjectRef → Option Key
+held_key ns r = option_and_then (λ x. key_in x.payload) (slice_get ns r.0)
+
 unfoldable pub Holds : Held → Claim → Type 0
 Holds w (IsNode r) = r.0 < length w.nodes
 Holds w (AreNodes rs) = All (λ r. r.0 < length w.nodes) rs
@@ -51,6 +89,9 @@ Holds w (AreExpressions es) = All (λ e. e < length w.forms) es
 Holds w (IsName x) = x.0 < length w.names
 Holds w (AreNames xs) = All (λ x. x.0 < length w.names) xs
 Holds w (IsClass c) = c < length w.classes
+Holds w (IsOf c b) = held_by w.classes c ≡ Some b
+Holds w (Holding r b) = home_at w.nodes r.0 ≡ Some b
+Holds w (KeysDiffer rs) = AreKeys (held_key w.nodes) rs
 Holds w (HasOperand e n) = n < length (operands_at (slice_get w.forms e))
 
 abbrev pub AllHold : Held → List Claim → Type 0
@@ -79,7 +120,7 @@ of_payload (payload.Class c) = IsClass c.0 ∷ []
 of_payload (payload.Number z) = []
 of_payload (payload.Text s) = []
 of_payload (payload.Tuple rs) = AreNodes rs.items ∷ []
-of_payload (payload.Dict es) = AreNodes (map (λ e. e.0) es.items) ∷ AreNodes (map (λ e. e.1) es.items) ∷ []
+of_payload (payload.Dict es) = AreNodes (map (λ e. e.0) es.items) ∷ AreNodes (map (λ e. e.1) es.items) ∷ KeysDiffer (map (λ e. e.0) es.items) ∷ []
 of_payload (payload.Function f) = IsName f.name ∷ AreNames f.params.items ∷ IsExpression f.body ∷ of_option of_class_ref f.class
 of_payload (payload.Method m) = IsNode m.target ∷ IsNode m.func ∷ []
 of_payload (payload.NativeFunction f) = IsName f.name ∷ of_option of_node_ref f.target
@@ -88,8 +129,12 @@ of_payload (payload.MethodDescriptor m) = IsClass m.class.0 ∷ IsName m.name �
 of_payload (payload.GetSet g) = IsClass g.class.0 ∷ IsName g.name ∷ []
 of_payload (payload.ClassMethod r) = IsNode r ∷ []
 
+-- the dict of an object is one
+abbrev pub of_dict_ref : PyObjectRef → List Claim
+of_dict_ref r = IsNode r ∷ Holding r built_in.Dict ∷ []
+
 abbrev pub of_node : Node → List Claim
-of_node n = IsClass n.class.0 ∷ of_option of_node_ref n.dict ++ of_payload n.payload
+of_node n = IsClass n.class.0 ∷ IsOf n.class.0 (home_of n.payload) ∷ of_option of_dict_ref n.dict ++ of_payload n.payload
 
 abbrev pub of_form : Form → List Claim
 of_form (form.Const k) = []
@@ -131,4 +176,6 @@ pub record Sound (w : Held) : Type 0 where
   -- the fixed nodes and the built-in classes are there
   pub fixed : 27 ≤ length w.nodes
   pub built_in : 23 ≤ length w.classes
+  -- and the objects of each hold what they should
+  pub own : (b : BuiltIn) → Holds w (IsOf (place_of b) (holds_as b))
   pub special : (n : ℕ) (x : List ℕ) → slice_get special_names n ≡ Some x → slice_get w.names n ≡ Some x

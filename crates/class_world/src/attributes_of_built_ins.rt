@@ -9,7 +9,9 @@ ghost use Rattle.py_node.specs.declared.entry.NativeEntry.TheVariants.{Getter};
 ghost use Rattle.plain_machine.specs.Start.{attr_class, attr_datum, with_attr, with_attrs};
 ghost use Rattle.class_world.specs.BuiltInAttrs.{plain_attr, row_of};
 ghost use Rattle.class_world.specs.Reading.{Reading, Reads, datum, plain};
-ghost use Rattle.class_world.specs.Sound.{IsName, IsNode, Holds, AllHold, Grows, of_payload};
+ghost use Rattle.py_node.specs.declared.built_in.BuiltIn.TheVariants as built_in;
+ghost use Rattle.plain_machine.specs.Sound.{holds_as};
+ghost use Rattle.class_world.specs.Sound.{IsName, IsNode, Holds, AllHold, Grows, home_of, of_payload};
 
 use crate::world::World;
 use Attr::{ClassMethod, Method, New, ReadOnly, Settable};
@@ -370,6 +372,7 @@ fn payload_of(world: &World, class: BuiltIn, name: PyStrInterned, attr: Attr) ->
     requires { Holds world.now (IsName name) }
     ensures reads { (t : Reading) → datum t result ≡ attr_datum (place_of class) (t.text name.0) (plain_attr attr) }
     ensures holds { AllHold world.now (of_payload result) }
+    ensures home { home_of result ≡ holds_as (attr_class (plain_attr attr)) }
 {
     match attr {
         New => Payload::NativeFunction(NativeFunction {
@@ -403,6 +406,7 @@ fn descriptor(
     requires { Holds world.now (IsName name) }
     ensures reads { (t : Reading) → datum t result ≡ AMethodDescriptor (place_of class) (t.text name.0) entry flags.0 }
     ensures holds { AllHold world.now (of_payload result) }
+    ensures home { home_of result ≡ built_in.MethodDescriptor }
 {
     Payload::MethodDescriptor(MethodDescriptor {
         class: world.built_in(class),
@@ -423,6 +427,7 @@ fn get_set(
     requires { Holds world.now (IsName name) }
     ensures reads { (t : Reading) → datum t result ≡ AGetSet (place_of class) (t.text name.0) (Some (Getter property)) setter }
     ensures holds { AllHold world.now (of_payload result) }
+    ensures home { home_of result ≡ built_in.GetSetDescriptor }
 {
     Payload::GetSet(GetSet {
         class: world.built_in(class),

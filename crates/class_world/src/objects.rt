@@ -1,14 +1,18 @@
 // What rows read of objects and classes.
 #![tactic(auto, unfolding(crate::specs::Reading::plain))]
 
-ghost use Rattle.std.specs.Prelude.{◌≡◌, IfSome, option_map, nat_lt};
+ghost use Rattle.std.specs.Prelude.{◌≡◌, Some, IfSome, option_map, nat_lt};
 ghost use Rattle.plain_machine.specs.World.{datum_at};
 ghost use Rattle.plain_machine.specs.Objects.{class_object, type_object, class_number, special_at, is_instance, is_for_objects, is_fast, nearest_built_in};
 ghost use Rattle.class_model.specs.Layout.{built_ins};
 ghost use Rattle.class_model.specs.Slot.{first_with};
 ghost use Rattle.class_table.specs.Keys.{numbers};
 ghost use Rattle.class_world.specs.Reading.{Reading, Reads, plain};
-ghost use Rattle.class_world.specs.Sound.{IsNode, IsClass, Holds};
+ghost use Rattle.py_node.specs.BuiltIns.{place_of};
+ghost use Rattle.py_node.specs.declared.built_in.BuiltIn.{BuiltIn};
+ghost use Rattle.py_node.specs.declared.built_in.BuiltIn.TheVariants.{TypeType};
+ghost use Rattle.plain_machine.specs.Sound.{holds_as};
+ghost use Rattle.class_world.specs.Sound.{IsNode, IsClass, IsOf, Holding, Holds};
 
 use crate::world::World;
 use bitflags::Flags;
@@ -44,6 +48,7 @@ impl World {
         requires { Holds self.now (IsNode node) }
         ensures number { (t : Reading) → class_number (datum_at (plain t self.now) node) ≡ option_map (λ c. c.0) result }
         ensures class { IfSome result (λ c. Holds self.now (IsClass c.0)) }
+        ensures holding { IfSome result (λ c. Holds self.now (Holding node TypeType)) }
     {
         match self.payload(node) {
             Payload::Class(class) => Some(*class),
@@ -95,7 +100,8 @@ impl World {
     /// The built-in class whose objects a class's objects are: the nearest one along best bases.
     pub fn nearest_built_in(&self, class: PyTypeRef) -> Option<PyTypeRef>
         requires { Holds self.now (IsClass class.0) }
-        ensures { (t : Reading) → nearest_built_in (plain t self.now).classes class.0 ≡ option_map (λ c. c.0) result }
+        ensures nearest { (t : Reading) → nearest_built_in (plain t self.now).classes class.0 ≡ option_map (λ c. c.0) result }
+        ensures of { (b : BuiltIn) → option_map (λ c. c.0) result ≡ Some (place_of b) → Holds self.now (IsOf class.0 (holds_as b)) }
     {
         first_built_in(self.classes().mro(class))
     }

@@ -1,7 +1,8 @@
 // The texts of tuples and dicts, each in a world of its own.
 
 ghost use Rattle.std.specs.Prelude.{IfOk};
-ghost use Rattle.class_world.specs.Sound.{IsNode, AreNodes, Holds, Grows};
+ghost use Rattle.class_world.specs.Sound.{IsNode, AreNodes, Holding, Holds, Grows};
+ghost use Rattle.py_node.specs.declared.built_in.BuiltIn.TheVariants.{Str};
 
 use crate::show::show;
 use crate::world::World;
@@ -23,6 +24,7 @@ fn number(world: &mut World, alloc: Global, value: i128) -> Result<PyObjectRef, 
 fn word(world: &mut World, alloc: Global, value: &str) -> Result<PyObjectRef, OutOfMemory>
     ensures grows { Grows world.old world.new }
     ensures node { IfOk result (λ r. Holds world.new (IsNode r)) }
+    ensures text { IfOk result (λ r. Holds world.new (Holding r Str)) }
 {
     let value = String::from_str(alloc, value)?;
     let class = world.built_in(BuiltIn::Str);
@@ -84,6 +86,7 @@ fn dict(
     value: PyObjectRef,
 ) -> Result<PyObjectRef, OutOfMemory>
     requires key { Holds world.old (IsNode key) }
+    requires text { Holds world.old (Holding key Str) }
     requires value { Holds world.old (IsNode value) }
     ensures { IfOk result (λ r. Holds world.new (IsNode r)) }
 {

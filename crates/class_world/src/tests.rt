@@ -1,6 +1,6 @@
 // Worlds that are made with ample memory: a new one, and one with classes that were made since.
 ghost use Rattle.std.specs.Prelude.{IfOk};
-ghost use Rattle.class_world.specs.Sound.{AllHold, Grows, Holds, IsClass, IsNode, of_class_ref, of_option};
+ghost use Rattle.class_world.specs.Sound.{Grows, Holds, IsClass, IsNode};
 
 use crate::classes::push_classes;
 use crate::world::{Fixed, World};
@@ -55,9 +55,9 @@ fn made(
     world: &mut World,
     alloc: Global,
     name: &str,
-    base: Option<PyTypeRef>,
+    base: PyTypeRef,
 ) -> Result<PyTypeRef, OutOfMemory>
-    requires { AllHold world.old (of_option of_class_ref base) }
+    requires { Holds world.old (IsClass base.0) }
     ensures class { IfOk result (λ c. Holds world.new (IsClass c.0)) }
     ensures grows { Grows world.old world.new }
 {
@@ -93,14 +93,15 @@ fn writes_the_classes_that_were_made(rt: HostRuntime) -> Result<(), Fail> {
     let mut out = b"= 1\n".to_vec(alloc)?;
     push_classes(&mut out, &world)?;
     assert_eq!(rt; out.as_slice(), b"= 1\n".as_slice());
-    let first = made(&mut world, alloc, "A\n", None)?;
-    let second = made(&mut world, alloc, "B", Some(first))?;
+    let object = world.built_in(BuiltIn::Object);
+    let first = made(&mut world, alloc, "A\n", object)?;
+    let second = made(&mut world, alloc, "B", first)?;
     set(&mut world, alloc, first, "__new__", Fixed::True)?;
     set(&mut world, alloc, first, "__add__", Fixed::True)?;
     set(&mut world, alloc, second, "__hash__", Fixed::None)?;
     push_classes(&mut out, &world)?;
     let wanted =
-        "= 1\nclass A\\n: A\\n\nslots A\\n: add new\nclass B: B, A\\n\nslots B: add hash!\n";
+        "= 1\nclass A\\n: A\\n, object\nslots A\\n: add hash repr getattro setattro richcompare init new\nclass B: B, A\\n, object\nslots B: add hash! repr getattro setattro richcompare init\n";
     assert_eq!(rt; out.as_slice(), wanted.as_bytes());
     Ok(())
 }

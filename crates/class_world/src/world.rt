@@ -7,16 +7,18 @@ ghost use Rattle.py_node.specs.Slots.{special_names};
 ghost use Rattle.plain_machine.specs.Start.{bare, start};
 ghost use Rattle.plain_machine.specs.World.{ref, push_node, with_node, next_node, has_dict, the_dict, at_rest, class_at, datum_at, number_of, text_keys, slot_at, candidates_at, variable, with_binding, with_scope, without_scope, with_own_attr, with_new_class, is_text};
 ghost use Rattle.plain_machine.specs.Objects.{with_definer};
+ghost use Rattle.plain_machine.specs.Sound.{holds_as, IsSound};
+ghost use Rattle.py_node.specs.declared.built_in.BuiltIn.{BuiltIn};
+ghost use Rattle.py_node.specs.declared.built_in.BuiltIn.TheVariants.{Dict, TypeType};
 ghost use Rattle.class_model.specs.Class.{found, found_past, own_of, is_sub, has_flag};
 ghost use Rattle.class_model.specs.Slot.{entry, slot as slot_read, candidates_of, is_heap_at};
 ghost use Rattle.class_model.specs.BuiltIn.{natives_of};
-ghost use Rattle.class_table.specs.New.{one_base};
 ghost use Rattle.class_table.specs.Turn.{list_of};
 ghost use Rattle.py_node.specs.BuiltIns.{place_of};
 ghost use Rattle.class_world.specs.Fixed.{number_of_fixed};
 ghost use Rattle.class_world.specs.Held.{Held};
 ghost use Rattle.class_world.specs.Reading.{Reading, Reads, form_tree, datum, bindings, plain, IsReadable};
-ghost use Rattle.class_world.specs.Sound.{IsNode, IsClass, IsExpression, IsName, Holds, AllHold, Grows, of_option, of_node_ref, of_payload, of_form, of_class_ref, of_binding, of_each};
+ghost use Rattle.class_world.specs.Sound.{IsNode, IsClass, IsOf, IsExpression, IsName, Holding, Holds, AllHold, Grows, home_of, of_option, of_dict_ref, of_payload, of_form, of_binding, of_each};
 
 use crate::attributes_of_built_ins::add_own_attrs;
 use crate::definer::define;
@@ -38,9 +40,6 @@ use py_node::reply::BodyCall;
 use std::alloc::Global;
 use std::marker::Model;
 use std::mem;
-
-// The class of dicts.
-const DICT: PyTypeRef = PyTypeRef(9);
 
 /// An object that every world has.
 #[derive(Clone, Copy, PartialEq, Eq, Debug)]
@@ -147,6 +146,13 @@ impl World {
         &self.classes
     }
 
+    /// The world is sound.
+    pub fn sound(&self)
+        ensures { (t : Reading) → IsSound (plain t self.now) }
+    {
+        self.classes.sound();
+    }
+
     /// The names, by themselves.
     pub fn names(&self) -> &Names
         ensures { result.now ≡ self.now.names }
@@ -167,6 +173,7 @@ impl World {
     pub fn built_in(&self, class: BuiltIn) -> PyTypeRef
         ensures place { result.0 ≡ place_of class }
         ensures class { Holds self.now (IsClass result.0) }
+        ensures of { Holds self.now (IsOf result.0 (holds_as class)) }
     {
         let _classes = &self.classes;
         class.class()
@@ -195,6 +202,7 @@ impl World {
     pub fn payload(&self, node: PyObjectRef) -> &Payload
         requires { Holds self.now (IsNode node) }
         ensures reads { (t : Reading) → datum_at (plain t self.now) node ≡ Some (datum t result.now) }
+        ensures holding { Holds self.now (Holding node (home_of result.now)) }
         ensures holds { AllHold self.now (of_payload result.now) }
     {
         &self.nodes[node.0 as usize].payload
@@ -205,6 +213,17 @@ impl World {
         requires { Holds self.now (IsNode node) }
         ensures reads { (t : Reading) → class_at (plain t self.now) node ≡ Some result.0 }
         ensures holds { Holds self.now (IsClass result.0) }
+    {
+        self.nodes[node.0 as usize].class
+    }
+
+    /// The class of a class, which is a metaclass.
+    pub fn metaclass(&self, node: PyObjectRef) -> PyTypeRef
+        requires node { Holds self.now (IsNode node) }
+        requires holding { Holds self.now (Holding node TypeType) }
+        ensures reads { (t : Reading) → class_at (plain t self.now) node ≡ Some result.0 }
+        ensures holds { Holds self.now (IsClass result.0) }
+        ensures of { Holds self.now (IsOf result.0 TypeType) }
     {
         self.nodes[node.0 as usize].class
     }
@@ -285,7 +304,8 @@ impl World {
         }
     }
 
-    /// Makes a node, after its dict where its class gives it one.
+    /// Makes a node, after its dict where its class gives it one. It holds what the objects of its
+    /// class hold.
     pub fn make_node(
         &mut self,
         alloc: Global,
@@ -293,19 +313,32 @@ impl World {
         payload: Payload,
     ) -> Result<PyObjectRef, OutOfMemory>
         requires class { Holds self.old (IsClass class.0) }
+        requires of { Holds self.old (IsOf class.0 (home_of payload)) }
         requires payload { AllHold self.old (of_payload payload) }
         ensures made { OnOk result ((t : Reading) → plain t self.new ≡ with_node (plain t self.old) class.0 (datum t payload)) }
         ensures number { IfOk result (λ r. (t : Reading) → r ≡ next_node (plain t self.old) class.0) }
         ensures reads { (t : Reading) → Reads t self.new → Reads t self.old }
         ensures grows { Grows self.old self.new }
         ensures node { IfOk result (λ r. Holds self.new (IsNode r)) }
+        ensures holding { IfOk result (λ r. Holds self.new (Holding r (home_of payload))) }
     {
         if self.gives_dict(class) {
-            let dict = self.push_node(DICT, None, Payload::Dict(Vec::new(alloc)))?;
+            let dicts = self.class_of_dicts();
+            let dict = self.push_node(dicts, None, Payload::Dict(Vec::new(alloc)))?;
             self.push_node(class, Some(dict), payload)
         } else {
             self.push_node(class, None, payload)
         }
+    }
+
+    // The class of dicts.
+    #[tactic(auto, unfolding(py_node::specs::BuiltIns::place_of))]
+    fn class_of_dicts(&self) -> PyTypeRef
+        ensures place { result.0 ≡ the_dict }
+        ensures class { Holds self.now (IsClass result.0) }
+        ensures of { Holds self.now (IsOf result.0 Dict) }
+    {
+        self.built_in(BuiltIn::Dict)
     }
 
     // Whether a class gives its objects a dict.
@@ -325,13 +358,15 @@ impl World {
         payload: Payload,
     ) -> Result<PyObjectRef, OutOfMemory>
         requires class { Holds self.old (IsClass class.0) }
-        requires dict { AllHold self.old (of_option of_node_ref dict) }
+        requires of { Holds self.old (IsOf class.0 (home_of payload)) }
+        requires dict { AllHold self.old (of_option of_dict_ref dict) }
         requires payload { AllHold self.old (of_payload payload) }
         ensures made { OnOk result ((t : Reading) → plain t self.new ≡ push_node (plain t self.old) class.0 dict (datum t payload)) }
         ensures number { IfOk result (λ r. (t : Reading) → r ≡ ref (length (plain t self.old).nodes)) }
         ensures reads { (t : Reading) → Reads t self.new → Reads t self.old }
         ensures grows { Grows self.old self.new }
         ensures node { IfOk result (λ r. Holds self.new (IsNode r)) }
+        ensures holding { IfOk result (λ r. Holds self.new (Holding r (home_of payload))) }
     {
         let number = self.nodes.len();
         self.nodes.push(Node {
@@ -508,26 +543,28 @@ impl World {
         self.classes.put_attr(class, name, value)
     }
 
-    /// Makes a class, with one base or none, and the node that stands for it. Where memory runs
-    /// out, there is neither.
+    /// Makes a class below another one, and the node that stands for it. Its objects hold what those
+    /// of its base do. Where memory runs out, there is neither.
     pub fn make_class(
         &mut self,
         alloc: Global,
         class_of_class: PyTypeRef,
         name: String,
-        base: Option<PyTypeRef>,
+        base: PyTypeRef,
         attrs: PyAttributes,
         flags: PyTypeFlags,
     ) -> Result<(PyTypeRef, PyObjectRef), OutOfMemory>
         requires meta { Holds self.old (IsClass class_of_class.0) }
-        requires base { AllHold self.old (of_option of_class_ref base) }
+        requires meta_of { Holds self.old (IsOf class_of_class.0 TypeType) }
+        requires base { Holds self.old (IsClass base.0) }
         requires attrs { AllHold self.old (of_each of_binding attrs) }
-        ensures made { OnOk result ((t : Reading) → plain t self.new ≡ with_new_class (plain t self.old) class_of_class.0 (record { name = string_bytes name; node = ref (length (plain t self.old).nodes); bases = one_base base; attrs = bindings t attrs; members = []; flags = flags.0 })) }
+        ensures made { OnOk result ((t : Reading) → plain t self.new ≡ with_new_class (plain t self.old) class_of_class.0 (record { name = string_bytes name; node = ref (length (plain t self.old).nodes); bases = base.0 ∷ []; attrs = bindings t attrs; members = []; flags = flags.0 })) }
         ensures numbers { IfOk result (λ r. (t : Reading) → (r.0.0 ≡ length (plain t self.old).classes) × (r.1 ≡ ref (length (plain t self.old).nodes))) }
         ensures err { OnErr result (self.new ≡ self.old) }
         ensures reads { (t : Reading) → Reads t self.new → Reads t self.old }
         ensures grows { Grows self.old self.new }
         ensures class { IfOk result (λ r. Holds self.new (IsClass r.0.0)) }
+        ensures of { IfOk result (λ r. (b : BuiltIn) → Holds self.old (IsOf base.0 b) → Holds self.new (IsOf r.0.0 b)) }
         ensures node { IfOk result (λ r. Holds self.new (IsNode r.1)) }
     {
         self.nodes.reserve(1)?;
@@ -535,7 +572,7 @@ impl World {
         let new = NewClass {
             name,
             node,
-            base,
+            base: Some(base),
             attrs,
             members: Vec::new(alloc),
             flags,

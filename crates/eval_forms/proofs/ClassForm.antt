@@ -11,7 +11,7 @@ use Rattle.py_node.specs.declared.refs.PyStrInterned.{PyStrInterned}
 use Rattle.py_node.specs.Attributes.{with_value, is_same_name}
 use Rattle.plain_machine.specs.Plain.{PlainWorld, Bindings, AText, ATuple, DoCall, ToCall, Said, Asks}
 use Rattle.plain_machine.specs.Row.{Row, start, end}
-use Rattle.plain_machine.specs.World.{is_text, with_node, next_node}
+use Rattle.plain_machine.specs.World.{with_node, next_node}
 use Rattle.class_world.specs.Held.{Held}
 use Rattle.class_world.specs.Reading.{Reading, Reads, bindings, plain, task_of}
 use Rattle.class_world.specs.declared.world.World.{World}

@@ -4,7 +4,7 @@ ghost use Rattle.std.specs.Prelude.{◌≡◌, ◌+◌, [], ◌∷◌, length, m
 ghost use Rattle.plain_machine.specs.World.{with_node, next_node};
 ghost use Rattle.plain_machine.specs.Plain.{AText, ATuple};
 ghost use Rattle.plain_machine.specs.Row.{start, end};
-ghost use Rattle.class_world.specs.Sound.{AllHold, Grows, Holds, IsName, IsNode, AreNames, AreNodes, of_each, of_binding, of_option, of_node_ref};
+ghost use Rattle.class_world.specs.Sound.{AllHold, Grows, Holds, IsName, IsNode, AreNames, AreNodes, KeysDiffer, of_each, of_binding, of_option, of_node_ref};
 ghost use Rattle.class_world.specs.Claims.{Leaves};
 ghost use Rattle.class_world.specs.Reading.{Reading, Reads, bindings, plain};
 ghost use Rattle.py_node.specs.Attributes.{is_same_name};
@@ -174,6 +174,7 @@ fn key_all(
     ensures reads { (t : Reading) → Reads t world.new → Reads t world.old }
     ensures grows { Grows world.old world.new }
     ensures pairs { IfOk result (λ v. ArePairs world.new v.items) }
+    ensures keys { IfOk result (λ v. Holds world.new (KeysDiffer (map (λ p. p.0) v.items))) }
 {
     let mut pairs = Vec::new(alloc);
     for i in 0..entries.len() {
@@ -181,5 +182,6 @@ fn key_all(
         let key = new_text(world, alloc, name)?;
         pairs.push((key, value))?;
     }
+    world.readable();
     Ok(pairs)
 }

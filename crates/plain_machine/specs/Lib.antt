@@ -9,3 +9,4 @@ pub mod BuiltInAttrs
 pub mod Start
 pub mod Objects
 pub mod Native
+pub mod Sound

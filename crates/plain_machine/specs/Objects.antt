@@ -1,13 +1,13 @@
 -- What rows read of objects and classes.
-use Rattle.std.specs.Prelude.{ℕ, zero, suc, ◌^◌, Bool, true, false, cond, ◌&&◌, ◌==◌, nat_lt, List, [], ◌∷◌, Option, Some, None, slice_get, option_map, option_and_then}
+use Rattle.std.specs.Prelude.{ℕ, zero, suc, ◌^◌, Bool, true, false, ◌&&◌, ◌==◌, nat_lt, List, [], ◌∷◌, Option, Some, None, slice_get, option_map, option_and_then}
 use Rattle.std.specs.Int.RustNames.{bit_and}
 use Rattle.py_node.specs.declared.refs.PyObjectRef.{PyObjectRef}
 use Rattle.py_node.specs.Tree.{Text}
-use Rattle.class_model.specs.Class.{Class, Classes, found, is_sub, has_flag, lin}
+use Rattle.class_model.specs.Class.{Classes, found, is_sub, has_flag, lin}
 use Rattle.class_model.specs.Layout.{built_ins}
 use Rattle.class_model.specs.Slot.{first_with}
 use Rattle.plain_machine.specs.Plain.{Datum, AClass, AFunction, AClassMethod, AMethodDescriptor, Node, PlainWorld}
-use Rattle.plain_machine.specs.World.{ref, node_at, datum_at, class_at, is_text}
+use Rattle.plain_machine.specs.World.{ref, datum_at, class_at, is_text}
 
 -- the object that stands for a class
 abbrev pub class_object : PlainWorld → ℕ → PyObjectRef

@@ -25,6 +25,8 @@ mod create;
 mod init;
 mod object;
 mod parameters;
+#[cfg(test)]
+mod tests;
 
 /// What a row of a call keeps while it waits for an answer.
 #[derive(Drop)]

@@ -4,10 +4,11 @@ ghost use Rattle.std.specs.Prelude.{◌≡◌, Some, IfOk, codes, option_map};
 ghost use Rattle.py_node.specs.declared.task.CallTask.TheVariants as call;
 ghost use Rattle.plain_machine.specs.World.{is_text, datum_at};
 ghost use Rattle.class_model.specs.Class.{found};
-ghost use Rattle.class_world.specs.Sound.{AllHold, Holds, Grows, IsNode, IsClass, AreNodes, of_option, of_node_ref, of_class_ref};
+ghost use Rattle.py_node.specs.declared.built_in.BuiltIn.TheVariants.{Object};
+ghost use Rattle.class_world.specs.Sound.{AllHold, Holds, Grows, IsNode, IsClass, IsOf, AreNodes, of_option, of_node_ref, of_class_ref};
 ghost use Rattle.class_world.specs.Claims.{of_args, of_step, Leaves};
 ghost use Rattle.class_world.specs.Reading.{Reading, Reads, bindings, datum, plain};
-ghost use Rattle.proto_call.specs.Say.{object_by, object_new, object_init, object_init_subclass, new_of_class, created, unless_abstract, is_abstract, has_items};
+ghost use Rattle.proto_call.specs.Say.{the_object, object_by, object_new, object_init, object_init_subclass, new_of_class, created, unless_abstract, is_abstract, has_items};
 ghost use Rattle.proto_call.specs.Rows.{Begins, Closes, of_call_kept};
 
 use crate::CallKept;
@@ -106,7 +107,8 @@ fn created(
     built_in: Option<PyTypeRef>,
     class: PyTypeRef,
 ) -> Result<Step<CallKept>, OutOfMemory>
-    requires { Holds world.old (IsClass class.0) }
+    requires class { Holds world.old (IsClass class.0) }
+    requires near { option_map (λ c. c.0) built_in ≡ Some the_object → Holds world.old (IsOf class.0 Object) }
     ensures goes { IfOk result (λ step. Closes (λ t u. created u (option_map (λ c. c.0) built_in) class.0) world.old world.new step) }
     ensures safe { Leaves of_call_kept world.old world.new result }
 {
@@ -128,7 +130,8 @@ fn plain_object(
     alloc: Global,
     class: PyTypeRef,
 ) -> Result<Step<CallKept>, OutOfMemory>
-    requires { Holds world.old (IsClass class.0) }
+    requires class { Holds world.old (IsClass class.0) }
+    requires of { Holds world.old (IsOf class.0 Object) }
     ensures goes { IfOk result (λ step. Closes (λ t u. unless_abstract u (is_abstract u (found is_text u.classes class.0 (codes "__abstractmethods__"))) class.0) world.old world.new step) }
     ensures safe { Leaves of_call_kept world.old world.new result }
 {
@@ -167,7 +170,8 @@ fn unless_abstract(
     is_abstract: bool,
     class: PyTypeRef,
 ) -> Result<Step<CallKept>, OutOfMemory>
-    requires { Holds world.old (IsClass class.0) }
+    requires class { Holds world.old (IsClass class.0) }
+    requires of { Holds world.old (IsOf class.0 Object) }
     ensures goes { IfOk result (λ step. Closes (λ t u. unless_abstract u is_abstract class.0) world.old world.new step) }
     ensures safe { Leaves of_call_kept world.old world.new result }
 {

@@ -1,13 +1,12 @@
 -- The steps of sums and of candidates are what their rows say.
-use Rattle.std.proofs.Common.{◌≡◌, ℕ, List, [], ◌∷◌, ◌++◌, Option, Some, None, Ok, Err, Bool, true, false, cond, eqb, refl, sym, ap, ◌∙◌, subst}
+use Rattle.std.proofs.Common.{◌≡◌, ℕ, List, [], ◌∷◌, Option, Some, None, Ok, Err, true, cond, refl, sym, ap, ◌∙◌, subst}
 use Rattle.py_node.specs.declared.refs.PyObjectRef.{PyObjectRef}
 use Rattle.py_node.specs.declared.entry.SlotEntry.{SlotEntry}
 use Rattle.py_node.specs.declared.entry.SlotId.TheVariants.{SeqItem}
 use Rattle.py_node.specs.declared.task.Answer.TheVariants.{Value}
 use Rattle.py_node.specs.declared.task.PyNumberBinaryOp.{PyNumberBinaryOp}
-use Rattle.py_node.specs.declared.task.PyNumberBinaryOp.TheVariants.{Add}
 use Rattle.py_node.specs.declared.task.OperatorTask.TheVariants as operator
-use Rattle.plain_machine.specs.Plain.{PlainWorld, DoAdd, DoBinOp1, DoInt, ANumber, Answered, Told, Said, Ends}
+use Rattle.plain_machine.specs.Plain.{PlainWorld, DoAdd, DoBinOp1, DoInt, ANumber, Answered, Told, Ends}
 use Rattle.plain_machine.specs.World.{class_at, datum_at, number_of, with_node, next_node, slot_at, candidates_at}
 use Rattle.plain_machine.specs.Row.{value, end, start, read_once}
 use Rattle.class_world.specs.declared.world.World.{World}

@@ -1,12 +1,11 @@
 -- Whole numbers of at most 128 bits.
-use Rattle.std.proofs.Common.{◌≡◌, ℕ, ◌<◌, ◌≤◌, ◌^◌, Bool, true, false, cond, Option, Some, None, refl, sym, ap, ◌∙◌, subst, arith, nat_lt, T}
+use Rattle.std.proofs.Common.{◌≡◌, ◌<◌, ◌^◌, Bool, true, false, cond, Option, Some, None, refl, sym, ap, ◌∙◌, subst, arith, nat_lt, T}
 use Rattle.std.specs.Prelude.{ℤ, pos, negsuc, ◌+ℤ◌, SomeIff}
 use Rattle.std.specs.Int.{w128}
 use Rattle.std.specs.Int.RustNames.{FitsSigned}
-use Rattle.std.proofs.lemmas.Bool.{lt-ltb, le-ltb}
+use Rattle.std.proofs.lemmas.Bool.{lt-ltb}
 use Rattle.std.proofs.lemmas.Int.{ints}
 use Rattle.std.proofs.Math.Facts.{sfits_lit}
-use borrow.Author.Tests.{ltb-true, ltb-false}
 use Rattle.proto_ops.specs.Say.{fits, total}
 
 pub fits-true : (z : ℤ) → FitsSigned w128 z → fits z ≡ true

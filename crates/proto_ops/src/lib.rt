@@ -9,6 +9,9 @@ ghost use Rattle.class_table.specs.Turn.{list_of};
 ghost use Rattle.proto_ops.specs.Say.{total, left_slot, right_slot, is_not_implemented, method_task, two_of};
 ghost use Rattle.proto_ops.specs.Rows.{Begins, Resumes, Sums, Enters, AsksSpecial, AreBoth, joining, entered, of_operator_kept};
 
+#[cfg(test)]
+mod tests;
+
 use class_table::candidates::Candidates;
 use class_world::args::native_task;
 use class_world::world::{Fixed, World};

@@ -3,6 +3,7 @@
 ghost use Rattle.std.specs.Prelude.{◌≡◌, [], IfErr, IfOk, OnOk, OnErr, Err, IsTrue, false, true};
 ghost use Rattle.plain_machine.specs.Start.{start};
 ghost use Rattle.class_world.specs.Reading.{Reading, Reads, plain, IsReadable};
+ghost use Rattle.plain_machine.specs.Sound.{IsSound};
 ghost use Rattle.class_world.specs.Sound.{Grows};
 ghost use Rattle.vm_eval.specs.Runs.{Runs};
 
@@ -61,8 +62,8 @@ impl VirtualMachine {
     }
 
     /// Runs commands, each of which may use so many units. The replies are the plain machine's, and so
-    /// is the world after them. Where memory cannot be had, this run and every later one fails; no
-    /// commands take no memory.
+    /// is the world after them, which is sound. Where memory cannot be had, this run and every later
+    /// one fails, and the world is sound all the same; no commands take no memory.
     pub fn run(
         &mut self,
         alloc: Global,
@@ -78,17 +79,21 @@ impl VirtualMachine {
         ensures same { IsTrue self.old.failed → self.new ≡ self.old }
         ensures memory { self.old.failed ≡ false → result ≡ Err RunFault.Failed → ⊥ }
         ensures idle { commands.now ≡ [] → self.old.failed ≡ false → IfErr result (λ _. ⊥) }
+        ensures sound { (t : Reading) → IsSound (plain t self.new.world) }
     {
         if self.failed {
+            self.world.sound();
             return Err(RunFault::Failed);
         }
         match replies(&mut self.world, alloc, &mut self.stack, commands, units) {
             Ok(replies) => {
                 self.world.readable();
+                self.world.sound();
                 Ok(replies)
             }
             Err(_) => {
                 self.failed = true;
+                self.world.sound();
                 Err(RunFault::OutOfMemory)
             }
         }

@@ -1,5 +1,5 @@
 use Rattle.std.proofs.Common.{sym, ◌∙◌}
-use Rattle.proto_ops.proofs.Entered.{add-joins, joining-holds}
+use Rattle.proto_ops.proofs.Entered.{add-joins}
 use Rattle.proto_ops.proofs.add_rest.Goals as goal
 
 pub returns-clause-goes : goal.returns-clause-goes

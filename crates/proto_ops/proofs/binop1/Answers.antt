@@ -1,4 +1,4 @@
-use Rattle.proto_ops.proofs.Entered.{binop1-enters, entered-holds}
+use Rattle.proto_ops.proofs.Entered.{binop1-enters}
 use Rattle.proto_ops.proofs.binop1.Goals as goal
 
 pub returns-clause-goes : goal.returns-clause-goes

@@ -16,5 +16,5 @@ returns-in-Some-clause-goes c =
     let es = c.args.entries.items in
     let args = c.args.args.items in
     goes-from c.args.kw.items (λ t u. by_base u m n c.args.base o es args (bindings t c.args.kw.items)) (λ t u. by_winner u m w n c.in-Some.class.0 es args (bindings t c.args.kw.items)) old old c.by_winner.new.world c.by_winner.result (λ t r.
-    (r, base-goes (plain t old) m n c.args.base c.class_of-of_base.result.0 c.in-Some.class.0 o w es args (bindings t c.args.kw.items) (ap (option_map (λ d. d.0)) c.in-Some.is) (c.class_of-of_base.ensures.reads t) (c.winner-winner.ensures.winner t)))
+    (r, base-goes (plain t old) m n c.args.base c.metaclass-of_base.result.0 c.in-Some.class.0 o w es args (bindings t c.args.kw.items) (ap (option_map (λ d. d.0)) c.in-Some.is) (c.metaclass-of_base.ensures.reads t) (c.winner-winner.ensures.winner t)))
     c.by_winner.ensures.goes

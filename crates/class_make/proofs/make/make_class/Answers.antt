@@ -8,7 +8,7 @@ pub by_one-requires-clause-one : goal.by_one-requires-clause-one
 by_one-requires-clause-one c =
     let w = c.args.world.now in
     let e = rw (c.deref.ensures.value, c.deref-2.ensures.value) at c.one_of-one.ensures in
-    subst (λ o. IfSome o (λ r. Holds w (IsNode r))) (sym e) (one-holds w c.args.args.items c.args.kw.items c.requires.1.0)
+    subst (λ o. IfSome o (λ r. Holds w (IsNode r))) (sym e) (one-holds w c.args.args.items c.args.kw.items c.requires.1.1.0)
 
 pub returns-clause-goes : goal.returns-clause-goes
 returns-clause-goes c =

@@ -1,4 +1,4 @@
-use Rattle.std.proofs.Common.{◌≡◌, ℕ, ◌+◌, ◌*◌, take, map, string_bytes}
+use Rattle.std.proofs.Common.{◌≡◌, ◌+◌, ◌*◌, take, map, string_bytes}
 use Rattle.plain_machine.specs.Show.{text_within, entry_text}
 use Rattle.class_world.specs.Reading.{Reading, plain}
 use Rattle.class_world.proofs.show.+show.Given as goal

@@ -1,7 +1,6 @@
 use Rattle.std.proofs.Common.{[], ap, map, take, ◌∙◌}
 use Rattle.plain_machine.specs.Row.{start, end}
 use Rattle.class_world.specs.Reading.{bindings}
-use Rattle.class_world.specs.Sound.{Holds, AreNodes}
 use Rattle.eval_forms.specs.Say.{class_by, class_say, merged}
 use Rattle.eval_forms.proofs.ClassForm.{take-nodes, drop-nodes, merged-holds, merged-read, takes-same}
 use Rattle.eval_forms.proofs.class_form.class_step.Goals as goal

@@ -1,16 +1,17 @@
-use Rattle.std.proofs.Common.{◌≡◌, ◌∷◌, ◌++◌, [], suc, ◌+◌, ap, arith, refl, ◌∙◌, drop}
+use Rattle.std.proofs.Common.{◌≡◌, ◌∷◌, ◌++◌, [], suc, ◌+◌, ap, arith, refl, ◌∙◌, drop, length-append}
 use Rattle.class_world.specs.Sound.{IsName, IsNode}
 use Rattle.class_world.specs.Reading.{bindings, plain}
 use Rattle.class_world.proofs.Growth.{grows-itself, grows-on}
 use Rattle.class_world.proofs.Claims.{no-nodes}
 use Rattle.eval_forms.specs.Say.{keyed}
 use Rattle.eval_forms.proofs.ClassForm.{entry-holds, drop-got, keyed-next, pairs-push, pairs-grow}
+use Rattle.eval_forms.proofs.Keys.{no-keys-yet, spelled-next, keys-differ}
 use Rattle.eval_forms.proofs.class_form.key_all.Goals as goal
 
 pub loop-i-init : goal.loop-i-init
 loop-i-init c =
     let w = c.args.world.now in
-    rw c.new-pairs.ensures.items ((λ t r. (r, refl)), grows-itself w, (no-nodes w, no-nodes w))
+    rw c.new-pairs.ensures.items ((λ t r. (r, refl)), grows-itself w, (no-nodes w, no-nodes w), refl, (λ t r. no-keys-yet t (plain t w) c.args.entries.now))
 
 pub new_text-requires : goal.new_text-requires
 new_text-requires c =
@@ -37,4 +38,11 @@ loop-i-preserved c =
           )),
       grows-on first old new c.loop-i.invariant.1 k.grows,
       pairs-push new ps key e.1 (pairs-grow old new ps k.grows c.loop-i.invariant.2) k.node value,
+      omega (arith, length-append ps ((key, e.1) ∷ []), c.loop-i.invariant.3),
+      (λ t r. spelled-next t (plain t old) (plain t new) ps es c.loop-i.i e key e.1 c.loop-i.invariant.3 c.at.ensures (k.made t (k.reads t r)) (k.number t) (c.loop-i.invariant.4 t (k.reads t r))),
     )
+
+pub returns-clause-keys : goal.returns-clause-keys
+returns-clause-keys c =
+    let r = c.readable.ensures in
+    keys-differ r.0 c.loop-i.world c.loop-i.pairs.items c.args.entries.now (c.loop-i.invariant.4 r.0 r.1) c.len-i-end.ensures.distinct

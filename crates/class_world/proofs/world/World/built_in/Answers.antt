@@ -1,6 +1,9 @@
 use Rattle.class_world.specs.contracts.world.World.{the_view}
-use Rattle.class_world.proofs.Built.{built_in-holds}
+use Rattle.class_world.proofs.Built.{built_in-holds, built_in-of}
 use Rattle.class_world.proofs.world.World.built_in.Goals as goal
 
 pub returns-clause-class : goal.returns-clause-class
 returns-clause-class c = built_in-holds (the_view c.self.inside) c.args.self.now c.args.class _ c.self.view_is c.self.invariant c.class.ensures
+
+pub returns-clause-of : goal.returns-clause-of
+returns-clause-of c = built_in-of (the_view c.self.inside) c.args.self.now c.args.class _ c.self.view_is c.self.invariant c.class.ensures

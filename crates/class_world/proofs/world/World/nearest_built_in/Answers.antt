@@ -1,9 +1,12 @@
 use Rattle.std.proofs.Common.{ap, ◌<◌, length, refl, sym, subst, ◌∙◌}
-use Rattle.std.specs.Prelude.{nat_lt, option_and_then}
+use Rattle.std.specs.Prelude.{nat_lt, slice_get, option_map, option_and_then}
+use Rattle.py_node.specs.BuiltIns.{all_built_ins}
+use Rattle.plain_machine.specs.Sound.{holds_as}
 use Rattle.class_model.specs.Class.{lin}
 use Rattle.class_model.specs.Layout.{built_ins}
 use Rattle.class_model.specs.Slot.{first_with}
 use Rattle.class_world.specs.Sound.{Holds}
+use Rattle.class_world.proofs.Built.{place-at}
 use Rattle.class_world.proofs.OfClasses.{line-seen}
 use Rattle.class_world.proofs.world.World.nearest_built_in.Goals as goal
 
@@ -11,8 +14,15 @@ pub mro-requires : goal.mro-requires
 unfolding Holds
 mro-requires c = subst (λ ks. c.args.class.0 < length ks) (sym c.classes.ensures.same) c.requires
 
-pub returns : goal.returns
-returns c = λ t.
+pub returns-clause-nearest : goal.returns-clause-nearest
+returns-clause-nearest c = λ t.
     let now = c.args.self.now in
     let line = ap (λ ks. lin ks c.args.class.0) (sym c.classes.ensures.same) ∙ c.mro.ensures in
     ap (option_and_then (first_with (λ d. nat_lt d built_ins))) (line-seen now now refl t c.args.class.0 ∙ line) ∙ c.first_built_in.ensures
+
+pub returns-clause-of : goal.returns-clause-of
+unfolding Holds
+returns-clause-of c = λ b e.
+    let line = ap (λ ks. lin ks c.args.class.0) (sym c.classes.ensures.same) ∙ c.mro.ensures in
+    let near = ap (option_and_then (first_with (λ d. nat_lt d built_ins))) line ∙ c.first_built_in.ensures ∙ e in
+    ap (λ o. option_map holds_as (option_and_then (slice_get all_built_ins) o)) near ∙ ap (option_map holds_as) (place-at b)

@@ -1,7 +1,7 @@
-use Rattle.std.proofs.Common.{ap}
+use Rattle.std.proofs.Common.{◌≡◌, Some, ap, subst}
 use Rattle.std.specs.Prelude.{option_map}
 use Rattle.class_world.specs.contracts.world.World.{the_view}
-use Rattle.class_world.specs.Sound.{Holds, IsNode, of_option, of_node_ref, of_payload}
+use Rattle.class_world.specs.Sound.{Holds, IsNode, home_of, home_at, of_option, of_dict_ref, of_payload}
 use Rattle.class_world.proofs.Claims.{got, opened-one, all-rest}
 use Rattle.class_world.proofs.Look.{node-read, node-holds}
 use Rattle.class_world.proofs.world.World.payload.Goals as goal
@@ -26,4 +26,12 @@ returns-clause-holds c =
     let e = got w.nodes c.args.node.0 c.index.result.now here c.index.ensures in
     let n = c.index.result.now in
     let all = node-holds w c.args.self.now c.args.node n c.self.view_is c.self.invariant e in
-    all-rest c.args.self.now (of_option of_node_ref n.dict) (of_payload n.payload) all.1
+    all-rest c.args.self.now (of_option of_dict_ref n.dict) (of_payload n.payload) all.1.1
+
+pub returns-clause-holding : goal.returns-clause-holding
+unfolding Holds
+returns-clause-holding c =
+    let w = the_view c.self.inside in
+    let here = opened-one w c.args.self.now (IsNode c.args.node) c.self.view_is c.requires in
+    let e = got w.nodes c.args.node.0 c.index.result.now here c.index.ensures in
+    subst (λ w. home_at w.nodes c.args.node.0 ≡ Some (home_of c.index.result.now.payload)) c.self.view_is (ap (option_map (λ n. home_of n.payload)) e)

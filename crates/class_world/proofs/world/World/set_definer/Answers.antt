@@ -26,4 +26,4 @@ returns-clause-set c =
     define-read w c.args.class c.args.func c.index_mut.result.now c.define.new.node c.args.self.now c.self.view_is here c.index_mut.ensures.value c.define.ensures
 
 pub returns-clause-grows : goal.returns-clause-grows
-returns-clause-grows c = grows-seen (the_view c.self.inside) _ _ c.self.view_is (define-grows _ c.args.class c.args.func c.index_mut.result.now c.define.new.node)
+returns-clause-grows c = grows-seen (the_view c.self.inside) _ _ c.self.view_is (define-grows _ c.args.class c.args.func c.index_mut.result.now c.define.new.node c.index_mut.ensures.value c.define.ensures)

@@ -1,0 +1,18 @@
+-- What the classes of a machine keep to.
+use Rattle.std.specs.Prelude.{◌≡◌, ℕ, ◌<◌, true, false, not, eqb, List, length, Some, is_some}
+use Rattle.class_model.specs.Order.{Holds}
+use Rattle.class_model.specs.Class.{Classes, bases_of, is_sub, lin}
+use Rattle.class_model.specs.Layout.{is_empty, base, solid}
+
+pub record AreSound {K : Type 0} (t : Classes K) : Type 0 where
+  -- only the first class, `object`, has no base
+  pub root : (c : ℕ) (bs : List ℕ) → bases_of t c ≡ Some bs → is_empty bs ≡ eqb c 0
+  -- bases are classes that are there
+  pub there : (c b : ℕ) (bs : List ℕ) → bases_of t c ≡ Some bs → Holds bs b → b < length t
+  -- no class derives from a base that derives from it
+  pub apart : (c b : ℕ) (bs : List ℕ) → bases_of t c ≡ Some bs → Holds bs b → is_sub t b c ≡ false
+  -- each class has an order
+  pub order : (c : ℕ) → c < length t → is_some (lin t c) ≡ true
+  -- each class has a solid class, and each but the first a best base
+  pub solid : (c : ℕ) → c < length t → is_some (solid t c) ≡ true
+  pub best : (c : ℕ) → c < length t → is_some (base t c) ≡ not (eqb c 0)

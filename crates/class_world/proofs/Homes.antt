@@ -1,0 +1,41 @@
+-- What the objects of a class hold, after one more class and after an attribute was set.
+use Rattle.std.proofs.Common.{◌≡◌, ℕ, ◌≤◌, le-ltb, false, cond, List, [], ◌∷◌, length, Option, Some, None, Bool, refl, ap, ◌∙◌}
+use Rattle.std.specs.Prelude.{nat_lt, slice_get, option_map, option_and_then}
+use Rattle.py_node.specs.declared.built_in.BuiltIn.{BuiltIn}
+use Rattle.py_node.specs.declared.refs.PyObjectRef.{PyObjectRef}
+use Rattle.py_node.specs.BuiltIns.{all_built_ins}
+use Rattle.class_model.specs.Class.{Class, Classes, lin}
+use Rattle.class_model.specs.Change.{with_class, with_class_attr}
+use Rattle.class_model.specs.Layout.{built_ins}
+use Rattle.class_model.specs.Slot.{first_with}
+use Rattle.class_model.proofs.Changed.{lin-push, lin-one_base, lin-attr}
+use Rattle.plain_machine.specs.Sound.{holds_as, held_by}
+
+-- by the linearisation
+abbrev pub by_line : Option (List ℕ) → Option BuiltIn
+by_line o = option_map holds_as (option_and_then (slice_get all_built_ins) (option_and_then (first_with (λ d. nat_lt d built_ins)) o))
+
+module _ {K : Type 0} where
+  pub held_by-push : (t : Classes K) (k : Class K) (c : ℕ) (b : BuiltIn) → held_by t c ≡ Some b → held_by (with_class t k) c ≡ Some b
+  held_by-push t k c b e = go (lin t c) refl e
+    where
+      go : (o : Option (List ℕ)) → lin t c ≡ o → by_line o ≡ Some b → held_by (with_class t k) c ≡ Some b
+      go None l e = cc
+      go (Some line) l e = ap by_line (lin-push t k c line l) ∙ e
+
+  -- a class below one base, past the built-in ones
+  pub held_by-last : (t : Classes K) (k : Class K) (d : ℕ) (b : BuiltIn) → built_ins ≤ length t → k.bases ≡ d ∷ [] → held_by t d ≡ Some b → held_by (with_class t k) (length t) ≡ Some b
+  held_by-last t k d b m e h = go (lin t d) refl h
+    where
+      late : (nat_lt (length t) built_ins) ≡ false
+      late = le-ltb (length t) built_ins m
+
+      go : (o : Option (List ℕ)) → lin t d ≡ o → by_line o ≡ Some b → held_by (with_class t k) (length t) ≡ Some b
+      go None l h = cc
+      go (Some line) l h =
+          ap by_line (lin-one_base t k d line e l)
+          ∙ ap (λ w. option_map holds_as (option_and_then (slice_get all_built_ins) (cond w (Some (length t)) (first_with (λ d. nat_lt d built_ins) line)))) late
+          ∙ h
+
+  pub held_by-attr : (same : K → K → Bool) (t : Classes K) (c : ℕ) (n : K) (v : PyObjectRef) (d : ℕ) → held_by (with_class_attr same t c n v) d ≡ held_by t d
+  held_by-attr same t c n v d = ap by_line (lin-attr same t c n v d)

@@ -1,0 +1,269 @@
+-- A world whose claims hold stands for a sound plain world.
+use Rattle.std.proofs.Common.{◌≡◌, ℕ, zero, suc, ◌<◌, ◌^◌, List, [], ◌∷◌, ◌++◌, length, map, Option, Some, None, refl, sym, ap, ◌∙◌, subst, arith}
+use Rattle.std.specs.Prelude.{slice_get, true, is_some, option_map, option_and_then}
+use Rattle.std.specs.List.{All}
+use Rattle.std.proofs.lemmas.List.{length-map}
+use Rattle.py_node.specs.declared.refs.PyObjectRef.{PyObjectRef}
+use Rattle.py_node.specs.declared.refs.PyStrInterned.{PyStrInterned}
+use Rattle.py_node.specs.declared.refs.PyTypeRef.{PyTypeRef}
+use Rattle.py_node.specs.declared.built_in.BuiltIn.TheVariants.{Dict, Str}
+use Rattle.py_node.specs.declared.payload.Node.{Node as StoredNode}
+use Rattle.py_node.specs.declared.payload.Payload.{Payload}
+use Rattle.py_node.specs.declared.payload.Payload.TheVariants as payload
+use Rattle.class_model.specs.Class.{Classes, has_flag, rekeyed, renamed}
+use Rattle.class_model.specs.Sound.{AreSound}
+use Rattle.class_model.proofs.Sound.{sound-renamed}
+use Rattle.class_model.proofs.Renamed.{lin-renamed, length-renamed}
+use Rattle.plain_machine.specs.Plain.{Node}
+use Rattle.plain_machine.specs.World.{datum_at}
+use Rattle.plain_machine.specs.Sound.{home, optional_class, optional, nodes_in, classes_in, Key, key_of, key_at, keys_in, AreKeys, IsSoundNode, IsSound}
+use Rattle.class_world.specs.declared.scope.Scope.{Scope as HeldScope}
+use Rattle.class_world.specs.Held.{Held}
+use Rattle.class_world.specs.Reading.{Reading, bindings, datum, node_of, scope_of, spelled, plain}
+use Rattle.class_world.specs.Sound.{Holding, KeysDiffer, key_in, held_key, Holds, AllHold, Sound, home_of, home_at, of_option, of_class_ref, of_node_ref, of_dict_ref, of_payload, of_node, of_binding, of_scope, of_class, of_dict, of_each}
+use Rattle.class_world.proofs.Claims.{all-first, all-rest, each-get}
+use Rattle.class_world.proofs.Homes.{by_line}
+
+module _ {A : Type 0} (P : A → Type 0) where
+  none : All P []
+  none = λ i d l. absurd (omega arith)
+
+  more : (x : A) (xs : List A) → P x → All P xs → All P (x ∷ xs)
+  more x xs p h zero d l = p
+  more x xs p h (suc i) d l = h i d (omega arith)
+
+home-read : (t : Reading) (p : Payload) → home (datum t p) ≡ home_of p
+home-read t payload.Object = refl
+home-read t (payload.Class c) = refl
+home-read t (payload.Number z) = refl
+home-read t (payload.Text s) = refl
+home-read t (payload.Tuple rs) = refl
+home-read t (payload.Dict es) = refl
+home-read t (payload.Function f) = refl
+home-read t (payload.Method m) = refl
+home-read t (payload.NativeFunction f) = refl
+home-read t (payload.BuiltinMethod m) = refl
+home-read t (payload.MethodDescriptor m) = refl
+home-read t (payload.GetSet g) = refl
+home-read t (payload.ClassMethod r) = refl
+
+home_at-read : (t : Reading) (ns : List StoredNode) (n : ℕ) → option_map home (option_map (λ (x : Node). x.datum) (slice_get (map (node_of t) ns) n)) ≡ home_at ns n
+home_at-read t [] n = refl
+home_at-read t (x ∷ ns) zero = ap Some (home-read t x.payload)
+home_at-read t (x ∷ ns) (suc n) = home_at-read t ns n
+
+key-read : (t : Reading) (p : Payload) → key_of (datum t p) ≡ key_in p
+key-read t payload.Object = refl
+key-read t (payload.Class c) = refl
+key-read t (payload.Number z) = refl
+key-read t (payload.Text s) = refl
+key-read t (payload.Tuple rs) = refl
+key-read t (payload.Dict es) = refl
+key-read t (payload.Function f) = refl
+key-read t (payload.Method m) = refl
+key-read t (payload.NativeFunction f) = refl
+key-read t (payload.BuiltinMethod m) = refl
+key-read t (payload.MethodDescriptor m) = refl
+key-read t (payload.GetSet g) = refl
+key-read t (payload.ClassMethod r) = refl
+
+key_at-stored : (t : Reading) (ns : List StoredNode) (n : ℕ) → option_and_then key_of (option_map (λ (x : Node). x.datum) (slice_get (map (node_of t) ns) n)) ≡ held_key ns (record { 0 = n })
+key_at-stored t [] n = refl
+key_at-stored t (x ∷ ns) zero = key-read t x.payload
+key_at-stored t (x ∷ ns) (suc n) = key_at-stored t ns n
+
+pub key_at-read : (t : Reading) (w : Held) (r : PyObjectRef) → key_at (plain t w) r ≡ held_key w.nodes r
+unfolding plain
+key_at-read t w r = key_at-stored t w.nodes r.0
+
+-- keys are the same in both worlds
+pub keys-read : (t : Reading) (w : Held) (rs : List PyObjectRef) → AreKeys (held_key w.nodes) rs → AreKeys (key_at (plain t w)) rs
+keys-read t w rs h = record {
+  known = λ i r e. ap is_some (key_at-read t w r) ∙ h.known i r e;
+  apart = λ i j r s e f q. h.apart i j r s e f (sym (key_at-read t w r) ∙ q ∙ key_at-read t w s);
+}
+
+pub keys-stored : (t : Reading) (w : Held) (rs : List PyObjectRef) → AreKeys (key_at (plain t w)) rs → Holds w (KeysDiffer rs)
+unfolding Holds
+keys-stored t w rs h = record {
+  known = λ i r e. ap is_some (sym (key_at-read t w r)) ∙ h.known i r e;
+  apart = λ i j r s e f q. h.apart i j r s e f (key_at-read t w r ∙ q ∙ sym (key_at-read t w s));
+}
+
+no-keys : (at : PyObjectRef → Option Key) → AreKeys at []
+no-keys at = record { known = λ i r e. cc; apart = λ i j r s e f q. cc }
+
+pub no-keys-differ : (w : Held) → Holds w (KeysDiffer [])
+unfolding Holds
+no-keys-differ w = no-keys (held_key w.nodes)
+
+-- a text alone is a key
+text-is-key : (o : Option StoredNode) → option_map (λ (x : StoredNode). home_of x.payload) o ≡ Some Str → is_some (option_and_then (λ (x : StoredNode). key_in x.payload) o) ≡ true
+text-is-key None e = cc
+text-is-key (Some x) e = go x.payload e
+  where
+    go : (p : Payload) → Some (home_of p) ≡ Some Str → is_some (key_in p) ≡ true
+    go payload.Object e = cc
+    go (payload.Class c) e = cc
+    go (payload.Number z) e = cc
+    go (payload.Text s) e = refl
+    go (payload.Tuple rs) e = cc
+    go (payload.Dict es) e = cc
+    go (payload.Function f) e = cc
+    go (payload.Method m) e = cc
+    go (payload.NativeFunction f) e = cc
+    go (payload.BuiltinMethod m) e = cc
+    go (payload.MethodDescriptor m) e = cc
+    go (payload.GetSet g) e = cc
+    go (payload.ClassMethod r) e = cc
+
+pub one-key-differs : (w : Held) (r : PyObjectRef) → Holds w (Holding r Str) → Holds w (KeysDiffer (r ∷ []))
+unfolding Holds
+one-key-differs w r h = record { known = known; apart = apart }
+  where
+    known : (i : ℕ) (s : PyObjectRef) → slice_get (r ∷ []) i ≡ Some s → is_some (held_key w.nodes s) ≡ true
+    known zero s e = let same : r ≡ s = cc in subst (λ s. is_some (held_key w.nodes s) ≡ true) same (text-is-key (slice_get w.nodes r.0) h)
+    known (suc i) s e = cc
+
+    apart : (i j : ℕ) (a b : PyObjectRef) → slice_get (r ∷ []) i ≡ Some a → slice_get (r ∷ []) j ≡ Some b → held_key w.nodes a ≡ held_key w.nodes b → i ≡ j
+    apart zero zero a b e f q = refl
+    apart zero (suc j) a b e f q = cc
+    apart (suc i) j a b e f q = cc
+
+-- a node of the plain world is one that is stored
+stored-at : (t : Reading) (ns : List StoredNode) (i : ℕ) (n : Node) → slice_get (map (node_of t) ns) i ≡ Some n → (x : StoredNode) × (slice_get ns i ≡ Some x) × (node_of t x ≡ n)
+stored-at t [] i n e = cc
+stored-at t (x ∷ ns) zero n e = (x, refl, cc)
+stored-at t (x ∷ ns) (suc i) n e = stored-at t ns i n e
+
+abbrev Below : ℕ → List PyObjectRef → Type 0
+Below n rs = All (λ r. r.0 < n) rs
+
+joined : (n : ℕ) (rs ss : List PyObjectRef) → Below n rs → Below n ss → Below n (rs ++ ss)
+joined n [] ss h k = k
+joined n (r ∷ rs) ss h k = more (λ r. r.0 < n) r (rs ++ ss) (h 0 r (omega arith)) (joined n rs ss (λ i d l. h (suc i) d (omega arith)) k)
+
+module _ (w : Held) (t : Reading) where
+  optional-there : (o : Option PyObjectRef) → AllHold w (of_option of_node_ref o) → Below (length w.nodes) (optional o)
+  unfolding Holds
+  optional-there None h = none (λ r. r.0 < length w.nodes)
+  optional-there (Some r) h = more (λ r. r.0 < length w.nodes) r [] h.0 (none (λ r. r.0 < length w.nodes))
+
+  optional_class-there : (o : Option PyTypeRef) → AllHold w (of_option of_class_ref o) → All (λ c. c < length w.classes) (optional_class (option_map (λ c. c.0) o))
+  unfolding Holds
+  optional_class-there None h = none (λ c. c < length w.classes)
+  optional_class-there (Some c) h = more (λ c. c < length w.classes) c.0 [] h.0 (none (λ c. c < length w.classes))
+
+  nodes-there : (p : Payload) → AllHold w (of_payload p) → Below (length w.nodes) (nodes_in (datum t p))
+  unfolding Holds
+  nodes-there payload.Object h = none (λ r. r.0 < length w.nodes)
+  nodes-there (payload.Class c) h = none (λ r. r.0 < length w.nodes)
+  nodes-there (payload.Number z) h = none (λ r. r.0 < length w.nodes)
+  nodes-there (payload.Text s) h = none (λ r. r.0 < length w.nodes)
+  nodes-there (payload.Tuple rs) h = h.0
+  nodes-there (payload.Dict es) h = joined (length w.nodes) (map (λ e. e.0) es.items) (map (λ e. e.1) es.items) h.0 h.1.0
+  nodes-there (payload.Function f) h = none (λ r. r.0 < length w.nodes)
+  nodes-there (payload.Method m) h = more (λ r. r.0 < length w.nodes) m.target (m.func ∷ []) h.0 (more (λ r. r.0 < length w.nodes) m.func [] h.1.0 (none (λ r. r.0 < length w.nodes)))
+  nodes-there (payload.NativeFunction f) h = optional-there f.target h.1
+  nodes-there (payload.BuiltinMethod m) h = more (λ r. r.0 < length w.nodes) m.target [] h.1.0 (none (λ r. r.0 < length w.nodes))
+  nodes-there (payload.MethodDescriptor m) h = none (λ r. r.0 < length w.nodes)
+  nodes-there (payload.GetSet g) h = none (λ r. r.0 < length w.nodes)
+  nodes-there (payload.ClassMethod r) h = more (λ r. r.0 < length w.nodes) r [] h.0 (none (λ r. r.0 < length w.nodes))
+
+  classes-there : (p : Payload) → AllHold w (of_payload p) → All (λ c. c < length w.classes) (classes_in (datum t p))
+  unfolding Holds
+  classes-there payload.Object h = none (λ c. c < length w.classes)
+  classes-there (payload.Class c) h = more (λ c. c < length w.classes) c.0 [] h.0 (none (λ c. c < length w.classes))
+  classes-there (payload.Number z) h = none (λ c. c < length w.classes)
+  classes-there (payload.Text s) h = none (λ c. c < length w.classes)
+  classes-there (payload.Tuple rs) h = none (λ c. c < length w.classes)
+  classes-there (payload.Dict es) h = none (λ c. c < length w.classes)
+  classes-there (payload.Function f) h = optional_class-there f.class h.1.1.1
+  classes-there (payload.Method m) h = none (λ c. c < length w.classes)
+  classes-there (payload.NativeFunction f) h = none (λ c. c < length w.classes)
+  classes-there (payload.BuiltinMethod m) h = none (λ c. c < length w.classes)
+  classes-there (payload.MethodDescriptor m) h = more (λ c. c < length w.classes) m.class.0 [] h.0 (none (λ c. c < length w.classes))
+  classes-there (payload.GetSet g) h = more (λ c. c < length w.classes) g.class.0 [] h.0 (none (λ c. c < length w.classes))
+  classes-there (payload.ClassMethod r) h = none (λ c. c < length w.classes)
+
+  keys-there : (p : Payload) → AllHold w (of_payload p) → AreKeys (key_at (plain t w)) (keys_in (datum t p))
+  unfolding Holds
+  keys-there payload.Object h = no-keys (key_at (plain t w))
+  keys-there (payload.Class c) h = no-keys (key_at (plain t w))
+  keys-there (payload.Number z) h = no-keys (key_at (plain t w))
+  keys-there (payload.Text s) h = no-keys (key_at (plain t w))
+  keys-there (payload.Tuple rs) h = no-keys (key_at (plain t w))
+  keys-there (payload.Dict es) h = keys-read t w (map (λ e. e.0) es.items) h.1.1.0
+  keys-there (payload.Function f) h = no-keys (key_at (plain t w))
+  keys-there (payload.Method m) h = no-keys (key_at (plain t w))
+  keys-there (payload.NativeFunction f) h = no-keys (key_at (plain t w))
+  keys-there (payload.BuiltinMethod m) h = no-keys (key_at (plain t w))
+  keys-there (payload.MethodDescriptor m) h = no-keys (key_at (plain t w))
+  keys-there (payload.GetSet g) h = no-keys (key_at (plain t w))
+  keys-there (payload.ClassMethod r) h = no-keys (key_at (plain t w))
+
+  bound-there : (bs : List (PyStrInterned × PyObjectRef)) → AllHold w (of_each of_binding bs) → All (λ b. b.1.0 < length w.nodes) (bindings t bs)
+  unfolding Holds
+  bound-there [] h = none (λ b. b.1.0 < length w.nodes)
+  bound-there (b ∷ bs) h = more (λ b. b.1.0 < length w.nodes) (spelled t b.0, b.1) (bindings t bs) h.1.0 (bound-there bs h.1.1)
+
+  scopes-there : (ss : List HeldScope) → AllHold w (of_each of_scope ss) → All (λ s. All (λ b. b.1.0 < length w.nodes) s.vars) (map (scope_of t) ss)
+  scopes-there [] h = none (λ s. All (λ b. b.1.0 < length w.nodes) s.vars)
+  scopes-there (s ∷ ss) h =
+      more (λ s. All (λ b. b.1.0 < length w.nodes) s.vars) (scope_of t s) (map (scope_of t) ss) (bound-there s.vars (all-first w (of_scope s) (of_each of_scope ss) h).1) (scopes-there ss (all-rest w (of_scope s) (of_each of_scope ss) h))
+
+  funcs-there : (ss : List HeldScope) → AllHold w (of_each of_scope ss) → All (λ s. s.func.0 < length w.nodes) (map (scope_of t) ss)
+  unfolding Holds
+  funcs-there [] h = none (λ s. s.func.0 < length w.nodes)
+  funcs-there (s ∷ ss) h =
+      more (λ s. s.func.0 < length w.nodes) (scope_of t s) (map (scope_of t) ss) (all-first w (of_scope s) (of_each of_scope ss) h).0 (funcs-there ss (all-rest w (of_scope s) (of_each of_scope ss) h))
+
+  class_nodes-there : (ks : Classes PyStrInterned) → AllHold w (of_each of_class ks) → All (λ k. k.node.0 < length w.nodes) (renamed (spelled t) ks)
+  unfolding Holds
+  class_nodes-there [] h = none (λ k. k.node.0 < length w.nodes)
+  class_nodes-there (k ∷ ks) h =
+      more (λ k. k.node.0 < length w.nodes) (rekeyed (spelled t) k) (renamed (spelled t) ks) (all-first w (of_class k) (of_each of_class ks) h).0 (class_nodes-there ks (all-rest w (of_class k) (of_each of_class ks) h))
+
+  attrs-there : (ks : Classes PyStrInterned) → AllHold w (of_each of_class ks) → All (λ k. All (λ a. a.1.0 < length w.nodes) k.attrs) (renamed (spelled t) ks)
+  attrs-there [] h = none (λ k. All (λ a. a.1.0 < length w.nodes) k.attrs)
+  attrs-there (k ∷ ks) h =
+      let here = all-first w (of_class k) (of_each of_class ks) h in
+      more (λ k. All (λ a. a.1.0 < length w.nodes) k.attrs) (rekeyed (spelled t) k) (renamed (spelled t) ks) (bound-there k.attrs (all-rest w (of_dict (has_flag (2 ^ 40) k)) _ here.1.1)) (attrs-there ks (all-rest w (of_class k) (of_each of_class ks) h))
+
+  dict-is : (x : StoredNode) (r : PyObjectRef) → AllHold w (of_option of_dict_ref x.dict) → x.dict ≡ Some r → option_map home (datum_at (plain t w) r) ≡ Some Dict
+  unfolding Holds plain
+  dict-is x r h e = home_at-read t w.nodes r.0 ∙ (subst (λ o. AllHold w (of_option of_dict_ref o)) e h).1.0
+
+  node-is : (x : StoredNode) → AllHold w (of_node x) → IsSoundNode (plain t w) (node_of t x)
+  unfolding Holds plain
+  node-is x h =
+      let dict = of_option of_dict_ref x.dict in
+      let held = all-rest w dict (of_payload x.payload) h.1.1 in
+      record {
+        class = subst (λ n. x.class.0 < n) (sym (length-renamed (spelled t) w.classes)) h.0;
+        like = ap by_line (lin-renamed (spelled t) w.classes x.class.0) ∙ h.1.0 ∙ ap Some (sym (home-read t x.payload));
+        dict = λ r e. dict-is x r (all-first w dict (of_payload x.payload) h.1.1) e;
+        members = none _;
+        nodes = subst (λ n. Below n (nodes_in (datum t x.payload))) (sym (length-map w.nodes (node_of t))) (nodes-there x.payload held);
+        keys = keys-there x.payload held;
+        classes = subst (λ n. All (λ c. c < n) (classes_in (datum t x.payload))) (sym (length-renamed (spelled t) w.classes)) (classes-there x.payload held);
+      }
+
+  world-is : Sound w → AreSound w.classes → IsSound (plain t w)
+  unfolding plain
+  world-is s k =
+      let size = sym (length-map w.nodes (node_of t)) in
+      record {
+        classes = sound-renamed (spelled t) w.classes k;
+        nodes = λ i n e.
+            let r = stored-at t w.nodes i n e in
+            subst (λ n. IsSoundNode (plain t w) n) r.2 (node-is r.0 (each-get w of_node w.nodes i r.0 r.1 s.nodes));
+        class_nodes = subst (λ n. All (λ k. k.node.0 < n) (renamed (spelled t) w.classes)) size (class_nodes-there w.classes s.classes);
+        attrs = subst (λ n. All (λ k. All (λ a. a.1.0 < n) k.attrs) (renamed (spelled t) w.classes)) size (attrs-there w.classes s.classes);
+        vars = subst (λ n. All (λ b. b.1.0 < n) (bindings t w.vars)) size (bound-there w.vars s.vars);
+        scopes = subst (λ n. All (λ s. All (λ b. b.1.0 < n) s.vars) (map (scope_of t) w.scopes)) size (scopes-there w.scopes s.scopes);
+        funcs = subst (λ n. All (λ s. s.func.0 < n) (map (scope_of t) w.scopes)) size (funcs-there w.scopes s.scopes);
+      }
+
+pub world-sound : (w now : Held) → w ≡ now → Sound w → AreSound w.classes → (t : Reading) → IsSound (plain t now)
+world-sound w now v s k t = subst (λ u. IsSound (plain t u)) v (world-is w t s k)

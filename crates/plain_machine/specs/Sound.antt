@@ -1,0 +1,128 @@
+-- What a plain world keeps to, before and after each of its changes.
+use Rattle.std.specs.List.{All}
+use Rattle.std.specs.Prelude.{◌≡◌, ℕ, ℤ, ◌<◌, true, is_some, List, [], ◌∷◌, ◌++◌, map, length, Option, Some, None, slice_get, option_map, option_and_then}
+use Rattle.py_node.specs.declared.refs.PyObjectRef.{PyObjectRef}
+use Rattle.py_node.specs.declared.built_in.BuiltIn.{BuiltIn}
+use Rattle.py_node.specs.declared.built_in.BuiltIn.TheVariants as built_in
+use Rattle.py_node.specs.BuiltIns.{all_built_ins}
+use Rattle.py_node.specs.Tree.{Text}
+use Rattle.class_model.specs.Class.{Classes}
+use Rattle.class_model.specs.Layout.{is_place}
+use Rattle.class_model.specs.Sound.{AreSound}
+use Rattle.plain_machine.specs.Plain.{Datum, AnObject, AClass, ANumber, AText, ATuple, ADict, AFunction, AMethod, ANativeFunction, ABuiltinMethod, AMethodDescriptor, AGetSet, AClassMethod, Node, Bindings, PlainWorld}
+use Rattle.plain_machine.specs.World.{datum_at}
+use Rattle.plain_machine.specs.Objects.{nearest_built_in}
+
+-- the built-in class whose objects hold such
+abbrev pub home : Datum → BuiltIn
+home AnObject = built_in.Object
+home (AClass c) = built_in.TypeType
+home (ANumber z) = built_in.Int
+home (AText x) = built_in.Str
+home (ATuple rs) = built_in.Tuple
+home (ADict es) = built_in.Dict
+home (AFunction x ps rest e c) = built_in.Function
+home (AMethod r f) = built_in.Method
+home (ANativeFunction x n r) = built_in.BuiltinFunctionOrMethod
+home (ABuiltinMethod x n r) = built_in.BuiltinMethod
+home (AMethodDescriptor c x n flags) = built_in.MethodDescriptor
+home (AGetSet c x get set) = built_in.GetSetDescriptor
+home (AClassMethod r) = built_in.ClassMethod
+
+-- None and NotImplemented hold as little as the objects of `object`, and those of bool a number, as those of int
+abbrev pub holds_as : BuiltIn → BuiltIn
+holds_as built_in.NoneType = built_in.Object
+holds_as built_in.NotImplementedType = built_in.Object
+holds_as built_in.Bool = built_in.Int
+holds_as b = b
+
+-- whose like the objects of a class hold: that of the first built-in class along its linearisation, which is the last of its layout
+abbrev pub held_by : {K : Type 0} → Classes K → ℕ → Option BuiltIn
+held_by t c = option_map holds_as (option_and_then (slice_get all_built_ins) (nearest_built_in t c))
+
+-- the nodes and the classes that an object names
+abbrev pub optional : Option PyObjectRef → List PyObjectRef
+optional None = []
+optional (Some r) = r ∷ []
+
+abbrev pub nodes_in : Datum → List PyObjectRef
+nodes_in AnObject = []
+nodes_in (AClass c) = []
+nodes_in (ANumber z) = []
+nodes_in (AText x) = []
+nodes_in (ATuple rs) = rs
+nodes_in (ADict es) = map (λ e. e.0) es ++ map (λ e. e.1) es
+nodes_in (AFunction x ps rest e c) = []
+nodes_in (AMethod r f) = r ∷ f ∷ []
+nodes_in (ANativeFunction x n r) = optional r
+nodes_in (ABuiltinMethod x n r) = r ∷ []
+nodes_in (AMethodDescriptor c x n flags) = []
+nodes_in (AGetSet c x get set) = []
+nodes_in (AClassMethod r) = r ∷ []
+
+abbrev pub optional_class : Option ℕ → List ℕ
+optional_class None = []
+optional_class (Some c) = c ∷ []
+
+abbrev pub classes_in : Datum → List ℕ
+classes_in AnObject = []
+classes_in (AClass c) = c ∷ []
+classes_in (ANumber z) = []
+classes_in (AText x) = []
+classes_in (ATuple rs) = []
+classes_in (ADict es) = []
+classes_in (AFunction x ps rest e c) = optional_class c
+classes_in (AMethod r f) = []
+classes_in (ANativeFunction x n r) = []
+classes_in (ABuiltinMethod x n r) = []
+classes_in (AMethodDescriptor c x n flags) = c ∷ []
+classes_in (AGetSet c x get set) = c ∷ []
+classes_in (AClassMethod r) = []
+
+-- a key of a dict: a number or a text
+pub data Key : Type 0 where
+  NumberKey : ℤ → Key
+  TextKey : Text → Key
+
+abbrev pub key_of : Datum → Option Key
+key_of (ANumber z) = Some (NumberKey z)
+key_of (AText x) = Some (TextKey x)
+key_of _ = None
+
+abbrev pub key_at : PlainWorld → PyObjectRef → Option Key
+key_at w r = option_and_then key_of (datum_at w r)
+
+abbrev pub keys_in : Datum → List PyObjectRef
+keys_in (ADict es) = map (λ e. e.0) es
+keys_in _ = []
+
+-- all are numbers or texts, and no two are alike
+pub record AreKeys (at : PyObjectRef → Option Key) (rs : List PyObjectRef) : Type 0 where
+  pub known : (i : ℕ) (r : PyObjectRef) → slice_get rs i ≡ Some r → is_some (at r) ≡ true
+  pub apart : (i j : ℕ) (r s : PyObjectRef) → slice_get rs i ≡ Some r → slice_get rs j ≡ Some s → at r ≡ at s → i ≡ j
+
+abbrev pub AreThere : PlainWorld → List PyObjectRef → Type 0
+AreThere w rs = All (λ r. r.0 < length w.nodes) rs
+
+abbrev pub AreBound : PlainWorld → Bindings → Type 0
+AreBound w bs = All (λ b. b.1.0 < length w.nodes) bs
+
+-- its class is there, and it holds what the objects of such a class hold. Its dict is one, its members have places in its class's layout, what it names is there, and the keys of a dict differ
+pub record IsSoundNode (w : PlainWorld) (n : Node) : Type 0 where
+  pub class : n.class < length w.classes
+  pub like : held_by w.classes n.class ≡ Some (home n.datum)
+  pub dict : (r : PyObjectRef) → n.dict ≡ Some r → option_map home (datum_at w r) ≡ Some built_in.Dict
+  pub members : All (λ m. is_place w.classes n.class m.0.0 m.0.1 ≡ true) n.members
+  pub nodes : AreThere w (nodes_in n.datum)
+  pub keys : AreKeys (key_at w) (keys_in n.datum)
+  pub classes : All (λ c. c < length w.classes) (classes_in n.datum)
+
+-- the classes and the nodes are sound, and so is all that the world names
+pub record IsSound (w : PlainWorld) : Type 0 where
+  pub classes : AreSound w.classes
+  pub nodes : (i : ℕ) (n : Node) → slice_get w.nodes i ≡ Some n → IsSoundNode w n
+  pub class_nodes : All (λ k. k.node.0 < length w.nodes) w.classes
+  pub attrs : All (λ k. All (λ a. a.1.0 < length w.nodes) k.attrs) w.classes
+  pub vars : AreBound w w.vars
+  pub scopes : All (λ s. AreBound w s.vars) w.scopes
+  pub funcs : All (λ s. s.func.0 < length w.nodes) w.scopes
