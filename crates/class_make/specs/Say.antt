@@ -19,25 +19,8 @@ use Rattle.class_model.specs.BuiltIn.{natives_of}
 use Rattle.plain_machine.specs.Plain.{Datum, AText, ATuple, ADict, AClassMethod, AGetSet, PlainWorld, Bindings, ClassJob, DoMakeClass, DoType, DoBind, DoCall, DoNew, ToAttribute, ToCall, ToClass, ToLater, Made, Said, Asks, Ends}
 use Rattle.plain_machine.specs.World.{ref, is_text, datum_at, class_at, text_keys, with_node, next_node, with_new_class}
 use Rattle.plain_machine.specs.Objects.{type_object, class_number, special_at, class_has_flag, nearest_built_in, with_definers}
+use Rattle.plain_machine.specs.Known.{the_object, the_type, the_str, the_function, the_getset, the_class_method}
 use Rattle.plain_machine.specs.Row.{Row, start, build, pass, end, value, fault, none, on_value, on_done}
-
-abbrev pub the_object : ℕ
-the_object = 0
-
-abbrev pub the_type : ℕ
-the_type = 1
-
-abbrev pub the_str : ℕ
-the_str = 6
-
-abbrev pub the_function : ℕ
-the_function = 10
-
-abbrev pub the_getset : ℕ
-the_getset = 15
-
-abbrev pub the_class_method : ℕ
-the_class_method = 18
 
 abbrev pub is_class : Option ℕ → ℕ → Bool
 is_class None d = false

@@ -5,7 +5,8 @@ ghost use Rattle.py_node.specs.Attributes.{value_of, is_same_name};
 ghost use Rattle.plain_machine.specs.World.{class_at};
 ghost use Rattle.class_world.specs.Reading.{Reading, Reads, bindings, datum, plain};
 ghost use Rattle.class_world.specs.Sound.{IsNode, IsName, IsClass, IsOf, home_of, Holds, AllHold, Grows, of_binding, of_each, of_payload};
-ghost use Rattle.class_make.specs.Say.{has_name, is_class, the_function, put, give, wrap_value, wrap, qualify, unhash, give_dict, completed};
+ghost use Rattle.class_make.specs.Say.{has_name, is_class, put, give, wrap_value, wrap, qualify, unhash, give_dict, completed};
+ghost use Rattle.plain_machine.specs.Known.{the_function};
 ghost use Rattle.class_make.specs.Rows.{Becomes};
 
 use class_world::world::{Fixed, World};

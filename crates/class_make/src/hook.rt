@@ -8,7 +8,7 @@ ghost use Rattle.plain_machine.specs.World.{datum_at};
 ghost use Rattle.py_node.specs.declared.built_in.BuiltIn.TheVariants.{TypeType};
 ghost use Rattle.class_world.specs.Claims.{of_ended, of_step, Leaves};
 ghost use Rattle.class_world.specs.Reading.{Reading, Reads, bindings, plain};
-ghost use Rattle.class_world.specs.Sound.{IsNode, AreNodes, IsClass, IsOf, Holds, AllHold, Grows, of_binding, of_each};
+ghost use Rattle.class_world.specs.Sound.{IsNode, AreNodes, IsClass, IsOf, CanBeBase, Holds, AllHold, Grows, of_binding, of_each};
 ghost use Rattle.class_make.specs.Say.{is_text_at, some_has, values_of, hook, told_of, refusal, refusal_by, made, made_unless};
 ghost use Rattle.class_make.specs.Rows.{Makes, Resumes, of_class_kept};
 
@@ -17,7 +17,6 @@ use crate::attributes::has_name;
 use crate::namespace::text_at;
 use class_world::world::World;
 use py_node::attributes::PyAttributes;
-use py_node::flags::PyTypeFlags;
 use py_node::memory::OutOfMemory;
 use py_node::payload::Payload;
 use py_node::raised::{Cause, Kind, Raised};
@@ -25,26 +24,33 @@ use py_node::refs::{PyObjectRef, PyStrInterned, PyTypeRef};
 use py_node::task::{Answer, AttributeTask, CallTask, Keywords, Step, Task};
 use std::alloc::Global;
 
-/// Makes a class with these attributes, unless they are refused.
+/// What a class is made from: its metaclass, its name, its base and its attributes.
+#[derive(Drop)]
+pub(crate) struct Plan {
+    pub(crate) meta: PyTypeRef,
+    pub(crate) name: String,
+    pub(crate) base: PyTypeRef,
+    pub(crate) attrs: PyAttributes,
+}
+
+/// Makes a class as planned, unless its attributes are refused.
 pub(crate) fn made(
     world: &mut World,
     alloc: Global,
-    meta: PyTypeRef,
-    name: String,
-    base: PyTypeRef,
-    attrs: PyAttributes,
+    plan: Plan,
     kw: Keywords,
 ) -> Result<Step<ClassKept>, OutOfMemory>
-    requires meta { Holds world.old (IsClass meta.0) }
-    requires meta_of { Holds world.old (IsOf meta.0 TypeType) }
-    requires base { Holds world.old (IsClass base.0) }
-    requires attrs { AllHold world.old (of_each of_binding attrs) }
+    requires meta { Holds world.old (IsClass plan.meta.0) }
+    requires meta_of { Holds world.old (IsOf plan.meta.0 TypeType) }
+    requires base { Holds world.old (IsClass plan.base.0) }
+    requires can { Holds world.old (CanBeBase plan.base.0) }
+    requires attrs { AllHold world.old (of_each of_binding plan.attrs) }
     requires kw { AllHold world.old (of_each of_binding kw.items) }
-    ensures goes { IfOk result (λ step. Makes kw.items (λ t u. made meta.0 (string_bytes name) base.0 (u, bindings t attrs)) world.old world.new step) }
+    ensures goes { IfOk result (λ step. Makes kw.items (λ t u. made plan.meta.0 (string_bytes plan.name) plan.base.0 (u, bindings t plan.attrs)) world.old world.new step) }
     ensures safe { Leaves of_class_kept world.old world.new result }
 {
-    let refusal = refusal(world, alloc, &attrs)?;
-    made_unless(world, alloc, refusal, meta, name, base, attrs, kw)
+    let refusal = refusal(world, alloc, &plan.attrs)?;
+    made_unless(world, alloc, refusal, plan, kw)
 }
 
 // Why a class cannot have the attributes, if it cannot.
@@ -105,26 +111,29 @@ fn made_unless(
     world: &mut World,
     alloc: Global,
     refusal: Option<Raised>,
-    meta: PyTypeRef,
-    name: String,
-    base: PyTypeRef,
-    attrs: PyAttributes,
+    plan: Plan,
     kw: Keywords,
 ) -> Result<Step<ClassKept>, OutOfMemory>
-    requires meta { Holds world.old (IsClass meta.0) }
-    requires meta_of { Holds world.old (IsOf meta.0 TypeType) }
-    requires base { Holds world.old (IsClass base.0) }
-    requires attrs { AllHold world.old (of_each of_binding attrs) }
+    requires meta { Holds world.old (IsClass plan.meta.0) }
+    requires meta_of { Holds world.old (IsOf plan.meta.0 TypeType) }
+    requires base { Holds world.old (IsClass plan.base.0) }
+    requires can { Holds world.old (CanBeBase plan.base.0) }
+    requires attrs { AllHold world.old (of_each of_binding plan.attrs) }
     requires kw { AllHold world.old (of_each of_binding kw.items) }
-    ensures goes { IfOk result (λ step. Makes kw.items (λ t u. made_unless refusal meta.0 (string_bytes name) base.0 (u, bindings t attrs)) world.old world.new step) }
+    ensures goes { IfOk result (λ step. Makes kw.items (λ t u. made_unless refusal plan.meta.0 (string_bytes plan.name) plan.base.0 (u, bindings t plan.attrs)) world.old world.new step) }
     ensures safe { Leaves of_class_kept world.old world.new result }
 {
     match refusal {
         Some(raised) => Ok(Step::End(Err(raised))),
         None => {
+            let Plan {
+                meta,
+                name,
+                base,
+                attrs,
+            } = plan;
             let values = values_of(alloc, &attrs)?;
-            let flags = PyTypeFlags::heap_type_flags();
-            let (class, node) = world.make_class(alloc, meta, name, base, attrs, flags)?;
+            let (class, node) = world.make_class(alloc, meta, name.as_str(), base, attrs)?;
             define_all(world, class, &values);
             told_of(world, alloc, class, node, &values, kw)
         }

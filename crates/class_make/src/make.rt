@@ -1,28 +1,27 @@
 // The making of a class from a name, a tuple of bases and a namespace.
 
-ghost use Rattle.std.specs.Prelude.{◌≡◌, ◌^◌, ◌&&◌, not, eqb, is_some, map, option_map, string_bytes, Err, Some, IfOk, IfSome};
+ghost use Rattle.std.specs.Prelude.{◌≡◌, ◌&&◌, not, eqb, is_some, map, option_map, string_bytes, Err, Some, IfOk, IfSome};
 ghost use Rattle.py_node.specs.declared.entry.SlotId.TheVariants.{New};
 ghost use Rattle.class_model.specs.BuiltIn.{natives_of};
 ghost use Rattle.class_model.specs.Slot.{entry};
-ghost use Rattle.plain_machine.specs.Objects.{class_has_flag};
 ghost use Rattle.plain_machine.specs.World.{text_keys};
 ghost use Rattle.py_node.specs.declared.built_in.BuiltIn.TheVariants.{TypeType};
 ghost use Rattle.class_world.specs.Claims.{of_class_task, of_args, Leaves};
 ghost use Rattle.class_world.specs.Reading.{Reading, Reads, bindings, plain};
-ghost use Rattle.class_world.specs.Sound.{IsNode, AreNodes, IsClass, IsOf, Holding, Holds, AllHold, of_binding, of_class_ref, of_each, of_option};
-ghost use Rattle.class_make.specs.Say.{by_base, by_bases, by_one, by_parts, by_winner, from_three, has_null, on_base, one_of, the_type, three_of, with_namespace, winner};
+ghost use Rattle.class_world.specs.Sound.{IsNode, AreNodes, IsClass, IsOf, CanBeBase, Holding, Holds, AllHold, of_binding, of_class_ref, of_each, of_option};
+ghost use Rattle.class_make.specs.Say.{by_base, by_bases, by_one, by_parts, by_winner, from_three, has_null, on_base, one_of, three_of, with_namespace, winner};
+ghost use Rattle.plain_machine.specs.Known.{the_type};
 ghost use Rattle.class_make.specs.Rows.{Begins, Makes, of_class_kept};
 ghost use Rattle.py_node.specs.declared.task.ClassTask.TheVariants as class_task;
 
 use crate::ClassKept;
 use crate::attributes::completed;
-use crate::hook::made;
+use crate::hook::{Plan, made};
 use crate::namespace::{Entries, dict_at, namespace, text_at, tuple_at};
 use class_world::world::World;
 use py_node::attributes::PyAttributes;
 use py_node::built_in::BuiltIn;
 use py_node::entry::SlotId;
-use py_node::flags::PyTypeFlags;
 use py_node::memory::OutOfMemory;
 use py_node::raised::{Cause, Kind, Raised};
 use py_node::refs::{PyObjectRef, PyStrInterned, PyTypeRef};
@@ -31,6 +30,20 @@ use std::alloc::Global;
 
 /// Three arguments.
 type Three = (PyObjectRef, (PyObjectRef, PyObjectRef));
+
+/// The arguments and the keywords that a metaclass was called with.
+#[derive(Drop)]
+pub(crate) struct Call {
+    pub(crate) args: Args,
+    pub(crate) kw: Keywords,
+}
+
+/// The name and the namespace of a class to be.
+#[derive(Drop)]
+pub(crate) struct Body {
+    pub(crate) name: String,
+    pub(crate) entries: Entries,
+}
 
 /// The class of an object, or a new class.
 pub(crate) fn make_class(
@@ -45,7 +58,8 @@ pub(crate) fn make_class(
     ensures safe { Leaves of_class_kept world.old world.new result }
 {
     let one = one_of(&args, &kw);
-    by_one(world, alloc, meta, one, args, kw)
+    let call = Call { args, kw };
+    by_one(world, alloc, meta, one, call)
 }
 
 // The one argument, without keywords.
@@ -74,14 +88,13 @@ fn by_one(
     alloc: Global,
     meta: PyTypeRef,
     one: Option<PyObjectRef>,
-    args: Args,
-    kw: Keywords,
+    call: Call,
 ) -> Result<Step<ClassKept>, OutOfMemory>
     requires meta { Holds world.old (IsClass meta.0) }
     requires meta_of { Holds world.old (IsOf meta.0 TypeType) }
     requires one { IfSome one (λ r. Holds world.old (IsNode r)) }
-    requires rest { AllHold world.old (of_args args.items kw.items) }
-    ensures goes { IfOk result (λ step. Makes kw.items (λ t u. by_one u meta.0 one args.items (bindings t kw.items)) world.old world.new step) }
+    requires rest { AllHold world.old (of_args call.args.items call.kw.items) }
+    ensures goes { IfOk result (λ step. Makes call.kw.items (λ t u. by_one u meta.0 one call.args.items (bindings t call.kw.items)) world.old world.new step) }
     ensures safe { Leaves of_class_kept world.old world.new result }
 {
     match one {
@@ -92,8 +105,8 @@ fn by_one(
             Ok(refused(Kind::TypeError, Cause::TypeArgs))
         }
         None => {
-            let three = three_of(&args);
-            from_three(world, alloc, meta, three, args, kw)
+            let three = three_of(&call.args);
+            from_three(world, alloc, meta, three, call)
         }
     }
 }
@@ -120,14 +133,13 @@ fn from_three(
     alloc: Global,
     meta: PyTypeRef,
     three: Option<Three>,
-    args: Args,
-    kw: Keywords,
+    call: Call,
 ) -> Result<Step<ClassKept>, OutOfMemory>
     requires meta { Holds world.old (IsClass meta.0) }
     requires meta_of { Holds world.old (IsOf meta.0 TypeType) }
     requires three { IfSome three (λ p. Holds world.old (IsNode p.0) × (Holds world.old (IsNode p.1.0) × Holds world.old (IsNode p.1.1))) }
-    requires rest { AllHold world.old (of_args args.items kw.items) }
-    ensures goes { IfOk result (λ step. Makes kw.items (λ t u. from_three u meta.0 three args.items (bindings t kw.items)) world.old world.new step) }
+    requires rest { AllHold world.old (of_args call.args.items call.kw.items) }
+    ensures goes { IfOk result (λ step. Makes call.kw.items (λ t u. from_three u meta.0 three call.args.items (bindings t call.kw.items)) world.old world.new step) }
     ensures safe { Leaves of_class_kept world.old world.new result }
 {
     match three {
@@ -136,7 +148,7 @@ fn from_three(
             let name = text_at(world, alloc, name)?;
             let bases = tuple_at(world, alloc, bases)?;
             let entries = dict_at(world, alloc, entries)?;
-            by_parts(world, alloc, meta, name, bases, entries, args, kw)
+            by_parts(world, alloc, meta, name, bases, entries, call)
         }
     }
 }
@@ -149,16 +161,15 @@ fn by_parts(
     name: Option<String>,
     bases: Option<Args>,
     entries: Option<Entries>,
-    args: Args,
-    kw: Keywords,
+    call: Call,
 ) -> Result<Step<ClassKept>, OutOfMemory>
     requires meta { Holds world.old (IsClass meta.0) }
     requires meta_of { Holds world.old (IsOf meta.0 TypeType) }
     requires bases { IfSome bases (λ rs. Holds world.old (AreNodes rs.items)) }
     requires keys { IfSome entries (λ es. Holds world.old (AreNodes (map (λ e. e.0) es.items))) }
     requires values { IfSome entries (λ es. Holds world.old (AreNodes (map (λ e. e.1) es.items))) }
-    requires rest { AllHold world.old (of_args args.items kw.items) }
-    ensures goes { IfOk result (λ step. Makes kw.items (λ t u. by_parts u meta.0 (option_map (λ s. string_bytes s) name) (option_map (λ rs. rs.items) bases) (option_map (λ es. es.items) entries) args.items (bindings t kw.items)) world.old world.new step) }
+    requires rest { AllHold world.old (of_args call.args.items call.kw.items) }
+    ensures goes { IfOk result (λ step. Makes call.kw.items (λ t u. by_parts u meta.0 (option_map (λ s. string_bytes s) name) (option_map (λ rs. rs.items) bases) (option_map (λ es. es.items) entries) call.args.items (bindings t call.kw.items)) world.old world.new step) }
     ensures safe { Leaves of_class_kept world.old world.new result }
 {
     match (name, bases, entries) {
@@ -166,7 +177,8 @@ fn by_parts(
             if has_null(name.as_str()) {
                 return Ok(refused(Kind::ValueError, Cause::NullInName));
             }
-            by_bases(world, alloc, meta, name, bases, entries, args, kw)
+            let body = Body { name, entries };
+            by_bases(world, alloc, meta, bases, body, call)
         }
         _ => Ok(refused(Kind::TypeError, Cause::TypeArgTypes)),
     }
@@ -190,30 +202,28 @@ fn by_bases(
     world: &mut World,
     alloc: Global,
     meta: PyTypeRef,
-    name: String,
     bases: Args,
-    entries: Entries,
-    args: Args,
-    kw: Keywords,
+    body: Body,
+    call: Call,
 ) -> Result<Step<ClassKept>, OutOfMemory>
     requires meta { Holds world.old (IsClass meta.0) }
     requires meta_of { Holds world.old (IsOf meta.0 TypeType) }
     requires bases { Holds world.old (AreNodes bases.items) }
-    requires keys { Holds world.old (AreNodes (map (λ e. e.0) entries.items)) }
-    requires values { Holds world.old (AreNodes (map (λ e. e.1) entries.items)) }
-    requires rest { AllHold world.old (of_args args.items kw.items) }
-    ensures goes { IfOk result (λ step. Makes kw.items (λ t u. by_bases u meta.0 (string_bytes name) bases.items entries.items args.items (bindings t kw.items)) world.old world.new step) }
+    requires keys { Holds world.old (AreNodes (map (λ e. e.0) body.entries.items)) }
+    requires values { Holds world.old (AreNodes (map (λ e. e.1) body.entries.items)) }
+    requires rest { AllHold world.old (of_args call.args.items call.kw.items) }
+    ensures goes { IfOk result (λ step. Makes call.kw.items (λ t u. by_bases u meta.0 (string_bytes body.name) bases.items body.entries.items call.args.items (bindings t call.kw.items)) world.old world.new step) }
     ensures safe { Leaves of_class_kept world.old world.new result }
 {
     match bases.as_slice() {
         [] => {
             let object = world.built_in(BuiltIn::Object);
-            on_base(world, alloc, meta, name, object, entries, kw)
+            on_base(world, alloc, meta, object, body, call.kw)
         }
         [base] => {
             let base = *base;
             let class = world.class_number(base);
-            by_base(world, alloc, meta, name, base, class, entries, args, kw)
+            by_base(world, alloc, meta, base, class, body, call)
         }
         _ => Ok(refused(Kind::NotImplementedError, Cause::NotYet)),
     }
@@ -224,22 +234,20 @@ fn by_base(
     world: &mut World,
     alloc: Global,
     meta: PyTypeRef,
-    name: String,
     base: PyObjectRef,
     class: Option<PyTypeRef>,
-    entries: Entries,
-    args: Args,
-    kw: Keywords,
+    body: Body,
+    call: Call,
 ) -> Result<Step<ClassKept>, OutOfMemory>
     requires meta { Holds world.old (IsClass meta.0) }
     requires meta_of { Holds world.old (IsOf meta.0 TypeType) }
     requires base { Holds world.old (IsNode base) }
     requires class { AllHold world.old (of_option of_class_ref class) }
     requires holding { IfSome class (λ c. Holds world.old (Holding base TypeType)) }
-    requires keys { Holds world.old (AreNodes (map (λ e. e.0) entries.items)) }
-    requires values { Holds world.old (AreNodes (map (λ e. e.1) entries.items)) }
-    requires rest { AllHold world.old (of_args args.items kw.items) }
-    ensures goes { IfOk result (λ step. Makes kw.items (λ t u. by_base u meta.0 (string_bytes name) base (option_map (λ c. c.0) class) entries.items args.items (bindings t kw.items)) world.old world.new step) }
+    requires keys { Holds world.old (AreNodes (map (λ e. e.0) body.entries.items)) }
+    requires values { Holds world.old (AreNodes (map (λ e. e.1) body.entries.items)) }
+    requires rest { AllHold world.old (of_args call.args.items call.kw.items) }
+    ensures goes { IfOk result (λ step. Makes call.kw.items (λ t u. by_base u meta.0 (string_bytes body.name) base (option_map (λ c. c.0) class) body.entries.items call.args.items (bindings t call.kw.items)) world.old world.new step) }
     ensures safe { Leaves of_class_kept world.old world.new result }
 {
     match class {
@@ -247,7 +255,7 @@ fn by_base(
         Some(class) => {
             let of_base = world.metaclass(base);
             let winner = winner(world, meta, of_base);
-            by_winner(world, alloc, meta, winner, name, class, entries, args, kw)
+            by_winner(world, alloc, meta, winner, class, body, call)
         }
     }
 }
@@ -277,19 +285,17 @@ fn by_winner(
     alloc: Global,
     meta: PyTypeRef,
     winner: Option<PyTypeRef>,
-    name: String,
     base: PyTypeRef,
-    entries: Entries,
-    args: Args,
-    kw: Keywords,
+    body: Body,
+    call: Call,
 ) -> Result<Step<ClassKept>, OutOfMemory>
     requires winner { AllHold world.old (of_option of_class_ref winner) }
     requires of { IfSome winner (λ c. Holds world.old (IsOf c.0 TypeType)) }
     requires base { Holds world.old (IsClass base.0) }
-    requires keys { Holds world.old (AreNodes (map (λ e. e.0) entries.items)) }
-    requires values { Holds world.old (AreNodes (map (λ e. e.1) entries.items)) }
-    requires rest { AllHold world.old (of_args args.items kw.items) }
-    ensures goes { IfOk result (λ step. Makes kw.items (λ t u. by_winner u meta.0 (option_map (λ c. c.0) winner) (string_bytes name) base.0 entries.items args.items (bindings t kw.items)) world.old world.new step) }
+    requires keys { Holds world.old (AreNodes (map (λ e. e.0) body.entries.items)) }
+    requires values { Holds world.old (AreNodes (map (λ e. e.1) body.entries.items)) }
+    requires rest { AllHold world.old (of_args call.args.items call.kw.items) }
+    ensures goes { IfOk result (λ step. Makes call.kw.items (λ t u. by_winner u meta.0 (option_map (λ c. c.0) winner) (string_bytes body.name) base.0 body.entries.items call.args.items (bindings t call.kw.items)) world.old world.new step) }
     ensures safe { Leaves of_class_kept world.old world.new result }
 {
     match winner {
@@ -297,11 +303,11 @@ fn by_winner(
         Some(class) => {
             if makes_itself(world, class, meta) {
                 return Ok(Step::Ask(
-                    Task::Call(CallTask::New(class, class, args, kw)),
+                    Task::Call(CallTask::New(class, class, call.args, call.kw)),
                     ClassKept::Pass,
                 ));
             }
-            on_base(world, alloc, class, name, base, entries, kw)
+            on_base(world, alloc, class, base, body, call.kw)
         }
     }
 }
@@ -314,38 +320,29 @@ fn makes_itself(world: &World, class: PyTypeRef, meta: PyTypeRef) -> bool
     class.0 != meta.0 && world.own_slot(class, SlotId::New).is_some()
 }
 
-// Whether a class is one that classes can have as their base.
-fn can_be_base(world: &World, class: PyTypeRef) -> bool
-    requires { Holds world.now (IsClass class.0) }
-    ensures { (t : Reading) → class_has_flag (plain t world.now) (2 ^ 10) (Some class.0) ≡ result }
-{
-    world.class_flag(class, PyTypeFlags::BASETYPE)
-}
-
 // A new class on a base, which must be one that classes can have.
 fn on_base(
     world: &mut World,
     alloc: Global,
     meta: PyTypeRef,
-    name: String,
     base: PyTypeRef,
-    entries: Entries,
+    body: Body,
     kw: Keywords,
 ) -> Result<Step<ClassKept>, OutOfMemory>
     requires meta { Holds world.old (IsClass meta.0) }
     requires meta_of { Holds world.old (IsOf meta.0 TypeType) }
     requires base { Holds world.old (IsClass base.0) }
-    requires keys { Holds world.old (AreNodes (map (λ e. e.0) entries.items)) }
-    requires values { Holds world.old (AreNodes (map (λ e. e.1) entries.items)) }
+    requires keys { Holds world.old (AreNodes (map (λ e. e.0) body.entries.items)) }
+    requires values { Holds world.old (AreNodes (map (λ e. e.1) body.entries.items)) }
     requires kw { AllHold world.old (of_each of_binding kw.items) }
-    ensures goes { IfOk result (λ step. Makes kw.items (λ t u. on_base u meta.0 (string_bytes name) base.0 entries.items) world.old world.new step) }
+    ensures goes { IfOk result (λ step. Makes kw.items (λ t u. on_base u meta.0 (string_bytes body.name) base.0 body.entries.items) world.old world.new step) }
     ensures safe { Leaves of_class_kept world.old world.new result }
 {
-    if !can_be_base(world, base) {
+    if !world.can_be_base(base) {
         return Ok(refused(Kind::TypeError, Cause::NotBaseType));
     }
-    let attrs = namespace(world, alloc, &entries)?;
-    with_namespace(world, alloc, meta, name, base, attrs, kw)
+    let attrs = namespace(world, alloc, &body.entries)?;
+    with_namespace(world, alloc, meta, body.name, base, attrs, kw)
 }
 
 // A new class with a namespace, all of whose keys must be texts.
@@ -361,6 +358,7 @@ fn with_namespace(
     requires meta { Holds world.old (IsClass meta.0) }
     requires meta_of { Holds world.old (IsOf meta.0 TypeType) }
     requires base { Holds world.old (IsClass base.0) }
+    requires can { Holds world.old (CanBeBase base.0) }
     requires attrs { IfSome attrs (λ a. AllHold world.old (of_each of_binding a)) }
     requires kw { AllHold world.old (of_each of_binding kw.items) }
     ensures goes { IfOk result (λ step. Makes kw.items (λ t u. with_namespace u meta.0 (string_bytes name) base.0 (option_map (λ a. bindings t a) attrs)) world.old world.new step) }
@@ -370,7 +368,13 @@ fn with_namespace(
         None => Ok(refused(Kind::TypeError, Cause::NamespaceKey)),
         Some(attrs) => {
             let attrs = completed(world, alloc, name.as_str(), attrs)?;
-            made(world, alloc, meta, name, base, attrs, kw)
+            let plan = Plan {
+                meta,
+                name,
+                base,
+                attrs,
+            };
+            made(world, alloc, plan, kw)
         }
     }
 }

@@ -6,7 +6,8 @@ ghost use Rattle.py_node.specs.declared.built_in.BuiltIn.TheVariants.{TypeType};
 ghost use Rattle.class_world.specs.Claims.{of_class_task, of_args, of_step, Leaves};
 ghost use Rattle.class_world.specs.Reading.{Reading, bindings, plain};
 ghost use Rattle.class_world.specs.Sound.{IsClass, IsOf, Holds, AllHold, of_class_ref, of_option};
-ghost use Rattle.class_make.specs.Say.{is_class, the_type, type_new, type_new_of};
+ghost use Rattle.class_make.specs.Say.{is_class, type_new, type_new_of};
+ghost use Rattle.plain_machine.specs.Known.{the_type};
 ghost use Rattle.class_make.specs.Rows.{Begins, Types, of_class_kept};
 ghost use Rattle.py_node.specs.declared.task.ClassTask.TheVariants as class_task;
 

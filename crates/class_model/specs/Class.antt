@@ -3,6 +3,7 @@ use Rattle.std.specs.Prelude.{ℕ, suc, Bool, false, cond, ◌==◌, List, [], �
 use Rattle.std.specs.Int.RustNames.{bit_and}
 use Rattle.py_node.specs.declared.refs.PyObjectRef.{PyObjectRef}
 use Rattle.py_node.specs.Attributes.{value_of}
+use Rattle.py_node.specs.BuiltIns.{heap_type}
 use Rattle.py_node.specs.Tree.{Text}
 use Rattle.class_model.specs.Order.{has, linear}
 
@@ -24,7 +25,7 @@ has_flag flag k = bit_and k.flags flag == flag
 
 -- made by a script, and not built in
 abbrev pub is_heap : {K : Type 0} → Class K → Bool
-is_heap = has_flag 512
+is_heap = has_flag heap_type
 
 abbrev pub bases_of : {K : Type 0} → Classes K → ℕ → Option (List ℕ)
 bases_of t c = option_map (λ k. k.bases) (slice_get t c)

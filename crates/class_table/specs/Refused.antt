@@ -4,6 +4,7 @@ use Rattle.py_node.specs.declared.raised.Cause.{Cause}
 use Rattle.py_node.specs.declared.raised.Cause.TheVariants.{EmptyBases, NotBaseType, ImmutableType}
 use Rattle.py_node.specs.declared.refs.PyObjectRef.{PyObjectRef}
 use Rattle.py_node.specs.declared.refs.PyStrInterned.{PyStrInterned}
+use Rattle.py_node.specs.BuiltIns.{base_type, heap_flags}
 use Rattle.py_node.specs.Tree.{Text}
 use Rattle.class_model.specs.Class.{Class, Classes, has_flag}
 use Rattle.class_model.specs.Slot.{is_heap_at}
@@ -19,7 +20,7 @@ refusal (Err OutOfMemory) = None
 -- may have subclasses
 abbrev pub is_base_at : {K : Type 0} → Option (Class K) → Bool
 is_base_at None = false
-is_base_at (Some k) = has_flag 1024 k
+is_base_at (Some k) = has_flag base_type k
 
 -- why a class with these bases may not be made by a script
 abbrev pub refused_bases : {K : Type 0} → Classes K → List ℕ → Option Cause
@@ -39,10 +40,6 @@ refused_attr t c = cond (is_heap_at (slice_get t c)) None (Some ImmutableType)
 abbrev pub AreBelow : ℕ → List ℕ → Type 0
 AreBelow n [] = Unit {0}
 AreBelow n (c ∷ cs) = (c < n) × AreBelow n cs
-
--- on the heap, may have subclasses, and its objects have attributes
-abbrev pub heap_flags : ℕ
-heap_flags = 1099511629312
 
 -- a class that a script makes
 abbrev pub heap_class : Text → PyObjectRef → List ℕ → List (PyStrInterned × PyObjectRef) → List PyStrInterned → Class PyStrInterned

@@ -12,18 +12,21 @@ ghost use Rattle.class_table.specs.New.{IsBelow, one_base, class_of_new};
 ghost use Rattle.class_table.specs.Made.{parent, line_of, solid_in, base_by, solid_by, IsFresh, noted};
 
 use crate::refresh::settle;
-use crate::stored::{NewClass, Stored};
+use crate::stored::{NewClass, SLOTS, Stored};
 use py_node::entry::SlotEntry;
 use py_node::memory::OutOfMemory;
 use py_node::refs::{PyStrInterned, PyTypeRef};
 use std::alloc::Global;
+
+// How many classes are built in: they are the first.
+const BUILT_INS: u64 = 23;
 
 // Empty slots.
 fn empty_slots(alloc: Global) -> Result<Vec<Option<SlotEntry>>, OutOfMemory>
     ensures { IfOk result (λ v. length v.items ≡ 73) }
 {
     let mut slots = Vec::new(alloc);
-    for _place in 0..73usize {
+    for _place in 0..SLOTS {
         slots.push(None)?;
     }
     Ok(slots)
@@ -91,7 +94,7 @@ fn solid_of(
 ) -> Option<PyTypeRef>
     ensures { number_of result ≡ solid_by number.0 members.now (number_of inherited) }
 {
-    if number.0 < 23 || !members.is_empty() {
+    if number.0 < BUILT_INS || !members.is_empty() {
         Some(number)
     } else {
         inherited

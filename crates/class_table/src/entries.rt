@@ -22,14 +22,14 @@ use py_node::refs::{PyObjectRef, PyStrInterned, PyTypeRef};
 fn is_hash(slot: SlotId) -> bool
     ensures { result ≡ is_slot slot Hash }
 {
-    slot.place() == 60
+    slot.place() == SlotId::Hash.place()
 }
 
 #[tactic(auto, unfolding(py_node::specs::Slots::place_of))]
 fn is_new(slot: SlotId) -> bool
     ensures { result ≡ is_slot slot New }
 {
-    slot.place() == 71
+    slot.place() == SlotId::New.place()
 }
 
 // Whether an object is None.

@@ -28,7 +28,7 @@ fn is_base(classes: &[Stored], class: PyTypeRef) -> bool
 {
     match classes.get(class.0 as usize) {
         None => false,
-        Some(stored) => stored.flags().0 & 1024 == 1024,
+        Some(stored) => stored.flags().has_feature(PyTypeFlags::BASETYPE),
     }
 }
 
@@ -74,7 +74,7 @@ fn heap_parts(
         base: Some(base),
         attrs,
         members,
-        flags: PyTypeFlags(1_099_511_629_312),
+        flags: PyTypeFlags::of_script_class(),
     })
 }
 

@@ -11,7 +11,7 @@ ghost use Rattle.class_table.specs.Patch.{IsNear, AreNear, IsRefreshed, settled}
 
 use crate::entries::entry;
 use crate::special::special_names;
-use crate::stored::Stored;
+use crate::stored::{SLOTS, Stored};
 use py_node::entry::SlotId;
 use py_node::refs::{PyStrInterned, PyTypeRef};
 
@@ -53,7 +53,7 @@ fn patch(classes: &mut [Stored], class: PyTypeRef, name: PyStrInterned)
     requires near { (d : Kept) → IsNear (plain classes.old) name class.0 (slice_index_or classes.old class.0 d) }
     ensures { (d : Kept) → classes.new ≡ slice_set classes.old class.0 (settled (plain classes.old) class.0 (slice_index_or classes.old class.0 d)) }
 {
-    for place in 0..73 {
+    for place in 0..SLOTS {
         let slot = slot_at(place);
         if is_name_of(slot, name) {
             patch_slot(classes, class, slot);
@@ -68,7 +68,7 @@ pub(crate) fn settle(classes: &mut [Stored], class: PyTypeRef)
     requires full { (d : Kept) → length (slice_index_or classes.old class.0 d).slots ≡ 73 }
     ensures { (d : Kept) → classes.new ≡ slice_set classes.old class.0 (settled (plain classes.old) class.0 (slice_index_or classes.old class.0 d)) }
 {
-    for place in 0..73 {
+    for place in 0..SLOTS {
         patch_slot(classes, class, slot_at(place));
     }
 }

@@ -15,6 +15,9 @@ use py_node::memory::OutOfMemory;
 use py_node::refs::{PyObjectRef, PyStrInterned, PyTypeRef};
 use std::marker::Model;
 
+/// How many slots a class has.
+pub(crate) const SLOTS: usize = 73;
+
 /// A class that is to be made.
 #[derive(Drop)]
 pub struct NewClass {
@@ -64,7 +67,7 @@ impl Stored {
     pub(crate) fn is_heap(&self) -> bool
         ensures { result ≡ is_heap (class_of self.now) }
     {
-        self.flags.0 & 512 == 512
+        self.flags.has_feature(PyTypeFlags::HEAPTYPE)
     }
 
     // Whether the class has a class along its linearisation.

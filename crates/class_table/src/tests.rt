@@ -21,7 +21,7 @@ fn object(alloc: Global) -> Result<NewClass, AllocError>
         base: None,
         attrs: PyAttributes::new(alloc),
         members: Vec::new(alloc),
-        flags: PyTypeFlags(1024),
+        flags: PyTypeFlags::BASETYPE,
     })
 }
 

@@ -79,6 +79,13 @@ get-pushed [] y n x e = cc
 get-pushed (z ∷ xs) y zero x e = e
 get-pushed (z ∷ xs) y (suc n) x e = get-pushed xs y n x e
 
+-- what is so of each element and its place is so with one more at the end
+pub each-pushed : {A : Type 0} (P : ℕ → A → Type 0) (xs : List A) (y : A) → ((n : ℕ) (x : A) → slice_get xs n ≡ Some x → P n x) → P (length xs) y → (n : ℕ) (x : A) → slice_get (xs ++ y ∷ []) n ≡ Some x → P n x
+each-pushed P [] y h q zero x e = let same : y ≡ x = cc in subst (P 0) same q
+each-pushed P [] y h q (suc n) x e = cc
+each-pushed P (z ∷ xs) y h q zero x e = h 0 x e
+each-pushed P (z ∷ xs) y h q (suc n) x e = each-pushed (λ m. P (suc m)) xs y (λ m. h (suc m)) q n x e
+
 -- lists of nodes, one by one
 pub no-nodes : (w : Held) → Holds w (AreNodes [])
 unfolding Holds

@@ -1,5 +1,7 @@
 -- Classes that are changed or made.
 use Rattle.std.proofs.Common.{◌≡◌, ℕ, zero, suc, ◌^◌, ◌≤◌, Bool, true, false, [], ◌∷◌, ◌++◌, length, Some, None, Result, Ok, Err, OnOk, OnErr, refl, sym, ap, ◌∙◌, subst, arith, length-append}
+use Rattle.std.specs.Prelude.{slice_get, option_and_then}
+use Rattle.py_node.specs.declared.payload.Node.{Node}
 use Rattle.py_node.specs.declared.refs.PyObjectRef.{PyObjectRef}
 use Rattle.py_node.specs.declared.refs.PyStrInterned.{PyStrInterned}
 use Rattle.py_node.specs.declared.refs.PyTypeRef.{PyTypeRef}
@@ -8,17 +10,19 @@ use Rattle.py_node.specs.Attributes.{with_value, is_same_name}
 use Rattle.py_node.specs.Tree.{Text}
 use Rattle.class_model.specs.Class.{Class, Classes, has_flag, rekeyed, renamed}
 use Rattle.class_model.specs.Change.{with_class_attr}
+use Rattle.class_model.proofs.Changed.{get-changed}
+use Rattle.class_table.specs.Refused.{is_base_at}
 use Rattle.class_table.specs.New.{IsBelow}
 use Rattle.plain_machine.specs.World.{is_text, with_own_attr, with_new_class}
 use Rattle.class_world.specs.Held.{Held}
 use Rattle.class_world.specs.Reading.{Reading, spelled, node_of, plain}
-use Rattle.class_world.specs.Sound.{IsName, IsNode, IsClass, IsOf, AreNames, Holds, AllHold, Grows, Sound, of_binding, of_class, of_dict, of_node, of_each}
-use Rattle.class_world.proofs.Claims.{all-grow, all-append, all-first, all-rest, each-push}
+use Rattle.class_world.specs.Sound.{IsName, IsNode, IsClass, IsOf, Standing, AreNames, class_in, held_class, Holds, AllHold, Grows, Sound, of_binding, of_class, of_dict, of_node, of_each}
+use Rattle.class_world.proofs.Claims.{all-grow, all-append, all-first, all-rest, each-push, each-pushed, get-end}
 use Rattle.py_node.specs.declared.built_in.BuiltIn.{BuiltIn}
 use Rattle.py_node.specs.declared.built_in.BuiltIn.TheVariants.{TypeType}
 use Rattle.plain_machine.specs.Sound.{held_by}
-use Rattle.class_world.proofs.Homes.{held_by-push, held_by-last, held_by-attr}
-use Rattle.class_world.proofs.Growth.{Like, keep-itself, keep-push, grows}
+use Rattle.class_world.proofs.Homes.{held_by-last, held_by-attr}
+use Rattle.class_world.proofs.Growth.{Like, like-itself, like-push, keep-itself, keep-push, grows}
 use Rattle.class_world.proofs.Stored.{map-push, no-names}
 use Rattle.class_world.proofs.Changes.{fixed-grow, built_in-grow}
 use Rattle.class_world.proofs.Bound.{with_value-read, with_value-holds}
@@ -48,16 +52,29 @@ attr-holds w (j ∷ ks) zero x r h n k =
 attr-holds w (j ∷ ks) (suc c) x r h n k =
     all-append w (of_class j) _ (all-first w (of_class j) _ h) (attr-holds w ks c x r (all-rest w (of_class j) _ h) n k)
 
+-- the node of each class is what it was
+attr-node : (ks : HeldClasses) (c d : ℕ) (x : PyStrInterned) (r : PyObjectRef) (k : Class PyStrInterned) → slice_get (with_class_attr is_same_name ks c x r) d ≡ Some k → (j : Class PyStrInterned) × (slice_get ks d ≡ Some j) × (j.node ≡ k.node)
+attr-node [] c d x r k e = cc
+attr-node (j ∷ ks) zero zero x r k e =
+    let same : record j { attrs = with_value is_same_name j.attrs x r } ≡ k = cc in
+    (j, refl, ap (λ (k : Class PyStrInterned). k.node) same)
+attr-node (j ∷ ks) zero (suc d) x r k e = (k, e, refl)
+attr-node (j ∷ ks) (suc c) zero x r k e = (k, e, refl)
+attr-node (j ∷ ks) (suc c) (suc d) x r k e = attr-node ks c d x r k e
+
 -- as many classes as before
 pub classes-grow : (w : Held) (ks : HeldClasses) → length ks ≡ length w.classes → Like w.classes ks → Grows w (record w { classes = ks })
 classes-grow w ks l k = grows w (record w { classes = ks }) (omega arith) (omega arith) (λ m f h. h) (omega arith) (keep-itself w.nodes) (omega arith) k
 
-classes-sound : (w : Held) (ks : HeldClasses) → length ks ≡ length w.classes → Like w.classes ks → AllHold w (of_each of_class ks) → Sound w → Sound (record w { classes = ks })
-classes-sound w ks l k h s =
+abbrev AreStanding : Held → HeldClasses → Type 0
+AreStanding w ks = (c : ℕ) (k : Class PyStrInterned) → slice_get ks c ≡ Some k → Holds w (Standing c k.node)
+
+classes-sound : (w : Held) (ks : HeldClasses) → length ks ≡ length w.classes → Like w.classes ks → AllHold w (of_each of_class ks) → AreStanding w ks → Sound w → Sound (record w { classes = ks })
+classes-sound w ks l k h a s =
     let new = record w { classes = ks } in
     let more = classes-grow w ks l k in
     let go = all-grow w new more in
-    record { forms = go _ s.forms; below = s.below; nodes = go _ s.nodes; classes = go _ h; vars = go _ s.vars; scopes = go _ s.scopes; fixed = fixed-grow w new s.fixed more; built_in = built_in-grow w new s.built_in more; own = λ b. more.still _ (s.own b); special = s.special }
+    record { forms = go _ s.forms; below = s.below; nodes = go _ s.nodes; classes = go _ h; vars = go _ s.vars; scopes = go _ s.scopes; fixed = fixed-grow w new s.fixed more; built_in = built_in-grow w new s.built_in more; own = λ b. more.still _ (s.own b); standing = λ d j e. more.still _ (a d j e); special = s.special }
 
 -- an attribute is set, or memory ran out and nothing changed
 module _ {A E : Type 0} (w : Held) (c : ℕ) (x : PyStrInterned) (r : PyObjectRef) (ks : HeldClasses) where
@@ -66,13 +83,17 @@ module _ {A E : Type 0} (w : Held) (c : ℕ) (x : PyStrInterned) (r : PyObjectRe
   set-long (Err e) p f = ap length f
 
   pub set-like : (o : Result A E) → OnOk o (ks ≡ with_class_attr is_same_name w.classes c x r) → OnErr o (ks ≡ w.classes) → Like w.classes ks
-  set-like (Ok a) p f = λ d b h. ap (λ ks. held_by ks d) p ∙ held_by-attr is_same_name w.classes c x r d ∙ h
-  set-like (Err e) p f = λ d b h. ap (λ ks. held_by ks d) f ∙ h
+  set-like (Ok a) p f = subst (Like w.classes) (sym p) (record {
+    held = λ d b h. held_by-attr is_same_name w.classes c x r d ∙ h;
+    bases = λ d h. get-changed (λ (k : Class PyStrInterned). record k { attrs = with_value is_same_name k.attrs x r }) is_base_at (λ k. refl) w.classes c d ∙ h;
+  })
+  set-like (Err e) p f = subst (Like w.classes) (sym f) (like-itself w.classes)
 
   pub set-sound : (o : Result A E) → OnOk o (ks ≡ with_class_attr is_same_name w.classes c x r) → OnErr o (ks ≡ w.classes) → Sound w → Holds w (IsName x) → Holds w (IsNode r) → Sound (record w { classes = ks })
   set-sound (Ok a) p f s n k =
-      classes-sound w ks (set-long (Ok a) p f) (set-like (Ok a) p f) (subst (λ ks. AllHold w (of_each of_class ks)) (sym p) (attr-holds w w.classes c x r s.classes n k)) s
-  set-sound (Err e) p f s n k = classes-sound w ks (set-long (Err e) p f) (set-like (Err e) p f) (subst (λ ks. AllHold w (of_each of_class ks)) (sym f) s.classes) s
+      classes-sound w ks (set-long (Ok a) p f) (set-like (Ok a) p f) (subst (λ ks. AllHold w (of_each of_class ks)) (sym p) (attr-holds w w.classes c x r s.classes n k))
+      (subst (AreStanding w) (sym p) (λ d k e. let j = attr-node w.classes c d x r k e in subst (λ r. Holds w (Standing d r)) j.2 (s.standing d j.0 j.1))) s
+  set-sound (Err e) p f s n k = classes-sound w ks (set-long (Err e) p f) (set-like (Err e) p f) (subst (λ ks. AllHold w (of_each of_class ks)) (sym f) s.classes) (subst (AreStanding w) (sym f) s.standing) s
 
   pub set-read : (now : Held) (o : Result A E) → OnOk o (ks ≡ with_class_attr is_same_name w.classes c x r) → w ≡ now → OnOk o ((t : Reading) → plain t (record w { classes = ks }) ≡ with_own_attr (plain t now) c (t.text x.0) r)
   unfolding plain
@@ -95,7 +116,7 @@ module _ (w : Held) (meta : PyTypeRef) (k : Class PyStrInterned) where
   made-grows c =
       let n = length-append w.nodes (record { class = meta; dict = None; payload = payload.Class c } ∷ []) in
       let l = length-append w.classes (k ∷ []) in
-      grows w (class_made c) (omega arith) (omega arith) (λ m f h. h) (omega arith) (keep-push w.nodes (record { class = meta; dict = None; payload = payload.Class c })) (omega arith) (held_by-push w.classes k)
+      grows w (class_made c) (omega arith) (omega arith) (λ m f h. h) (omega arith) (keep-push w.nodes (record { class = meta; dict = None; payload = payload.Class c })) (omega arith) (like-push w.classes k)
 
   pub class-made : (c : PyTypeRef) → c.0 ≡ length w.classes → Holds (class_made c) (IsClass c.0)
   unfolding Holds
@@ -108,6 +129,12 @@ module _ (w : Held) (meta : PyTypeRef) (k : Class PyStrInterned) where
   pub class-made-of : (c : PyTypeRef) (d : ℕ) (b : BuiltIn) → c.0 ≡ length w.classes → k.bases ≡ d ∷ [] → Sound w → Holds w (IsOf d b) → Holds (class_made c) (IsOf c.0 b)
   unfolding Holds
   class-made-of c d b e q s h = ap (held_by (w.classes ++ k ∷ [])) e ∙ held_by-last w.classes k d b s.built_in q h
+
+  class-stands : (c : PyTypeRef) → c.0 ≡ length w.classes → k.node.0 ≡ length w.nodes → Holds (class_made c) (Standing (length w.classes) k.node)
+  unfolding Holds
+  class-stands c e i =
+      let node : Node = record { class = meta; dict = None; payload = payload.Class c } in
+      ap (λ n. held_class (w.nodes ++ node ∷ []) (record { 0 = n })) i ∙ ap (option_and_then (λ (x : Node). class_in x.payload)) (get-end w.nodes node) ∙ ap Some e
 
   dict-made : (new : Held) (b : Bool) → 23 ≤ length new.classes → AllHold new (of_dict b)
   unfolding Holds
@@ -133,6 +160,7 @@ module _ (w : Held) (meta : PyTypeRef) (k : Class PyStrInterned) where
         fixed = fixed-grow w new s.fixed more;
         built_in = many;
         own = λ b. more.still _ (s.own b);
+        standing = each-pushed (λ d (j : Class PyStrInterned). Holds new (Standing d j.node)) w.classes k (λ d j e. more.still _ (s.standing d j e)) (class-stands c e i);
         special = s.special;
       }
 

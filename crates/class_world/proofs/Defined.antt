@@ -1,6 +1,6 @@
 -- A function that a class defines, in a world.
 use Rattle.std.proofs.Common.{◌≡◌, ℕ, zero, suc, ◌<◌, List, [], ◌∷◌, length, Option, Some, None, refl, sym, ap, ◌∙◌, subst, arith, get_or, map}
-use Rattle.std.specs.Prelude.{slice_set, option_map}
+use Rattle.std.specs.Prelude.{slice_get, slice_set, option_map}
 use Rattle.py_node.specs.declared.refs.PyObjectRef.{PyObjectRef}
 use Rattle.py_node.specs.declared.refs.PyTypeRef.{PyTypeRef}
 use Rattle.py_node.specs.declared.payload.Node.{Node as StoredNode}
@@ -8,14 +8,12 @@ use Rattle.py_node.specs.declared.payload.Payload.{Payload}
 use Rattle.py_node.specs.declared.payload.Payload.TheVariants as payload
 use Rattle.plain_machine.specs.Plain.{AFunction, Node}
 use Rattle.plain_machine.specs.Objects.{or_class, defined_by, with_datum_in, with_definer}
-use Rattle.py_node.specs.declared.built_in.BuiltIn.{BuiltIn}
-use Rattle.plain_machine.specs.Sound.{Key}
 use Rattle.class_world.specs.Held.{Held}
 use Rattle.class_world.specs.Reading.{Reading, spelled, datum, node_of, plain}
-use Rattle.class_world.specs.Sound.{Claim, IsClass, IsOf, Holds, AllHold, Grows, Sound, of_option, of_class_ref, of_dict_ref, of_payload, of_node, of_each, home_of, home_at, key_in, held_key}
+use Rattle.class_world.specs.Sound.{Claim, IsClass, IsOf, Holds, AllHold, Grows, Sound, of_option, of_class_ref, of_dict_ref, of_payload, of_node, of_each}
 use Rattle.class_world.specs.Defined.{or_class_ref, defined_payload, defined_node}
 use Rattle.class_world.proofs.Claims.{all-grow, all-append, all-first, all-rest, each-get, got}
-use Rattle.class_world.proofs.Growth.{Keep, grows}
+use Rattle.class_world.proofs.Growth.{Lasting, lasting, like-itself, grows}
 use Rattle.class_world.proofs.Changes.{fixed-grow, built_in-grow}
 
 set-length : {A : Type 0} (xs : List A) (n : ℕ) (x : A) → length (slice_set xs n x) ≡ length xs
@@ -48,40 +46,25 @@ payload-holds w c (payload.MethodDescriptor m) k h = h
 payload-holds w c (payload.GetSet g) k h = h
 payload-holds w c (payload.ClassMethod r) k h = h
 
-home-stays : (c : PyTypeRef) (p : Payload) → home_of (defined_payload c p) ≡ home_of p
-home-stays c payload.Object = refl
-home-stays c (payload.Class d) = refl
-home-stays c (payload.Number z) = refl
-home-stays c (payload.Text s) = refl
-home-stays c (payload.Tuple rs) = refl
-home-stays c (payload.Dict es) = refl
-home-stays c (payload.Function f) = refl
-home-stays c (payload.Method m) = refl
-home-stays c (payload.NativeFunction f) = refl
-home-stays c (payload.BuiltinMethod m) = refl
-home-stays c (payload.MethodDescriptor m) = refl
-home-stays c (payload.GetSet g) = refl
-home-stays c (payload.ClassMethod r) = refl
-
-key-stays : (c : PyTypeRef) (p : Payload) → key_in (defined_payload c p) ≡ key_in p
-key-stays c payload.Object = refl
-key-stays c (payload.Class d) = refl
-key-stays c (payload.Number z) = refl
-key-stays c (payload.Text s) = refl
-key-stays c (payload.Tuple rs) = refl
-key-stays c (payload.Dict es) = refl
-key-stays c (payload.Function f) = refl
-key-stays c (payload.Method m) = refl
-key-stays c (payload.NativeFunction f) = refl
-key-stays c (payload.BuiltinMethod m) = refl
-key-stays c (payload.MethodDescriptor m) = refl
-key-stays c (payload.GetSet g) = refl
-key-stays c (payload.ClassMethod r) = refl
+lasting-stays : (c : PyTypeRef) (p : Payload) → lasting (defined_payload c p) ≡ lasting p
+lasting-stays c payload.Object = refl
+lasting-stays c (payload.Class d) = refl
+lasting-stays c (payload.Number z) = refl
+lasting-stays c (payload.Text s) = refl
+lasting-stays c (payload.Tuple rs) = refl
+lasting-stays c (payload.Dict es) = refl
+lasting-stays c (payload.Function f) = refl
+lasting-stays c (payload.Method m) = refl
+lasting-stays c (payload.NativeFunction f) = refl
+lasting-stays c (payload.BuiltinMethod m) = refl
+lasting-stays c (payload.MethodDescriptor m) = refl
+lasting-stays c (payload.GetSet g) = refl
+lasting-stays c (payload.ClassMethod r) = refl
 
 node-holds : (w : Held) (c : PyTypeRef) (n : StoredNode) → Holds w (IsClass c.0) → AllHold w (of_node n) → AllHold w (of_node (defined_node c n))
 node-holds w c n k h =
     let dict = of_option of_dict_ref n.dict in
-    (h.0, (subst (λ b. Holds w (IsOf n.class.0 b)) (sym (home-stays c n.payload)) h.1.0, all-append w dict _ (all-first w dict _ h.1.1) (payload-holds w c n.payload k (all-rest w dict _ h.1.1))))
+    (h.0, (subst (λ b. Holds w (IsOf n.class.0 b)) (ap (λ (l : Lasting). l.home) (sym (lasting-stays c n.payload))) h.1.0, all-append w dict _ (all-first w dict _ h.1.1) (payload-holds w c n.payload k (all-rest w dict _ h.1.1))))
 
 payload-read : (t : Reading) (c : PyTypeRef) (p : Payload) → datum t (defined_payload c p) ≡ defined_by c.0 (datum t p)
 payload-read t c payload.Object = refl
@@ -110,23 +93,13 @@ nodes-read t c (m ∷ ns) zero n l e =
     ∙ ap (λ d. record (node_of t m) { datum = d } ∷ map (node_of t) ns) (payload-read t c m.payload)
 nodes-read t c (m ∷ ns) (suc i) n l e = ap (λ ms. node_of t m ∷ ms) (nodes-read t c ns i n (omega arith) e)
 
--- another node in its place that holds what objects of the same class do, and the same as a key
-homes-set : (ns : List StoredNode) (i : ℕ) (n new : StoredNode) → n ≡ get_or ns i n → home_of new.payload ≡ home_of n.payload → (m : ℕ) (b : BuiltIn) → home_at ns m ≡ Some b → home_at (slice_set ns i new) m ≡ Some b
-homes-set [] i n new e h m b k = k
-homes-set (x ∷ ns) zero n new e h zero b k = ap Some (h ∙ ap (λ (y : StoredNode). home_of y.payload) e) ∙ k
-homes-set (x ∷ ns) zero n new e h (suc m) b k = k
-homes-set (x ∷ ns) (suc i) n new e h zero b k = k
-homes-set (x ∷ ns) (suc i) n new e h (suc m) b k = homes-set ns i n new e h m b k
-
-keys-set : (ns : List StoredNode) (i : ℕ) (n new : StoredNode) → n ≡ get_or ns i n → key_in new.payload ≡ key_in n.payload → (m : ℕ) (b : Key) → held_key ns (record { 0 = m }) ≡ Some b → held_key (slice_set ns i new) (record { 0 = m }) ≡ Some b
-keys-set [] i n new e h m b k = k
-keys-set (x ∷ ns) zero n new e h zero b k = h ∙ ap (λ (y : StoredNode). key_in y.payload) e ∙ k
-keys-set (x ∷ ns) zero n new e h (suc m) b k = k
-keys-set (x ∷ ns) (suc i) n new e h zero b k = k
-keys-set (x ∷ ns) (suc i) n new e h (suc m) b k = keys-set ns i n new e h m b k
-
-keep-set : (ns : List StoredNode) (i : ℕ) (n new : StoredNode) → n ≡ get_or ns i n → home_of new.payload ≡ home_of n.payload → key_in new.payload ≡ key_in n.payload → Keep ns (slice_set ns i new)
-keep-set ns i n new e h q = record { homes = homes-set ns i n new e h; keys = λ r k f. keys-set ns i n new e q r.0 k f }
+-- another node in its place that tells the same
+stays-set : (ns : List StoredNode) (i : ℕ) (n new : StoredNode) → n ≡ get_or ns i n → lasting new.payload ≡ lasting n.payload → (m : ℕ) (x : StoredNode) → slice_get ns m ≡ Some x → (y : StoredNode) × (slice_get (slice_set ns i new) m ≡ Some y) × (lasting y.payload ≡ lasting x.payload)
+stays-set [] i n new e q m x k = cc
+stays-set (z ∷ ns) zero n new e q zero x k = let same : z ≡ x = cc in (new, refl, q ∙ ap (λ (y : StoredNode). lasting y.payload) (e ∙ same))
+stays-set (z ∷ ns) zero n new e q (suc m) x k = (x, k, refl)
+stays-set (z ∷ ns) (suc i) n new e q zero x k = (x, k, refl)
+stays-set (z ∷ ns) (suc i) n new e q (suc m) x k = stays-set ns i n new e q m x k
 
 module _ (w : Held) (c : PyTypeRef) (r : PyObjectRef) (n new : StoredNode) where
   abbrev defined : Held
@@ -135,7 +108,7 @@ module _ (w : Held) (c : PyTypeRef) (r : PyObjectRef) (n new : StoredNode) where
   pub define-grows : n ≡ get_or w.nodes r.0 n → new ≡ defined_node c n → Grows w defined
   define-grows e k =
       let l = set-length w.nodes r.0 new in
-      grows w defined (omega arith) (omega arith) (λ m f h. h) (omega arith) (keep-set w.nodes r.0 n new e (ap (λ (x : StoredNode). home_of x.payload) k ∙ home-stays c n.payload) (ap (λ (x : StoredNode). key_in x.payload) k ∙ key-stays c n.payload)) (omega arith) (λ d b h. h)
+      grows w defined (omega arith) (omega arith) (λ m f h. h) (omega arith) (record { stays = stays-set w.nodes r.0 n new e (ap (λ (x : StoredNode). lasting x.payload) k ∙ lasting-stays c n.payload) }) (omega arith) (like-itself w.classes)
 
   pub define-sound : r.0 < length w.nodes → n ≡ get_or w.nodes r.0 n → new ≡ defined_node c n → Holds w (IsClass c.0) → Sound w → Sound defined
   define-sound l e k h s =
@@ -143,7 +116,7 @@ module _ (w : Held) (c : PyTypeRef) (r : PyObjectRef) (n new : StoredNode) where
       let go = all-grow w defined more in
       let here = each-get w of_node w.nodes r.0 n (got w.nodes r.0 n l e) s.nodes in
       let there = subst (λ m. AllHold w (of_node m)) (sym k) (node-holds w c n h here) in
-      record { forms = go _ s.forms; below = s.below; nodes = go _ (each-set w of_node w.nodes r.0 new s.nodes there); classes = go _ s.classes; vars = go _ s.vars; scopes = go _ s.scopes; fixed = fixed-grow w defined s.fixed more; built_in = built_in-grow w defined s.built_in more; own = λ b. more.still _ (s.own b); special = s.special }
+      record { forms = go _ s.forms; below = s.below; nodes = go _ (each-set w of_node w.nodes r.0 new s.nodes there); classes = go _ s.classes; vars = go _ s.vars; scopes = go _ s.scopes; fixed = fixed-grow w defined s.fixed more; built_in = built_in-grow w defined s.built_in more; own = λ b. more.still _ (s.own b); standing = λ d j e. more.still _ (s.standing d j e); special = s.special }
 
   pub define-read : (now : Held) → w ≡ now → r.0 < length w.nodes → n ≡ get_or w.nodes r.0 n → new ≡ defined_node c n → (t : Reading) → plain t defined ≡ with_definer (plain t now) c.0 r
   unfolding plain

@@ -1,44 +1,74 @@
 -- Worlds that have grown, and claims that hold still.
-use Rattle.std.proofs.Common.{◌≡◌, ℕ, zero, suc, ◌<◌, ◌≤◌, List, [], ◌∷◌, ◌++◌, length, Option, Some, None, refl, sym, ap, subst, arith, length-append}
-use Rattle.std.specs.Prelude.{slice_get, is_some, true}
+use Rattle.std.proofs.Common.{◌≡◌, ℕ, zero, suc, ◌<◌, ◌≤◌, List, [], ◌∷◌, ◌++◌, length, Option, Some, None, refl, sym, ap, ◌∙◌, subst, arith, length-append}
+use Rattle.std.specs.Prelude.{slice_get, is_some, true, option_map, option_and_then}
 use Rattle.py_node.specs.declared.built_in.BuiltIn.{BuiltIn}
 use Rattle.py_node.specs.declared.refs.PyStrInterned.{PyStrInterned}
 use Rattle.class_model.specs.Class.{Class}
+use Rattle.class_table.specs.Refused.{is_base_at}
 use Rattle.plain_machine.specs.Sound.{held_by, Key, AreKeys}
 use Rattle.py_node.specs.declared.refs.PyObjectRef.{PyObjectRef}
 use Rattle.py_node.specs.declared.payload.Node.{Node}
+use Rattle.py_node.specs.declared.payload.Payload.{Payload}
 use Rattle.py_node.specs.declared.payload.Form.{Form}
 use Rattle.class_world.specs.Held.{Held}
-use Rattle.class_world.specs.Sound.{Claim, IsNode, AreNodes, IsExpression, AreExpressions, IsName, AreNames, IsClass, IsOf, Holding, KeysDiffer, HasOperand, operands_at, home_at, held_key, Holds, Grows}
+use Rattle.class_world.specs.Sound.{Claim, IsNode, AreNodes, IsExpression, AreExpressions, IsName, AreNames, IsClass, IsOf, CanBeBase, Holding, Standing, KeysDiffer, HasOperand, operands_at, home_of, home_at, key_in, held_key, class_in, held_class, Holds, Grows}
 use Rattle.class_world.proofs.Claims.{get-pushed}
+use Rattle.class_world.proofs.Homes.{held_by-push}
 
 -- an expression of the store stands there still
 abbrev Stays : List Form → List Form → Type 0
 Stays old new = (n : ℕ) (f : Form) → slice_get old n ≡ Some f → slice_get new n ≡ Some f
 
--- a node holds what it held, and so do the objects of a class
-pub record Keep (old new : List Node) : Type 0 where
-  pub homes : (n : ℕ) (b : BuiltIn) → home_at old n ≡ Some b → home_at new n ≡ Some b
-  pub keys : (r : PyObjectRef) (k : Key) → held_key old r ≡ Some k → held_key new r ≡ Some k
+-- what a payload tells for ever: whose like its object is, the key that it is, and the class that it stands for
+pub record Lasting : Type 0 where
+  pub home : BuiltIn
+  pub key : Option Key
+  pub class : Option ℕ
 
-abbrev pub Like : List (Class PyStrInterned) → List (Class PyStrInterned) → Type 0
-Like old new = (c : ℕ) (b : BuiltIn) → held_by old c ≡ Some b → held_by new c ≡ Some b
+abbrev pub lasting : Payload → Lasting
+lasting p = record { home = home_of p; key = key_in p; class = class_in p }
+
+-- each node tells what it told
+pub record Keep (old new : List Node) : Type 0 where
+  pub stays : (n : ℕ) (x : Node) → slice_get old n ≡ Some x → (y : Node) × (slice_get new n ≡ Some y) × (lasting y.payload ≡ lasting x.payload)
+
+pub record Like (old new : List (Class PyStrInterned)) : Type 0 where
+  pub held : (c : ℕ) (b : BuiltIn) → held_by old c ≡ Some b → held_by new c ≡ Some b
+  pub bases : (c : ℕ) → is_base_at (slice_get old c) ≡ true → is_base_at (slice_get new c) ≡ true
+
+pub like-itself : (ks : List (Class PyStrInterned)) → Like ks ks
+like-itself ks = record { held = λ c b h. h; bases = λ c h. h }
 
 pub keep-itself : (ns : List Node) → Keep ns ns
-keep-itself ns = record { homes = λ n b e. e; keys = λ r k e. e }
+keep-itself ns = record { stays = λ n x e. (x, e, refl) }
 
-homes-push : (ns : List Node) (x : Node) (n : ℕ) (b : BuiltIn) → home_at ns n ≡ Some b → home_at (ns ++ x ∷ []) n ≡ Some b
-homes-push [] x n b e = cc
-homes-push (y ∷ ns) x zero b e = e
-homes-push (y ∷ ns) x (suc n) b e = homes-push ns x n b e
+bases-push : (ks : List (Class PyStrInterned)) (k : Class PyStrInterned) (c : ℕ) → is_base_at (slice_get ks c) ≡ true → is_base_at (slice_get (ks ++ k ∷ []) c) ≡ true
+bases-push [] k c e = cc
+bases-push (j ∷ ks) k zero e = e
+bases-push (j ∷ ks) k (suc c) e = bases-push ks k c e
 
-keys-push : (ns : List Node) (x : Node) (n : ℕ) (k : Key) → held_key ns (record { 0 = n }) ≡ Some k → held_key (ns ++ x ∷ []) (record { 0 = n }) ≡ Some k
-keys-push [] x n k e = cc
-keys-push (y ∷ ns) x zero k e = e
-keys-push (y ∷ ns) x (suc n) k e = keys-push ns x n k e
+pub like-push : (ks : List (Class PyStrInterned)) (k : Class PyStrInterned) → Like ks (ks ++ k ∷ [])
+like-push ks k = record { held = held_by-push ks k; bases = bases-push ks k }
 
 pub keep-push : (ns : List Node) (x : Node) → Keep ns (ns ++ x ∷ [])
-keep-push ns x = record { homes = homes-push ns x; keys = λ r k e. keys-push ns x r.0 k e }
+keep-push ns x = record { stays = λ n y e. (y, get-pushed ns x n y e, refl) }
+
+-- what is read of a node, and follows from what it tells for ever, is read still
+still-read : {B : Type 0} (f : Lasting → Option B) (of : Option Node → Option B) → of None ≡ None → ((x : Node) → of (Some x) ≡ f (lasting x.payload)) → (old new : List Node) → Keep old new → (n : ℕ) (b : B) → of (slice_get old n) ≡ Some b → of (slice_get new n) ≡ Some b
+still-read {B} f of nothing read old new g n b h = go (slice_get old n) refl h
+  where
+    go : (o : Option Node) → slice_get old n ≡ o → of o ≡ Some b → of (slice_get new n) ≡ Some b
+    go None e h = let absent : None ≡ Some b = sym nothing ∙ h in cc absent
+    go (Some x) e h = let y = g.stays n x e in ap of y.1 ∙ read y.0 ∙ ap f y.2 ∙ sym (read x) ∙ h
+
+home-still : (old new : List Node) → Keep old new → (n : ℕ) (b : BuiltIn) → home_at old n ≡ Some b → home_at new n ≡ Some b
+home-still = still-read (λ l. Some l.home) (option_map (λ (x : Node). home_of x.payload)) refl (λ x. refl)
+
+key-still : (old new : List Node) → Keep old new → (r : PyObjectRef) (k : Key) → held_key old r ≡ Some k → held_key new r ≡ Some k
+key-still old new g r = still-read (λ l. l.key) (option_and_then (λ (x : Node). key_in x.payload)) refl (λ x. refl) old new g r.0
+
+class-still : (old new : List Node) → Keep old new → (r : PyObjectRef) (c : ℕ) → held_class old r ≡ Some c → held_class new r ≡ Some c
+class-still old new g r = still-read (λ l. l.class) (option_and_then (λ (x : Node). class_in x.payload)) refl (λ x. refl) old new g r.0
 
 known-key : (o : Option Key) → is_some o ≡ true → (k : Key) × (o ≡ Some k)
 known-key None e = cc
@@ -46,11 +76,11 @@ known-key (Some k) e = (k, refl)
 
 keys-keep : (old new : List Node) → Keep old new → (rs : List PyObjectRef) → AreKeys (held_key old) rs → AreKeys (held_key new) rs
 keys-keep old new g rs h = record {
-  known = λ i r e. let a = known-key (held_key old r) (h.known i r e) in ap is_some (g.keys r a.0 a.1);
+  known = λ i r e. let a = known-key (held_key old r) (h.known i r e) in ap is_some (key-still old new g r a.0 a.1);
   apart = λ i j r s e f q.
       let a = known-key (held_key old r) (h.known i r e) in
       let b = known-key (held_key old s) (h.known j s f) in
-      let same : held_key old r ≡ held_key old s = let p = g.keys r a.0 a.1 in let x = g.keys s b.0 b.1 in cc (a.1, b.1, p, x, q) in
+      let same : held_key old r ≡ held_key old s = let p = key-still old new g r a.0 a.1 in let x = key-still old new g s b.0 b.1 in cc (a.1, b.1, p, x, q) in
       h.apart i j r s e f same;
 }
 
@@ -70,8 +100,10 @@ grows-at old new x e s n p k l (AreExpressions es) h = λ i d m. let below = h i
 grows-at old new x e s n p k l (IsName m) h = omega arith
 grows-at old new x e s n p k l (AreNames xs) h = λ i d m. let below = h i d m in omega arith
 grows-at old new x e s n p k l (IsClass c) h = omega arith
-grows-at old new x e s n p k l (IsOf c b) h = l c b h
-grows-at old new x e s n p k l (Holding r b) h = p.homes r.0 b h
+grows-at old new x e s n p k l (IsOf c b) h = l.held c b h
+grows-at old new x e s n p k l (CanBeBase c) h = l.bases c h
+grows-at old new x e s n p k l (Holding r b) h = home-still old.nodes new.nodes p r.0 b h
+grows-at old new x e s n p k l (Standing c r) h = class-still old.nodes new.nodes p r c h
 grows-at old new x e s n p k l (KeysDiffer rs) h = keys-keep old.nodes new.nodes p rs h
 grows-at old new x e s n p k l (HasOperand m i) h = operand-stays old.forms new.forms m i s h
 
@@ -92,16 +124,16 @@ same-grows old new x e n k =
     let b = ap length e in
     let d = ap length n in
     let f = ap length k in
-    grows old new (omega arith) (omega arith) (λ m f h. subst (λ fs. slice_get fs m ≡ Some f) e h) (omega arith) (subst (λ ns. Keep old.nodes ns) n (keep-itself old.nodes)) (omega arith) (λ c b h. subst (λ ks. held_by ks c ≡ Some b) k h)
+    grows old new (omega arith) (omega arith) (λ m f h. subst (λ fs. slice_get fs m ≡ Some f) e h) (omega arith) (subst (λ ns. Keep old.nodes ns) n (keep-itself old.nodes)) (omega arith) (subst (λ ks. Like old.classes ks) k (like-itself old.classes))
 
 pub grows-seen : (w now new : Held) → w ≡ now → Grows w new → Grows now new
 grows-seen w now new e g = subst (λ w. Grows w new) e g
 
 pub node-grows : (w : Held) (n : Node) → Grows w (record w { nodes = w.nodes ++ n ∷ [] })
-node-grows w n = let l = length-append w.nodes (n ∷ []) in grows w (record w { nodes = w.nodes ++ n ∷ [] }) (omega arith) (omega arith) (λ m f h. h) (omega arith) (keep-push w.nodes n) (omega arith) (λ c b h. h)
+node-grows w n = let l = length-append w.nodes (n ∷ []) in grows w (record w { nodes = w.nodes ++ n ∷ [] }) (omega arith) (omega arith) (λ m f h. h) (omega arith) (keep-push w.nodes n) (omega arith) (like-itself w.classes)
 
 pub form-grows : (w : Held) (f : Form) → Grows w (record w { forms = w.forms ++ f ∷ [] })
-form-grows w f = let l = length-append w.forms (f ∷ []) in grows w (record w { forms = w.forms ++ f ∷ [] }) (omega arith) (omega arith) (λ m g h. get-pushed w.forms f m g h) (omega arith) (keep-itself w.nodes) (omega arith) (λ c b h. h)
+form-grows w f = let l = length-append w.forms (f ∷ []) in grows w (record w { forms = w.forms ++ f ∷ [] }) (omega arith) (omega arith) (λ m g h. get-pushed w.forms f m g h) (omega arith) (keep-itself w.nodes) (omega arith) (like-itself w.classes)
 
 pub names-grow : (w : Held) (names : List (List ℕ)) → length w.names ≤ length names → Grows w (record w { names = names })
-names-grow w names l = grows w (record w { names = names }) l (omega arith) (λ m f h. h) (omega arith) (keep-itself w.nodes) (omega arith) (λ c b h. h)
+names-grow w names l = grows w (record w { names = names }) l (omega arith) (λ m f h. h) (omega arith) (keep-itself w.nodes) (omega arith) (like-itself w.classes)

@@ -4,6 +4,7 @@ pub mod Growth
 pub mod Readable
 pub mod Changes
 pub mod Bound
+pub mod Filled
 pub mod OfClasses
 pub mod ClassChanges
 pub mod Look

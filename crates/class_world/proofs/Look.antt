@@ -14,7 +14,8 @@ use Rattle.class_model.specs.Slot.{entry, slot, candidates_of}
 use Rattle.class_model.specs.BuiltIn.{natives_of}
 use Rattle.class_model.proofs.Renamed.{entry-renamed, slot-renamed, candidates_of-renamed}
 use Rattle.class_table.specs.Keys.{table_keys}
-use Rattle.plain_machine.specs.World.{node_at, has_dict, flag_in, the_dict, text_keys, or_empty}
+use Rattle.plain_machine.specs.World.{node_at, has_dict, flag_in, text_keys, or_empty}
+use Rattle.plain_machine.specs.Known.{the_dict}
 use Rattle.class_world.specs.Held.{Held}
 use Rattle.class_world.specs.Reading.{Reading, Reads, form_tree, node_of, spelled, plain}
 use Rattle.class_world.specs.Sound.{IsClass, Holds, AllHold, Sound, of_node, of_dict, of_class, of_each}

@@ -1,5 +1,7 @@
 -- Classes, as a reading has them, and what holds of their attributes.
-use Rattle.std.proofs.Common.{◌≡◌, ℕ, zero, suc, ◌^◌, Bool, List, [], ◌∷◌, Option, Some, None, refl, ap, subst, IfSome}
+use Rattle.std.proofs.Common.{◌≡◌, ℕ, zero, suc, ◌^◌, Bool, true, cond, List, [], ◌∷◌, Option, Some, None, refl, ap, ◌∙◌, subst, IfSome}
+use Rattle.py_node.specs.declared.raised.Cause.TheVariants.{ImmutableType}
+use Rattle.class_table.specs.Refused.{is_base_at, refused_attr}
 use Rattle.std.specs.Prelude.{◌==◌, slice_get, option_map, option_and_then}
 use Rattle.std.specs.Int.RustNames.{bit_and}
 use Rattle.py_node.specs.declared.refs.PyObjectRef.{PyObjectRef}
@@ -65,6 +67,13 @@ module _ (w now : Held) (v : w ≡ now) (t : Reading) where
 pub flag-of : (o : Option HeldClass) (flags flag : ℕ) → option_map (λ (k : HeldClass). k.flags) o ≡ Some flags → option_map (λ (k : HeldClass). has_flag flag k) o ≡ Some (bit_and flags flag == flag)
 flag-of None flags flag e = cc
 flag-of (Some k) flags flag e = let same : k.flags ≡ flags = cc in ap (λ n. Some (bit_and n flag == flag)) same
+
+pub base-of : (o : Option HeldClass) (flags : ℕ) → option_map (λ (k : HeldClass). k.flags) o ≡ Some flags → (bit_and flags 1024 == 1024) ≡ true → is_base_at o ≡ true
+base-of None flags e h = cc
+base-of (Some k) flags e h = let same : k.flags ≡ flags = cc in ap (λ n. bit_and n 1024 == 1024) same ∙ h
+
+pub refused-seen : (w now : Held) → w ≡ now → (t : Reading) → (c : ℕ) → refused_attr (plain t now).classes c ≡ refused_attr w.classes c
+refused-seen w now v t c = ap (λ b. cond b None (Some ImmutableType)) (heap-seen w now v t c)
 
 -- the nodes of classes and of their attributes
 module _ (w : Held) where

@@ -10,17 +10,18 @@ use Rattle.py_node.specs.declared.built_in.BuiltIn.TheVariants.{Dict, Str}
 use Rattle.py_node.specs.declared.payload.Node.{Node as StoredNode}
 use Rattle.py_node.specs.declared.payload.Payload.{Payload}
 use Rattle.py_node.specs.declared.payload.Payload.TheVariants as payload
-use Rattle.class_model.specs.Class.{Classes, has_flag, rekeyed, renamed}
+use Rattle.py_node.specs.Tree.{Text}
+use Rattle.class_model.specs.Class.{Class, Classes, has_flag, rekeyed, renamed}
 use Rattle.class_model.specs.Sound.{AreSound}
 use Rattle.class_model.proofs.Sound.{sound-renamed}
 use Rattle.class_model.proofs.Renamed.{lin-renamed, length-renamed}
-use Rattle.plain_machine.specs.Plain.{Node}
+use Rattle.plain_machine.specs.Plain.{AClass, Node}
 use Rattle.plain_machine.specs.World.{datum_at}
 use Rattle.plain_machine.specs.Sound.{home, optional_class, optional, nodes_in, classes_in, Key, key_of, key_at, keys_in, AreKeys, IsSoundNode, IsSound}
 use Rattle.class_world.specs.declared.scope.Scope.{Scope as HeldScope}
 use Rattle.class_world.specs.Held.{Held}
 use Rattle.class_world.specs.Reading.{Reading, bindings, datum, node_of, scope_of, spelled, plain}
-use Rattle.class_world.specs.Sound.{Holding, KeysDiffer, key_in, held_key, Holds, AllHold, Sound, home_of, home_at, of_option, of_class_ref, of_node_ref, of_dict_ref, of_payload, of_node, of_binding, of_scope, of_class, of_dict, of_each}
+use Rattle.class_world.specs.Sound.{Holding, Standing, KeysDiffer, key_in, held_key, class_in, held_class, Holds, AllHold, Sound, home_of, home_at, of_option, of_class_ref, of_node_ref, of_dict_ref, of_payload, of_node, of_binding, of_scope, of_class, of_dict, of_each}
 use Rattle.class_world.proofs.Claims.{all-first, all-rest, each-get}
 use Rattle.class_world.proofs.Homes.{by_line}
 
@@ -218,11 +219,36 @@ module _ (w : Held) (t : Reading) where
   funcs-there (s ∷ ss) h =
       more (λ s. s.func.0 < length w.nodes) (scope_of t s) (map (scope_of t) ss) (all-first w (of_scope s) (of_each of_scope ss) h).0 (funcs-there ss (all-rest w (of_scope s) (of_each of_scope ss) h))
 
-  class_nodes-there : (ks : Classes PyStrInterned) → AllHold w (of_each of_class ks) → All (λ k. k.node.0 < length w.nodes) (renamed (spelled t) ks)
-  unfolding Holds
-  class_nodes-there [] h = none (λ k. k.node.0 < length w.nodes)
-  class_nodes-there (k ∷ ks) h =
-      more (λ k. k.node.0 < length w.nodes) (rekeyed (spelled t) k) (renamed (spelled t) ks) (all-first w (of_class k) (of_each of_class ks) h).0 (class_nodes-there ks (all-rest w (of_class k) (of_each of_class ks) h))
+  class-at : (ks : Classes PyStrInterned) (c : ℕ) (k : Class Text) → slice_get (renamed (spelled t) ks) c ≡ Some k → (j : Class PyStrInterned) × (slice_get ks c ≡ Some j) × (j.node ≡ k.node)
+  class-at [] c k e = cc
+  class-at (j ∷ ks) zero k e = let same : rekeyed (spelled t) j ≡ k = cc in (j, refl, ap (λ (k : Class Text). k.node) same)
+  class-at (j ∷ ks) (suc c) k e = class-at ks c k e
+
+  class-read : (p : Payload) (c : ℕ) → class_in p ≡ Some c → datum t p ≡ AClass c
+  class-read payload.Object c e = cc
+  class-read (payload.Class d) c e = let same : d.0 ≡ c = cc in ap AClass same
+  class-read (payload.Number z) c e = cc
+  class-read (payload.Text s) c e = cc
+  class-read (payload.Tuple rs) c e = cc
+  class-read (payload.Dict es) c e = cc
+  class-read (payload.Function f) c e = cc
+  class-read (payload.Method m) c e = cc
+  class-read (payload.NativeFunction f) c e = cc
+  class-read (payload.BuiltinMethod m) c e = cc
+  class-read (payload.MethodDescriptor m) c e = cc
+  class-read (payload.GetSet g) c e = cc
+  class-read (payload.ClassMethod r) c e = cc
+
+  stands-at : (ns : List StoredNode) (n c : ℕ) → held_class ns (record { 0 = n }) ≡ Some c → option_map (λ (x : Node). x.datum) (slice_get (map (node_of t) ns) n) ≡ Some (AClass c)
+  stands-at [] n c e = cc
+  stands-at (x ∷ ns) zero c e = ap Some (class-read x.payload c e)
+  stands-at (x ∷ ns) (suc n) c e = stands-at ns n c e
+
+  class-stands : ((c : ℕ) (k : Class PyStrInterned) → slice_get w.classes c ≡ Some k → Holds w (Standing c k.node)) → (c : ℕ) (k : Class Text) → slice_get (renamed (spelled t) w.classes) c ≡ Some k → datum_at (plain t w) k.node ≡ Some (AClass c)
+  unfolding Holds plain
+  class-stands h c k e =
+      let j = class-at w.classes c k e in
+      ap (λ r. datum_at (plain t w) r) (sym j.2) ∙ stands-at w.nodes (j.0).node.0 c (h c j.0 j.1)
 
   attrs-there : (ks : Classes PyStrInterned) → AllHold w (of_each of_class ks) → All (λ k. All (λ a. a.1.0 < length w.nodes) k.attrs) (renamed (spelled t) ks)
   attrs-there [] h = none (λ k. All (λ a. a.1.0 < length w.nodes) k.attrs)
@@ -258,7 +284,7 @@ module _ (w : Held) (t : Reading) where
         nodes = λ i n e.
             let r = stored-at t w.nodes i n e in
             subst (λ n. IsSoundNode (plain t w) n) r.2 (node-is r.0 (each-get w of_node w.nodes i r.0 r.1 s.nodes));
-        class_nodes = subst (λ n. All (λ k. k.node.0 < n) (renamed (spelled t) w.classes)) size (class_nodes-there w.classes s.classes);
+        standing = class-stands s.standing;
         attrs = subst (λ n. All (λ k. All (λ a. a.1.0 < n) k.attrs) (renamed (spelled t) w.classes)) size (attrs-there w.classes s.classes);
         vars = subst (λ n. All (λ b. b.1.0 < n) (bindings t w.vars)) size (bound-there w.vars s.vars);
         scopes = subst (λ n. All (λ s. All (λ b. b.1.0 < n) s.vars) (map (scope_of t) w.scopes)) size (scopes-there w.scopes s.scopes);

@@ -1,7 +1,7 @@
 -- The world of a new machine is sound, and is the plain machine's.
-use Rattle.std.proofs.Common.{◌≡◌, ℕ, ◌^◌, ◌<◌, ◌≤◌, Bool, true, false, List, [], ◌∷◌, ◌++◌, length, Some, refl, ap, arith, map}
-use Rattle.std.specs.Prelude.{◌&&◌, ltb}
-use Rattle.std.proofs.lemmas.Bool.{ltb-true}
+use Rattle.std.proofs.Common.{◌≡◌, ℕ, zero, suc, ◌+◌, ◌^◌, ◌<◌, ◌≤◌, Bool, true, false, List, [], ◌∷◌, ◌++◌, length, Some, refl, ap, subst, arith, map}
+use Rattle.std.specs.Prelude.{◌&&◌, eqb, ltb, slice_get}
+use Rattle.std.proofs.lemmas.Bool.{eqb-true, ltb-true}
 use Rattle.py_node.specs.declared.refs.PyStrInterned.{PyStrInterned}
 use Rattle.py_node.specs.declared.built_in.BuiltIn.{BuiltIn}
 use Rattle.py_node.specs.declared.built_in.BuiltIn.TheVariants as built_in
@@ -11,11 +11,11 @@ use Rattle.class_model.specs.Order.{linear, least_order, arrangements, all_arran
 use Rattle.py_node.specs.Slots.{special_names}
 use Rattle.class_model.specs.Class.{Class, has_flag, renamed}
 use Rattle.plain_machine.specs.Start.{built_class, class_node as plain_class_node, fixed_nodes as plain_fixed_nodes, bare}
-use Rattle.plain_machine.specs.World.{the_dict}
+use Rattle.plain_machine.specs.Known.{the_dict}
 use Rattle.class_world.specs.Held.{Held}
 use Rattle.class_world.specs.StartNodes.{class_node, fixed_nodes, start_nodes}
 use Rattle.class_world.specs.Reading.{Reading, node_of, spelled, plain}
-use Rattle.class_world.specs.Sound.{Holds, AllHold, Sound, of_node, of_dict, of_class, of_each}
+use Rattle.class_world.specs.Sound.{Standing, Holds, AllHold, Sound, of_node, of_dict, of_class, of_each}
 use Rattle.class_world.proofs.Claims.{each-append, all-append}
 use Rattle.class_world.proofs.StartParts.{split}
 
@@ -84,6 +84,50 @@ started-own built_in.Super = refl
 started-own built_in.Iterator = refl
 started-own built_in.Slice = refl
 
+-- the node of each class, by computing
+started-stands : (b : BuiltIn) → Holds started (Standing (place_of b) (built b).node)
+unfolding all_built_ins place_of Holds
+started-stands built_in.Object = refl
+started-stands built_in.TypeType = refl
+started-stands built_in.NoneType = refl
+started-stands built_in.NotImplementedType = refl
+started-stands built_in.Int = refl
+started-stands built_in.Bool = refl
+started-stands built_in.Str = refl
+started-stands built_in.Tuple = refl
+started-stands built_in.List = refl
+started-stands built_in.Dict = refl
+started-stands built_in.Function = refl
+started-stands built_in.Method = refl
+started-stands built_in.BuiltinFunctionOrMethod = refl
+started-stands built_in.BuiltinMethod = refl
+started-stands built_in.MethodDescriptor = refl
+started-stands built_in.GetSetDescriptor = refl
+started-stands built_in.MemberDescriptor = refl
+started-stands built_in.Property = refl
+started-stands built_in.ClassMethod = refl
+started-stands built_in.StaticMethod = refl
+started-stands built_in.Super = refl
+started-stands built_in.Iterator = refl
+started-stands built_in.Slice = refl
+
+-- whether each class has its place, counted from a number
+abbrev places_from : ℕ → List BuiltIn → Bool
+places_from n [] = true
+places_from n (b ∷ bs) = eqb (place_of b) n && places_from (suc n) bs
+
+places-stand : (n : ℕ) (bs : List BuiltIn) → places_from n bs ≡ true → (c : ℕ) (k : Class PyStrInterned) → slice_get (map built bs) c ≡ Some k → Holds started (Standing (n + c) k.node)
+places-stand n [] h c k e = cc
+places-stand n (b ∷ bs) h zero k e =
+    let both = split (eqb (place_of b) n) (places_from (suc n) bs) h in
+    let place : place_of b ≡ n + 0 = omega (arith, eqb-true (place_of b) n both.0) in
+    let same : built b ≡ k = cc in
+    subst (λ (j : Class PyStrInterned). Holds started (Standing (n + 0) j.node)) same (subst (λ m. Holds started (Standing m (built b).node)) place (started-stands b))
+places-stand n (b ∷ bs) h (suc c) k e =
+    let both = split (eqb (place_of b) n) (places_from (suc n) bs) h in
+    let sum : suc n + c ≡ n + suc c = omega arith in
+    subst (λ m. Holds started (Standing m k.node)) sum (places-stand (suc n) bs both.1 c k e)
+
 pub started-sound : Sound started
 unfolding all_built_ins place_of Holds
 started-sound = record {
@@ -96,6 +140,7 @@ started-sound = record {
   fixed = omega arith;
   built_in = omega arith;
   own = started-own;
+  standing = λ c k e. subst (λ m. Holds started (Standing m k.node)) (omega arith) (places-stand 0 all_built_ins refl c k e);
   special = λ n x e. e;
 }
 

@@ -14,7 +14,8 @@ use Rattle.py_node.specs.declared.built_in.BuiltIn.{BuiltIn}
 use Rattle.py_node.specs.declared.built_in.BuiltIn.TheVariants as built_in
 use Rattle.py_node.specs.BuiltIns.{place_of}
 use Rattle.class_model.specs.Class.{Class, has_flag}
-use Rattle.plain_machine.specs.World.{the_dict}
+use Rattle.class_table.specs.Refused.{is_base_at}
+use Rattle.plain_machine.specs.Known.{the_dict}
 use Rattle.plain_machine.specs.Sound.{holds_as, held_by, Key, NumberKey, TextKey, AreKeys}
 use Rattle.class_world.specs.declared.scope.Scope.{Scope}
 use Rattle.class_world.specs.Held.{Held}
@@ -33,6 +34,10 @@ pub data Claim : Type 0 where
   IsOf : ℕ → BuiltIn → Claim
   -- the object holds what those of a built-in class do
   Holding : PyObjectRef → BuiltIn → Claim
+  -- the object stands for the class
+  Standing : ℕ → PyObjectRef → Claim
+  -- the class may have subclasses
+  CanBeBase : ℕ → Claim
   -- the objects are numbers or texts, no two of them alike
   KeysDiffer : List PyObjectRef → Claim
   -- the expression has more operands than so many
@@ -81,6 +86,14 @@ key_in _ = None
 abbrev pub held_key : List Node → PyObjectRef → Option Key
 held_key ns r = option_and_then (λ x. key_in x.payload) (slice_get ns r.0)
 
+-- the class that a node stands for
+abbrev pub class_in : Payload → Option ℕ
+class_in (payload.Class c) = Some c.0
+class_in _ = None
+
+abbrev pub held_class : List Node → PyObjectRef → Option ℕ
+held_class ns r = option_and_then (λ x. class_in x.payload) (slice_get ns r.0)
+
 unfoldable pub Holds : Held → Claim → Type 0
 Holds w (IsNode r) = r.0 < length w.nodes
 Holds w (AreNodes rs) = All (λ r. r.0 < length w.nodes) rs
@@ -91,6 +104,8 @@ Holds w (AreNames xs) = All (λ x. x.0 < length w.names) xs
 Holds w (IsClass c) = c < length w.classes
 Holds w (IsOf c b) = held_by w.classes c ≡ Some b
 Holds w (Holding r b) = home_at w.nodes r.0 ≡ Some b
+Holds w (Standing c r) = held_class w.nodes r ≡ Some c
+Holds w (CanBeBase c) = is_base_at (slice_get w.classes c) ≡ true
 Holds w (KeysDiffer rs) = AreKeys (held_key w.nodes) rs
 Holds w (HasOperand e n) = n < length (operands_at (slice_get w.forms e))
 
@@ -173,6 +188,8 @@ pub record Sound (w : Held) : Type 0 where
   pub classes : AllHold w (of_each of_class w.classes)
   pub vars : AllHold w (of_each of_binding w.vars)
   pub scopes : AllHold w (of_each of_scope w.scopes)
+  -- the node of each class stands for it
+  pub standing : (c : ℕ) (k : Class PyStrInterned) → slice_get w.classes c ≡ Some k → Holds w (Standing c k.node)
   -- the fixed nodes and the built-in classes are there
   pub fixed : 27 ≤ length w.nodes
   pub built_in : 23 ≤ length w.classes

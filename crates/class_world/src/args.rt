@@ -1,12 +1,15 @@
 // Arguments and keywords, as tasks take them.
 
-ghost use Rattle.std.specs.Prelude.{◌≡◌, ◌∷◌, IfOk};
-ghost use Rattle.class_world.specs.Reading.{Reading, bindings, task_of};
+ghost use Rattle.std.specs.Prelude.{◌≡◌, [], ◌∷◌, map, IfOk};
+ghost use Rattle.class_world.specs.Held.{Held};
+ghost use Rattle.class_world.specs.Reading.{Reading, spelled, bindings, task_of};
 ghost use Rattle.class_world.specs.Claims.{of_args, of_task};
-ghost use Rattle.class_world.specs.Sound.{AllHold};
+ghost use Rattle.class_world.specs.Sound.{AllHold, AreNames, AreNodes, Holds, of_binding, of_each};
+ghost use Rattle.plain_machine.specs.Args.{two_of, filled};
 ghost use Rattle.plain_machine.specs.Native.{native_task};
 
 use crate::world::World;
+use py_node::attributes::PyAttributes;
 use py_node::entry::NativeEntry;
 use py_node::memory::OutOfMemory;
 use py_node::refs::{PyObjectRef, PyStrInterned};
@@ -46,6 +49,32 @@ pub fn copy_keywords(
     let mut copy = Vec::new(alloc);
     copy.extend_from_slice(keywords)?;
     Ok(copy)
+}
+
+/// The two arguments, where there are just two.
+pub fn two_of(args: &[PyObjectRef]) -> Option<(PyObjectRef, PyObjectRef)>
+    ensures { result ≡ two_of args.now }
+{
+    match args {
+        [a, b] => Some((*a, *b)),
+        _ => None,
+    }
+}
+
+/// Names with values in order, as far as there are both. A name that stands twice takes the later value.
+pub fn filled(
+    alloc: Global,
+    names: &[PyStrInterned],
+    values: &[PyObjectRef],
+) -> Result<PyAttributes, OutOfMemory>
+    ensures vars { IfOk result (λ vars. (t : Reading) → bindings t vars ≡ filled [] (map (spelled t) names.now) values.now) }
+    ensures holds { IfOk result (λ vars. (w : Held) → Holds w (AreNames names.now) → Holds w (AreNodes values.now) → AllHold w (of_each of_binding vars)) }
+{
+    let mut vars = PyAttributes::new(alloc);
+    for (name, value) in names.iter().zip(values) {
+        vars.insert(*name, *value)?;
+    }
+    Ok(vars)
 }
 
 /// The task that a native is, with its arguments and keywords.

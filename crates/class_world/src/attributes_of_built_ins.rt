@@ -333,7 +333,7 @@ fn add_attr(world: &mut World, alloc: Global, attr: OwnAttr) -> Result<(), OutOf
     let name = world.intern(alloc, attr.name)?;
     let node = add_object(world, alloc, attr.class, name, attr.attr)?;
     let class = world.built_in(attr.class);
-    world.set_class_attr(class, name, node)
+    world.put_class_attr(class, name, node)
 }
 
 // The object that an own attribute holds.

@@ -12,7 +12,6 @@ use class_table::stored::NewClass;
 use class_table::table::ClassTable;
 use py_node::attributes::PyAttributes;
 use py_node::built_in::BuiltIn;
-use py_node::flags::PyTypeFlags;
 use py_node::memory::OutOfMemory;
 use py_node::names::Names;
 use py_node::payload::{Node, Payload};
@@ -163,7 +162,7 @@ fn new_class(alloc: Global, class: BuiltIn) -> Result<NewClass, OutOfMemory>
         base: class.base(),
         attrs: PyAttributes::new(alloc),
         members: Vec::new(alloc),
-        flags: PyTypeFlags(class.flags()),
+        flags: class.flags(),
     })
 }
 

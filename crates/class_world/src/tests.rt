@@ -2,14 +2,17 @@
 ghost use Rattle.std.specs.Prelude.{IfOk};
 ghost use Rattle.class_world.specs.Sound.{Grows, Holds, IsClass, IsNode};
 
+use crate::args::{copy_args, copy_keywords, filled, two_of, with_first};
 use crate::classes::push_classes;
+use crate::store::add_expr;
 use crate::world::{Fixed, World};
 use py_node::attributes::PyAttributes;
 use py_node::built_in::BuiltIn;
-use py_node::flags::PyTypeFlags;
+use py_node::expr::{Constant, Expr};
 use py_node::memory::OutOfMemory;
 use py_node::payload::{Form, Function, Payload};
-use py_node::refs::{PyObjectRef, PyTypeRef};
+use py_node::refs::{PyObjectRef, PyStrInterned, PyTypeRef};
+use py_node::reply::BodyCall;
 use std::alloc::Global;
 use std::test::Fail;
 
@@ -61,11 +64,12 @@ fn made(
     ensures class { IfOk result (λ c. Holds world.new (IsClass c.0)) }
     ensures grows { Grows world.old world.new }
 {
+    if !world.can_be_base(base) {
+        return Err(OutOfMemory);
+    }
     let metaclass = world.built_in(BuiltIn::TypeType);
-    let name = String::from_str(alloc, name)?;
-    let flags = PyTypeFlags::heap_type_flags();
     let attrs = PyAttributes::new(alloc);
-    let (class, _node) = world.make_class(alloc, metaclass, name, base, attrs, flags)?;
+    let (class, _node) = world.make_class(alloc, metaclass, name, base, attrs)?;
     Ok(class)
 }
 
@@ -82,7 +86,10 @@ fn set(
 {
     let name = world.intern(alloc, name)?;
     let value = world.fixed(value);
-    world.set_class_attr(class, name, value)
+    match world.set_class_attr(class, name, value) {
+        Ok(()) => Ok(()),
+        Err(_) => Err(OutOfMemory),
+    }
 }
 
 // A class, and one below it that forbids the hash. `__new__` counts in its own class alone.
@@ -136,5 +143,69 @@ fn defines_a_function_once(rt: HostRuntime) -> Result<(), Fail> {
     let second = world.built_in(BuiltIn::Str);
     world.set_definer(second, func);
     assert_eq!(rt; definer(&world, func), Some(first));
+    Ok(())
+}
+
+// What a variable holds in a body that binds it, and after the body.
+fn in_a_body(
+    world: &mut World,
+    alloc: Global,
+) -> Result<(Option<PyObjectRef>, Option<PyObjectRef>), OutOfMemory> {
+    let name = world.intern(alloc, "x")?;
+    let outside = world.fixed(Fixed::None);
+    let inside = world.fixed(Fixed::True);
+    world.bind(name, outside)?;
+    let start = BodyCall {
+        name: world.spelling(alloc, name)?,
+        args: Vec::new(alloc),
+    };
+    world.open_scope(inside, PyAttributes::new(alloc), start)?;
+    world.bind(name, inside)?;
+    let during = world.variable(name);
+    world.close_scope();
+    Ok((during, world.variable(name)))
+}
+
+#[test]
+fn a_body_has_its_own_variables(rt: HostRuntime) -> Result<(), Fail> {
+    let alloc = rt.alloc();
+    let mut world = World::new(alloc)?;
+    let (during, after) = in_a_body(&mut world, alloc)?;
+    assert_eq!(rt; during, Some(PyObjectRef(26)));
+    assert_eq!(rt; after, Some(PyObjectRef(23)));
+    let calls = world.rest(alloc);
+    assert_eq!(rt; calls.len(), 1);
+    assert_eq!(rt; calls[0].name.as_str(), "x");
+    Ok(())
+}
+
+#[test]
+fn stores_an_expression(rt: HostRuntime) -> Result<(), Fail> {
+    let alloc = rt.alloc();
+    let mut world = World::new(alloc)?;
+    let expr = Expr::Const(Constant::Int(5));
+    assert_eq!(rt; add_expr(&mut world, alloc, &expr)?, 0);
+    assert_eq!(rt; add_expr(&mut world, alloc, &expr)?, 1);
+    Ok(())
+}
+
+// Three objects, and what is made of them as arguments.
+#[test]
+fn arguments_are_put_together(rt: HostRuntime) -> Result<(), Fail> {
+    let alloc = rt.alloc();
+    let [a, b, c] = [PyObjectRef(1), PyObjectRef(2), PyObjectRef(3)];
+    let [x, y] = [PyStrInterned(5), PyStrInterned(6)];
+    let args = with_first(alloc, a, &[b])?;
+    assert_eq!(rt; args.as_slice(), [a, b].as_slice());
+    assert_eq!(rt; two_of(&args), Some((a, b)));
+    assert_eq!(rt; two_of(&[a]), None);
+    let copy = copy_args(alloc, &args)?;
+    assert_eq!(rt; copy.as_slice(), [a, b].as_slice());
+    let keywords = copy_keywords(alloc, &[(x, c)])?;
+    assert_eq!(rt; keywords.as_slice(), [(x, c)].as_slice());
+    let vars = filled(alloc, &[x, y, x], &[a, b, c, a])?;
+    assert_eq!(rt; vars.len(), 2);
+    assert_eq!(rt; vars.get(x), Some(c));
+    assert_eq!(rt; vars.get(y), Some(b));
     Ok(())
 }

@@ -1,24 +1,27 @@
 // The world, and what is read and changed there.
 
-ghost use Rattle.std.specs.Prelude.{◌≡◌, ◌<◌, ℕ, List, map, length, Some, IfOk, OnOk, OnErr, IfSome, IsTrue, [], ◌∷◌, ◌++◌, slice_get, string_bytes, option_map};
+ghost use Rattle.std.specs.Prelude.{◌≡◌, ◌^◌, ◌<◌, ℕ, List, map, length, Some, IfOk, OnOk, OnErr, IfSome, IsTrue, [], ◌∷◌, ◌++◌, slice_get, string_bytes, option_map};
 ghost use Rattle.py_node.specs.Tree.{tree_of};
 ghost use Rattle.py_node.specs.Replies.{started_of};
 ghost use Rattle.py_node.specs.Slots.{special_names};
 ghost use Rattle.plain_machine.specs.Start.{bare, start};
-ghost use Rattle.plain_machine.specs.World.{ref, push_node, with_node, next_node, has_dict, the_dict, at_rest, class_at, datum_at, number_of, text_keys, slot_at, candidates_at, variable, with_binding, with_scope, without_scope, with_own_attr, with_new_class, is_text};
-ghost use Rattle.plain_machine.specs.Objects.{with_definer};
+ghost use Rattle.plain_machine.specs.World.{ref, push_node, with_node, next_node, has_dict, at_rest, class_at, datum_at, number_of, text_keys, slot_at, candidates_at, variable, with_binding, with_scope, without_scope, with_own_attr, with_new_class, is_text};
+ghost use Rattle.plain_machine.specs.Known.{the_dict};
+ghost use Rattle.plain_machine.specs.Objects.{class_has_flag, with_definer};
 ghost use Rattle.plain_machine.specs.Sound.{holds_as, IsSound};
 ghost use Rattle.py_node.specs.declared.built_in.BuiltIn.{BuiltIn};
 ghost use Rattle.py_node.specs.declared.built_in.BuiltIn.TheVariants.{Dict, TypeType};
 ghost use Rattle.class_model.specs.Class.{found, found_past, own_of, is_sub, has_flag};
 ghost use Rattle.class_model.specs.Slot.{entry, slot as slot_read, candidates_of, is_heap_at};
 ghost use Rattle.class_model.specs.BuiltIn.{natives_of};
+ghost use Rattle.class_table.specs.Refused.{refusal, refused_attr};
 ghost use Rattle.class_table.specs.Turn.{list_of};
+ghost use Rattle.py_node.specs.BuiltIns.{heap_flags};
 ghost use Rattle.py_node.specs.BuiltIns.{place_of};
 ghost use Rattle.class_world.specs.Fixed.{number_of_fixed};
 ghost use Rattle.class_world.specs.Held.{Held};
 ghost use Rattle.class_world.specs.Reading.{Reading, Reads, form_tree, datum, bindings, plain, IsReadable};
-ghost use Rattle.class_world.specs.Sound.{IsNode, IsClass, IsOf, IsExpression, IsName, Holding, Holds, AllHold, Grows, home_of, of_option, of_dict_ref, of_payload, of_form, of_binding, of_each};
+ghost use Rattle.class_world.specs.Sound.{IsNode, IsClass, IsOf, CanBeBase, IsExpression, IsName, Holding, Holds, AllHold, Grows, home_of, of_option, of_dict_ref, of_payload, of_form, of_binding, of_each};
 
 use crate::attributes_of_built_ins::add_own_attrs;
 use crate::definer::define;
@@ -26,7 +29,7 @@ use crate::scope::Scope;
 use crate::start::{built_in_classes, special_names, start_nodes};
 use crate::variables::{bind_in, value_in};
 use class_table::candidates::Candidates;
-use class_table::stored::NewClass;
+use class_table::fault::ClassFault;
 use class_table::table::ClassTable;
 use py_node::attributes::PyAttributes;
 use py_node::built_in::BuiltIn;
@@ -508,6 +511,15 @@ impl World {
         self.classes.is_heap(class)
     }
 
+    /// Whether a class may have subclasses.
+    pub fn can_be_base(&self, class: PyTypeRef) -> bool
+        requires { Holds self.now (IsClass class.0) }
+        ensures flag { (t : Reading) → class_has_flag (plain t self.now) (2 ^ 10) (Some class.0) ≡ result }
+        ensures can { IsTrue result → Holds self.now (CanBeBase class.0) }
+    {
+        self.classes.flags(class).has_feature(PyTypeFlags::BASETYPE)
+    }
+
     /// Whether a class has a flag.
     pub fn class_flag(&self, class: PyTypeRef, flag: PyTypeFlags) -> bool
         requires { Holds self.now (IsClass class.0) }
@@ -525,8 +537,28 @@ impl World {
         self.classes.node(class)
     }
 
-    /// Gives a class's own attribute a value, whatever the class is.
+    /// Gives a class's own attribute a value. The class must be made by a script. Where it is refused or
+    /// memory runs out, the world stays as it was.
     pub fn set_class_attr(
+        &mut self,
+        class: PyTypeRef,
+        name: PyStrInterned,
+        value: PyObjectRef,
+    ) -> Result<(), ClassFault>
+        requires class { Holds self.old (IsClass class.0) }
+        requires name { Holds self.old (IsName name) }
+        requires value { Holds self.old (IsNode value) }
+        ensures refused { (t : Reading) → refusal result ≡ refused_attr (plain t self.old).classes class.0 }
+        ensures set { OnOk result ((t : Reading) → plain t self.new ≡ with_own_attr (plain t self.old) class.0 (t.text name.0) value) }
+        ensures err { OnErr result (self.new ≡ self.old) }
+        ensures reads { (t : Reading) → Reads t self.new → Reads t self.old }
+        ensures grows { Grows self.old self.new }
+    {
+        self.classes.set_attr(class, name, value)
+    }
+
+    /// Gives a class's own attribute a value, whatever the class is.
+    pub(crate) fn put_class_attr(
         &mut self,
         class: PyTypeRef,
         name: PyStrInterned,
@@ -549,16 +581,16 @@ impl World {
         &mut self,
         alloc: Global,
         class_of_class: PyTypeRef,
-        name: String,
+        name: &str,
         base: PyTypeRef,
         attrs: PyAttributes,
-        flags: PyTypeFlags,
     ) -> Result<(PyTypeRef, PyObjectRef), OutOfMemory>
         requires meta { Holds self.old (IsClass class_of_class.0) }
         requires meta_of { Holds self.old (IsOf class_of_class.0 TypeType) }
         requires base { Holds self.old (IsClass base.0) }
+        requires can_be { Holds self.old (CanBeBase base.0) }
         requires attrs { AllHold self.old (of_each of_binding attrs) }
-        ensures made { OnOk result ((t : Reading) → plain t self.new ≡ with_new_class (plain t self.old) class_of_class.0 (record { name = string_bytes name; node = ref (length (plain t self.old).nodes); bases = base.0 ∷ []; attrs = bindings t attrs; members = []; flags = flags.0 })) }
+        ensures made { OnOk result ((t : Reading) → plain t self.new ≡ with_new_class (plain t self.old) class_of_class.0 (record { name = name.now; node = ref (length (plain t self.old).nodes); bases = base.0 ∷ []; attrs = bindings t attrs; members = []; flags = heap_flags })) }
         ensures numbers { IfOk result (λ r. (t : Reading) → (r.0.0 ≡ length (plain t self.old).classes) × (r.1 ≡ ref (length (plain t self.old).nodes))) }
         ensures err { OnErr result (self.new ≡ self.old) }
         ensures reads { (t : Reading) → Reads t self.new → Reads t self.old }
@@ -569,21 +601,23 @@ impl World {
     {
         self.nodes.reserve(1)?;
         let node = PyObjectRef(self.nodes.len() as u64);
-        let new = NewClass {
-            name,
-            node,
-            base: Some(base),
-            attrs,
-            members: Vec::new(alloc),
-            flags,
-        };
-        let class = self.classes.add_class(alloc, new)?;
-        self.nodes.push_reserved(Node {
-            class: class_of_class,
-            dict: None,
-            payload: Payload::Class(class),
-        });
-        Ok((class, node))
+        let bases = vec![in alloc; base]?;
+        let members = Vec::new(alloc);
+        match self
+            .classes
+            .new_heap(alloc, node, name, bases, attrs, members)
+        {
+            // Of its base it is known that it can be one: nothing but memory can lack.
+            Err(_) => Err(OutOfMemory),
+            Ok(class) => {
+                self.nodes.push_reserved(Node {
+                    class: class_of_class,
+                    dict: None,
+                    payload: Payload::Class(class),
+                });
+                Ok((class, node))
+            }
+        }
     }
 
     /// The text of a name.

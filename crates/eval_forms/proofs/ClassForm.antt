@@ -8,32 +8,25 @@ use Rattle.py_node.specs.declared.task.Step.TheVariants.{Ask}
 use Rattle.py_node.specs.declared.task.Task.{Task}
 use Rattle.py_node.specs.declared.refs.PyObjectRef.{PyObjectRef}
 use Rattle.py_node.specs.declared.refs.PyStrInterned.{PyStrInterned}
-use Rattle.py_node.specs.Attributes.{with_value, is_same_name}
 use Rattle.plain_machine.specs.Plain.{PlainWorld, Bindings, AText, ATuple, DoCall, ToCall, Said, Asks}
 use Rattle.plain_machine.specs.Row.{Row, start, end}
 use Rattle.plain_machine.specs.World.{with_node, next_node}
 use Rattle.class_world.specs.Held.{Held}
 use Rattle.class_world.specs.Reading.{Reading, Reads, bindings, plain, task_of}
 use Rattle.class_world.specs.declared.world.World.{World}
-use Rattle.class_world.specs.Sound.{Grows, Holds, AllHold, IsName, AreNames, IsNode, AreNodes, of_each, of_binding, of_option, of_node_ref}
-use Rattle.class_world.proofs.Bound.{with_value-read, with_value-holds}
+use Rattle.class_world.specs.Sound.{Grows, Holds, AllHold, IsName, IsNode, AreNodes, of_each, of_binding, of_option, of_node_ref}
 use Rattle.class_world.proofs.Claims.{each-get, no-nodes, more-nodes, node-in}
 use Rattle.class_world.proofs.Stored.{map-push}
-use Rattle.eval_forms.specs.Say.{Pairs, merged, keyed, metaclass, with_dict, call_with, class_by, eval_say, the_str, the_tuple}
+use Rattle.eval_forms.specs.Say.{Pairs, keyed, metaclass, with_dict, call_with, class_by, eval_say}
+use Rattle.plain_machine.specs.Known.{the_str, the_tuple}
 use Rattle.eval_forms.specs.declared.EvalKept.{EvalKept}
 use Rattle.eval_forms.specs.declared.EvalKept.TheVariants.{Pass}
 use Rattle.eval_forms.specs.Rows.{TakesAt, Takes}
-use Rattle.eval_forms.specs.ClassForm.{merged_names, ArePairs}
+use Rattle.eval_forms.specs.ClassForm.{ArePairs}
 
 pub drop-all : {A : Type 0} (xs : List A) → drop (length xs) xs ≡ []
 drop-all [] = refl
 drop-all (x ∷ xs) = drop-all xs
-
--- the names are read as texts
-pub merged-read : (t : Reading) (named : List (PyStrInterned × PyObjectRef)) (xs : List PyStrInterned) (vs : List PyObjectRef) → bindings t (merged_names named xs vs) ≡ merged (bindings t named) (map (λ x. t.text x.0) xs) vs
-merged-read t named [] vs = refl
-merged-read t named (x ∷ xs) [] = refl
-merged-read t named (x ∷ xs) (v ∷ vs) = merged-read t (with_value is_same_name named x v) xs vs ∙ ap (λ bs. merged bs (map (λ x. t.text x.0) xs) vs) (with_value-read t named x v)
 
 -- what is said of the entry at a place
 pub entry-holds : (w : Held) (es : List (PyStrInterned × PyObjectRef)) (i : ℕ) (e : PyStrInterned × PyObjectRef) → AllHold w (of_each of_binding es) → slice_get es i ≡ Some e → Holds w (IsName e.0) × Holds w (IsNode e.1)
@@ -90,20 +83,6 @@ module _ (w : Held) where
   drop-nodes zero rs h = h
   drop-nodes (suc n) [] h = h
   drop-nodes (suc n) (r ∷ rs) h = drop-nodes n rs (tail-nodes r rs h)
-
-  first-name : (x : PyStrInterned) (xs : List PyStrInterned) → Holds w (AreNames (x ∷ xs)) → Holds w (IsName x)
-  unfolding Holds
-  first-name x xs h = h 0 x (omega arith)
-
-  tail-names : (x : PyStrInterned) (xs : List PyStrInterned) → Holds w (AreNames (x ∷ xs)) → Holds w (AreNames xs)
-  unfolding Holds
-  tail-names x xs h i d l = h (suc i) d (omega arith)
-
-  pub merged-holds : (named : List (PyStrInterned × PyObjectRef)) (xs : List PyStrInterned) (vs : List PyObjectRef) → AllHold w (of_each of_binding named) → Holds w (AreNames xs) → Holds w (AreNodes vs) → AllHold w (of_each of_binding (merged_names named xs vs))
-  merged-holds named [] vs h n k = h
-  merged-holds named (x ∷ xs) [] h n k = h
-  merged-holds named (x ∷ xs) (v ∷ vs) h n k =
-      merged-holds (with_value is_same_name named x v) xs vs (with_value-holds w named x v h (first-name x xs n) (node-in w (v ∷ vs) 0 v k refl)) (tail-names x xs n) (tail-nodes v vs k)
 
   pub first-holds : (rs : List PyObjectRef) → Holds w (AreNodes rs) → AllHold w (of_option of_node_ref (slice_get rs 0))
   first-holds [] h = tt

@@ -9,14 +9,16 @@ use Rattle.py_node.specs.Attributes.{is_same_name, AreNamesDistinct}
 use Rattle.std.specs.Map.{keys_of}
 use Rattle.py_node.specs.Tree.{Text}
 use Rattle.plain_machine.specs.Plain.{Datum, AText, ADict, Node, PlainWorld}
-use Rattle.plain_machine.specs.World.{ref, is_text, datum_at, has_dict, the_dict, push_node, with_node, next_node}
+use Rattle.plain_machine.specs.World.{ref, is_text, datum_at, has_dict, push_node, with_node, next_node}
+use Rattle.plain_machine.specs.Known.{the_dict}
 use Rattle.plain_machine.specs.Sound.{TextKey, key_of, key_at}
 use Rattle.class_world.specs.Held.{Held}
 use Rattle.class_world.specs.Reading.{Reading, plain}
 use Rattle.class_world.specs.Sound.{KeysDiffer, Holds}
 use Rattle.class_world.proofs.Claims.{get-end}
 use Rattle.class_world.proofs.SoundWorld.{keys-stored}
-use Rattle.eval_forms.specs.Say.{Pairs, the_str}
+use Rattle.eval_forms.specs.Say.{Pairs}
+use Rattle.plain_machine.specs.Known.{the_str}
 use Rattle.eval_forms.specs.ClassForm.{AreSpelled}
 
 abbrev held : Option Node → Option Datum

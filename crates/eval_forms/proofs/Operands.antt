@@ -30,7 +30,8 @@ use Rattle.py_node.specs.declared.expr.Word.TheVariants as word
 use Rattle.eval_forms.specs.declared.Own.{Own}
 use Rattle.eval_forms.specs.declared.Own.TheVariants as own
 use Rattle.py_node.specs.declared.expr.Word.{Word}
-use Rattle.eval_forms.specs.Say.{operand_trees, own_say, one_of, func_say, set_attr_say, call_say, op_say, add_of, class_say, entry_names, two_of, eval_say}
+use Rattle.eval_forms.specs.Say.{operand_trees, own_say, one_of, func_say, set_attr_say, call_say, op_say, add_of, class_say, entry_names, eval_say}
+use Rattle.plain_machine.specs.Args.{two_of}
 use Rattle.eval_forms.specs.Rows.{answered, eval_stands, Continues, Closes, TakesAt, Takes, StepsAt, EndsSo, HasValues, IsOwn}
 
 list_of-trees_of : (ts : List Tree) → list_of (trees_of ts) ≡ ts
@@ -331,18 +332,6 @@ set-name w x (form.SetAttr a y b) o h = subst (λ z. Holds w (IsName z)) (sym o)
 set-name w x (form.Call g es) o h = absurd o
 set-name w x (form.Op word es) o h = absurd o
 set-name w x (form.Class y bs es) o h = absurd o
-
-abbrev pair_or : PyObjectRef → Option (PyObjectRef × PyObjectRef) → PyObjectRef × PyObjectRef
-pair_or r None = (r, r)
-pair_or r (Some p) = p
-
--- two operands are objects where all are
-pub two-hold : (w : Held) (vs : List PyObjectRef) (a b : PyObjectRef) → Holds w (AreNodes vs) → two_of vs ≡ Some (a, b) → Holds w (IsNode a) × Holds w (IsNode b)
-two-hold w [] a b h e = cc
-two-hold w (v ∷ []) a b h e = cc
-two-hold w (v ∷ (u ∷ [])) a b h e =
-    (subst (λ r. Holds w (IsNode r)) (ap (λ o. (pair_or a o).0) e) (node-in w (v ∷ (u ∷ [])) 0 v h refl), subst (λ r. Holds w (IsNode r)) (ap (λ o. (pair_or a o).1) e) (node-in w (v ∷ (u ∷ [])) 1 u h refl))
-two-hold w (v ∷ (u ∷ (x ∷ vs))) a b h e = cc
 
 -- the one word of this stage
 pub own-sum : (f : Form) (o : Own) (v : Word) → o ≡ own.Op v → IsOwn o f → IsOwn (own.Op word.Add) f

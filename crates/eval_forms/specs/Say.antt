@@ -7,26 +7,11 @@ use Rattle.py_node.specs.declared.expr.Word.{Word}
 use Rattle.py_node.specs.declared.expr.Word.TheVariants as word
 use Rattle.py_node.specs.Tree.{Text, Tree, TConst, TName, TBind, TFunc, TSetAttr, TCall, TOp, TClass, Entries, no_entries, entry, Literal, LNone, LFalse, LTrue, LInt, LText, list_of, entry_trees}
 use Rattle.plain_machine.specs.Plain.{ANumber, AText, ATuple, ADict, AFunction, PlainWorld, Bindings, EvalJob, DoEval, DoAdd, DoSetAttr, DoCall, ToAttribute, ToCall, ToOperator, Said}
-use Rattle.plain_machine.specs.World.{ref, is_text, the_dict, variable, or_else_var, with_binding, with_node, next_node}
+use Rattle.plain_machine.specs.World.{ref, variable, or_else_var, with_binding, with_node, next_node}
+use Rattle.plain_machine.specs.Args.{two_of, filled}
+use Rattle.plain_machine.specs.Known.{the_type, the_int, the_str, the_tuple, the_dict, the_function}
 use Rattle.plain_machine.specs.Objects.{class_object, type_object}
 use Rattle.plain_machine.specs.Row.{Row, start, ask, pass, end, value, none, fault, on_done, make, evaluate}
-use Rattle.py_node.specs.Attributes.{with_value}
-
--- the classes of classes, of ints, of texts, of tuples and of functions
-abbrev pub the_type : ℕ
-the_type = 1
-
-abbrev pub the_int : ℕ
-the_int = 4
-
-abbrev pub the_str : ℕ
-the_str = 6
-
-abbrev pub the_tuple : ℕ
-the_tuple = 7
-
-abbrev pub the_function : ℕ
-the_function = 10
 
 -- a constant is a fixed object, or a new one
 abbrev pub const_say : PlainWorld → Literal → Row
@@ -78,13 +63,7 @@ bind_say w x (Some v) = end (with_binding w x v) (value v)
 abbrev pub func_say : PlainWorld → Text → List Text → Tree → Row
 func_say w x ps e = make w the_function (AFunction x ps false e None)
 
--- the operands of an operation with two
-abbrev pub two_of : List PyObjectRef → Option (PyObjectRef × PyObjectRef)
-two_of [] = None
-two_of (a ∷ []) = None
-two_of (a ∷ (b ∷ [])) = Some (a, b)
-two_of (a ∷ (b ∷ (c ∷ more))) = None
-
+-- a sum of two operands
 abbrev pub add_of : PlainWorld → Option (PyObjectRef × PyObjectRef) → Row
 add_of w None = end w (fault TypeError ArgCount)
 add_of w (Some p) = ask w (ToOperator (DoAdd p.0 p.1)) (end w)
@@ -104,12 +83,6 @@ call_say w [] = end w (fault TypeError ArgCount)
 call_say w (f ∷ args) = start (pass w (ToCall (DoCall f args []))) (end w)
 
 -- a class: its name is a new text, its bases are a new tuple, its entries are a new dict, with a new text for each name, and the class of the first base, or `type`, is called with these
-
--- names with their values, of which the last one counts
-abbrev pub merged : Bindings → List Text → List PyObjectRef → Bindings
-merged attrs [] vs = attrs
-merged attrs (x ∷ xs) [] = attrs
-merged attrs (x ∷ xs) (v ∷ vs) = merged (with_value is_text attrs x v) xs vs
 
 abbrev pub Pairs : Type 0
 Pairs = List (PyObjectRef × PyObjectRef)
@@ -136,7 +109,7 @@ class_by w x bases entries =
     call_with (metaclass w (slice_get bases 0)) (next_node w the_str) (next_node named the_tuple) (with_dict (keyed (with_node named the_tuple (ATuple bases)) [] entries))
 
 abbrev pub class_say : PlainWorld → Text → ℕ → List Text → List PyObjectRef → Row
-class_say w x bases names vs = start (class_by w x (take bases vs) (merged [] names (drop bases vs))) (end w)
+class_say w x bases names vs = start (class_by w x (take bases vs) (filled [] names (drop bases vs))) (end w)
 
 abbrev pub entry_names : Entries → List Text
 entry_names no_entries = []

@@ -8,12 +8,13 @@ ghost use Rattle.class_world.specs.Sound.{AllHold, Grows, Holds, IsName, IsNode,
 ghost use Rattle.class_world.specs.Claims.{Leaves};
 ghost use Rattle.class_world.specs.Reading.{Reading, Reads, bindings, plain};
 ghost use Rattle.py_node.specs.Attributes.{is_same_name};
-ghost use Rattle.eval_forms.specs.Say.{class_by, class_say, keyed, metaclass, with_dict, the_str, the_tuple};
-ghost use Rattle.eval_forms.specs.ClassForm.{merged_names, ArePairs};
+ghost use Rattle.eval_forms.specs.Say.{class_by, class_say, keyed, metaclass, with_dict};
+ghost use Rattle.plain_machine.specs.Known.{the_str, the_tuple};
+ghost use Rattle.eval_forms.specs.ClassForm.{ArePairs};
 ghost use Rattle.eval_forms.specs.Rows.{Takes, of_eval_kept};
 
 use crate::EvalKept;
-use class_world::args::copy_args;
+use class_world::args::{copy_args, filled};
 use class_world::world::World;
 use py_node::attributes::PyAttributes;
 use py_node::built_in::BuiltIn;
@@ -40,7 +41,7 @@ pub(crate) fn class_step(
     ensures safe { Leaves of_eval_kept world.old world.new result }
 {
     let (bases, values) = values.split_at(bases);
-    let entries = merge(alloc, names, values)?;
+    let entries = filled(alloc, names, values)?;
     call_metaclass(world, alloc, name, bases, &entries)
 }
 
@@ -145,22 +146,6 @@ fn new_text(
     let text = world.spelling(alloc, name)?;
     let class = world.built_in(BuiltIn::Str);
     world.make_node(alloc, class, Payload::Text(text))
-}
-
-// The names with their values, of which the last one counts.
-fn merge(
-    alloc: Global,
-    names: &[PyStrInterned],
-    values: &[PyObjectRef],
-) -> Result<PyAttributes, OutOfMemory>
-    requires { length names.now ≡ length values.now }
-    ensures { IfOk result (λ a. a ≡ merged_names [] names.now values.now) }
-{
-    let mut merged = PyAttributes::new(alloc);
-    for i in 0..names.len() {
-        merged.insert(names[i], values[i])?;
-    }
-    Ok(merged)
 }
 
 // New texts for names, with their values.

@@ -5,7 +5,8 @@ ghost use Rattle.std.specs.Prelude.{◌≡◌, ◌≤◌, ◌++◌, [], ◌∷�
 ghost use Rattle.class_world.specs.Sound.{AllHold, Holds, IsExpression, IsName, IsNode, AreNodes, HasOperand, of_form, of_node_ref, of_option, operands, operands_at};
 ghost use Rattle.class_world.specs.Claims.{of_eval_task, of_ended, of_step, Leaves};
 ghost use Rattle.class_world.specs.Reading.{Reading, Reads};
-ghost use Rattle.eval_forms.specs.Say.{built_in_named, name_say, one_of, bind_say, func_say, set_attr_say, call_say, add_of, two_of};
+ghost use Rattle.eval_forms.specs.Say.{built_in_named, name_say, one_of, bind_say, func_say, set_attr_say, call_say, add_of};
+ghost use Rattle.plain_machine.specs.Args.{two_of};
 ghost use Rattle.py_node.specs.Tree.{TConst, literal_of};
 ghost use Rattle.eval_forms.specs.Rows.{Begins, Resumes, Continues, ContinuesTree, Closes, Takes, IsOwn, HasValues, of_eval_kept};
 
@@ -14,7 +15,7 @@ mod class_form;
 mod tests;
 
 use class_form::class_step;
-use class_world::args::copy_args;
+use class_world::args::{copy_args, two_of};
 use class_world::world::{Fixed, World};
 use py_node::built_in::BuiltIn;
 use py_node::expr::{Constant, Word};
@@ -469,14 +470,4 @@ fn missing_operand() -> Step<EvalKept>
         kind: Kind::TypeError,
         cause: Cause::ArgCount,
     }))
-}
-
-// The operands of an operation with two.
-fn two_of(values: &[PyObjectRef]) -> Option<(PyObjectRef, PyObjectRef)>
-    ensures { result ≡ two_of values.now }
-{
-    match values {
-        [a, b] => Some((*a, *b)),
-        _ => None,
-    }
 }

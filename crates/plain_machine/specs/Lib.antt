@@ -1,5 +1,7 @@
+pub mod Known
 pub mod Plain
 pub mod World
+pub mod Args
 pub mod Show
 pub mod ClassText
 pub mod Row
@@ -8,5 +10,6 @@ pub mod Rows
 pub mod BuiltInAttrs
 pub mod Start
 pub mod Objects
+pub mod Change
 pub mod Native
 pub mod Sound

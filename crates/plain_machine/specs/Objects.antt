@@ -1,5 +1,5 @@
 -- What rows read of objects and classes.
-use Rattle.std.specs.Prelude.{ℕ, zero, suc, ◌^◌, Bool, true, false, ◌&&◌, ◌==◌, nat_lt, List, [], ◌∷◌, Option, Some, None, slice_get, option_map, option_and_then}
+use Rattle.std.specs.Prelude.{ℕ, ◌^◌, Bool, true, false, ◌&&◌, ◌==◌, nat_lt, List, [], ◌∷◌, Option, Some, None, slice_get, option_map, option_and_then}
 use Rattle.std.specs.Int.RustNames.{bit_and}
 use Rattle.py_node.specs.declared.refs.PyObjectRef.{PyObjectRef}
 use Rattle.py_node.specs.Tree.{Text}
@@ -7,7 +7,7 @@ use Rattle.class_model.specs.Class.{Classes, found, is_sub, has_flag, lin}
 use Rattle.class_model.specs.Layout.{built_ins}
 use Rattle.class_model.specs.Slot.{first_with}
 use Rattle.plain_machine.specs.Plain.{Datum, AClass, AFunction, AClassMethod, AMethodDescriptor, Node, PlainWorld}
-use Rattle.plain_machine.specs.World.{ref, datum_at, class_at, is_text}
+use Rattle.plain_machine.specs.World.{ref, datum_at, class_at, is_text, with_node_changed}
 
 -- the object that stands for a class
 abbrev pub class_object : PlainWorld → ℕ → PyObjectRef
@@ -73,9 +73,7 @@ nearest_built_in t c = option_and_then (first_with (λ d. nat_lt d built_ins)) (
 -- other contents of a node
 
 abbrev pub with_datum_in : (Datum → Datum) → List Node → ℕ → List Node
-with_datum_in f [] n = []
-with_datum_in f (m ∷ ms) zero = record m { datum = f m.datum } ∷ ms
-with_datum_in f (m ∷ ms) (suc n) = m ∷ with_datum_in f ms n
+with_datum_in f ns n = with_node_changed (λ m. record m { datum = f m.datum }) ns n
 
 abbrev pub or_class : Option ℕ → ℕ → Option ℕ
 or_class None c = Some c

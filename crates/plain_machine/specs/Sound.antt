@@ -6,7 +6,7 @@ use Rattle.py_node.specs.declared.built_in.BuiltIn.{BuiltIn}
 use Rattle.py_node.specs.declared.built_in.BuiltIn.TheVariants as built_in
 use Rattle.py_node.specs.BuiltIns.{all_built_ins}
 use Rattle.py_node.specs.Tree.{Text}
-use Rattle.class_model.specs.Class.{Classes}
+use Rattle.class_model.specs.Class.{Class, Classes}
 use Rattle.class_model.specs.Layout.{is_place}
 use Rattle.class_model.specs.Sound.{AreSound}
 use Rattle.plain_machine.specs.Plain.{Datum, AnObject, AClass, ANumber, AText, ATuple, ADict, AFunction, AMethod, ANativeFunction, ABuiltinMethod, AMethodDescriptor, AGetSet, AClassMethod, Node, Bindings, PlainWorld}
@@ -121,7 +121,8 @@ pub record IsSoundNode (w : PlainWorld) (n : Node) : Type 0 where
 pub record IsSound (w : PlainWorld) : Type 0 where
   pub classes : AreSound w.classes
   pub nodes : (i : ℕ) (n : Node) → slice_get w.nodes i ≡ Some n → IsSoundNode w n
-  pub class_nodes : All (λ k. k.node.0 < length w.nodes) w.classes
+  -- the object that stands for a class holds that very class
+  pub standing : (c : ℕ) (k : Class Text) → slice_get w.classes c ≡ Some k → datum_at w k.node ≡ Some (AClass c)
   pub attrs : All (λ k. All (λ a. a.1.0 < length w.nodes) k.attrs) w.classes
   pub vars : AreBound w w.vars
   pub scopes : All (λ s. AreBound w s.vars) w.scopes

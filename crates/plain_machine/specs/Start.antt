@@ -6,12 +6,10 @@ use Rattle.py_node.specs.declared.entry.NativeEntry.TheVariants.{Getter, Setter,
 use Rattle.py_node.specs.BuiltIns.{place_of, name_of, base_of, flags_of, all_built_ins}
 use Rattle.py_node.specs.Tree.{Text}
 use Rattle.class_model.specs.Class.{Class}
+use Rattle.plain_machine.specs.Known.{the_type}
 use Rattle.plain_machine.specs.Plain.{Datum, AnObject, AClass, ANumber, ANativeFunction, AMethodDescriptor, AGetSet, Node, PlainWorld}
 use Rattle.plain_machine.specs.World.{ref, with_node, next_node, with_own_attr}
 use Rattle.plain_machine.specs.BuiltInAttrs.{Attr, New, Method, ClassMethod, ReadOnly, Settable, BuiltInAttr, built_in_attrs}
-
-abbrev pub the_type : ℕ
-the_type = 1
 
 abbrev pub bases_from : Option ℕ → List ℕ
 bases_from None = []

@@ -1,5 +1,5 @@
 -- How the plain world is read and changed.
-use Rattle.std.specs.Prelude.{ℕ, ℤ, ◌+◌, ◌-◌, ◌^◌, Bool, false, eqb, cond, List, [], ◌∷◌, ◌++◌, Option, Some, None, length, take, slice_get, option_map, option_and_then}
+use Rattle.std.specs.Prelude.{ℕ, zero, suc, ℤ, ◌+◌, ◌-◌, ◌^◌, Bool, false, eqb, cond, List, [], ◌∷◌, ◌++◌, Option, Some, None, length, take, slice_get, option_map, option_and_then}
 use Rattle.std.specs.Cmp.Lexicographic.{pointwise}
 use Rattle.py_node.specs.declared.refs.PyObjectRef.{PyObjectRef}
 use Rattle.py_node.specs.declared.entry.SlotId.{SlotId}
@@ -12,6 +12,7 @@ use Rattle.class_model.specs.Class.{Class, has_flag}
 use Rattle.class_model.specs.Change.{with_class, with_class_attr}
 use Rattle.class_model.specs.Slot.{Keys, slot, candidates_of}
 use Rattle.class_model.specs.BuiltIn.{natives_of}
+use Rattle.plain_machine.specs.Known.{the_dict}
 use Rattle.plain_machine.specs.Plain.{Datum, AClass, ADict, ANumber, Node, Bindings, Scope, PlainWorld}
 
 -- whether two texts are one
@@ -64,10 +65,6 @@ flag_in (Some k) = has_flag (2 ^ 40) k
 abbrev pub has_dict : PlainWorld → ℕ → Bool
 has_dict w c = flag_in (slice_get w.classes c)
 
--- the class of dicts
-abbrev pub the_dict : ℕ
-the_dict = 9
-
 abbrev pub push_node : PlainWorld → ℕ → Option PyObjectRef → Datum → PlainWorld
 push_node w c dict d = record w { nodes = w.nodes ++ record { class = c; dict = dict; members = []; datum = d } ∷ [] }
 
@@ -79,6 +76,12 @@ with_node w c d =
 -- the number that the new node gets
 abbrev pub next_node : PlainWorld → ℕ → PyObjectRef
 next_node w c = ref (cond (has_dict w c) (length w.nodes + 1) (length w.nodes))
+
+-- one node changed
+abbrev pub with_node_changed : (Node → Node) → List Node → ℕ → List Node
+with_node_changed f [] n = []
+with_node_changed f (m ∷ ms) zero = f m ∷ ms
+with_node_changed f (m ∷ ms) (suc n) = m ∷ with_node_changed f ms n
 
 -- a variable of the running body, or else of the machine, is bound
 abbrev pub bound : List Scope → Bindings → Text → PyObjectRef → Bindings

@@ -18,19 +18,8 @@ use Rattle.class_model.specs.Slot.{is_heap_at}
 use Rattle.plain_machine.specs.Plain.{Datum, AText, AMethod, ABuiltinMethod, AMethodDescriptor, PlainWorld, Bindings, AttributeJob, DoSetAttr, DoTypeSet, DoSpecial, DoBind, DoDescrGet, DoCall, ToAttribute, ToCall, ToLater, Ended, Chose, Said, Asks, Ends}
 use Rattle.plain_machine.specs.World.{datum_at, slot_at, with_node, next_node, with_own_attr}
 use Rattle.plain_machine.specs.Objects.{class_object, type_object, class_number, special_at, is_fast, for_objects, for_classes}
+use Rattle.plain_machine.specs.Known.{the_none_type, the_str, the_method, the_builtin_method}
 use Rattle.plain_machine.specs.Row.{Row, start, fork, pass, end, value, fault, none, on_value}
-
-abbrev pub the_none_type : ℕ
-the_none_type = 2
-
-abbrev pub the_str : ℕ
-the_str = 6
-
-abbrev pub the_method : ℕ
-the_method = 11
-
-abbrev pub the_builtin_method : ℕ
-the_builtin_method = 13
 
 -- an object's attribute is set as its class's entry for that says: as objects do, as classes do, or by a special method, which is given the name as a new text
 abbrev pub set_in_class : PlainWorld → Option ℕ → Text → PyObjectRef → Said

@@ -1,7 +1,8 @@
 // How attributes are set.
 #![tactic(auto, unfolding(crate::specs::Say::attribute_say, py_node::specs::BuiltIns::place_of))]
 
-ghost use Rattle.std.specs.Prelude.{◌≡◌, Some, IfOk};
+ghost use Rattle.std.specs.Prelude.{◌≡◌, Some, IfOk, slice_get};
+ghost use Rattle.class_model.specs.Slot.{is_heap_at};
 ghost use Rattle.class_world.specs.Sound.{AllHold, Holds, IsClass, IsNode, of_option, of_node_ref, of_class_ref};
 ghost use Rattle.class_world.specs.Claims.{of_attribute_task, of_step, Leaves};
 ghost use Rattle.class_world.specs.Reading.{Reading, Reads, plain, spelled};
@@ -12,12 +13,13 @@ ghost use Rattle.proto_attr.specs.Rows.{Begins, Starts, number, of_attribute_kep
 
 use crate::AttributeKept;
 use crate::special::both;
+use class_table::fault::ClassFault;
 use class_world::world::World;
 use py_node::built_in::BuiltIn;
 use py_node::entry::{NativeEntry, ObjectNative, SlotEntry, SlotId, TypeNative};
 use py_node::memory::OutOfMemory;
 use py_node::payload::Payload;
-use py_node::raised::{Cause, Kind, Raised};
+use py_node::raised::{Kind, Raised};
 use py_node::refs::{PyObjectRef, PyStrInterned, PyTypeRef};
 use py_node::task::{Answer, AttributeTask, LaterTask, Step, Task};
 use std::alloc::Global;
@@ -141,8 +143,7 @@ pub(crate) fn type_set(
     ensures safe { Leaves of_attribute_kept world.old world.new result }
 {
     let by_descriptor = has_setter(world, class, name);
-    let heap = world.class_is_heap(class);
-    type_set_by(world, by_descriptor, heap, class, name, value)
+    type_set_by(world, by_descriptor, class, name, value)
 }
 
 // Whether the value that a class's metaclass has under a name sets attributes.
@@ -170,24 +171,23 @@ fn sets(world: &World, found: Option<PyObjectRef>) -> bool
 fn type_set_by(
     world: &mut World,
     by_descriptor: bool,
-    heap: bool,
     class: PyTypeRef,
     name: PyStrInterned,
     value: PyObjectRef,
 ) -> Result<Step<AttributeKept>, OutOfMemory>
     requires { AllHold world.old (of_attribute_task (attribute.TypeSet class name value)) }
-    ensures goes { IfOk result (λ step. Starts (attribute.TypeSet class name value) (λ t w. type_set_by w by_descriptor heap class.0 (spelled t name) value) world.old world.new step) }
+    ensures goes { IfOk result (λ step. Starts (attribute.TypeSet class name value) (λ t w. type_set_by w by_descriptor (is_heap_at (slice_get w.classes class.0)) class.0 (spelled t name) value) world.old world.new step) }
     ensures safe { Leaves of_attribute_kept world.old world.new result }
 {
     if by_descriptor {
         return Ok(later(LaterTask::DescrSet));
     }
-    if !heap {
-        return Ok(Step::End(Err(Raised {
+    match world.set_class_attr(class, name, value) {
+        Ok(()) => Ok(Step::End(Ok(Answer::Done))),
+        Err(ClassFault::Refused(cause)) => Ok(Step::End(Err(Raised {
             kind: Kind::TypeError,
-            cause: Cause::ImmutableType,
-        })));
+            cause,
+        }))),
+        Err(ClassFault::OutOfMemory) => Err(OutOfMemory),
     }
-    world.set_class_attr(class, name, value)?;
-    Ok(Step::End(Ok(Answer::Done)))
 }

@@ -12,7 +12,6 @@ use class_world::world::{Fixed, World};
 use py_node::attributes::PyAttributes;
 use py_node::built_in::BuiltIn;
 use py_node::entry::{NativeEntry, ObjectNative};
-use py_node::flags::PyTypeFlags;
 use py_node::memory::OutOfMemory;
 use py_node::payload::{MethodDescriptor, Payload};
 use py_node::raised::{Cause, Raised};
@@ -131,10 +130,11 @@ fn script_class(world: &mut World, alloc: Global) -> Result<PyTypeRef, OutOfMemo
 {
     let meta = world.built_in(BuiltIn::TypeType);
     let base = world.built_in(BuiltIn::Object);
-    let name = String::from_str(alloc, "A")?;
+    if !world.can_be_base(base) {
+        return Err(OutOfMemory);
+    }
     let attrs = PyAttributes::new(alloc);
-    let flags = PyTypeFlags::heap_type_flags();
-    let (class, _) = world.make_class(alloc, meta, name, base, attrs, flags)?;
+    let (class, _) = world.make_class(alloc, meta, "A", base, attrs)?;
     Ok(class)
 }
 
@@ -145,7 +145,10 @@ fn give(world: &mut World, alloc: Global, class: PyTypeRef, text: &str) -> Resul
 {
     let name = world.intern(alloc, text)?;
     let none = world.fixed(Fixed::None);
-    world.set_class_attr(class, name, none)
+    match world.set_class_attr(class, name, none) {
+        Ok(()) => Ok(()),
+        Err(_) => Err(OutOfMemory),
+    }
 }
 
 // An object of a script's class that has None under a name.

@@ -21,7 +21,9 @@ use Rattle.class_world.specs.Rows.{Steps}
 use Rattle.class_world.specs.Sound.{IsNode, Holds, AllHold, of_option, of_node_ref}
 use Rattle.class_world.proofs.Bound.{value-read}
 use Rattle.proto_call.specs.declared.CallKept.{CallKept}
-use Rattle.proto_call.specs.Say.{call_job_say, the_tuple, is_empty, but_last, last_of, filled, left_over, single, with_keywords, all_filled, when_filled, by_keywords, by_place, body_by, value_text, shown}
+use Rattle.proto_call.specs.Say.{call_job_say, is_empty, but_last, last_of, left_over, single, with_keywords, all_filled, when_filled, by_keywords, by_place, body_by, value_text, shown}
+use Rattle.plain_machine.specs.Known.{the_tuple}
+use Rattle.plain_machine.specs.Args.{filled}
 use Rattle.proto_call.specs.Rows.{call_stands, Begins}
 use Rattle.proto_call.specs.Bodies.{Enters, RunsAs, datum_of, opened_of, by_keywords_of, by_place_of}
 

@@ -12,7 +12,7 @@ use Rattle.class_world.specs.Held.{Held}
 use Rattle.class_world.specs.Reading.{Reading, spelled, bindings}
 use Rattle.class_world.specs.Sound.{IsName, AreNames, IsNode, AreNodes, Holds, AllHold, of_binding, of_each}
 use Rattle.class_world.proofs.Bound.{value-read, with_value-read}
-use Rattle.proto_call.specs.Say.{but_last, filled, left_over, is_member, value_at, with_keywords, all_filled}
+use Rattle.proto_call.specs.Say.{but_last, left_over, is_member, value_at, with_keywords, all_filled}
 
 abbrev Names : Type 0
 Names = List PyStrInterned
@@ -50,39 +50,11 @@ same-at [] n d e l = absurd (omega arith)
 same-at (x ∷ xs) zero d e l = refl
 same-at (x ∷ xs) (suc n) d e l = same-at xs n d e (omega arith)
 
--- one name of a list, and one node
-pub name-at : (w : Held) (xs : Names) (n : ℕ) (x : PyStrInterned) → Holds w (AreNames xs) → n < length xs → x ≡ get_or xs n x → Holds w (IsName x)
-unfolding Holds
-name-at w xs n x h l e = subst (λ y. y.0 < length w.names) (sym e) (h n x l)
-
-pub node-at : (w : Held) (rs : List PyObjectRef) (n : ℕ) (r : PyObjectRef) → Holds w (AreNodes rs) → n < length rs → r ≡ get_or rs n r → Holds w (IsNode r)
-unfolding Holds
-node-at w rs n r h l e = subst (λ y. y.0 < length w.nodes) (sym e) (h n r l)
-
 none-not : {A : Type 0} (o : Option A) → is_none o ≡ not (is_some o)
 none-not None = refl
 none-not (Some x) = refl
 
 module _ (t : Reading) where
-  -- one more argument fills its parameter
-  pub filled-step : (vars : Bound) (xs : Names) (args : List PyObjectRef) (n : ℕ) (x : PyStrInterned) (v : PyObjectRef) → n < length xs → n < length args → x ≡ get_or xs n x → v ≡ get_or args n v → filled (bindings t (with_value is_same_name vars x v)) (map (spelled t) (drop (suc n) xs)) (drop (suc n) args) ≡ filled (bindings t vars) (map (spelled t) (drop n xs)) (drop n args)
-  filled-step vars [] args n x v l m e f = absurd (omega arith)
-  filled-step vars (y ∷ xs) [] n x v l m e f = absurd (omega arith)
-  filled-step vars (y ∷ xs) (u ∷ args) zero x v l m e f =
-      ap (λ vs. filled vs (map (spelled t) xs) args) (with_value-read t vars x v)
-      ∙ ap (λ (k : PyStrInterned). filled (with_value is_text (bindings t vars) (spelled t k) v) (map (spelled t) xs) args) e
-      ∙ ap (λ (r : PyObjectRef). filled (with_value is_text (bindings t vars) (spelled t y) r) (map (spelled t) xs) args) f
-  filled-step vars (y ∷ xs) (u ∷ args) (suc n) x v l m e f = filled-step vars xs args n x v (omega arith) (omega arith) e f
-
-  -- no parameter is left, or no argument
-  pub filled-end : (vars : Bindings) (xs : Names) (args : List PyObjectRef) (n : ℕ) → n ≡ min (length xs) (length args) → filled vars (map (spelled t) (drop n xs)) (drop n args) ≡ vars
-  filled-end vars [] args zero e = refl
-  filled-end vars [] args (suc n) e = absurd (omega arith)
-  filled-end vars (x ∷ xs) [] zero e = refl
-  filled-end vars (x ∷ xs) [] (suc n) e = absurd (omega arith)
-  filled-end vars (x ∷ xs) (v ∷ args) zero e = absurd (omega arith)
-  filled-end vars (x ∷ xs) (v ∷ args) (suc n) e = filled-end vars xs args n (omega arith)
-
   pub is_member-read : (xs : Names) (x : PyStrInterned) → is_member (map (spelled t) xs) (spelled t x) ≡ list_any (λ y. is_same_name y x) xs
   is_member-read [] x = refl
   is_member-read (y ∷ xs) x =

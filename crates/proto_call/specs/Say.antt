@@ -23,18 +23,11 @@ use Rattle.class_model.specs.BuiltIn.{natives_of}
 use Rattle.plain_machine.specs.Plain.{Datum, AnObject, AClass, AFunction, AMethod, ANativeFunction, ABuiltinMethod, AMethodDescriptor, ATuple, PlainWorld, Bindings, DoEval, CallJob, DoCall, DoBody, DoTypeCall, DoNew, DoInit, DoObject, DoSpecial, PlainTask, ToEval, ToAttribute, ToCall, ToLater, Ended, Chose, Said, Asks, Ends}
 use Rattle.plain_machine.specs.World.{is_text, datum_at, slot_at, text_keys, with_node, next_node, with_scope, without_scope}
 use Rattle.plain_machine.specs.Objects.{class_object, class_number, is_instance, nearest_built_in}
+use Rattle.plain_machine.specs.Args.{filled}
+use Rattle.plain_machine.specs.Known.{the_object, the_type, the_tuple}
 use Rattle.plain_machine.specs.Native.{native_task}
 use Rattle.plain_machine.specs.Show.{show}
 use Rattle.plain_machine.specs.Row.{Row, start, fork, ask, pass, end, value, fault, none, on_value, on_done}
-
-abbrev pub the_object : ℕ
-the_object = 0
-
-abbrev pub the_type : ℕ
-the_type = 1
-
-abbrev pub the_tuple : ℕ
-the_tuple = 7
 
 abbrev pub is_empty : {A : Type 0} → List A → Bool
 is_empty [] = true
@@ -84,12 +77,6 @@ last_of (x ∷ (y ∷ ys)) = last_of (y ∷ ys)
 -- the parameters that take one argument each: all, or all but the last where that takes the rest
 abbrev pub single : Bool → List Text → List Text
 single rest params = cond rest (but_last params) params
-
--- arguments fill parameters by place
-abbrev pub filled : Bindings → List Text → List PyObjectRef → Bindings
-filled vars [] args = vars
-filled vars (x ∷ xs) [] = vars
-filled vars (x ∷ xs) (v ∷ vs) = filled (with_value is_text vars x v) xs vs
 
 -- the arguments past the parameters
 abbrev pub left_over : List Text → List PyObjectRef → List PyObjectRef

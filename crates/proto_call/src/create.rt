@@ -7,7 +7,8 @@ ghost use Rattle.plain_machine.specs.Row.{pass, value};
 ghost use Rattle.class_world.specs.Sound.{AllHold, Holds, Grows, IsNode, IsClass, of_option, of_node_ref};
 ghost use Rattle.class_world.specs.Claims.{of_args, of_step, of_task, Leaves};
 ghost use Rattle.class_world.specs.Reading.{Reading, Reads, bindings, plain, task_of};
-ghost use Rattle.proto_call.specs.Say.{the_type, is_empty, initialised, new_by, new_found};
+ghost use Rattle.proto_call.specs.Say.{is_empty, initialised, new_by, new_found};
+ghost use Rattle.plain_machine.specs.Known.{the_type};
 ghost use Rattle.proto_call.specs.Rows.{Begins, Decides, Continues, Resumes, of_call_kept};
 
 use crate::CallKept;

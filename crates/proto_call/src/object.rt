@@ -8,7 +8,8 @@ ghost use Rattle.py_node.specs.declared.built_in.BuiltIn.TheVariants.{Object};
 ghost use Rattle.class_world.specs.Sound.{AllHold, Holds, Grows, IsNode, IsClass, IsOf, AreNodes, of_option, of_node_ref, of_class_ref};
 ghost use Rattle.class_world.specs.Claims.{of_args, of_step, Leaves};
 ghost use Rattle.class_world.specs.Reading.{Reading, Reads, bindings, datum, plain};
-ghost use Rattle.proto_call.specs.Say.{the_object, object_by, object_new, object_init, object_init_subclass, new_of_class, created, unless_abstract, is_abstract, has_items};
+ghost use Rattle.proto_call.specs.Say.{object_by, object_new, object_init, object_init_subclass, new_of_class, created, unless_abstract, is_abstract, has_items};
+ghost use Rattle.plain_machine.specs.Known.{the_object};
 ghost use Rattle.proto_call.specs.Rows.{Begins, Closes, of_call_kept};
 
 use crate::CallKept;

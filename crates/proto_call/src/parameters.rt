@@ -4,7 +4,7 @@ ghost use Rattle.std.specs.Prelude.{◌≡◌, ◌&&◌, [], map, is_none, IfOk,
 ghost use Rattle.class_world.specs.Held.{Held};
 ghost use Rattle.class_world.specs.Reading.{Reading, spelled, bindings};
 ghost use Rattle.class_world.specs.Sound.{AllHold, AreNames, AreNodes, Holds, of_binding, of_each};
-ghost use Rattle.proto_call.specs.Say.{single, filled, left_over, is_member, value_at, with_keywords, all_filled};
+ghost use Rattle.proto_call.specs.Say.{single, left_over, is_member, value_at, with_keywords, all_filled};
 
 use py_node::attributes::PyAttributes;
 use py_node::memory::OutOfMemory;
@@ -20,22 +20,6 @@ pub(crate) fn single(params: &[PyStrInterned], rest: bool) -> &[PyStrInterned]
         [singles @ .., _] if rest => singles,
         _ => params,
     }
-}
-
-/// The values of parameters that arguments fill by place.
-pub(crate) fn filled(
-    alloc: Global,
-    params: &[PyStrInterned],
-    args: &[PyObjectRef],
-) -> Result<PyAttributes, OutOfMemory>
-    ensures vars { IfOk result (λ vars. (t : Reading) → bindings t vars ≡ filled [] (map (spelled t) params.now) args.now) }
-    ensures holds { IfOk result (λ vars. (w : Held) → Holds w (AreNames params.now) → Holds w (AreNodes args.now) → AllHold w (of_each of_binding vars)) }
-{
-    let mut vars = PyAttributes::new(alloc);
-    for (param, value) in params.iter().zip(args) {
-        vars.insert(*param, *value)?;
-    }
-    Ok(vars)
 }
 
 /// The arguments past the parameters.

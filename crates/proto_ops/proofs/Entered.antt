@@ -22,11 +22,11 @@ use Rattle.py_node.specs.declared.memory.OutOfMemory.{OutOfMemory}
 use Rattle.py_node.specs.declared.refs.PyStrInterned.{PyStrInterned}
 use Rattle.py_node.specs.declared.entry.IntNative.TheVariants as int
 use Rattle.std.specs.Prelude.{ℤ, Result, IfOk}
-use Rattle.class_world.proofs.Claims.{node-in, no-nodes, more-nodes, all-append}
+use Rattle.class_world.proofs.Claims.{no-nodes, more-nodes, all-append}
 use Rattle.class_table.specs.Turn.{list_both}
 use Rattle.proto_ops.specs.declared.OperatorKept.{OperatorKept}
 use Rattle.proto_ops.specs.declared.OperatorKept.TheVariants.{Pass, AddRest}
-use Rattle.proto_ops.specs.Say.{operator_say, left_slot, right_slot, is_not_implemented, joined, in_turn, sum_say, int_or_fault, total, two_of}
+use Rattle.proto_ops.specs.Say.{operator_say, left_slot, right_slot, is_not_implemented, joined, in_turn, sum_say, int_or_fault, total}
 use Rattle.proto_ops.specs.Rows.{operator_stands, of_operator_kept, joining, entered, AsksSpecial, Begins, Resumes, Sums}
 
 -- a sum that no candidate gave
@@ -80,19 +80,6 @@ sum-made w new a b r x y z hx hy f made number reads = λ t q.
     let said : sum_say u (number_of (datum_at u a)) (number_of (datum_at u b)) [] ≡ Ends (with_node u 4 (ANumber z)) (value (next_node u 4)) =
     ap (λ m. sum_say u m (number_of (datum_at u b)) []) (hx t) ∙ ap (λ m. sum_say u (Some x) m []) (hy t) ∙ ap (λ o. int_or_fault u o []) f in
     (reads t q, subst (λ s. Steps operator_say (operator_stands t) t (DoInt int.Add (a ∷ b ∷ []) []) [] s (End (value r)) new) (sym said) (ap value (number t), made t))
-
-abbrev pair_or : PyObjectRef → Option (PyObjectRef × PyObjectRef) → PyObjectRef × PyObjectRef
-pair_or r None = (r, r)
-pair_or r (Some p) = p
-
-pub two-hold : (w : World) (vs : List PyObjectRef) (a b : PyObjectRef) → Holds w (AreNodes vs) → two_of vs ≡ Some (a, b) → Holds w (IsNode a) × Holds w (IsNode b)
-two-hold w [] a b h e = cc
-two-hold w (v ∷ []) a b h e = cc
-two-hold w (v ∷ (u ∷ [])) a b h e =
-    let first : v ≡ a = ap (λ o. (pair_or a o).0) e in
-    let second : u ≡ b = ap (λ o. (pair_or a o).1) e in
-    (subst (λ r. Holds w (IsNode r)) first (node-in w (v ∷ (u ∷ [])) 0 v h refl), subst (λ r. Holds w (IsNode r)) second (node-in w (v ∷ (u ∷ [])) 1 u h refl))
-two-hold w (v ∷ (u ∷ (x ∷ vs))) a b h e = cc
 
 -- a special method that is asked says of numbers only what held before
 pub special-leaves : (old new : World) (name : PyStrInterned) (object other : PyObjectRef) (r : Result (Step OperatorKept) OutOfMemory) → Grows old new → Holds new (IsName name) → Holds old (IsNode object) → Holds old (IsNode other) → IfOk r (λ step. AsksSpecial name object other step) → Leaves of_operator_kept old new r

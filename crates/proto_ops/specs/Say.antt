@@ -1,5 +1,5 @@
 -- What the rows of operators say.
-use Rattle.std.specs.Prelude.{ℕ, ◌^◌, ℤ, pos, negsuc, ◌+ℤ◌, codes, Bool, cond, eqb, List, [], ◌∷◌, Option, Some, None, nat_lt}
+use Rattle.std.specs.Prelude.{◌^◌, ℤ, pos, negsuc, ◌+ℤ◌, codes, Bool, cond, eqb, List, [], ◌∷◌, Option, Some, None, nat_lt}
 use Rattle.py_node.specs.declared.refs.PyObjectRef.{PyObjectRef}
 use Rattle.py_node.specs.declared.raised.Kind.TheVariants.{TypeError, OverflowError}
 use Rattle.py_node.specs.declared.raised.Cause.TheVariants.{UnsupportedOperand, IntRange, ArgCount, UnexpectedKeyword}
@@ -12,6 +12,8 @@ use Rattle.py_node.specs.declared.task.PyNumberBinaryOp.TheVariants as op
 use Rattle.py_node.specs.declared.task.LaterTask.TheVariants as later
 use Rattle.plain_machine.specs.Plain.{ANumber, PlainWorld, Bindings, OperatorJob, DoAdd, DoBinOp1, DoEnter, DoInt, DoSpecial, PlainTask, ToAttribute, ToOperator, ToLater, Said, Asks, Ends}
 use Rattle.plain_machine.specs.World.{ref, class_at, datum_at, number_of, slot_at, candidates_at}
+use Rattle.plain_machine.specs.Args.{two_of}
+use Rattle.plain_machine.specs.Known.{the_int}
 use Rattle.plain_machine.specs.Native.{native_task}
 use Rattle.plain_machine.specs.Row.{Row, start, ask, pass, end, value, fault, on_value, make, read_once}
 
@@ -69,10 +71,6 @@ abbrev pub fits : ℤ → Bool
 fits (pos n) = nat_lt n (2 ^ 127)
 fits (negsuc n) = nat_lt n (2 ^ 127)
 
--- the class of ints
-abbrev pub the_int : ℕ
-the_int = 4
-
 -- the sum of two numbers, where it fits
 abbrev pub total : ℤ → ℤ → Option ℤ
 total x y = cond (fits (x +ℤ y)) (Some (x +ℤ y)) None
@@ -84,13 +82,6 @@ int_or_fault w (Some z) = make w the_int (ANumber z)
 abbrev pub sum_say : PlainWorld → Option ℤ → Option ℤ → Row
 sum_say w (Some x) (Some y) = int_or_fault w (total x y)
 sum_say w _ _ = end w (value not_implemented)
-
--- the operands of an operation with two
-abbrev pub two_of : List PyObjectRef → Option (PyObjectRef × PyObjectRef)
-two_of [] = None
-two_of (a ∷ []) = None
-two_of (a ∷ (b ∷ [])) = Some (a, b)
-two_of (a ∷ (b ∷ (c ∷ more))) = None
 
 abbrev pub without_keywords : PlainWorld → Bindings → Row → Row
 without_keywords w [] go = go

@@ -6,14 +6,15 @@ ghost use Rattle.class_world.specs.Sound.{AllHold, Holds, IsNode};
 ghost use Rattle.class_world.specs.Claims.{of_operator_task, of_ended, Leaves};
 ghost use Rattle.py_node.specs.declared.task.OperatorTask.TheVariants as operator;
 ghost use Rattle.class_table.specs.Turn.{list_of};
-ghost use Rattle.proto_ops.specs.Say.{total, left_slot, right_slot, is_not_implemented, method_task, two_of};
+ghost use Rattle.proto_ops.specs.Say.{total, left_slot, right_slot, is_not_implemented, method_task};
+ghost use Rattle.plain_machine.specs.Args.{two_of};
 ghost use Rattle.proto_ops.specs.Rows.{Begins, Resumes, Sums, Enters, AsksSpecial, AreBoth, joining, entered, of_operator_kept};
 
 #[cfg(test)]
 mod tests;
 
 use class_table::candidates::Candidates;
-use class_world::args::native_task;
+use class_world::args::{native_task, two_of};
 use class_world::world::{Fixed, World};
 use py_node::built_in::BuiltIn;
 use py_node::entry::{IntNative, SlotEntry, SlotId};
@@ -301,16 +302,6 @@ fn int(
             }
             sum(world, alloc, a, b)
         }
-    }
-}
-
-// The operands of an operation with two.
-fn two_of(args: &[PyObjectRef]) -> Option<(PyObjectRef, PyObjectRef)>
-    ensures { result ≡ two_of args.now }
-{
-    match args {
-        [a, b] => Some((*a, *b)),
-        _ => None,
     }
 }
 

@@ -1,5 +1,5 @@
 -- The built-in classes: their places, names, bases and flags.
-use Rattle.std.specs.Prelude.{ℕ, List, [], ◌∷◌, codes, Option, Some, None}
+use Rattle.std.specs.Prelude.{ℕ, ◌+◌, ◌^◌, List, [], ◌∷◌, codes, Option, Some, None}
 use Rattle.py_node.specs.declared.built_in.BuiltIn.{BuiltIn}
 use Rattle.py_node.specs.declared.built_in.BuiltIn.TheVariants as built_in
 
@@ -80,35 +80,51 @@ base_of built_in.Super = Some 0
 base_of built_in.Iterator = Some 0
 base_of built_in.Slice = Some 0
 
--- the flags of a class that a script makes: on the heap (2 ^ 9), can be a base (2 ^ 10), and gives its objects a dict (2 ^ 40)
-abbrev pub heap_flags : ℕ
-heap_flags = 1099511629312
+-- the flags of classes: scripts can't change the class; a script made it; it can be a base; it marks descriptors of methods; it gives its objects a dict
+abbrev pub immutable_type : ℕ
+immutable_type = 2 ^ 8
 
--- every one is immutable (2 ^ 8). Some can be bases (2 ^ 10), give their objects a dict (2 ^ 40), or mark descriptors of methods (2 ^ 17)
+abbrev pub heap_type : ℕ
+heap_type = 2 ^ 9
+
+abbrev pub base_type : ℕ
+base_type = 2 ^ 10
+
+abbrev pub method_descriptor : ℕ
+method_descriptor = 2 ^ 17
+
+abbrev pub has_dict : ℕ
+has_dict = 2 ^ 40
+
+-- the flags of a class that a script makes
+abbrev pub heap_flags : ℕ
+heap_flags = heap_type + base_type + has_dict
+
+-- scripts can change none of the built-in classes
 unfoldable pub flags_of : BuiltIn → ℕ
-flags_of built_in.Object = 1280
-flags_of built_in.TypeType = 1280
-flags_of built_in.NoneType = 256
-flags_of built_in.NotImplementedType = 256
-flags_of built_in.Int = 1280
-flags_of built_in.Bool = 256
-flags_of built_in.Str = 1280
-flags_of built_in.Tuple = 1280
-flags_of built_in.List = 1280
-flags_of built_in.Dict = 1280
-flags_of built_in.Function = 1099511759104
-flags_of built_in.Method = 256
-flags_of built_in.BuiltinFunctionOrMethod = 256
-flags_of built_in.BuiltinMethod = 256
-flags_of built_in.MethodDescriptor = 131328
-flags_of built_in.GetSetDescriptor = 256
-flags_of built_in.MemberDescriptor = 1280
-flags_of built_in.Property = 1280
-flags_of built_in.ClassMethod = 1099511629056
-flags_of built_in.StaticMethod = 1099511629056
-flags_of built_in.Super = 256
-flags_of built_in.Iterator = 256
-flags_of built_in.Slice = 256
+flags_of built_in.Object = immutable_type + base_type
+flags_of built_in.TypeType = immutable_type + base_type
+flags_of built_in.NoneType = immutable_type
+flags_of built_in.NotImplementedType = immutable_type
+flags_of built_in.Int = immutable_type + base_type
+flags_of built_in.Bool = immutable_type
+flags_of built_in.Str = immutable_type + base_type
+flags_of built_in.Tuple = immutable_type + base_type
+flags_of built_in.List = immutable_type + base_type
+flags_of built_in.Dict = immutable_type + base_type
+flags_of built_in.Function = immutable_type + method_descriptor + has_dict
+flags_of built_in.Method = immutable_type
+flags_of built_in.BuiltinFunctionOrMethod = immutable_type
+flags_of built_in.BuiltinMethod = immutable_type
+flags_of built_in.MethodDescriptor = immutable_type + method_descriptor
+flags_of built_in.GetSetDescriptor = immutable_type
+flags_of built_in.MemberDescriptor = immutable_type + base_type
+flags_of built_in.Property = immutable_type + base_type
+flags_of built_in.ClassMethod = immutable_type + base_type + has_dict
+flags_of built_in.StaticMethod = immutable_type + base_type + has_dict
+flags_of built_in.Super = immutable_type
+flags_of built_in.Iterator = immutable_type
+flags_of built_in.Slice = immutable_type
 
 -- all of them, in order
 unfoldable pub all_built_ins : List BuiltIn

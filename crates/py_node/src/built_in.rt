@@ -3,7 +3,9 @@
 ghost use Rattle.std.specs.Prelude.{◌≡◌, option_map};
 ghost use Rattle.py_node.specs.BuiltIns.{place_of, name_of, base_of, flags_of};
 
+use crate::flags::PyTypeFlags;
 use crate::refs::PyTypeRef;
+use bitflags::Flags;
 
 /// A built-in class, in the order of the classes' places.
 #[derive(Clone, Copy, PartialEq, Eq, Debug)]
@@ -108,34 +110,38 @@ impl BuiltIn {
         }
     }
 
-    /// The bits of the class's flags.
-    pub fn flags(self) -> u64
-        ensures { result ≡ flags_of self }
+    /// The class's flags. Scripts can change none of the built-in classes.
+    pub fn flags(self) -> PyTypeFlags
+        ensures { result.0 ≡ flags_of self }
     {
+        let fixed = PyTypeFlags::IMMUTABLETYPE;
+        let base = fixed.union(PyTypeFlags::BASETYPE);
         match self {
-            BuiltIn::Object => 1280,
-            BuiltIn::TypeType => 1280,
-            BuiltIn::NoneType => 256,
-            BuiltIn::NotImplementedType => 256,
-            BuiltIn::Int => 1280,
-            BuiltIn::Bool => 256,
-            BuiltIn::Str => 1280,
-            BuiltIn::Tuple => 1280,
-            BuiltIn::List => 1280,
-            BuiltIn::Dict => 1280,
-            BuiltIn::Function => 1099511759104,
-            BuiltIn::Method => 256,
-            BuiltIn::BuiltinFunctionOrMethod => 256,
-            BuiltIn::BuiltinMethod => 256,
-            BuiltIn::MethodDescriptor => 131328,
-            BuiltIn::GetSetDescriptor => 256,
-            BuiltIn::MemberDescriptor => 1280,
-            BuiltIn::Property => 1280,
-            BuiltIn::ClassMethod => 1099511629056,
-            BuiltIn::StaticMethod => 1099511629056,
-            BuiltIn::Super => 256,
-            BuiltIn::Iterator => 256,
-            BuiltIn::Slice => 256,
+            BuiltIn::Object => base,
+            BuiltIn::TypeType => base,
+            BuiltIn::NoneType => fixed,
+            BuiltIn::NotImplementedType => fixed,
+            BuiltIn::Int => base,
+            BuiltIn::Bool => fixed,
+            BuiltIn::Str => base,
+            BuiltIn::Tuple => base,
+            BuiltIn::List => base,
+            BuiltIn::Dict => base,
+            BuiltIn::Function => fixed
+                .union(PyTypeFlags::METHOD_DESCRIPTOR)
+                .union(PyTypeFlags::HAS_DICT),
+            BuiltIn::Method => fixed,
+            BuiltIn::BuiltinFunctionOrMethod => fixed,
+            BuiltIn::BuiltinMethod => fixed,
+            BuiltIn::MethodDescriptor => fixed.union(PyTypeFlags::METHOD_DESCRIPTOR),
+            BuiltIn::GetSetDescriptor => fixed,
+            BuiltIn::MemberDescriptor => base,
+            BuiltIn::Property => base,
+            BuiltIn::ClassMethod => base.union(PyTypeFlags::HAS_DICT),
+            BuiltIn::StaticMethod => base.union(PyTypeFlags::HAS_DICT),
+            BuiltIn::Super => fixed,
+            BuiltIn::Iterator => fixed,
+            BuiltIn::Slice => fixed,
         }
     }
 }

@@ -1,8 +1,8 @@
 // The flags of classes and of native methods.
 
-ghost use Rattle.std.specs.Prelude.{⊤, ◌≡◌, ◌==◌, [], ◌∷◌, codes};
+ghost use Rattle.std.specs.Prelude.{⊤, ◌+◌, ◌≡◌, ◌==◌, [], ◌∷◌, codes};
 ghost use Rattle.std.specs.Int.RustNames.{bit_and};
-ghost use Rattle.py_node.specs.BuiltIns.{heap_flags};
+ghost use Rattle.py_node.specs.BuiltIns.{heap_type, base_type, heap_flags};
 
 use bitflags::{Flag, Flags, bitflag_items};
 
@@ -46,14 +46,19 @@ impl PyTypeFlags {
     /// The flags of a class for which none are given: none.
     pub const DEFAULT: PyTypeFlags = PyTypeFlags(0);
 
+    /// The flags of a class on the heap that may have subclasses.
+    pub fn heap_type_flags() -> PyTypeFlags
+        ensures { result.0 ≡ heap_type + base_type }
+    {
+        PyTypeFlags::HEAPTYPE.union(PyTypeFlags::BASETYPE)
+    }
+
     /// The flags of a class that a script makes: it is on the heap, may have subclasses, and gives
     /// its objects a dict.
-    pub fn heap_type_flags() -> PyTypeFlags
+    pub fn of_script_class() -> PyTypeFlags
         ensures { result.0 ≡ heap_flags }
     {
-        PyTypeFlags::HEAPTYPE
-            .union(PyTypeFlags::BASETYPE)
-            .union(PyTypeFlags::HAS_DICT)
+        PyTypeFlags::heap_type_flags().union(PyTypeFlags::HAS_DICT)
     }
 
     /// Whether all flags of `flag` are among these.

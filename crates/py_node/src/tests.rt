@@ -107,6 +107,7 @@ fn copies_a_reply(rt: HostRuntime) -> Result<(), Fail> {
 fn a_class_of_a_script_may_have_subclasses(rt: HostRuntime) {
     let flags = PyTypeFlags::heap_type_flags();
     assert!(rt; flags.has_feature(PyTypeFlags::BASETYPE));
-    assert!(rt; flags.has_feature(PyTypeFlags::HAS_DICT));
+    assert!(rt; !flags.has_feature(PyTypeFlags::HAS_DICT));
+    assert!(rt; PyTypeFlags::of_script_class().has_feature(PyTypeFlags::HAS_DICT));
     assert!(rt; !flags.has_feature(PyTypeFlags::IMMUTABLETYPE));
 }

@@ -20,6 +20,13 @@ IsDoneOrPoor Done = Unit {0}
 IsDoneOrPoor OutOfMemory = Unit {0}
 IsDoneOrPoor _ = ⊥
 
+-- the input was read to its end
+abbrev pub HasReadAll : Status → Type 0
+HasReadAll Done = Unit {0}
+HasReadAll (Script e) = Unit {0}
+HasReadAll WriteFault = Unit {0}
+HasReadAll _ = ⊥
+
 -- the word that standard error is told, where the call did not end well
 unfoldable pub word_of : Status → Option Text
 word_of Done = None

@@ -1,6 +1,6 @@
 // The one top call: words, a source and a sink.
 
-ghost use Rattle.std.specs.Prelude.{◌≡◌, ◌<◌, ◌≤◌, ◌^◌, ◌++◌, ℕ, List, length, take, map, string_bytes, Some, None, IfOk, Ok, Err};
+ghost use Rattle.std.specs.Prelude.{◌≡◌, ◌<◌, ◌≤◌, ◌+◌, ◌^◌, [], ◌++◌, ℕ, List, length, take, drop, map, string_bytes, Some, None, IfOk, Ok, Err};
 ghost use Rattle.std.specs.Option.{ForSome};
 ghost use Rattle.outside.specs.Count.{Rose};
 ghost use Rattle.outside.specs.Words.{units_in};
@@ -8,7 +8,7 @@ ghost use Rattle.script_text.specs.Script.{script_of};
 ghost use Rattle.script_text.specs.declared.read.ScriptError.{ScriptError as Refusal};
 ghost use Rattle.py_node.specs.Tree.{Tree};
 ghost use Rattle.typecore.specs.Headline.{IsTextOf, run_text};
-ghost use Rattle.typecore.specs.Status.{IsDoneOrPoor};
+ghost use Rattle.typecore.specs.Status.{HasReadAll, IsDoneOrPoor};
 ghost use Rattle.vm_eval.specs.Runs.{trees_in};
 
 use crate::status::Status;
@@ -37,6 +37,11 @@ pub fn serve<S: Source, K: Sink>(
     ensures done { result ≡ Status.Done → (units : ℕ) × (units_in (map string_bytes words.now) ≡ Some units)
         × ForSome (S.left source.old) (λ bytes. (length bytes ≤ 2 ^ 24) × (text : List ℕ) × IsTextOf bytes units text
         × ForSome (K.taken sink.old) (λ old. K.taken sink.new ≡ Some (old ++ text))) }
+    // What has a script's answer, or failed in writing it, has read all; whatever comes, at most one byte
+    // past the limit is read, and for words that are none nothing.
+    ensures read { HasReadAll result → ForSome (S.left source.old) (λ _. S.left source.new ≡ Some []) }
+    ensures at_most { ForSome (S.left source.old) (λ bytes. (n : ℕ) × (n ≤ 2 ^ 24 + 1) × (S.left source.new ≡ Some (drop n bytes))) }
+    ensures unread { result ≡ Status.Usage → source.new ≡ source.old }
     // Usage comes exactly where the words are none that the program knows.
     ensures usage { result ≡ Status.Usage → units_in (map string_bytes words.now) ≡ None }
     ensures only_usage { units_in (map string_bytes words.now) ≡ None → result ≡ Status.Usage }

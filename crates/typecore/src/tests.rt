@@ -8,6 +8,10 @@ use script_text::read::ScriptError;
 use std::alloc::{AllocError, Global};
 use std::test::Fail;
 
+// A late attribute of a base, and a sum with an object of the class below it.
+const FIRST_RUN: &str =
+    r#"[["bind","A",["class","A",[],[]]],["bind","B",["class","B",[["name","A"]],[]]],["setattr",["name","A"],"__add__",["func","add",["s","o"],42]],["op","+",["call",["name","B"],[]],1]]"#;
+
 // How a call ends, and what is written: the words stand in one text, and these calls of the source and of
 // the sink fail. A byte is moved in a call.
 fn served(
@@ -127,7 +131,7 @@ fn calls_are_answered(rt: HostRuntime) -> Result<(), Fail> {
 fn classes_are_told(rt: HostRuntime) -> Result<(), Fail> {
     for (script, text) in [
         (
-            r#"[["bind","A",["class","A",[],[]]],["bind","B",["class","B",[["name","A"]],[]]],["setattr",["name","A"],"__add__",["func","add",["s","o"],42]],["op","+",["call",["name","B"],[]],1]]"#,
+            FIRST_RUN,
             "= <class 'A'>\n= <class 'B'>\n= None\ncall add(<B object>, 1)\n= 42\nclass A: A, object\nslots A: add hash repr getattro setattro richcompare init\nclass B: B, A, object\nslots B: add hash repr getattro setattro richcompare init\n",
         ),
         (
@@ -169,6 +173,7 @@ fn a_bad_call_writes_nothing(rt: HostRuntime) -> Result<(), Fail> {
         ("", "[]", Status::Usage),
         ("run", "[]", Status::Usage),
         ("run 0", "[]", Status::Usage),
+        ("run 01", "[]", Status::Usage),
         ("run 5 5", "[]", Status::Usage),
         ("share 5", "[]", Status::Usage),
         ("run 5", "", Status::Script(ScriptError::NotJson)),
@@ -211,7 +216,7 @@ fn a_failing_sink_has_a_front(rt: HostRuntime) -> Result<(), Fail> {
 
 #[test]
 fn a_front_of_a_script_is_no_json(rt: HostRuntime) -> Result<(), Fail> {
-    let script = br#"[["op","+",33,12],["bind","A","text"],null]"#;
+    let script = FIRST_RUN.as_bytes();
     for length in 0..script.len() {
         let (status, written) = served(rt.alloc(), "run 5", &script[..length], &[], &[])?;
         assert_eq!(rt; status, Status::Script(ScriptError::NotJson), "at {length}");

@@ -6,6 +6,7 @@ use Rattle.py_node.specs.Tree.{Tree, tree_of}
 use Rattle.py_node.specs.Replies.{PlainReply, reply_of}
 use Rattle.plain_machine.specs.Plain.{PlainWorld, DoEval, ToEval}
 use Rattle.plain_machine.specs.Answer.{Run, answer, replied, plain_run}
+use Rattle.plain_machine.specs.World.{at_rest}
 use Rattle.class_world.specs.declared.world.World.{World}
 use Rattle.class_world.specs.Reading.{Reading, Reads, plain}
 use Rattle.vm_eval.specs.Say.{say}
@@ -18,6 +19,10 @@ before reply rest = record { world = rest.world; replies = reply ∷ rest.replie
 abbrev pub Replied : Tree → World → ℕ → World → PlainReply → Type 0
 Replied command old units new reply =
     (t : Reading) → Reads t new → Reads t old × ((go : PlainWorld → Run) → replied go (answer say (plain t old) (ToEval (DoEval command)) [] units 0) ≡ before reply (go (plain t new)))
+
+-- no body runs, and no start is noted
+abbrev pub IsAtRest : PlainWorld → Type 0
+IsAtRest w = at_rest w ≡ w
 
 abbrev pub trees_in : List Command → List Tree
 trees_in commands = map (λ c. tree_of c.expr) commands

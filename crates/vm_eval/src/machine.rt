@@ -5,7 +5,7 @@ ghost use Rattle.plain_machine.specs.Start.{start};
 ghost use Rattle.class_world.specs.Reading.{Reading, Reads, plain, IsReadable};
 ghost use Rattle.plain_machine.specs.Sound.{IsSound};
 ghost use Rattle.class_world.specs.Sound.{Grows};
-ghost use Rattle.vm_eval.specs.Runs.{Runs};
+ghost use Rattle.vm_eval.specs.Runs.{IsAtRest, Runs};
 
 use crate::run::replies;
 use crate::stack::{DEPTH, Kept};
@@ -62,7 +62,7 @@ impl VirtualMachine {
     }
 
     /// Runs commands, each of which may use so many units. The replies are the plain machine's, and so
-    /// is the world after them, which is sound. Where memory cannot be had, this run and every later
+    /// is the world after them, which is sound; however the commands end, no body is left running. Where memory cannot be had, this run and every later
     /// one fails, and the world is sound all the same; no commands take no memory.
     pub fn run(
         &mut self,
@@ -72,6 +72,7 @@ impl VirtualMachine {
     ) -> Result<Vec<Reply>, RunFault>
         ensures runs { IfOk result (λ replies. Runs commands.now self.old.world units self.new.world replies.items) }
         ensures grows { Grows self.old.world self.new.world }
+        ensures rests { OnOk result ((t : Reading) → IsAtRest (plain t self.old.world) → IsAtRest (plain t self.new.world)) }
         ensures readable { OnOk result (IsReadable self.new.world) }
         ensures works { OnOk result (self.new.failed ≡ self.old.failed) }
         ensures gives_up { OnErr result (IsTrue self.new.failed) }

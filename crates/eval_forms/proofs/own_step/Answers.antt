@@ -6,7 +6,8 @@ use Rattle.class_world.specs.Claims.{of_step}
 use Rattle.class_world.specs.Reading.{Reading}
 use Rattle.class_world.specs.Sound.{Holds, AllHold, AreNodes, operands_at}
 use Rattle.class_world.proofs.Stored.{ok-map}
-use Rattle.eval_forms.specs.Say.{set_attr_say, call_say, add_of, class_say, two_of}
+use Rattle.eval_forms.specs.Say.{set_attr_say, call_say, add_of, class_say}
+use Rattle.plain_machine.specs.Args.{two_of}
 use Rattle.eval_forms.specs.Rows.{IsOwn, Takes, Continues, of_eval_kept}
 use Rattle.eval_forms.proofs.ClassForm.{takes-same}
 use Rattle.eval_forms.proofs.Operands.{own-takes, says-set, says-call, says-add, says-class, class-long, class-names, set-name, own-sum, one-holds, own-func}

@@ -1,5 +1,5 @@
 use Rattle.std.proofs.Common.{sym, ◌∙◌}
-use Rattle.eval_forms.proofs.Operands.{two-hold}
+use Rattle.class_world.proofs.Filled.{two-hold}
 use Rattle.eval_forms.proofs.set_attr_step.Goals as goal
 
 pub returns-in-Some-clause-safe : goal.returns-in-Some-clause-safe

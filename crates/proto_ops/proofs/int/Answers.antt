@@ -1,5 +1,5 @@
 use Rattle.std.proofs.Common.{sym, ◌∙◌}
-use Rattle.proto_ops.proofs.Entered.{two-hold}
+use Rattle.class_world.proofs.Filled.{two-hold}
 use Rattle.proto_ops.proofs.int.Goals as goal
 
 pub sum-requires-clause-a : goal.sum-requires-clause-a

@@ -15,6 +15,6 @@ pub returns-clause-goes : goal.returns-clause-goes
 returns-clause-goes c =
     let e = c.in_ok-refusal.ensures in
     let old = c.args.world.now in
-    goes-from c.args.kw.items (λ t u. made c.args.meta.0 (string_bytes c.args.name) c.args.base.0 (u, bindings t c.args.attrs)) (λ t u. made_unless c.in_ok-refusal.refusal c.args.meta.0 (string_bytes c.args.name) c.args.base.0 (u, bindings t c.args.attrs)) old c.refusal.new.world c.made_unless.new.world c.made_unless.result (λ t r.
-    (e.reads t r, made-read (plain t old) (plain t c.refusal.new.world) c.args.meta.0 (string_bytes c.args.name) c.args.base.0 (bindings t c.args.attrs) c.in_ok-refusal.refusal (e.same t) (e.why t r)))
+    goes-from c.args.kw.items (λ t u. made c.args.plan.meta.0 (string_bytes c.args.plan.name) c.args.plan.base.0 (u, bindings t c.args.plan.attrs)) (λ t u. made_unless c.in_ok-refusal.refusal c.args.plan.meta.0 (string_bytes c.args.plan.name) c.args.plan.base.0 (u, bindings t c.args.plan.attrs)) old c.refusal.new.world c.made_unless.new.world c.made_unless.result (λ t r.
+    (e.reads t r, made-read (plain t old) (plain t c.refusal.new.world) c.args.plan.meta.0 (string_bytes c.args.plan.name) c.args.plan.base.0 (bindings t c.args.plan.attrs) c.in_ok-refusal.refusal (e.same t) (e.why t r)))
     c.made_unless.ensures.goes

@@ -10,8 +10,8 @@ pub returns-else-makes_itself-clause-goes : goal.returns-else-makes_itself-claus
 returns-else-makes_itself-clause-goes c =
     let old = c.args.world.now in
     let m = c.args.meta.0 in
-    let n = string_bytes c.args.name in
+    let n = string_bytes c.args.body.name in
     let o = option_map (λ d. d.0) c.args.winner in
-    goes-from c.args.kw.items (λ t u. by_winner u m o n c.args.base.0 c.args.entries.items c.args.args.items (bindings t c.args.kw.items)) (λ t u. on_base u c.in-Some.class.0 n c.args.base.0 c.args.entries.items) old old c.on_base.new.world c.on_base.result (λ t r.
-    (r, winner-goes (plain t old) m o c.in-Some.class.0 n c.args.base.0 c.args.entries.items c.args.args.items (bindings t c.args.kw.items) (ap (option_map (λ d. d.0)) c.in-Some.is) (c.makes_itself.ensures t r ∙ c.if-makes_itself.false)))
+    goes-from c.args.call.kw.items (λ t u. by_winner u m o n c.args.base.0 c.args.body.entries.items c.args.call.args.items (bindings t c.args.call.kw.items)) (λ t u. on_base u c.in-Some.class.0 n c.args.base.0 c.args.body.entries.items) old old c.on_base.new.world c.on_base.result (λ t r.
+    (r, winner-goes (plain t old) m o c.in-Some.class.0 n c.args.base.0 c.args.body.entries.items c.args.call.args.items (bindings t c.args.call.kw.items) (ap (option_map (λ d. d.0)) c.in-Some.is) (c.makes_itself.ensures t r ∙ c.if-makes_itself.false)))
     c.on_base.ensures.goes

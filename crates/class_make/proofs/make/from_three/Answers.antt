@@ -10,10 +10,10 @@ pub returns-in_ok-entries-in-Some-clause-goes : goal.returns-in_ok-entries-in-So
 returns-in_ok-entries-in-Some-clause-goes c =
     let old = c.args.world.now in
     let m = c.args.meta.0 in
-    let args = c.args.args.items in
+    let args = c.args.call.args.items in
     let n = option_map (λ s. string_bytes s) c.in_ok-name-in-Some.name in
     let b = option_map (λ rs. rs.items) c.in_ok-bases-in-Some.bases in
     let d = option_map (λ es. es.items) c.in_ok-entries-in-Some.entries in
-    goes-from c.args.kw.items (λ t u. from_three u m c.args.three args (bindings t c.args.kw.items)) (λ t u. by_parts u m n b d args (bindings t c.args.kw.items)) old old c.by_parts.new.world c.by_parts.result (λ t r.
-    (r, three-go (plain t old) m c.args.three c.in-Some.name c.in-Some.bases c.in-Some.entries n b d args (bindings t c.args.kw.items) c.in-Some.is (c.in_ok-name-in-Some.ensures t) (c.in_ok-bases-in-Some.ensures.parts t) (c.in_ok-entries-in-Some.ensures.parts t)))
+    goes-from c.args.call.kw.items (λ t u. from_three u m c.args.three args (bindings t c.args.call.kw.items)) (λ t u. by_parts u m n b d args (bindings t c.args.call.kw.items)) old old c.by_parts.new.world c.by_parts.result (λ t r.
+    (r, three-go (plain t old) m c.args.three c.in-Some.name c.in-Some.bases c.in-Some.entries n b d args (bindings t c.args.call.kw.items) c.in-Some.is (c.in_ok-name-in-Some.ensures t) (c.in_ok-bases-in-Some.ensures.parts t) (c.in_ok-entries-in-Some.ensures.parts t)))
     c.by_parts.ensures.goes

@@ -1,8 +1,9 @@
 use Rattle.std.proofs.Common.{[], ap, map, take, ◌∙◌}
 use Rattle.plain_machine.specs.Row.{start, end}
 use Rattle.class_world.specs.Reading.{bindings}
-use Rattle.eval_forms.specs.Say.{class_by, class_say, merged}
-use Rattle.eval_forms.proofs.ClassForm.{take-nodes, drop-nodes, merged-holds, merged-read, takes-same}
+use Rattle.eval_forms.specs.Say.{class_by, class_say}
+use Rattle.plain_machine.specs.Args.{filled}
+use Rattle.eval_forms.proofs.ClassForm.{take-nodes, drop-nodes, takes-same}
 use Rattle.eval_forms.proofs.class_form.class_step.Goals as goal
 
 pub call_metaclass-requires-clause-bases : goal.call_metaclass-requires-clause-bases
@@ -11,7 +12,7 @@ call_metaclass-requires-clause-bases c = rw c.split_at.ensures.front (take-nodes
 pub call_metaclass-requires-clause-entries : goal.call_metaclass-requires-clause-entries
 call_metaclass-requires-clause-entries c =
     let w = c.args.world.now in
-    rw (c.in_ok-entries.ensures, c.split_at.ensures.back) (merged-holds w [] c.args.names.now _ tt c.requires.names (drop-nodes w c.args.bases c.args.values.now c.requires.values))
+    c.in_ok-entries.ensures.holds w c.requires.names (rw c.split_at.ensures.back (drop-nodes w c.args.bases c.args.values.now c.requires.values))
 
 pub returns-clause-goes : goal.returns-clause-goes
 returns-clause-goes c =
@@ -21,6 +22,6 @@ returns-clause-goes c =
     let n = c.args.bases in
     let vs = c.args.values.now in
     takes-same (λ t u. start (class_by u (t.text x.0) c.split_at.result.0.now (bindings t c.in_ok-entries.entries)) (end u)) (λ t u. class_say u (t.text x.0) n (map (λ y. t.text y.0) names) vs) w c.call_metaclass.new.world c.call_metaclass.result (λ t.
-    let entries = ap (bindings t) c.in_ok-entries.ensures ∙ merged-read t [] names c.split_at.result.1.now ∙ ap (merged [] (map (λ y. t.text y.0) names)) c.split_at.ensures.back in
+    let entries = c.in_ok-entries.ensures.vars t ∙ ap (filled [] (map (λ y. t.text y.0) names)) c.split_at.ensures.back in
     ap (λ bs. λ u. start (class_by u (t.text x.0) bs (bindings t c.in_ok-entries.entries)) (end u)) c.split_at.ensures.front
     ∙ ap (λ es. λ u. start (class_by u (t.text x.0) (take n vs) es) (end u)) entries) c.call_metaclass.ensures.goes

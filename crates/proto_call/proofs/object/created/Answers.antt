@@ -9,7 +9,8 @@ use Rattle.class_model.specs.Class.{found}
 use Rattle.plain_machine.specs.Plain.{Ends}
 use Rattle.plain_machine.specs.Row.{fault}
 use Rattle.plain_machine.specs.World.{is_text}
-use Rattle.proto_call.specs.Say.{the_object, created, is_abstract, unless_abstract}
+use Rattle.proto_call.specs.Say.{created, is_abstract, unless_abstract}
+use Rattle.plain_machine.specs.Known.{the_object}
 use Rattle.proto_call.specs.Rows.{Closes}
 use Rattle.proto_call.proofs.object.created.Goals as goal
 

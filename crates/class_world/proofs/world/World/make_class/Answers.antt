@@ -1,42 +1,45 @@
-use Rattle.std.proofs.Common.{string_bytes, refl, arith, ◌∷◌, []}
-use Rattle.py_node.specs.declared.refs.PyStrInterned.{PyStrInterned}
-use Rattle.class_model.specs.Class.{Class}
-use Rattle.class_world.specs.contracts.world.World.{the_view}
-use Rattle.class_world.specs.Sound.{IsClass, IsOf, of_binding, of_each}
+use Rattle.std.proofs.Common.{ap, sym, subst, arith, length}
 use Rattle.py_node.specs.declared.built_in.BuiltIn.TheVariants.{TypeType}
+use Rattle.class_table.specs.Keys.{numbers}
+use Rattle.class_table.specs.Refused.{AreBelow, heap_class}
+use Rattle.class_world.specs.contracts.world.World.{the_view}
+use Rattle.class_world.specs.Sound.{Holds, IsClass, IsOf, of_binding, of_each}
 use Rattle.class_world.proofs.Claims.{opened, opened-one}
 use Rattle.class_world.proofs.Growth.{grows-seen}
-use Rattle.class_world.proofs.ClassChanges.{base-below, made-grows, class-made, class-made-of, node-made, made-sound}
+use Rattle.class_world.proofs.ClassChanges.{made-grows, class-made, class-made-of, node-made, made-sound}
 use Rattle.class_world.proofs.world.World.make_class.Goals as goal
 
-pub add_class-requires : goal.add_class-requires
-add_class-requires c = record { base = base-below (the_view c.self.inside) c.args.base (opened-one (the_view c.self.inside) c.args.self.now (IsClass c.args.base.0) c.self.view_is c.requires.base) }
+pub new_heap-requires-clause-bases : goal.new_heap-requires-clause-bases
+unfolding Holds
+new_heap-requires-clause-bases c =
+    let below = opened-one (the_view c.self.inside) c.args.self.now (IsClass c.args.base.0) c.self.view_is c.requires.base in
+    subst (λ bs. AreBelow (length c.self.inside.classes) (numbers bs)) (sym c.in_ok-bases.ensures.items) (below, tt)
 
-pub invariant_of-self-2 : goal.invariant_of-self-2
-invariant_of-self-2 c =
+pub invariant_of-self-in-Ok : goal.invariant_of-self-in-Ok
+invariant_of-self-in-Ok c =
     let w = the_view c.self.inside in
     let meta = opened-one w c.args.self.now (IsClass c.args.class_of_class.0) c.self.view_is c.requires.meta in
     let of = opened-one w c.args.self.now (IsOf c.args.class_of_class.0 TypeType) c.self.view_is c.requires.meta_of in
     let attrs = opened w c.args.self.now (of_each of_binding c.args.attrs) c.self.view_is c.requires.attrs in
-    let k : Class PyStrInterned = record { name = string_bytes c.args.name; node = record { 0 = c.len.result }; bases = c.args.base.0 ∷ []; attrs = c.args.attrs; members = c.new.result.items; flags = c.args.flags.0 } in
-    rw (c.push_reserved.ensures.items, c.in_ok-reserve.ensures.items, c.in_ok-class.ensures.added)
-    (made-sound w c.args.class_of_class k c.in_ok-class.class c.in_ok-class.ensures.number (omega (arith, c.len.ensures, c.in_ok-reserve.ensures.len, c.self.inside.nodes.ok.0)) c.new.ensures.items meta of attrs c.self.invariant)
+    let k = heap_class c.args.name.now (record { 0 = c.len.result }) (numbers c.in_ok-bases.bases.items) c.args.attrs c.new-members.result.items in
+    rw (c.push_reserved.ensures.items, c.in_ok-reserve.ensures.items, c.in-Ok.ensures.added)
+    (made-sound w c.args.class_of_class k c.in-Ok.class c.in-Ok.ensures.number (omega (arith, c.len.ensures, c.in_ok-reserve.ensures.len, c.self.inside.nodes.ok.0)) c.new-members.ensures.items meta of attrs c.self.invariant)
 
-pub returns-clause-grows : goal.returns-clause-grows
-returns-clause-grows c =
-    rw (c.push_reserved.ensures.items, c.in_ok-reserve.ensures.items, c.in_ok-class.ensures.added) (grows-seen (the_view c.self.inside) _ _ c.self.view_is (made-grows (the_view c.self.inside) c.args.class_of_class _ c.in_ok-class.class))
+pub returns-in-Ok-clause-grows : goal.returns-in-Ok-clause-grows
+returns-in-Ok-clause-grows c =
+    rw (c.push_reserved.ensures.items, c.in_ok-reserve.ensures.items, c.in-Ok.ensures.added) (grows-seen (the_view c.self.inside) _ _ c.self.view_is (made-grows (the_view c.self.inside) c.args.class_of_class _ c.in-Ok.class))
 
-pub returns-clause-class : goal.returns-clause-class
-returns-clause-class c =
-    rw (c.push_reserved.ensures.items, c.in_ok-reserve.ensures.items, c.in_ok-class.ensures.added) (class-made (the_view c.self.inside) c.args.class_of_class _ c.in_ok-class.class c.in_ok-class.ensures.number)
+pub returns-in-Ok-clause-class : goal.returns-in-Ok-clause-class
+returns-in-Ok-clause-class c =
+    rw (c.push_reserved.ensures.items, c.in_ok-reserve.ensures.items, c.in-Ok.ensures.added) (class-made (the_view c.self.inside) c.args.class_of_class _ c.in-Ok.class c.in-Ok.ensures.number)
 
-pub returns-clause-node : goal.returns-clause-node
-returns-clause-node c =
-    rw (c.push_reserved.ensures.items, c.in_ok-reserve.ensures.items, c.in_ok-class.ensures.added) (node-made (the_view c.self.inside) c.args.class_of_class _ c.in_ok-class.class _ (omega (arith, c.len.ensures, c.in_ok-reserve.ensures.len, c.self.inside.nodes.ok.0)))
+pub returns-in-Ok-clause-node : goal.returns-in-Ok-clause-node
+returns-in-Ok-clause-node c =
+    rw (c.push_reserved.ensures.items, c.in_ok-reserve.ensures.items, c.in-Ok.ensures.added) (node-made (the_view c.self.inside) c.args.class_of_class _ c.in-Ok.class _ (omega (arith, c.len.ensures, c.in_ok-reserve.ensures.len, c.self.inside.nodes.ok.0)))
 
-pub returns-clause-of : goal.returns-clause-of
-returns-clause-of c = λ b h.
+pub returns-in-Ok-clause-of : goal.returns-in-Ok-clause-of
+returns-in-Ok-clause-of c = λ b h.
     let w = the_view c.self.inside in
-    let k : Class PyStrInterned = record { name = string_bytes c.args.name; node = record { 0 = c.len.result }; bases = c.args.base.0 ∷ []; attrs = c.args.attrs; members = c.new.result.items; flags = c.args.flags.0 } in
-    rw (c.push_reserved.ensures.items, c.in_ok-reserve.ensures.items, c.in_ok-class.ensures.added)
-    (class-made-of w c.args.class_of_class k c.in_ok-class.class c.args.base.0 b c.in_ok-class.ensures.number refl c.self.invariant (opened-one w c.args.self.now (IsOf c.args.base.0 b) c.self.view_is h))
+    let k = heap_class c.args.name.now (record { 0 = c.len.result }) (numbers c.in_ok-bases.bases.items) c.args.attrs c.new-members.result.items in
+    rw (c.push_reserved.ensures.items, c.in_ok-reserve.ensures.items, c.in-Ok.ensures.added)
+    (class-made-of w c.args.class_of_class k c.in-Ok.class c.args.base.0 b c.in-Ok.ensures.number (ap numbers c.in_ok-bases.ensures.items) c.self.invariant (opened-one w c.args.self.now (IsOf c.args.base.0 b) c.self.view_is h))
