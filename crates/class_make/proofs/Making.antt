@@ -115,11 +115,11 @@ unfolding made
 made-read u v meta name base bs o e f = λ i. made_unless (sym f i) meta name base (e i, bs)
 
 -- a class that is made and told of
-pub made-new : (u v w : PlainWorld) (why : Option Fault) (meta : ℕ) (name : Text) (base : ℕ) (bs : Bindings) (c : ℕ) (node : PyObjectRef) (us vs : List PyObjectRef) → why ≡ None → v ≡ with_new_class u meta (record { name = name; node = ref (length u.nodes); bases = base ∷ []; attrs = bs; members = []; flags = heap_flags }) → w ≡ with_definers v c us → us ≡ values_of bs → vs ≡ values_of bs → c ≡ length u.classes → node ≡ ref (length u.nodes) → told_of w c node vs ≡ made_unless why meta name base (u, bs)
+pub made-new : (u v w : PlainWorld) (why : Option Fault) (meta : ℕ) (name : Text) (base : ℕ) (bs : Bindings) (c : ℕ) (node : PyObjectRef) (us vs : List PyObjectRef) → why ≡ None → v ≡ with_new_class u meta (record { name = name; number = length u.nodes; bases = base ∷ []; attrs = bs; members = []; flags = heap_flags }) → w ≡ with_definers v c us → us ≡ values_of bs → vs ≡ values_of bs → c ≡ length u.nodes → node ≡ ref (length u.nodes) → told_of w c node vs ≡ made_unless why meta name base (u, bs)
 unfolding made_unless
 made-new u v w why meta name base bs c node us vs none made set eu ev ec en =
     let new : v ≡ new_class u meta name base bs = made in
-    let all : w ≡ with_definers (new_class u meta name base bs) (length u.classes) (values_of bs) = set ∙ (λ i. with_definers (new i) (ec i) (eu i)) in
+    let all : w ≡ with_definers (new_class u meta name base bs) (length u.nodes) (values_of bs) = set ∙ (λ i. with_definers (new i) (ec i) (eu i)) in
     (λ i. told_of (all i) (ec i) (en i) (ev i)) ∙ ap (λ o. made_unless o meta name base (u, bs)) (sym none)
 
 -- no value wants to know its name, and this is what those past the class have for it

@@ -114,7 +114,7 @@ told_of w c class values =
 
 abbrev pub new_class : PlainWorld → ℕ → Text → ℕ → Bindings → PlainWorld
 new_class w meta name base attrs =
-    with_new_class w meta (record { name = name; node = ref (length w.nodes); bases = base ∷ []; attrs = attrs; members = []; flags = heap_flags })
+    with_new_class w meta (record { name = name; number = length w.nodes; bases = base ∷ []; attrs = attrs; members = []; flags = heap_flags })
 
 -- a class with members of its own is for later. The qualified name must be a text
 abbrev pub refusal_by : Bool → Bool → Option Fault
@@ -128,7 +128,7 @@ refusal s =
 unfoldable pub made_unless : Option Fault → ℕ → Text → ℕ → Space → Said
 made_unless (Some x) meta name base s = Ends s.0 (Err x)
 made_unless None meta name base s =
-    told_of (with_definers (new_class s.0 meta name base s.1) (length s.0.classes) (values_of s.1)) (length s.0.classes) (ref (length s.0.nodes)) (values_of s.1)
+    told_of (with_definers (new_class s.0 meta name base s.1) (length s.0.nodes) (values_of s.1)) (length s.0.nodes) (ref (length s.0.nodes)) (values_of s.1)
 
 unfoldable pub made : ℕ → Text → ℕ → Space → Said
 made meta name base s = made_unless (refusal s) meta name base s

@@ -1,12 +1,12 @@
 -- Tables that give a class the same attributes and slots.
 use Rattle.std.proofs.Common.{◌≡◌, ℕ, Bool, true, false, cond, not, ◌&&◌, List, [], ◌∷◌, Option, Some, None, inl, inr, refl, ap, ◌∙◌}
-use Rattle.std.specs.Prelude.{slice_get, option_and_then}
+use Rattle.std.specs.Prelude.{option_and_then}
 use Rattle.py_node.specs.declared.entry.SlotId.{SlotId}
 use Rattle.py_node.specs.declared.entry.SlotId.TheVariants.{New}
 use Rattle.py_node.specs.declared.entry.SlotEntry.{SlotEntry}
 use Rattle.py_node.specs.Slots.{Sort, ByItself, BySequence, ByMapping, Nearest, all_slots, sort_of}
 use Rattle.class_model.specs.Order.{Holds}
-use Rattle.class_model.specs.Class.{Classes, lin, own_of, first_along, along}
+use Rattle.class_model.specs.Class.{Classes, class_at, lin, own_of, first_along, along}
 use Rattle.class_model.specs.Slot.{Keys, Natives, is_name_of, is_slot, wrapped, heap_entry, native_entry, is_heap_at, given_entry, is_by_itself, entry, has_table, first_with, read_along}
 
 pub bind-agrees : {A B : Type 0} (f g : A → Option B) (o p : Option A) → o ≡ p → ((x : A) → o ≡ Some x → f x ≡ g x) → option_and_then f o ≡ option_and_then g p
@@ -48,25 +48,25 @@ read_along-agrees f g ByMapping c line s e h =
 read_along-agrees f g Nearest c line s e h = first_along-agrees (λ d. f d s) (λ d. g d s) line (λ x k. ap (λ own. own s) (h x k))
 
 -- two tables, and the classes at which they agree on a slot's names
-module _ {K L : Type 0} (keys : Keys K) (others : Keys L) (natives : Natives) (s : SlotId) (t : Classes K) (u : Classes L) (At : ℕ → Type 0) (inside : (x : ℕ) (l : List ℕ) (y : ℕ) → At x → lin t x ≡ Some l → Holds l y → At y) (lins : (x : ℕ) → At x → lin t x ≡ lin u x) (heaps : (x : ℕ) → At x → is_heap_at (slice_get t x) ≡ is_heap_at (slice_get u x)) (owns : (x : ℕ) → At x → own_of (is_name_of keys s) (slice_get t x) ≡ own_of (is_name_of others s) (slice_get u x)) where
+module _ {K L : Type 0} (keys : Keys K) (others : Keys L) (natives : Natives) (s : SlotId) (t : Classes K) (u : Classes L) (At : ℕ → Type 0) (inside : (x : ℕ) (l : List ℕ) (y : ℕ) → At x → lin t x ≡ Some l → Holds l y → At y) (lins : (x : ℕ) → At x → lin t x ≡ lin u x) (heaps : (x : ℕ) → At x → is_heap_at (class_at t x) ≡ is_heap_at (class_at u x)) (owns : (x : ℕ) → At x → own_of (is_name_of keys s) (class_at t x) ≡ own_of (is_name_of others s) (class_at u x)) where
   heap_entry-agrees : (c : ℕ) (line : List ℕ) → At c → lin t c ≡ Some line → heap_entry keys t c line s ≡ heap_entry others u c line s
   heap_entry-agrees c line p e =
       let a = owns c p in
       let b : along (is_name_of keys s) t line ≡ along (is_name_of others s) u line =
-      first_along-agrees (λ x. own_of (is_name_of keys s) (slice_get t x)) (λ x. own_of (is_name_of others s) (slice_get u x)) line (λ x h. owns x (inside c line x p e h)) in
-      ap (λ o. wrapped s (cond (is_slot s New) o (along (is_name_of keys s) t line))) a ∙ ap (λ o. wrapped s (cond (is_slot s New) (own_of (is_name_of others s) (slice_get u c)) o)) b
+      first_along-agrees (λ x. own_of (is_name_of keys s) (class_at t x)) (λ x. own_of (is_name_of others s) (class_at u x)) line (λ x h. owns x (inside c line x p e h)) in
+      ap (λ o. wrapped s (cond (is_slot s New) o (along (is_name_of keys s) t line))) a ∙ ap (λ o. wrapped s (cond (is_slot s New) (own_of (is_name_of others s) (class_at u c)) o)) b
 
   given_entry-agrees : (c : ℕ) → At c → given_entry keys natives t s c ≡ given_entry others natives u s c
   given_entry-agrees c p =
       let a : option_and_then (λ line. heap_entry keys t c line s) (lin t c) ≡ option_and_then (λ line. heap_entry others u c line s) (lin u c) =
       bind-agrees (λ line. heap_entry keys t c line s) (λ line. heap_entry others u c line s) (lin t c) (lin u c) (lins c p) (λ line e. heap_entry-agrees c line p e) in
-      ap (λ o. cond (is_heap_at (slice_get t c)) o (native_entry natives c s)) a ∙ ap (λ b. cond b (option_and_then (λ line. heap_entry others u c line s) (lin u c)) (native_entry natives c s)) (heaps c p)
+      ap (λ o. cond (is_heap_at (class_at t c)) o (native_entry natives c s)) a ∙ ap (λ b. cond b (option_and_then (λ line. heap_entry others u c line s) (lin u c)) (native_entry natives c s)) (heaps c p)
 
   pub entry-agrees : (c : ℕ) → At c → entry keys natives t c s ≡ entry others natives u c s
   entry-agrees c p =
       let a : option_and_then (first_along (given_entry keys natives t s)) (lin t c) ≡ option_and_then (first_along (given_entry others natives u s)) (lin u c) =
       bind-agrees (first_along (given_entry keys natives t s)) (first_along (given_entry others natives u s)) (lin t c) (lin u c) (lins c p) (λ line e. first_along-agrees (given_entry keys natives t s) (given_entry others natives u s) line (λ x h. given_entry-agrees x (inside c line x p e h))) in
       let g = given_entry-agrees c p in
-      ap (λ o. cond (not (is_heap_at (slice_get t c)) && is_by_itself (sort_of s)) o (given_entry keys natives t s c)) a
-      ∙ ap (λ o. cond (not (is_heap_at (slice_get t c)) && is_by_itself (sort_of s)) (option_and_then (first_along (given_entry others natives u s)) (lin u c)) o) g
+      ap (λ o. cond (not (is_heap_at (class_at t c)) && is_by_itself (sort_of s)) o (given_entry keys natives t s c)) a
+      ∙ ap (λ o. cond (not (is_heap_at (class_at t c)) && is_by_itself (sort_of s)) (option_and_then (first_along (given_entry others natives u s)) (lin u c)) o) g
       ∙ ap (λ b. cond (not b && is_by_itself (sort_of s)) (option_and_then (first_along (given_entry others natives u s)) (lin u c)) (given_entry others natives u s c)) (heaps c p)

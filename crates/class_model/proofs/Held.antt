@@ -1,5 +1,5 @@
 -- What lists hold, and lists of which some is struck out.
-use Rattle.std.proofs.Common.{◌≡◌, ℕ, zero, suc, ◌<◌, ◌≤◌, Bool, true, false, cond, not, eqb, List, [], ◌∷◌, ◌++◌, map, length, filter, ◌⊎◌, inl, inr, refl, sym, ap, subst, ◌∙◌, arith}
+use Rattle.std.proofs.Common.{◌≡◌, ℕ, suc, ◌<◌, ◌≤◌, Bool, true, false, cond, not, eqb, List, [], ◌∷◌, ◌++◌, map, length, filter, ◌⊎◌, inl, inr, refl, sym, ap, subst, ◌∙◌, arith}
 use Rattle.std.proofs.lemmas.Bool.{eq-eqb, ne_eqb, cases_eq}
 use Rattle.std.specs.List.{flat_map}
 use Rattle.class_model.specs.Order.{Holds, Distinct, Subsequence, without, unique}
@@ -87,36 +87,6 @@ pub from_unique : (xs : List ℕ) (y : ℕ) → Holds (unique xs) y → Holds xs
 from_unique [] y h = h
 from_unique (x ∷ xs) y (inl e) = inl e
 from_unique (x ∷ xs) y (inr h) = inr (from_unique xs y (from_without x y (unique xs) h).0)
-
--- nothing to strike
-without-none : (x : ℕ) (l : List ℕ) → (Holds l x → ⊥) → without x l ≡ l
-without-none x [] n = refl
-without-none x (y ∷ l) n =
-    ap (λ b. cond (not b) (y ∷ without x l) (without x l)) (ne_eqb y x (λ e. n (inl e))) ∙ ap (λ r. y ∷ r) (without-none x l (λ h. n (inr h)))
-
-Distinct-without : (x : ℕ) (l : List ℕ) → Distinct l → Distinct (without x l)
-Distinct-without x [] d = tt
-Distinct-without x (y ∷ l) d =
-    elim (eqb y x) as (λ b. Distinct (cond (not b) (y ∷ without x l) (without x l))) [
-      | true ↦ Distinct-without x l d.1
-      | false ↦ (λ h. d.0 (from_without x y l h).0, Distinct-without x l d.1)
-    ]
-
-without-one : (x : ℕ) (xs : List ℕ) → Distinct xs → length xs ≤ suc (length (without x xs))
-without-one x [] d = omega arith
-without-one x (y ∷ xs) d = go (cases_eq y x) (without-one x xs d.1)
-  where
-    go : (y ≡ x) ⊎ (y ≡ x → ⊥) → length xs ≤ suc (length (without x xs)) → length (y ∷ xs) ≤ suc (length (without x (y ∷ xs)))
-    go (inl e) rest = rw (eq-eqb y x e, without-none x xs (λ h. d.0 (Holds-equal xs x y (sym e) h))) (omega arith)
-    go (inr n) rest = rw (ne_eqb y x n) (omega (arith, rest))
-
-pub distinct-below : (n : ℕ) (xs : List ℕ) → Distinct xs → ((x : ℕ) → Holds xs x → x < n) → length xs ≤ n
-distinct-below zero [] d h = omega arith
-distinct-below zero (x ∷ xs) d h = let l = h x (inl refl) in absurd (omega arith)
-distinct-below (suc n) xs d h =
-    let rest = distinct-below n (without n xs) (Distinct-without n xs d) (λ x k. let r = from_without n x xs k in let l = h x r.0 in let m = r.1 in omega (arith, l, m)) in
-    let one = without-one n xs d in
-    omega (arith, rest, one)
 
 pub Subsequence-more : (y : ℕ) (xs ys : List ℕ) → Subsequence xs ys → Subsequence xs (y ∷ ys)
 Subsequence-more y [] ys h = tt

@@ -4,6 +4,7 @@ pub mod Arranged
 pub mod OneBase
 pub mod Linear
 pub mod Depth
+pub mod Numbers
 pub mod Rule
 pub mod Changed
 pub mod Subclasses

@@ -1,6 +1,6 @@
 -- Other keys change nothing.
-use Rattle.std.proofs.Common.{◌≡◌, ℕ, zero, suc, ◌<◌, Bool, cond, not, ◌&&◌, ◌||◌, eqb, List, [], ◌∷◌, ◌++◌, map, length, Option, Some, None, inl, inr, refl, ap, ◌∙◌}
-use Rattle.std.specs.Prelude.{nat_lt, slice_get, option_map, option_and_then}
+use Rattle.std.proofs.Common.{◌≡◌, ℕ, ◌<◌, Bool, true, false, cond, not, ◌&&◌, ◌||◌, eqb, List, [], ◌∷◌, ◌++◌, map, length, Option, Some, None, inl, inr, refl, ap, ◌∙◌}
+use Rattle.std.specs.Prelude.{nat_lt, option_map, option_and_then}
 use Rattle.std.proofs.lemmas.List.{length-map}
 use Rattle.py_node.specs.declared.refs.PyObjectRef.{PyObjectRef}
 use Rattle.py_node.specs.declared.entry.SlotId.{SlotId}
@@ -8,7 +8,8 @@ use Rattle.py_node.specs.declared.entry.SlotEntry.{SlotEntry}
 use Rattle.py_node.specs.Attributes.{value_of}
 use Rattle.py_node.specs.Slots.{names_of, all_slots, sort_of}
 use Rattle.class_model.specs.Order.{has, linear, Holds}
-use Rattle.class_model.specs.Class.{Class, Classes, bases_of, lin, is_along, is_sub, own_of, along, found_by, found, past_first, found_past, subclasses_from, subclasses, rekeyed, renamed}
+use Rattle.class_model.specs.Class.{Class, Classes, class_at, bases_of, lin, is_along, is_sub, own_of, along, found_by, found, past_first, found_past, subclasses, rekeyed, renamed}
+use Rattle.class_model.specs.Numbers.{numbers_of}
 use Rattle.class_model.specs.Layout.{built_ins, is_empty, has_members, is_solid, solid_within, solid, base, layout_along, layout, member_count, is_place}
 use Rattle.class_model.specs.Slot.{Keys, Natives, is_one_of, is_name_of, is_heap_at, entry, entries, read_along, slot, without_same, in_turn, candidates_of}
 use Rattle.class_model.proofs.Names.{names-low}
@@ -18,17 +19,21 @@ use Rattle.class_model.proofs.Solid.{solid_within-same, base-agrees}
 
 module _ {K L : Type 0} (f : K → L) where
   -- what does not see the keys of a class sees the same
-  pub get-renamed : {A : Type 0} (g : Option (Class L) → A) (h : Option (Class K) → A) → g None ≡ h None → ((k : Class K) → g (Some (rekeyed f k)) ≡ h (Some k)) → (t : Classes K) (c : ℕ) → g (slice_get (renamed f t) c) ≡ h (slice_get t c)
-  get-renamed g h e i [] c = e
-  get-renamed g h e i (k ∷ t) zero = i k
-  get-renamed g h e i (k ∷ t) (suc c) = get-renamed g h e i t c
+  pub at-renamed : {A : Type 0} (g : Option (Class L) → A) (h : Option (Class K) → A) → g None ≡ h None → ((k : Class K) → g (Some (rekeyed f k)) ≡ h (Some k)) → (t : Classes K) (c : ℕ) → g (class_at (renamed f t) c) ≡ h (class_at t c)
+  at-renamed g h e i [] c = e
+  at-renamed g h e i (k ∷ t) c =
+      elim (eqb k.number c) as (λ b. g (cond b (Some (rekeyed f k)) (class_at (renamed f t) c)) ≡ h (cond b (Some k) (class_at t c))) [ true ↦ i k | false ↦ at-renamed g h e i t c ]
+
+  pub numbers-renamed : (t : Classes K) → numbers_of (renamed f t) ≡ numbers_of t
+  numbers-renamed [] = refl
+  numbers-renamed (k ∷ t) = ap (λ ns. k.number ∷ ns) (numbers-renamed t)
 
   pub length-renamed : (t : Classes K) → length (renamed f t) ≡ length t
   length-renamed t = length-map t (rekeyed f)
 
   pub bases_of-renamed : (t : Classes K) (c : ℕ) → bases_of (renamed f t) c ≡ bases_of t c
   bases_of-renamed t c =
-      get-renamed (option_map (λ (k : Class L). k.bases)) (option_map (λ (k : Class K). k.bases)) refl (λ k. refl) t c
+      at-renamed (option_map (λ (k : Class L). k.bases)) (option_map (λ (k : Class K). k.bases)) refl (λ k. refl) t c
 
   pub lin-renamed : (t : Classes K) (c : ℕ) → lin (renamed f t) c ≡ lin t c
   lin-renamed t c =
@@ -44,12 +49,12 @@ module _ {K L : Type 0} (f : K → L) where
     value_of-renamed (a ∷ attrs) =
         ap (λ b. cond b (Some a.1) (value_of p (map (λ a. (f a.0, a.1)) attrs))) (agree a.0) ∙ ap (cond (q a.0) (Some a.1)) (value_of-renamed attrs)
 
-    pub own_of-renamed : (t : Classes K) (c : ℕ) → own_of p (slice_get (renamed f t) c) ≡ own_of q (slice_get t c)
-    own_of-renamed t c = get-renamed (own_of p) (own_of q) refl (λ k. value_of-renamed k.attrs) t c
+    pub own_of-renamed : (t : Classes K) (c : ℕ) → own_of p (class_at (renamed f t) c) ≡ own_of q (class_at t c)
+    own_of-renamed t c = at-renamed (own_of p) (own_of q) refl (λ k. value_of-renamed k.attrs) t c
 
     pub along-renamed : (t : Classes K) (line : List ℕ) → along p (renamed f t) line ≡ along q t line
     along-renamed t line =
-        first_along-agrees (λ x. own_of p (slice_get (renamed f t) x)) (λ x. own_of q (slice_get t x)) line (λ x h. own_of-renamed t x)
+        first_along-agrees (λ x. own_of p (class_at (renamed f t) x)) (λ x. own_of q (class_at t x)) line (λ x h. own_of-renamed t x)
 
     pub found_by-renamed : (t : Classes K) (c : ℕ) → found_by p (renamed f t) c ≡ found_by q t c
     found_by-renamed t c =
@@ -63,8 +68,8 @@ module _ {K L : Type 0} (f : K → L) where
     found_past-renamed t c n =
         bind-agrees (λ line. along (λ k. alike k (f n)) (renamed f t) (past_first line)) (λ line. along (λ k. same k n) t (past_first line)) (lin (renamed f t) c) (lin t c) (lin-renamed t c) (λ line e. along-renamed (λ k. alike k (f n)) (λ k. same k n) (λ k. agree k n) t (past_first line))
 
-  is_heap_at-renamed : (t : Classes K) (c : ℕ) → is_heap_at (slice_get (renamed f t) c) ≡ is_heap_at (slice_get t c)
-  is_heap_at-renamed t c = get-renamed is_heap_at is_heap_at refl (λ k. refl) t c
+  is_heap_at-renamed : (t : Classes K) (c : ℕ) → is_heap_at (class_at (renamed f t) c) ≡ is_heap_at (class_at t c)
+  is_heap_at-renamed t c = at-renamed is_heap_at is_heap_at refl (λ k. refl) t c
 
   module _ (keys : Keys K) (others : Keys L) (agree : (a b : K) → others.same (f a) (f b) ≡ keys.same a b) (special : (k : ℕ) → k < 70 → others.special k ≡ f (keys.special k)) where
     is_one_of-renamed : (ns : List ℕ) (k : K) → ((n : ℕ) → Holds ns n → n < 70) → is_one_of others.same (map others.special ns) (f k) ≡ is_one_of keys.same (map keys.special ns) k
@@ -101,7 +106,7 @@ module _ {K L : Type 0} (f : K → L) where
 
   pub is_solid-renamed : (t : Classes K) (c : ℕ) → is_solid (renamed f t) c ≡ is_solid t c
   is_solid-renamed t c =
-      ap (λ b. nat_lt c built_ins || b) (get-renamed has_members has_members refl (λ k. ap not (is_empty-map k.members)) t c)
+      ap (λ b. nat_lt c built_ins || b) (at-renamed has_members has_members refl (λ k. ap not (is_empty-map k.members)) t c)
 
   pub solid-renamed : (t : Classes K) (c : ℕ) → solid (renamed f t) c ≡ solid t c
   solid-renamed t c =
@@ -122,12 +127,9 @@ module _ {K L : Type 0} (f : K → L) where
 
   pub is_place-renamed : (t : Classes K) (c d i : ℕ) → is_place (renamed f t) c d i ≡ is_place t c d i
   is_place-renamed t c d i =
-      ap (λ o. is_along d o && nat_lt i (member_count (slice_get (renamed f t) d))) (layout-renamed t c) ∙ ap (λ n. is_along d (layout t c) && nat_lt i n) (get-renamed member_count member_count refl (λ k. length-map k.members f) t d)
-
-  subclasses_from-renamed : (n : ℕ) (t : Classes K) (c : ℕ) → subclasses_from n (renamed f t) c ≡ subclasses_from n t c
-  subclasses_from-renamed n [] c = refl
-  subclasses_from-renamed n (k ∷ t) c =
-      ap (λ ds. cond (has k.bases c) (n ∷ ds) ds) (subclasses_from-renamed (suc n) t c)
+      ap (λ o. is_along d o && nat_lt i (member_count (class_at (renamed f t) d))) (layout-renamed t c) ∙ ap (λ n. is_along d (layout t c) && nat_lt i n) (at-renamed member_count member_count refl (λ k. length-map k.members f) t d)
 
   pub subclasses-renamed : (t : Classes K) (c : ℕ) → subclasses (renamed f t) c ≡ subclasses t c
-  subclasses-renamed t c = subclasses_from-renamed 0 t c
+  subclasses-renamed [] c = refl
+  subclasses-renamed (k ∷ t) c =
+      ap (λ ds. cond (has k.bases c) (k.number ∷ ds) ds) (subclasses-renamed t c)

@@ -1,13 +1,15 @@
 -- Linearisations in a table of classes, with no depth in what is said.
-use Rattle.std.proofs.Common.{◌≡◌, ℕ, zero, suc, ◌<◌, true, List, [], ◌∷◌, map, length, Option, Some, None, inl, inr, refl, sym, ◌∙◌, arith}
-use Rattle.std.specs.Prelude.{slice_get, option_map, option_and_then}
-use Rattle.std.proofs.lemmas.Option.{slice_get_within}
+use Rattle.std.proofs.Common.{◌≡◌, ℕ, zero, suc, ◌<◌, true, List, [], ◌∷◌, map, length, Option, Some, None, inl, inr, refl, sym, ap, ◌∙◌, arith}
+use Rattle.std.specs.Prelude.{is_some, option_map, option_and_then}
+use Rattle.std.proofs.lemmas.List.{length-map}
 use Rattle.class_model.specs.Order.{has, least_order, all_some, linear, Holds, Distinct, BeginsWith}
-use Rattle.class_model.specs.Class.{Class, Classes, bases_of, lin}
-use Rattle.class_model.proofs.Held.{Holds-flat_map, distinct-below}
+use Rattle.class_model.specs.Class.{Class, Classes, class_at, is_class, bases_of, lin}
+use Rattle.class_model.specs.Numbers.{numbers_of, limit}
+use Rattle.class_model.proofs.Held.{Holds-flat_map, distinct-fewer}
 use Rattle.class_model.proofs.Tests.{Decides-has}
 use Rattle.class_model.proofs.Arranged.{least_order-order}
 use Rattle.class_model.proofs.Linear.{linear-made, linear-from, linear-zero, linear-grows, linear-order, all_some-at}
+use Rattle.class_model.proofs.Numbers.{at-held, below-limit}
 use Rattle.class_model.proofs.Depth.{linear-member, linear-known, linear-bases, linear-length, linear-inside}
 
 -- it depends on the bases of the classes along it alone
@@ -24,10 +26,10 @@ BeginsWith-holds c [] h = absurd h
 BeginsWith-holds c (x ∷ line) h = inl h
 
 module _ {K : Type 0} where
-  pub bases_of-get : (t : Classes K) (c : ℕ) (bs : List ℕ) → bases_of t c ≡ Some bs → (k : Class K) × (slice_get t c ≡ Some k) × (k.bases ≡ bs)
-  bases_of-get t c bs e = go (slice_get t c) refl e
+  pub bases_of-get : (t : Classes K) (c : ℕ) (bs : List ℕ) → bases_of t c ≡ Some bs → (k : Class K) × (class_at t c ≡ Some k) × (k.bases ≡ bs)
+  bases_of-get t c bs e = go (class_at t c) refl e
     where
-      go : (o : Option (Class K)) → slice_get t c ≡ o → option_map (λ k. k.bases) o ≡ Some bs → (k : Class K) × (slice_get t c ≡ Some k) × (k.bases ≡ bs)
+      go : (o : Option (Class K)) → class_at t c ≡ o → option_map (λ k. k.bases) o ≡ Some bs → (k : Class K) × (class_at t c ≡ Some k) × (k.bases ≡ bs)
       go None h e = cc
       go (Some k) h e = (k, h, cc)
 
@@ -50,14 +52,17 @@ module _ {K : Type 0} where
   lin-inside t c line x l y e h f k = linear-inside (bases_of t) (length t) c line x l y e h f k
 
   -- the class itself is in the table
-  pub lin-there : (t : Classes K) (c : ℕ) (line : List ℕ) → lin t c ≡ Some line → (k : Class K) × (slice_get t c ≡ Some k)
+  pub lin-there : (t : Classes K) (c : ℕ) (line : List ℕ) → lin t c ≡ Some line → (k : Class K) × (class_at t c ≡ Some k)
   lin-there t c line e = let r = linear-known (bases_of t) (length t) c line e in let g = bases_of-get t c r.0 r.1 in (g.0, g.1)
 
-  pub lin-within : (t : Classes K) (c : ℕ) (line : List ℕ) → lin t c ≡ Some line → c < length t
-  lin-within t c line e = let r = lin-there t c line e in slice_get_within t c r.0 r.1
+  pub lin-within : (t : Classes K) (c : ℕ) (line : List ℕ) → lin t c ≡ Some line → is_class t c ≡ true
+  lin-within t c line e = ap is_some (lin-there t c line e).1
 
-  pub lin-below : (t : Classes K) (c : ℕ) (line : List ℕ) (x : ℕ) → lin t c ≡ Some line → Holds line x → x < length t
-  lin-below t c line x e h = let r = lin-member t c line x e h in lin-within t x r.0 r.1
+  pub lin-classes : (t : Classes K) (c : ℕ) (line : List ℕ) (x : ℕ) → lin t c ≡ Some line → Holds line x → is_class t x ≡ true
+  lin-classes t c line x e h = let r = lin-member t c line x e h in lin-within t x r.0 r.1
+
+  pub lin-below : (t : Classes K) (c : ℕ) (line : List ℕ) (x : ℕ) → lin t c ≡ Some line → Holds line x → x < limit t
+  lin-below t c line x e h = below-limit t x (lin-classes t c line x e h)
 
   pub lin-bases : (t : Classes K) (c : ℕ) (line bs : List ℕ) (x : ℕ) → lin t c ≡ Some line → bases_of t c ≡ Some bs → Holds bs x → Holds line x
   lin-bases t c line bs x e h k = linear-bases (bases_of t) (length t) c line bs x e h k
@@ -65,7 +70,8 @@ module _ {K : Type 0} where
   -- however deep it was found, it is the linearisation
   pub lin-from : (t : Classes K) (n c : ℕ) (line : List ℕ) → linear (bases_of t) n c ≡ Some line → lin t c ≡ Some line
   lin-from t n c line e =
-      linear-length (bases_of t) n c line (length t) e (distinct-below (length t) line (linear-order (bases_of t) n c line e).1 (λ x h. let r = linear-member (bases_of t) n c line x e h in let q = linear-known (bases_of t) n x r.0 r.1 in let k = bases_of-get t x q.0 q.1 in slice_get_within t x k.0 k.1))
+      let few = distinct-fewer line (numbers_of t) (linear-order (bases_of t) n c line e).1 (λ x h. let r = linear-member (bases_of t) n c line x e h in let q = linear-known (bases_of t) n x r.0 r.1 in at-held t x (ap is_some (bases_of-get t x q.0 q.1).1)) in
+      linear-length (bases_of t) n c line (length t) e (omega (arith, few, length-map t (λ (k : Class K). k.number)))
 
   -- the least order over the linearisations of the bases
   pub lin-rule : (t : Classes K) (c : ℕ) → lin t c ≡ option_and_then (λ bs. option_and_then (least_order c bs) (all_some (map (lin t) bs))) (bases_of t c)

@@ -1,35 +1,36 @@
 -- The slots of a class after one more class, and after an attribute was set.
 use Rattle.std.proofs.Common.{◌≡◌, ℕ, Bool, true, false, cond, List, [], ◌∷◌, map, Some, None, refl, sym, ap, subst, ◌∙◌}
-use Rattle.std.specs.Prelude.{slice_get, option_map}
+use Rattle.std.specs.Prelude.{option_map}
 use Rattle.std.proofs.lemmas.Bool.{false≢true}
 use Rattle.py_node.specs.declared.refs.PyObjectRef.{PyObjectRef}
 use Rattle.py_node.specs.declared.entry.SlotId.{SlotId}
 use Rattle.py_node.specs.Attributes.{value_of, with_value}
 use Rattle.py_node.specs.Slots.{names_of, all_slots, sort_of}
 use Rattle.class_model.specs.Order.{has, Holds}
-use Rattle.class_model.specs.Class.{Class, Classes, lin, own_of, along, found_by, found}
+use Rattle.class_model.specs.Class.{Class, Classes, class_at, lin, own_of, along, found_by, found}
 use Rattle.class_model.specs.Slot.{Keys, Natives, is_one_of, is_name_of, is_heap_at, entry, entries, read_along, slot}
 use Rattle.class_model.specs.Change.{with_class, with_class_attr}
 use Rattle.class_model.proofs.Held.{Holds-equal}
 use Rattle.class_model.proofs.Tests.{Decides-has}
-use Rattle.class_model.proofs.Rule.{lin-held, lin-member, lin-inside, lin-below, lin-along}
-use Rattle.class_model.proofs.Changed.{get-before, get-changed, get-changed_away, lin-attr}
+use Rattle.class_model.proofs.Numbers.{at-before, at-changed, at-changed_away}
+use Rattle.class_model.proofs.Rule.{lin-held, lin-member, lin-inside, lin-classes, lin-along}
+use Rattle.class_model.proofs.Changed.{lin-attr}
 use Rattle.class_model.proofs.Agreed.{bind-agrees, first_along-agrees, read_along-agrees, entry-agrees}
 
 module _ {K : Type 0} where
   -- tables that have the same classes along a line
-  pub lin-alike : (t u : Classes K) (c : ℕ) (line : List ℕ) → lin t c ≡ Some line → ((x : ℕ) → Holds line x → slice_get t x ≡ slice_get u x) → (x : ℕ) → Holds line x → lin t x ≡ lin u x
+  pub lin-alike : (t u : Classes K) (c : ℕ) (line : List ℕ) → lin t c ≡ Some line → ((x : ℕ) → Holds line x → class_at t x ≡ class_at u x) → (x : ℕ) → Holds line x → lin t x ≡ lin u x
   lin-alike t u c line e h x k =
       let r = lin-member t c line x e k in
       r.1 ∙ sym (lin-along t u x r.0 r.1 (λ y p. ap (option_map (λ (j : Class K). j.bases)) (h y (lin-inside t c line x r.0 y e k r.1 p))))
 
-  pub found_by-along : (test : K → Bool) (t u : Classes K) (c : ℕ) (line : List ℕ) → lin t c ≡ Some line → ((x : ℕ) → Holds line x → slice_get t x ≡ slice_get u x) → found_by test t c ≡ found_by test u c
+  pub found_by-along : (test : K → Bool) (t u : Classes K) (c : ℕ) (line : List ℕ) → lin t c ≡ Some line → ((x : ℕ) → Holds line x → class_at t x ≡ class_at u x) → found_by test t c ≡ found_by test u c
   found_by-along test t u c line e h =
       let same : lin t c ≡ lin u c = lin-alike t u c line e h c (lin-held t c line e) in
-      bind-agrees (along test t) (along test u) (lin t c) (lin u c) same (λ l k. first_along-agrees (λ x. own_of test (slice_get t x)) (λ x. own_of test (slice_get u x)) l (λ x p. ap (own_of test) (h x (let s : l ≡ line = cc in let P : List ℕ → Type 0 = λ w. Holds w x in subst P s p))))
+      bind-agrees (along test t) (along test u) (lin t c) (lin u c) same (λ l k. first_along-agrees (λ x. own_of test (class_at t x)) (λ x. own_of test (class_at u x)) l (λ x p. ap (own_of test) (h x (let s : l ≡ line = cc in let P : List ℕ → Type 0 = λ w. Holds w x in subst P s p))))
 
-  before : (t : Classes K) (k : Class K) (c : ℕ) (line : List ℕ) → lin t c ≡ Some line → (x : ℕ) → Holds line x → slice_get t x ≡ slice_get (with_class t k) x
-  before t k c line e x h = sym (get-before t k x (lin-below t c line x e h))
+  before : (t : Classes K) (k : Class K) (c : ℕ) (line : List ℕ) → lin t c ≡ Some line → (x : ℕ) → Holds line x → class_at t x ≡ class_at (with_class t k) x
+  before t k c line e x h = sym (at-before t k x (lin-classes t c line x e h))
 
   -- what is found stays the same for the classes that were there
   pub found_by-push : (test : K → Bool) (t : Classes K) (k : Class K) (c : ℕ) (line : List ℕ) → lin t c ≡ Some line → found_by test (with_class t k) c ≡ found_by test t c
@@ -39,14 +40,14 @@ module _ {K : Type 0} where
   found-push same t k c n line e = found_by-push (λ j. same j n) t k c line e
 
   module _ (keys : Keys K) (natives : Natives) where
-    pub entry-along : (t u : Classes K) (c : ℕ) (line : List ℕ) (s : SlotId) → lin t c ≡ Some line → ((x : ℕ) → Holds line x → slice_get t x ≡ slice_get u x) → entry keys natives t c s ≡ entry keys natives u c s
+    pub entry-along : (t u : Classes K) (c : ℕ) (line : List ℕ) (s : SlotId) → lin t c ≡ Some line → ((x : ℕ) → Holds line x → class_at t x ≡ class_at u x) → entry keys natives t c s ≡ entry keys natives u c s
     entry-along t u c line s e h =
         entry-agrees keys keys natives s t u (λ x. Holds line x) (λ x l y k f p. lin-inside t c line x l y e k f p) (lin-alike t u c line e h) (λ x k. ap is_heap_at (h x k)) (λ x k. ap (own_of (is_name_of keys s)) (h x k)) c (lin-held t c line e)
 
-    pub entries-along : (t u : Classes K) (c : ℕ) (line : List ℕ) → lin t c ≡ Some line → ((x : ℕ) → Holds line x → slice_get t x ≡ slice_get u x) → entries keys natives t c ≡ entries keys natives u c
+    pub entries-along : (t u : Classes K) (c : ℕ) (line : List ℕ) → lin t c ≡ Some line → ((x : ℕ) → Holds line x → class_at t x ≡ class_at u x) → entries keys natives t c ≡ entries keys natives u c
     entries-along t u c line e h = λ i. map (λ s. entry-along t u c line s e h i) all_slots
 
-    pub slot-along : (t u : Classes K) (c : ℕ) (line : List ℕ) (s : SlotId) → lin t c ≡ Some line → ((x : ℕ) → Holds line x → slice_get t x ≡ slice_get u x) → slot keys natives t c s ≡ slot keys natives u c s
+    pub slot-along : (t u : Classes K) (c : ℕ) (line : List ℕ) (s : SlotId) → lin t c ≡ Some line → ((x : ℕ) → Holds line x → class_at t x ≡ class_at u x) → slot keys natives t c s ≡ slot keys natives u c s
     slot-along t u c line s e h = bind-agrees (λ l. read_along (entry keys natives t) (sort_of s) c l s) (λ l. read_along (entry keys natives u) (sort_of s) c l s) (lin t c) (lin u c) (lin-alike t u c line e h c (lin-held t c line e)) each
       where
         same : (x : ℕ) → Holds line x → entry keys natives t x ≡ entry keys natives u x
@@ -66,9 +67,9 @@ module _ {K : Type 0} where
     pub slot-push : (t : Classes K) (k : Class K) (c : ℕ) (line : List ℕ) (s : SlotId) → lin t c ≡ Some line → slot keys natives (with_class t k) c s ≡ slot keys natives t c s
     slot-push t k c line s e = sym (slot-along t (with_class t k) c line s e (before t k c line e))
 
-    away : (t : Classes K) (c : ℕ) (n : K) (v : PyObjectRef) (line : List ℕ) → has line c ≡ false → (x : ℕ) → Holds line x → slice_get t x ≡ slice_get (with_class_attr keys.same t c n v) x
+    away : (t : Classes K) (c : ℕ) (n : K) (v : PyObjectRef) (line : List ℕ) → has line c ≡ false → (x : ℕ) → Holds line x → class_at t x ≡ class_at (with_class_attr keys.same t c n v) x
     away t c n v line e x h =
-        sym (get-changed_away (λ k. record k { attrs = with_value keys.same k.attrs n v }) t c x (λ i. false≢true (sym e ∙ (Decides-has line c).1 (Holds-equal line x c i h))))
+        sym (at-changed_away (λ k. record k { attrs = with_value keys.same k.attrs n v }) (λ k. refl) t c x (λ i. false≢true (sym e ∙ (Decides-has line c).1 (Holds-equal line x c i h))))
 
     -- an attribute of a class that is not along the line
     pub entry-attr-away : (t : Classes K) (c : ℕ) (n : K) (v : PyObjectRef) (d : ℕ) (line : List ℕ) → lin t d ≡ Some line → has line c ≡ false → entries keys natives (with_class_attr keys.same t c n v) d ≡ entries keys natives t d
@@ -91,7 +92,7 @@ module _ {K : Type 0} where
       other t c n v d s e =
           let change : Class K → Class K = λ k. record k { attrs = with_value keys.same k.attrs n v } in
           let test : (a : K) → keys.same a n ≡ true → is_name_of keys s a ≡ false = λ a h. is_one_of-alike (map keys.special (names_of s)) a n h ∙ e in
-          entry-agrees keys keys natives s (with_class_attr keys.same t c n v) t (λ x. Unit {0}) (λ x l y p f h. tt) (λ x p. lin-attr keys.same t c n v x) (λ x p. get-changed change is_heap_at (λ k. refl) t c x) (λ x p. get-changed change (own_of (is_name_of keys s)) (λ k. value_of-other (is_name_of keys s) n v test e k.attrs) t c x) d tt
+          entry-agrees keys keys natives s (with_class_attr keys.same t c n v) t (λ x. Unit {0}) (λ x l y p f h. tt) (λ x p. lin-attr keys.same t c n v x) (λ x p. at-changed change (λ k. refl) is_heap_at (λ k. refl) t c x) (λ x p. at-changed change (λ k. refl) (own_of (is_name_of keys s)) (λ k. value_of-other (is_name_of keys s) n v test e k.attrs) t c x) d tt
 
     -- an attribute whose name is none of the slot's
     pub entry-attr-other : (t : Classes K) (c : ℕ) (n : K) (v : PyObjectRef) (d : ℕ) (s : SlotId) → ((a b x : K) → keys.same a b ≡ true → keys.same a x ≡ keys.same b x) → is_name_of keys s n ≡ false → entry keys natives (with_class_attr keys.same t c n v) d s ≡ entry keys natives t d s

@@ -5,12 +5,14 @@ use Rattle.std.specs.Prelude.{nat_lt, option_map, option_and_then}
 use Rattle.py_node.specs.declared.refs.PyObjectRef.{PyObjectRef}
 use Rattle.py_node.specs.Attributes.{with_value}
 use Rattle.class_model.specs.Order.{linear, Holds}
-use Rattle.class_model.specs.Class.{Class, Classes, bases_of, lin, is_sub, is_along}
+use Rattle.class_model.specs.Class.{Class, Classes, is_class, bases_of, lin, is_sub, is_along}
+use Rattle.class_model.specs.Numbers.{limit}
 use Rattle.class_model.specs.Change.{with_class, with_class_attr}
 use Rattle.class_model.specs.Layout.{built_ins, has_members, is_solid, derives_all, first_best, solid_within, solid, best_of, base}
 use Rattle.class_model.proofs.Linear.{linear-made, linear-zero, all_some-has}
 use Rattle.class_model.proofs.Rule.{lin-itself, lin-member, lin-inside, lin-within, lin-bases, lin-held}
-use Rattle.class_model.proofs.Changed.{get-before, get-last, get-changed, length-changed, bases_of-before, bases_of-last, lin-push, lin-attr}
+use Rattle.class_model.proofs.Changed.{bases_of-before, bases_of-last, lin-push, lin-attr}
+use Rattle.class_model.proofs.Numbers.{at-before, at-last, at-changed, length-changed}
 use Rattle.class_model.proofs.Agreed.{bind-agrees}
 
 first_best-held : {K : Type 0} (t : Classes K) (f : ℕ → Option ℕ) (all bs : List ℕ) (b : ℕ) → first_best t f all bs ≡ Some b → Holds bs b
@@ -119,11 +121,8 @@ module _ {K : Type 0} where
   solid-held t c line d e h =
       solid_within-at t (λ x. Holds line x) (λ x bs b p k q. let r = lin-member t c line x e p in lin-inside t c line x r.0 b e p r.1 (lin-bases t x r.0 bs b r.1 k q)) (length t) c d (lin-held t c line e) h
 
-  pub is_solid-push : (t : Classes K) (k : Class K) (c : ℕ) → c < length t → is_solid (with_class t k) c ≡ is_solid t c
-  is_solid-push t k c l = ap (λ o. nat_lt c built_ins || has_members o) (get-before t k c l)
-
-  pub is_solid-last : (t : Classes K) (k : Class K) → is_solid (with_class t k) (length t) ≡ nat_lt (length t) built_ins || has_members (Some k)
-  is_solid-last t k = ap (λ o. nat_lt (length t) built_ins || has_members o) (get-last t k)
+  pub is_solid-push : (t : Classes K) (k : Class K) (c : ℕ) → is_class t c ≡ true → is_solid (with_class t k) c ≡ is_solid t c
+  is_solid-push t k c l = ap (λ o. nat_lt c built_ins || has_members o) (at-before t k c l)
 
   size-push : (t : Classes K) (k : Class K) → length (with_class t k) ≡ suc (length t)
   size-push t k = omega (arith, length-append t (k ∷ []))
@@ -148,48 +147,53 @@ module _ {K : Type 0} where
       let r = lin-member t b line d e (solid-held t b line d e h) in
       ap (is_along d) (lin-push t k d r.0 r.1) ∙ lin-itself t d r.0 r.1
 
-  solid-last : (t : Classes K) (k : Class K) (bs : List ℕ) → k.bases ≡ bs → solid (with_class t k) (length t) ≡ cond (is_solid (with_class t k) (length t)) (Some (length t)) (option_and_then (solid_within (with_class t k) (length t)) (first_best (with_class t k) (solid_within (with_class t k) (length t)) bs bs))
-  unfolding solid_within
-  solid-last t k bs e =
-      let u = with_class t k in
-      let f = solid_within (with_class t k) (length t) in
-      ap (λ n. solid_within u n (length t)) (size-push t k) ∙ ap (λ o. cond (is_solid u (length t)) (Some (length t)) (option_and_then (λ bs. option_and_then f (first_best u f bs bs)) o)) (bases_of-last t k bs e)
+  -- the new class
+  module _ (t : Classes K) (k : Class K) (fresh : limit t ≤ k.number) where
+    pub is_solid-last : is_solid (with_class t k) k.number ≡ nat_lt k.number built_ins || has_members (Some k)
+    is_solid-last = ap (λ o. nat_lt k.number built_ins || has_members o) (at-last t k fresh)
 
-  pub solid-one_base : (t : Classes K) (k : Class K) (b : ℕ) (line : List ℕ) → k.bases ≡ b ∷ [] → lin t b ≡ Some line → solid (with_class t k) (length t) ≡ cond (is_solid (with_class t k) (length t)) (Some (length t)) (solid t b)
-  solid-one_base t k b line e h =
-      let u = with_class t k in
-      let f = solid_within (with_class t k) (length t) in
-      let deep : solid t b ≡ f b = push-deep t k (length t) b line (omega arith) h in
-      solid-last t k (b ∷ []) e ∙ ap (cond (is_solid u (length t)) (Some (length t))) (best-one u f b (λ d q. solid-itself t k b line d h (deep ∙ q)) ∙ sym deep)
+    solid-last : (bs : List ℕ) → k.bases ≡ bs → solid (with_class t k) k.number ≡ cond (is_solid (with_class t k) k.number) (Some k.number) (option_and_then (solid_within (with_class t k) (length t)) (first_best (with_class t k) (solid_within (with_class t k) (length t)) bs bs))
+    unfolding solid_within
+    solid-last bs e =
+        let u = with_class t k in
+        let f = solid_within (with_class t k) (length t) in
+        ap (λ n. solid_within u n k.number) (size-push t k) ∙ ap (λ o. cond (is_solid u k.number) (Some k.number) (option_and_then (λ bs. option_and_then f (first_best u f bs bs)) o)) (bases_of-last t k fresh bs e)
 
-  pub solid-root : (t : Classes K) (k : Class K) → k.bases ≡ [] → solid (with_class t k) (length t) ≡ cond (is_solid (with_class t k) (length t)) (Some (length t)) None
-  solid-root t k e = solid-last t k [] e
+    pub solid-one_base : (b : ℕ) (line : List ℕ) → k.bases ≡ b ∷ [] → lin t b ≡ Some line → solid (with_class t k) k.number ≡ cond (is_solid (with_class t k) k.number) (Some k.number) (solid t b)
+    solid-one_base b line e h =
+        let u = with_class t k in
+        let f = solid_within (with_class t k) (length t) in
+        let deep : solid t b ≡ f b = push-deep t k (length t) b line (omega arith) h in
+        solid-last (b ∷ []) e ∙ ap (cond (is_solid u k.number) (Some k.number)) (best-one u f b (λ d q. solid-itself t k b line d h (deep ∙ q)) ∙ sym deep)
 
-  -- a class that is solid itself, whatever its bases
-  pub solid-own : (t : Classes K) (k : Class K) → is_solid (with_class t k) (length t) ≡ true → solid (with_class t k) (length t) ≡ Some (length t)
-  solid-own t k e =
-      solid-last t k k.bases refl ∙ ap (λ w. cond w (Some (length t)) (option_and_then (solid_within (with_class t k) (length t)) (first_best (with_class t k) (solid_within (with_class t k) (length t)) k.bases k.bases))) e
+    pub solid-root : k.bases ≡ [] → solid (with_class t k) k.number ≡ cond (is_solid (with_class t k) k.number) (Some k.number) None
+    solid-root e = solid-last [] e
 
-  pub solid-built_in : (t : Classes K) (k : Class K) → length t < built_ins → solid (with_class t k) (length t) ≡ Some (length t)
-  solid-built_in t k l = solid-own t k (is_solid-last t k ∙ ap (λ w. w || has_members (Some k)) (lt-ltb (length t) built_ins l))
+    -- a class that is solid itself, whatever its bases
+    pub solid-own : is_solid (with_class t k) k.number ≡ true → solid (with_class t k) k.number ≡ Some k.number
+    solid-own e =
+        solid-last k.bases refl ∙ ap (λ w. cond w (Some k.number) (option_and_then (solid_within (with_class t k) (length t)) (first_best (with_class t k) (solid_within (with_class t k) (length t)) k.bases k.bases))) e
 
-  pub base-one_base : (t : Classes K) (k : Class K) (b : ℕ) (line : List ℕ) (d : ℕ) → k.bases ≡ b ∷ [] → lin t b ≡ Some line → solid t b ≡ Some d → base (with_class t k) (length t) ≡ Some b
-  base-one_base t k b line d e h q =
-      ap (option_and_then (best_of (with_class t k))) (bases_of-last t k (b ∷ []) e) ∙ best-one_some (with_class t k) (solid (with_class t k)) b d (solid-push t k b line h ∙ q) (solid-itself t k b line d h q)
+    pub solid-built_in : k.number < built_ins → solid (with_class t k) k.number ≡ Some k.number
+    solid-built_in l = solid-own (is_solid-last ∙ ap (λ w. w || has_members (Some k)) (lt-ltb k.number built_ins l))
 
-  pub base-root : (t : Classes K) (k : Class K) → k.bases ≡ [] → base (with_class t k) (length t) ≡ None
-  base-root t k e = ap (option_and_then (best_of (with_class t k))) (bases_of-last t k [] e)
+    pub base-one_base : (b : ℕ) (line : List ℕ) (d : ℕ) → k.bases ≡ b ∷ [] → lin t b ≡ Some line → solid t b ≡ Some d → base (with_class t k) k.number ≡ Some b
+    base-one_base b line d e h q =
+        ap (option_and_then (best_of (with_class t k))) (bases_of-last t k fresh (b ∷ []) e) ∙ best-one_some (with_class t k) (solid (with_class t k)) b d (solid-push t k b line h ∙ q) (solid-itself t k b line d h q)
+
+    pub base-root : k.bases ≡ [] → base (with_class t k) k.number ≡ None
+    base-root e = ap (option_and_then (best_of (with_class t k))) (bases_of-last t k fresh [] e)
 
   module _ (same : K → K → Bool) (t : Classes K) (c : ℕ) (n : K) (v : PyObjectRef) where
     pub bases_of-attr : (x : ℕ) → bases_of (with_class_attr same t c n v) x ≡ bases_of t x
-    bases_of-attr x = get-changed (λ k. record k { attrs = with_value same k.attrs n v }) (option_map (λ (k : Class K). k.bases)) (λ k. refl) t c x
+    bases_of-attr x = at-changed (λ k. record k { attrs = with_value same k.attrs n v }) (λ k. refl) (option_map (λ (k : Class K). k.bases)) (λ k. refl) t c x
 
     pub is_solid-attr : (d : ℕ) → is_solid (with_class_attr same t c n v) d ≡ is_solid t d
-    is_solid-attr d = ap (λ w. nat_lt d built_ins || w) (get-changed (λ k. record k { attrs = with_value same k.attrs n v }) has_members (λ k. refl) t c d)
+    is_solid-attr d = ap (λ w. nat_lt d built_ins || w) (at-changed (λ k. record k { attrs = with_value same k.attrs n v }) (λ k. refl) has_members (λ k. refl) t c d)
 
     pub solid-attr : (d : ℕ) → solid (with_class_attr same t c n v) d ≡ solid t d
     solid-attr d =
-        solid_within-same (with_class_attr same t c n v) t (λ x. Unit {0}) (λ x bs b p e h. tt) (λ x p. bases_of-attr x) (λ x p. lin-attr same t c n v x) (λ x p. is_solid-attr x) (length (with_class_attr same t c n v)) d tt ∙ ap (λ m. solid_within t m d) (length-changed (λ k. record k { attrs = with_value same k.attrs n v }) t c)
+        solid_within-same (with_class_attr same t c n v) t (λ x. Unit {0}) (λ x bs b p e h. tt) (λ x p. bases_of-attr x) (λ x p. lin-attr same t c n v x) (λ x p. is_solid-attr x) (length (with_class_attr same t c n v)) d tt ∙ ap (λ m. solid_within t m d) (length-changed (λ k. record k { attrs = with_value same k.attrs n v }) (λ k. refl) t c)
 
     pub base-attr : (d : ℕ) → base (with_class_attr same t c n v) d ≡ base t d
     base-attr d =

@@ -1,4 +1,4 @@
--- The natives that fill the slots of the built-in classes, by the place of the class.
+-- The natives that fill the slots of the built-in classes, by the number of the class.
 use Rattle.std.specs.Prelude.{ℕ, List, [], ◌∷◌, Option, Some, None, slice_get}
 use Rattle.py_node.specs.declared.entry.SlotId.{SlotId}
 use Rattle.py_node.specs.declared.entry.SlotId.TheVariants.{Add, RightAdd, Hash, Call, Repr, Getattro, Setattro, Richcompare, DescrGet, Init, New}
@@ -66,7 +66,7 @@ method_descriptor_natives Call = Some (OfCallable callable.CallMethodDescriptor)
 method_descriptor_natives DescrGet = Some (OfCallable callable.GetMethodDescriptor)
 method_descriptor_natives _ = None
 
--- the rows in order, by the place of the class
+-- the rows in order, by the number of the class
 abbrev pub rows : List (SlotId → Option NativeEntry)
 rows =
     object_natives ∷ type_natives ∷ no_natives ∷ no_natives ∷ int_natives ∷ no_natives ∷ no_natives ∷ no_natives ∷ no_natives ∷ no_natives ∷ function_natives ∷ method_natives ∷ native_function_natives ∷ builtin_method_natives ∷ method_descriptor_natives ∷ []
@@ -75,6 +75,6 @@ abbrev pub row_at : Option (SlotId → Option NativeEntry) → SlotId → Option
 row_at None s = None
 row_at (Some row) s = row s
 
--- the native of a class, by its place, in a slot
+-- the native of a class, by its number, in a slot
 unfoldable pub natives_of : ℕ → SlotId → Option NativeEntry
 natives_of c s = row_at (slice_get rows c) s

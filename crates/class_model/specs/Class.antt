@@ -1,5 +1,5 @@
 -- Classes, and how an attribute of one is found.
-use Rattle.std.specs.Prelude.{ℕ, suc, Bool, false, cond, ◌==◌, List, [], ◌∷◌, map, length, Option, Some, None, slice_get, option_map, option_and_then}
+use Rattle.std.specs.Prelude.{ℕ, Bool, false, cond, ◌==◌, eqb, List, [], ◌∷◌, map, length, Option, Some, None, is_some, option_map, option_and_then}
 use Rattle.std.specs.Int.RustNames.{bit_and}
 use Rattle.py_node.specs.declared.refs.PyObjectRef.{PyObjectRef}
 use Rattle.py_node.specs.Attributes.{value_of}
@@ -7,10 +7,10 @@ use Rattle.py_node.specs.BuiltIns.{heap_type}
 use Rattle.py_node.specs.Tree.{Text}
 use Rattle.class_model.specs.Order.{has, linear}
 
--- a class: its name, the node that stands for it, its bases, its own attributes in order, the names of its members, and its flags. A class is known by its place in the list of classes
+-- a class: its name, the number of the object that stands for it, its bases, its own attributes in order, the names of its members, and its flags. A class is known by its number, and so are its bases
 pub record Class (K : Type 0) : Type 0 where
   pub name : Text
-  pub node : PyObjectRef
+  pub number : ℕ
   pub bases : List ℕ
   pub attrs : List (K × PyObjectRef)
   pub members : List K
@@ -18,6 +18,15 @@ pub record Class (K : Type 0) : Type 0 where
 
 abbrev pub Classes : Type 0 → Type 0
 Classes K = List (Class K)
+
+-- the class with a number
+abbrev pub class_at : {K : Type 0} → Classes K → ℕ → Option (Class K)
+class_at [] c = None
+class_at (k ∷ t) c = cond (eqb k.number c) (Some k) (class_at t c)
+
+-- whether a number is that of a class
+abbrev pub is_class : {K : Type 0} → Classes K → ℕ → Bool
+is_class t c = is_some (class_at t c)
 
 -- whether a class has a flag
 abbrev pub has_flag : {K : Type 0} → ℕ → Class K → Bool
@@ -28,7 +37,7 @@ abbrev pub is_heap : {K : Type 0} → Class K → Bool
 is_heap = has_flag heap_type
 
 abbrev pub bases_of : {K : Type 0} → Classes K → ℕ → Option (List ℕ)
-bases_of t c = option_map (λ k. k.bases) (slice_get t c)
+bases_of t c = option_map (λ k. k.bases) (class_at t c)
 
 -- the linearisation of a class. There is none where a base is missing, where bases go round, or where no order exists
 abbrev pub lin : {K : Type 0} → Classes K → ℕ → Option (List ℕ)
@@ -57,7 +66,7 @@ first_along f [] = None
 first_along f (c ∷ cs) = or_else (f c) (first_along f cs)
 
 abbrev pub along : {K : Type 0} → (K → Bool) → Classes K → List ℕ → Option PyObjectRef
-along test t line = first_along (λ c. own_of test (slice_get t c)) line
+along test t line = first_along (λ c. own_of test (class_at t c)) line
 
 abbrev pub found_by : {K : Type 0} → (K → Bool) → Classes K → ℕ → Option PyObjectRef
 found_by test t c = option_and_then (along test t) (lin t c)
@@ -75,17 +84,14 @@ past_first (c ∷ cs) = cs
 abbrev pub found_past : {K : Type 0} → (K → K → Bool) → Classes K → ℕ → K → Option PyObjectRef
 found_past same t c n = option_and_then (λ line. along (λ k. same k n) t (past_first line)) (lin t c)
 
-abbrev pub subclasses_from : {K : Type 0} → ℕ → Classes K → ℕ → List ℕ
-subclasses_from n [] c = []
-subclasses_from n (k ∷ ks) c = cond (has k.bases c) (n ∷ subclasses_from (suc n) ks c) (subclasses_from (suc n) ks c)
-
 -- the classes that have it among their bases, in order
 abbrev pub subclasses : {K : Type 0} → Classes K → ℕ → List ℕ
-subclasses t c = subclasses_from 0 t c
+subclasses [] c = []
+subclasses (k ∷ ks) c = cond (has k.bases c) (k.number ∷ subclasses ks c) (subclasses ks c)
 
 -- the same classes, under other keys
 abbrev pub rekeyed : {K L : Type 0} → (K → L) → Class K → Class L
-rekeyed f k = record { name = k.name; node = k.node; bases = k.bases; attrs = map (λ a. (f a.0, a.1)) k.attrs; members = map f k.members; flags = k.flags }
+rekeyed f k = record { name = k.name; number = k.number; bases = k.bases; attrs = map (λ a. (f a.0, a.1)) k.attrs; members = map f k.members; flags = k.flags }
 
 abbrev pub renamed : {K L : Type 0} → (K → L) → Classes K → Classes L
 renamed f t = map (rekeyed f) t

@@ -1,8 +1,8 @@
 -- Solid classes, the best base of a class, and its layout.
-use Rattle.std.specs.Prelude.{ℕ, zero, suc, Bool, true, false, cond, not, ◌&&◌, ◌||◌, nat_lt, List, [], ◌∷◌, ◌++◌, map, length, Option, Some, None, slice_get, option_and_then}
-use Rattle.class_model.specs.Class.{Class, Classes, is_along, is_sub, lin, bases_of}
+use Rattle.std.specs.Prelude.{ℕ, zero, suc, Bool, true, false, cond, not, ◌&&◌, ◌||◌, nat_lt, List, [], ◌∷◌, ◌++◌, map, length, Option, Some, None, option_and_then}
+use Rattle.class_model.specs.Class.{Class, Classes, class_at, is_along, is_sub, lin, bases_of}
 
--- how many classes are built in: they are the first
+-- how many classes are built in: they have the first numbers
 abbrev pub built_ins : ℕ
 built_ins = 23
 
@@ -16,7 +16,7 @@ has_members (Some k) = not (is_empty k.members)
 
 -- a built-in class is solid, and so is a class with members of its own
 abbrev pub is_solid : {K : Type 0} → Classes K → ℕ → Bool
-is_solid t c = nat_lt c built_ins || has_members (slice_get t c)
+is_solid t c = nat_lt c built_ins || has_members (class_at t c)
 
 -- whether a class that is there derives from each of those, where all are there
 abbrev pub derives_all : {K : Type 0} → Classes K → Option ℕ → List (Option ℕ) → Bool
@@ -62,4 +62,4 @@ member_count (Some k) = length k.members
 
 -- a place of a class: a solid class of its layout, and an index below the number of its member names
 abbrev pub is_place : {K : Type 0} → Classes K → ℕ → ℕ → ℕ → Bool
-is_place t c d i = is_along d (layout t c) && nat_lt i (member_count (slice_get t d))
+is_place t c d i = is_along d (layout t c) && nat_lt i (member_count (class_at t d))

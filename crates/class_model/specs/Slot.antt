@@ -1,5 +1,5 @@
 -- What a class has in a slot, and what is read there.
-use Rattle.std.specs.Prelude.{ℕ, Bool, true, false, cond, not, ◌&&◌, ◌||◌, eqb, List, [], ◌∷◌, map, Option, Some, None, slice_get, option_map, option_and_then, is_some}
+use Rattle.std.specs.Prelude.{ℕ, Bool, true, false, cond, not, ◌&&◌, ◌||◌, eqb, List, [], ◌∷◌, map, Option, Some, None, option_map, option_and_then, is_some}
 use Rattle.py_node.specs.declared.refs.PyObjectRef.{PyObjectRef}
 use Rattle.py_node.specs.declared.entry.SlotId.{SlotId}
 use Rattle.py_node.specs.declared.entry.SlotId.TheVariants.{Hash, New}
@@ -8,7 +8,7 @@ use Rattle.py_node.specs.declared.entry.SlotEntry.{SlotEntry}
 use Rattle.py_node.specs.declared.entry.SlotEntry.TheVariants.{Native, Wrapper, Unhashable}
 use Rattle.py_node.specs.Slots.{Sort, ByItself, BySequence, ByMapping, Nearest, place_of, names_of, all_slots, sort_of}
 use Rattle.py_node.specs.Natives.{is_same_entry}
-use Rattle.class_model.specs.Class.{Class, Classes, is_heap, lin, is_sub, own_of, first_along, along}
+use Rattle.class_model.specs.Class.{Class, Classes, class_at, is_heap, lin, is_sub, own_of, first_along, along}
 
 -- how classes name their attributes: whether two keys are one, and the key of each special name by its place
 pub record Keys (K : Type 0) : Type 0 where
@@ -42,7 +42,7 @@ wrapped s (Some v) = Some (cond (is_slot s Hash && is_none v) Unhashable (Wrappe
 -- of a heap class: the names of the slot along its linearisation, but `__new__` in the class alone
 abbrev pub heap_entry : {K : Type 0} → Keys K → Classes K → ℕ → List ℕ → SlotId → Option SlotEntry
 heap_entry keys t c line s =
-    wrapped s (cond (is_slot s New) (own_of (is_name_of keys s) (slice_get t c)) (along (is_name_of keys s) t line))
+    wrapped s (cond (is_slot s New) (own_of (is_name_of keys s) (class_at t c)) (along (is_name_of keys s) t line))
 
 -- of a built-in or static class: its native
 abbrev pub native_entry : Natives → ℕ → SlotId → Option SlotEntry
@@ -55,7 +55,7 @@ is_heap_at (Some k) = is_heap k
 -- what a class has itself, given each class's linearisation
 abbrev pub given_entry : {K : Type 0} → Keys K → Natives → Classes K → SlotId → ℕ → Option SlotEntry
 given_entry keys natives t s c =
-    cond (is_heap_at (slice_get t c)) (option_and_then (λ line. heap_entry keys t c line s) (lin t c)) (native_entry natives c s)
+    cond (is_heap_at (class_at t c)) (option_and_then (λ line. heap_entry keys t c line s) (lin t c)) (native_entry natives c s)
 
 abbrev pub is_by_itself : Sort → Bool
 is_by_itself ByItself = true
@@ -66,7 +66,7 @@ is_by_itself Nearest = false
 -- the own entry of a slot. Where a built-in or static class lacks a number slot or `repr`, it is that of the nearest class along its linearisation
 abbrev pub entry : {K : Type 0} → Keys K → Natives → Classes K → ℕ → SlotId → Option SlotEntry
 entry keys natives t c s =
-    cond (not (is_heap_at (slice_get t c)) && is_by_itself (sort_of s))
+    cond (not (is_heap_at (class_at t c)) && is_by_itself (sort_of s))
     (option_and_then (first_along (given_entry keys natives t s)) (lin t c))
     (given_entry keys natives t s c)
 

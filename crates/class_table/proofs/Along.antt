@@ -1,9 +1,8 @@
 -- What is found along some classes.
 use Rattle.std.proofs.Common.{◌≡◌, ℕ, zero, suc, inl, inr, ◌+◌, ◌<◌, ◌≤◌, ◌||◌, ◌&&◌, not, Bool, true, false, cond, List, [], ◌∷◌, length, get_or, drop, map, Option, Some, None, refl, sym, ap, ◌∙◌, arith}
-use Rattle.std.specs.Prelude.{slice_get, option_map, option_and_then}
+use Rattle.std.specs.Prelude.{option_and_then}
 use Rattle.std.proofs.lemmas.List.{drop_more}
 use Rattle.std.proofs.Math.ListN.{drop_of_length-le}
-use Rattle.std.proofs.lemmas.Option.{slice_get-map, slice_get_past, slice_get-get_or}
 use Rattle.py_node.specs.declared.refs.PyObjectRef.{PyObjectRef}
 use Rattle.py_node.specs.declared.refs.PyStrInterned.{PyStrInterned}
 use Rattle.py_node.specs.declared.refs.PyTypeRef.{PyTypeRef}
@@ -14,23 +13,16 @@ use Rattle.py_node.specs.declared.entry.SlotEntry.TheVariants.{Unhashable, Wrapp
 use Rattle.py_node.specs.Attributes.{value_of, is_same_name}
 use Rattle.py_node.specs.Slots.{names_of, sort_of}
 use Rattle.class_model.specs.Order.{Holds}
-use Rattle.class_model.specs.Class.{Class, Classes, is_heap, lin, own_of, or_else, first_along, along}
+use Rattle.class_model.specs.Class.{Class, Classes, class_at, is_heap, lin, own_of, or_else, first_along, along}
 use Rattle.class_model.specs.Slot.{is_slot, is_none, is_one_of, is_name_of, wrapped, heap_entry, native_entry, is_heap_at, given_entry, is_by_itself, entry}
 use Rattle.class_model.specs.BuiltIn.{natives_of}
 use Rattle.class_table.specs.Keys.{numbers, table_keys}
-use Rattle.class_table.specs.Kept.{Kept, class_of, plain}
+use Rattle.class_table.specs.Kept.{Kept, plain}
 use Rattle.class_table.proofs.Slots.{names-hash}
 
 pub wrapped_or_else : (s : SlotId) (a b : Option PyObjectRef) → wrapped s (or_else a b) ≡ or_else (wrapped s a) (wrapped s b)
 wrapped_or_else s None b = refl
 wrapped_or_else s (Some v) b = refl
-
--- a class at a place
-pub get-some : (kept : List Kept) (n : ℕ) (x : Kept) → n < length kept → x ≡ get_or kept n x → slice_get (plain kept) n ≡ Some (class_of x)
-get-some kept n x l e = slice_get-map class_of kept n ∙ ap (option_map class_of) (slice_get-get_or kept n x l ∙ ap Some (sym e))
-
-pub get-none : (kept : List Kept) (n : ℕ) → length kept ≤ n → slice_get (plain kept) n ≡ None
-get-none kept n l = slice_get-map class_of kept n ∙ ap (option_map class_of) (slice_get_past kept n l)
 
 first-step : (ns : List PyStrInterned) (n : PyStrInterned) (a : PyStrInterned × PyObjectRef) (attrs : List (PyStrInterned × PyObjectRef)) (b : Bool) → is_same_name a.0 n ≡ b → (value_of (λ k. is_same_name k n) attrs ≡ None → value_of (is_one_of is_same_name (n ∷ ns)) attrs ≡ value_of (is_one_of is_same_name ns) attrs) → value_of (λ k. is_same_name k n) (a ∷ attrs) ≡ None → value_of (is_one_of is_same_name (n ∷ ns)) (a ∷ attrs) ≡ value_of (is_one_of is_same_name ns) (a ∷ attrs)
 first-step ns n a attrs true h go e = let z : Some a.1 ≡ None = ap (λ b. cond b (Some a.1) (value_of (λ k. is_same_name k n) attrs)) (sym h) ∙ e in cc
@@ -107,7 +99,7 @@ wrapped-next s ks i k attrs l at is =
 pub first_along-at : {V : Type 0} (f : ℕ → Option V) (line : List PyTypeRef) (i : ℕ) (d : PyTypeRef) → i < length line → first_along f (numbers (drop i line)) ≡ or_else (f (get_or line i d).0) (first_along f (numbers (drop (i + 1) line)))
 first_along-at f line i d l = ap (λ (ys : List PyTypeRef). first_along f (numbers ys)) (drop_more line i d l)
 
-module _ (t : Classes PyStrInterned) (c : ℕ) (k : Class PyStrInterned) (line : List ℕ) (there : slice_get t c ≡ Some k) (is : lin t c ≡ Some line) (s : SlotId) where
+module _ (t : Classes PyStrInterned) (c : ℕ) (k : Class PyStrInterned) (line : List ℕ) (there : class_at t c ≡ Some k) (is : lin t c ≡ Some line) (s : SlotId) where
   pub entry-inherited : (not (is_heap k) && is_by_itself (sort_of s)) ≡ true → entry table_keys natives_of t c s ≡ first_along (given_entry table_keys natives_of t s) line
   entry-inherited e =
       ap (λ (o : Option (Class PyStrInterned)). cond (not (is_heap_at o) && is_by_itself (sort_of s)) (option_and_then (first_along (given_entry table_keys natives_of t s)) (lin t c)) (given_entry table_keys natives_of t s c)) there
@@ -125,13 +117,13 @@ module _ (t : Classes PyStrInterned) (c : ℕ) (k : Class PyStrInterned) (line :
       ∙ ap (λ b. cond b (option_and_then (λ line. heap_entry table_keys t c line s) (lin t c)) (native_entry natives_of c s)) e
       ∙ ap (option_and_then (λ line. heap_entry table_keys t c line s)) is
 
-pub given-native : (t : Classes PyStrInterned) (c : ℕ) (s : SlotId) → is_heap_at (slice_get t c) ≡ false → given_entry table_keys natives_of t s c ≡ native_entry natives_of c s
+pub given-native : (t : Classes PyStrInterned) (c : ℕ) (s : SlotId) → is_heap_at (class_at t c) ≡ false → given_entry table_keys natives_of t s c ≡ native_entry natives_of c s
 given-native t c s e = ap (λ b. cond b (option_and_then (λ line. heap_entry table_keys t c line s) (lin t c)) (native_entry natives_of c s)) e
 
-pub wrapped-along-found : (s : SlotId) (kept : List Kept) (line : List PyTypeRef) (i : ℕ) (d : PyTypeRef) (e : SlotEntry) → i < length line → Some e ≡ wrapped s (own_of (is_name_of table_keys s) (slice_get (plain kept) (get_or line i d).0)) → wrapped s (along (is_name_of table_keys s) (plain kept) (numbers (drop i line))) ≡ Some e
+pub wrapped-along-found : (s : SlotId) (kept : List Kept) (line : List PyTypeRef) (i : ℕ) (d : PyTypeRef) (e : SlotEntry) → i < length line → Some e ≡ wrapped s (own_of (is_name_of table_keys s) (class_at (plain kept) (get_or line i d).0)) → wrapped s (along (is_name_of table_keys s) (plain kept) (numbers (drop i line))) ≡ Some e
 wrapped-along-found s kept line i d e l is =
-    ap (wrapped s) (first_along-at (λ c. own_of (is_name_of table_keys s) (slice_get (plain kept) c)) line i d l)
-    ∙ wrapped_or_else s (own_of (is_name_of table_keys s) (slice_get (plain kept) (get_or line i d).0)) (along (is_name_of table_keys s) (plain kept) (numbers (drop (i + 1) line)))
+    ap (wrapped s) (first_along-at (λ c. own_of (is_name_of table_keys s) (class_at (plain kept) c)) line i d l)
+    ∙ wrapped_or_else s (own_of (is_name_of table_keys s) (class_at (plain kept) (get_or line i d).0)) (along (is_name_of table_keys s) (plain kept) (numbers (drop (i + 1) line)))
     ∙ ap (λ o. or_else o (wrapped s (along (is_name_of table_keys s) (plain kept) (numbers (drop (i + 1) line))))) (sym is)
 
 pub held-at : (line : List PyTypeRef) (i : ℕ) (d : PyTypeRef) → i < length line → Holds (numbers line) (get_or line i d).0

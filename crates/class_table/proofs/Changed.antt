@@ -1,20 +1,22 @@
 -- An attribute that is set, and the slots that are found anew.
 use Rattle.std.proofs.Common.{◌≡◌, ℕ, zero, suc, ◌<◌, List, [], ◌∷◌, length, get_or, set, Some, Bool, true, false, cond, eqb, inl, inr, refl, sym, ap, subst, ◌∙◌, arith}
-use Rattle.std.specs.Prelude.{slice_get}
-use Rattle.std.proofs.lemmas.List.{length-map, map-set, get_or-map}
-use Rattle.std.proofs.lemmas.Option.{slice_get-get_or, slice_get_within}
-use Rattle.std.proofs.lemmas.Bool.{eqb-true}
+use Rattle.std.specs.Prelude.{slice_get, option_map, leb}
+use Rattle.std.proofs.lemmas.List.{map-set}
+use Rattle.std.proofs.lemmas.Option.{slice_get-map, slice_get-get_or, slice_get_within}
+use Rattle.std.proofs.lemmas.Bool.{eqb-true, eq-eqb, ne_eqb, and_parts}
 use Rattle.py_node.specs.declared.refs.PyStrInterned.{PyStrInterned}
 use Rattle.py_node.specs.declared.refs.PyObjectRef.{PyObjectRef}
 use Rattle.py_node.specs.Attributes.{with_value, is_same_name}
 use Rattle.py_node.specs.Slots.{place_of}
 use Rattle.class_model.specs.Order.{has}
 use Rattle.class_model.specs.Class.{Class, Classes, lin, subclasses}
+use Rattle.class_model.specs.Numbers.{numbers_of, ascend_from, is_ascending}
 use Rattle.class_model.specs.Layout.{base, solid}
 use Rattle.class_model.specs.Slot.{entries}
 use Rattle.class_model.specs.Sound.{AreSound}
 use Rattle.class_model.specs.BuiltIn.{natives_of}
 use Rattle.class_model.specs.Change.{with_changed, with_class_attr}
+use Rattle.class_model.proofs.Numbers.{no-less}
 use Rattle.class_model.proofs.Changed.{lin-attr}
 use Rattle.class_model.proofs.Subclasses.{subclasses-attr}
 use Rattle.class_model.proofs.Slots.{entry-attr-away, entry-attr-other}
@@ -28,10 +30,15 @@ use Rattle.class_table.proofs.Slots.{slot-at_place}
 use Rattle.class_table.proofs.Places.{get-set_cases}
 use Rattle.class_table.proofs.Refreshed.{there, entries-at, plain-refreshed, length-entries}
 
-with_changed-set : (f : Class PyStrInterned → Class PyStrInterned) (t : Classes PyStrInterned) (c : ℕ) (k : Class PyStrInterned) → c < length t → k ≡ get_or t c k → with_changed f t c ≡ set t c (f k)
-with_changed-set f [] c k l e = refl
-with_changed-set f (j ∷ t) zero k l e = ap (λ (x : Class PyStrInterned). f x ∷ t) (sym e)
-with_changed-set f (j ∷ t) (suc c) k l e = ap (λ ys. j ∷ ys) (with_changed-set f t c k (omega arith) e)
+with_changed-set : (f : Class PyStrInterned → Class PyStrInterned) (n : ℕ) (t : Classes PyStrInterned) (i : ℕ) (k : Class PyStrInterned) → ascend_from n (numbers_of t) ≡ true → slice_get t i ≡ Some k → with_changed f t k.number ≡ set t i (f k)
+with_changed-set f n [] i k up e = cc
+with_changed-set f n (j ∷ t) zero k up e =
+    let s : j ≡ k = cc in
+    ap (λ b. cond b (f j ∷ t) (j ∷ with_changed f t k.number)) (eq-eqb j.number k.number (ap (λ (x : Class PyStrInterned). x.number) s)) ∙ ap (λ (x : Class PyStrInterned). f x ∷ t) s
+with_changed-set f n (j ∷ t) (suc i) k up e =
+    let q = and_parts (leb n j.number) (ascend_from (suc j.number) (numbers_of t)) up in
+    let l = no-less (suc j.number) t i k q.1 e in
+    ap (λ b. cond b (f j ∷ t) (j ∷ with_changed f t k.number)) (ne_eqb j.number k.number (λ z. omega arith)) ∙ ap (λ ys. j ∷ ys) (with_changed-set f (suc j.number) t i k q.1 e)
 
 alike : (a b x : PyStrInterned) → is_same_name a b ≡ true → is_same_name a x ≡ is_same_name b x
 alike a b x e = ap (λ n. eqb n x.0) (eqb-true a.0 b.0 e)
@@ -41,19 +48,19 @@ module _ (kept : List Kept) (ok : IsCoherent kept) (c : ℕ) (k : Kept) (within 
   changed = record k { attrs = with_value is_same_name k.attrs n v }
 
   new : Classes PyStrInterned
-  new = with_class_attr is_same_name (plain kept) c n v
+  new = with_class_attr is_same_name (plain kept) k.number n v
 
   plain-changed : plain (set kept c changed) ≡ new
   unfolding changed new
   plain-changed =
-      let l : c < length (plain kept) = rw (length-map kept class_of) within in
       map-set class_of kept c changed
-      ∙ sym (with_changed-set (λ k. record k { attrs = with_value is_same_name k.attrs n v }) (plain kept) c (class_of k) l (ap class_of at ∙ sym (get_or-map class_of kept c k (class_of k) within)))
+      ∙ sym (with_changed-set (λ k. record k { attrs = with_value is_same_name k.attrs n v }) 0 (plain kept) c (class_of k) ok.sound.ascending (slice_get-map class_of kept c ∙ ap (option_map class_of) (there kept c k within at)))
 
   -- what the table had at a place
   record Was (d : ℕ) (y : Kept) : Type 0 where
     old : Kept
     there : slice_get kept d ≡ Some old
+    number : old.number ≡ y.number
     mro : old.mro ≡ y.mro
     slots : old.slots ≡ y.slots
     base : old.base ≡ y.base
@@ -66,90 +73,98 @@ module _ (kept : List Kept) (ok : IsCoherent kept) (c : ℕ) (k : Kept) (within 
     | inl r ↦ record {
       old = k;
       there = ap (slice_get kept) r.0 ∙ there kept c k within at;
+      number = ap (λ (x : Kept). x.number) r.1;
       mro = ap (λ (x : Kept). x.mro) r.1;
       slots = ap (λ (x : Kept). x.slots) r.1;
       base = ap (λ (x : Kept). x.base) r.1;
       solid = ap (λ (x : Kept). x.solid) r.1;
       subclasses = ap (λ (x : Kept). x.subclasses) r.1;
     }
-    | inr r ↦ record { old = y; there = r.1; mro = refl; slots = refl; base = refl; solid = refl; subclasses = refl }
+    | inr r ↦ record { old = y; there = r.1; number = refl; mro = refl; slots = refl; base = refl; solid = refl; subclasses = refl }
   ]
 
-  old-lin : (d : ℕ) (y : Kept) (w : Was d y) → lin (plain kept) d ≡ Some y.mro
-  old-lin d y w = ok.mro d w.old w.there ∙ ap Some w.mro
+  old-lin : (d : ℕ) (y : Kept) (w : Was d y) → lin (plain kept) y.number ≡ Some y.mro
+  old-lin d y w = ap (lin (plain kept)) (sym w.number) ∙ ok.mro d w.old w.there ∙ ap Some w.mro
 
-  new-lin : (d : ℕ) (y : Kept) (w : Was d y) → lin new d ≡ Some y.mro
+  new-lin : (d : ℕ) (y : Kept) (w : Was d y) → lin new y.number ≡ Some y.mro
   unfolding new
-  new-lin d y w = lin-attr is_same_name (plain kept) c n v d ∙ old-lin d y w
+  new-lin d y w = lin-attr is_same_name (plain kept) k.number n v y.number ∙ old-lin d y w
 
-  old-slots : (d : ℕ) (y : Kept) (w : Was d y) → y.slots ≡ entries table_keys natives_of (plain kept) d
-  old-slots d y w = sym w.slots ∙ ok.slots d w.old w.there
+  old-slots : (d : ℕ) (y : Kept) (w : Was d y) → y.slots ≡ entries table_keys natives_of (plain kept) y.number
+  old-slots d y w = sym w.slots ∙ ok.slots d w.old w.there ∙ ap (entries table_keys natives_of (plain kept)) w.number
 
   pub lines-changed : HasLines (set kept c (record k { attrs = with_value is_same_name k.attrs n v }))
   unfolding changed new
-  lines-changed = record { mro = λ d y e. ap (λ t. lin t d) plain-changed ∙ new-lin d y (was d y e) }
+  lines-changed = record { ascending = ap is_ascending plain-changed ∙ (sound-attr is_same_name (plain kept) k.number n v ok.sound).ascending; mro = λ d y e. ap (λ t. lin t y.number) plain-changed ∙ new-lin d y (was d y e) }
 
-  near-one : (d : ℕ) (y : Kept) (w : Was d y) → IsNear new n d y
+  near-one : (d : ℕ) (y : Kept) (w : Was d y) → IsNear new n y
   unfolding new
   near-one d y w = record {
-    count = ap length (old-slots d y w) ∙ length-entries (plain kept) d;
+    count = ap length (old-slots d y w) ∙ length-entries (plain kept) y.number;
     others = λ s h.
         ap (λ ys. slice_get ys (place_of s)) (old-slots d y w)
-        ∙ entries-at (plain kept) d (place_of s) s (slot-at_place s)
-        ∙ ap Some (sym (entry-attr-other table_keys natives_of (plain kept) c n v d s alike h));
+        ∙ entries-at (plain kept) y.number (place_of s) s (slot-at_place s)
+        ∙ ap Some (sym (entry-attr-other table_keys natives_of (plain kept) k.number n v y.number s alike h));
   }
 
-  pub near-changed : AreNear n c (set kept c (record k { attrs = with_value is_same_name k.attrs n v }))
+  pub near-changed : AreNear n k.number (set kept c (record k { attrs = with_value is_same_name k.attrs n v }))
   unfolding changed
-  near-changed = λ d y e h. let P : Classes PyStrInterned → Type 0 = λ t. IsNear t n d y in subst P (sym plain-changed) (near-one d y (was d y e))
+  near-changed = λ d y e h. let P : Classes PyStrInterned → Type 0 = λ t. IsNear t n y in subst P (sym plain-changed) (near-one d y (was d y e))
 
-  module _ (final : List Kept) (r : IsRefreshed c (set kept c (record k { attrs = with_value is_same_name k.attrs n v })) final) where
-    pub plain-final : plain final ≡ with_class_attr is_same_name (plain kept) c n v
+  module _ (final : List Kept) (r : IsRefreshed k.number (set kept c (record k { attrs = with_value is_same_name k.attrs n v })) final) where
+    pub plain-final : plain final ≡ with_class_attr is_same_name (plain kept) k.number n v
     unfolding changed new
-    plain-final = plain-refreshed c (set kept c changed) final r ∙ plain-changed
+    plain-final = plain-refreshed k.number (set kept c changed) final r ∙ plain-changed
 
-    record IsNow (d : ℕ) (x : Kept) : Type 0 where
-      mro : lin new d ≡ Some x.mro
-      slots : x.slots ≡ entries table_keys natives_of new d
-      base : base new d ≡ x.base
-      solid : solid new d ≡ x.solid
-      subclasses : x.subclasses ≡ subclasses new d
+    record IsNow (x : Kept) : Type 0 where
+      mro : lin new x.number ≡ Some x.mro
+      slots : x.slots ≡ entries table_keys natives_of new x.number
+      base : base new x.number ≡ x.base
+      solid : solid new x.number ≡ x.solid
+      subclasses : x.subclasses ≡ subclasses new x.number
 
     -- what the class has in the end
-    common : (d : ℕ) (y x : Kept) (w : Was d y) → y.mro ≡ x.mro → y.base ≡ x.base → y.solid ≡ x.solid → y.subclasses ≡ x.subclasses → x.slots ≡ entries table_keys natives_of new d → IsNow d x
+    common : (d : ℕ) (y x : Kept) (w : Was d y) → y.number ≡ x.number → y.mro ≡ x.mro → y.base ≡ x.base → y.solid ≡ x.solid → y.subclasses ≡ x.subclasses → x.slots ≡ entries table_keys natives_of new x.number → IsNow x
     unfolding new
-    common d y x w m b s c' h = record {
-      mro = new-lin d y w ∙ ap Some m;
-      slots = h;
-      base = base-attr is_same_name (plain kept) c n v d ∙ ok.base d w.old w.there ∙ w.base ∙ b;
-      solid = solid-attr is_same_name (plain kept) c n v d ∙ ok.solid d w.old w.there ∙ w.solid ∙ s;
-      subclasses = sym c' ∙ sym w.subclasses ∙ ok.subclasses d w.old w.there ∙ sym (subclasses-attr is_same_name (plain kept) c n v d);
-    }
+    common d y x w i m b s c' h =
+        let e : w.old.number ≡ x.number = w.number ∙ i in
+        record {
+          mro = ap (lin new) (sym i) ∙ new-lin d y w ∙ ap Some m;
+          slots = h;
+          base = base-attr is_same_name (plain kept) k.number n v x.number ∙ ap (base (plain kept)) (sym e) ∙ ok.base d w.old w.there ∙ w.base ∙ b;
+          solid = solid-attr is_same_name (plain kept) k.number n v x.number ∙ ap (solid (plain kept)) (sym e) ∙ ok.solid d w.old w.there ∙ w.solid ∙ s;
+          subclasses = sym c' ∙ sym w.subclasses ∙ ok.subclasses d w.old w.there ∙ ap (subclasses (plain kept)) e ∙ sym (subclasses-attr is_same_name (plain kept) k.number n v x.number);
+        }
 
-    anew : (d : ℕ) (y x : Kept) (w : Was d y) (b : Bool) → has y.mro c ≡ b → cond b (settled new d y) y ≡ x → IsNow d x
+    anew : (d : ℕ) (y x : Kept) (w : Was d y) (b : Bool) → has y.mro k.number ≡ b → cond b (settled new y) y ≡ x → IsNow x
     unfolding new
     anew d y x w true test e =
-        common d y x w (ap (λ (z : Kept). z.mro) e) (ap (λ (z : Kept). z.base) e) (ap (λ (z : Kept). z.solid) e) (ap (λ (z : Kept). z.subclasses) e) (ap (λ (z : Kept). z.slots) (sym e))
+        common d y x w (ap (λ (z : Kept). z.number) e) (ap (λ (z : Kept). z.mro) e) (ap (λ (z : Kept). z.base) e) (ap (λ (z : Kept). z.solid) e) (ap (λ (z : Kept). z.subclasses) e) (ap (λ (z : Kept). z.slots) (sym e) ∙ ap (λ (z : Kept). entries table_keys natives_of new z.number) e)
     anew d y x w false test e =
-        common d y x w (ap (λ (z : Kept). z.mro) e) (ap (λ (z : Kept). z.base) e) (ap (λ (z : Kept). z.solid) e) (ap (λ (z : Kept). z.subclasses) e) (ap (λ (z : Kept). z.slots) (sym e) ∙ old-slots d y w ∙ sym (entry-attr-away table_keys natives_of (plain kept) c n v d y.mro (old-lin d y w) test))
+        common d y x w (ap (λ (z : Kept). z.number) e) (ap (λ (z : Kept). z.mro) e) (ap (λ (z : Kept). z.base) e) (ap (λ (z : Kept). z.solid) e) (ap (λ (z : Kept). z.subclasses) e) (
+        ap (λ (z : Kept). z.slots) (sym e)
+        ∙ old-slots d y w
+        ∙ sym (entry-attr-away table_keys natives_of (plain kept) k.number n v y.number y.mro (old-lin d y w) test)
+        ∙ ap (λ (z : Kept). entries table_keys natives_of new z.number) e
+        )
 
-    all : (d : ℕ) (x : Kept) → slice_get final d ≡ Some x → IsNow d x
+    all : (d : ℕ) (x : Kept) → slice_get final d ≡ Some x → IsNow x
     unfolding changed
     all d x e =
         let mid = set kept c changed in
         let l : d < length mid = let a = slice_get_within final d x e in let b = r.count in omega arith in
         let y = get_or mid d x in
         let h : slice_get mid d ≡ Some y = slice_get-get_or mid d x l in
-        let q : refreshed_one (plain mid) c d y ≡ x = let z = r.at d y h in cc in
-        anew d y x (was d y h) (has y.mro c) refl (ap (λ (t : Classes PyStrInterned). refreshed_one t c d y) (sym plain-changed) ∙ q)
+        let q : refreshed_one (plain mid) k.number y ≡ x = let z = r.at d y h in cc in
+        anew d y x (was d y h) (has y.mro k.number) refl (ap (λ (t : Classes PyStrInterned). refreshed_one t k.number y) (sym plain-changed) ∙ q)
 
     pub coherent-final : IsCoherent final
     unfolding changed new
     coherent-final = record {
-      mro = λ d x e. ap (λ t. lin t d) plain-final ∙ (all d x e).mro;
-      slots = λ d x e. (all d x e).slots ∙ ap (λ t. entries table_keys natives_of t d) (sym plain-final);
-      base = λ d x e. ap (λ t. base t d) plain-final ∙ (all d x e).base;
-      solid = λ d x e. ap (λ t. solid t d) plain-final ∙ (all d x e).solid;
-      subclasses = λ d x e. (all d x e).subclasses ∙ ap (λ t. subclasses t d) (sym plain-final);
-      sound = subst AreSound (sym plain-final) (sound-attr is_same_name (plain kept) c n v ok.sound);
+      mro = λ d x e. ap (λ t. lin t x.number) plain-final ∙ (all d x e).mro;
+      slots = λ d x e. (all d x e).slots ∙ ap (λ t. entries table_keys natives_of t x.number) (sym plain-final);
+      base = λ d x e. ap (λ t. base t x.number) plain-final ∙ (all d x e).base;
+      solid = λ d x e. ap (λ t. solid t x.number) plain-final ∙ (all d x e).solid;
+      subclasses = λ d x e. (all d x e).subclasses ∙ ap (λ t. subclasses t x.number) (sym plain-final);
+      sound = subst AreSound (sym plain-final) (sound-attr is_same_name (plain kept) k.number n v ok.sound);
     }

@@ -1,5 +1,6 @@
 pub mod Slots
 pub mod Places
+pub mod Found
 pub mod Along
 pub mod Refreshed
 pub mod Changed

@@ -10,7 +10,8 @@ use Rattle.py_node.specs.declared.entry.SlotEntry.{SlotEntry}
 use Rattle.py_node.specs.declared.entry.SlotId.{SlotId}
 use Rattle.py_node.specs.Slots.{place_of, all_slots}
 use Rattle.class_model.specs.Order.{has}
-use Rattle.class_model.specs.Class.{Classes, lin}
+use Rattle.class_model.specs.Class.{Class, Classes, lin}
+use Rattle.class_model.specs.Numbers.{is_ascending}
 use Rattle.class_model.specs.Slot.{is_name_of, entry, entries}
 use Rattle.class_model.specs.BuiltIn.{natives_of}
 use Rattle.class_table.specs.Keys.{table_keys}
@@ -33,17 +34,23 @@ there kept b k l e = slice_get-get_or kept b k l ∙ ap Some (sym e)
 
 pub lines-set : (kept : List Kept) (b : ℕ) (k x : Kept) → HasLines kept → b < length kept → k ≡ get_or kept b k → class_of x ≡ class_of k → k.mro ≡ x.mro → HasLines (set kept b x)
 lines-set kept b k x ok l e h m = record {
+  ascending = ap is_ascending (plain-set kept b k x l e h) ∙ ok.ascending;
   mro = λ d y p.
-      ap (λ t. lin t d) (plain-set kept b k x l e h)
+      ap (λ t. lin t y.number) (plain-set kept b k x l e h)
       ∙ elim (get-set_cases kept b x d y p) [
-        | inl r ↦ ap (lin (plain kept)) r.0 ∙ ok.mro b k (there kept b k l e) ∙ ap Some m ∙ ap (λ (z : Kept). Some z.mro) r.1
+        | inl r ↦
+            ap (λ (z : Kept). lin (plain kept) z.number) (sym r.1)
+            ∙ ap (λ (j : Class PyStrInterned). lin (plain kept) j.number) h
+            ∙ ok.mro b k (there kept b k l e)
+            ∙ ap Some m
+            ∙ ap (λ (z : Kept). Some z.mro) r.1
         | inr r ↦ ok.mro d y r.1
       ];
 }
 
 -- the first slots are found anew
-abbrev pub part : Classes PyStrInterned → ℕ → ℕ → Kept → Kept
-part t c i k = record k { slots = take i (entries table_keys natives_of t c) ++ drop i k.slots }
+abbrev pub part : Classes PyStrInterned → ℕ → Kept → Kept
+part t i k = record k { slots = take i (entries table_keys natives_of t k.number) ++ drop i k.slots }
 
 pub length-entries : (t : Classes PyStrInterned) (c : ℕ) → length (entries table_keys natives_of t c) ≡ 73
 length-entries t c = length-map all_slots (entry table_keys natives_of t c) ∙ length-all
@@ -74,82 +81,78 @@ left E slots i e h is =
     ∙ next E slots i e is
 
 module _ (kept : List Kept) (c : ℕ) (k : Kept) (within : c < length kept) (at : k ≡ get_or kept c k) where
-  pub part-start : kept ≡ set kept c (part (plain kept) c 0 k)
+  pub part-start : kept ≡ set kept c (part (plain kept) 0 k)
   part-start = sym (set-get_or kept c k) ∙ ap (set kept c) (sym at)
 
-  pub part-end : (i : ℕ) → 73 ≤ i → length k.slots ≡ 73 → set kept c (part (plain kept) c i k) ≡ set kept c (settled (plain kept) c k)
+  pub part-end : (i : ℕ) → 73 ≤ i → length k.slots ≡ 73 → set kept c (part (plain kept) i k) ≡ set kept c (settled (plain kept) k)
   part-end i l n =
-      let E = entries table_keys natives_of (plain kept) c in
-      let m = length-entries (plain kept) c in
+      let E = entries table_keys natives_of (plain kept) k.number in
+      let m = length-entries (plain kept) k.number in
       let front : take i E ≡ E = take_all i E (omega arith) in
       let back : drop i k.slots ≡ [] = drop_of_length-le k.slots {i = i} (omega arith) in
       ap (λ (ys : List (Option SlotEntry)). set kept c (record k { slots = ys })) (ap (λ ys. ys ++ drop i k.slots) front ∙ ap (λ ys. E ++ ys) back ∙ append-nil E)
 
-  pub part-lines : (i : ℕ) → HasLines kept → HasLines (set kept c (part (plain kept) c i k))
-  part-lines i ok = lines-set kept c k (part (plain kept) c i k) ok within at refl refl
+  pub part-lines : (i : ℕ) → HasLines kept → HasLines (set kept c (part (plain kept) i k))
+  part-lines i ok = lines-set kept c k (part (plain kept) i k) ok within at refl refl
 
-  pub part-then : (i : ℕ) (s : SlotId) (cur new : List Kept) → slice_get all_slots i ≡ Some s → length k.slots ≡ 73 → cur ≡ set kept c (part (plain kept) c i k) → new ≡ set cur c (record (get_or cur c k) { slots = set (get_or cur c k).slots (place_of s) (entry table_keys natives_of (plain cur) c s) }) → new ≡ set kept c (part (plain kept) c (i + 1) k)
+  pub part-then : (i : ℕ) (s : SlotId) (cur new : List Kept) → slice_get all_slots i ≡ Some s → length k.slots ≡ 73 → cur ≡ set kept c (part (plain kept) i k) → new ≡ set cur c (record (get_or cur c k) { slots = set (get_or cur c k).slots (place_of s) (entry table_keys natives_of (plain cur) (get_or cur c k).number s) }) → new ≡ set kept c (part (plain kept) (i + 1) k)
   part-then i s cur new is n e f =
-      let x = part (plain kept) c i k in
-      let E = entries table_keys natives_of (plain kept) c in
+      let x = part (plain kept) i k in
+      let E = entries table_keys natives_of (plain kept) k.number in
       let held : get_or cur c k ≡ x = ap (λ ys. get_or ys c k) e ∙ get_or-set_same kept c x k within in
       let same : plain cur ≡ plain kept = ap plain e ∙ plain-set kept c k x within at refl in
       let l = slice_get_within all_slots i s is in
       let m = length-all in
       f
-      ∙ ap (λ (y : Kept). set cur c (record y { slots = set y.slots (place_of s) (entry table_keys natives_of (plain cur) c s) })) held
-      ∙ ap (λ (t : Classes PyStrInterned). set cur c (record x { slots = set x.slots (place_of s) (entry table_keys natives_of t c s) })) same
-      ∙ ap (λ (j : ℕ). set cur c (record x { slots = set x.slots j (entry table_keys natives_of (plain kept) c s) })) (place-at i s is)
-      ∙ ap (λ (ys : List (Option SlotEntry)). set cur c (record k { slots = ys })) (written E k.slots i (entry table_keys natives_of (plain kept) c s) (omega arith) (entries-at (plain kept) c i s is))
-      ∙ ap (λ (ys : List Kept). set ys c (part (plain kept) c (i + 1) k)) e
-      ∙ set-set kept c x (part (plain kept) c (i + 1) k)
+      ∙ ap (λ (y : Kept). set cur c (record y { slots = set y.slots (place_of s) (entry table_keys natives_of (plain cur) y.number s) })) held
+      ∙ ap (λ (t : Classes PyStrInterned). set cur c (record x { slots = set x.slots (place_of s) (entry table_keys natives_of t k.number s) })) same
+      ∙ ap (λ (j : ℕ). set cur c (record x { slots = set x.slots j (entry table_keys natives_of (plain kept) k.number s) })) (place-at i s is)
+      ∙ ap (λ (ys : List (Option SlotEntry)). set cur c (record k { slots = ys })) (written E k.slots i (entry table_keys natives_of (plain kept) k.number s) (omega arith) (entries-at (plain kept) k.number i s is))
+      ∙ ap (λ (ys : List Kept). set ys c (part (plain kept) (i + 1) k)) e
+      ∙ set-set kept c x (part (plain kept) (i + 1) k)
 
-  pub part-else : (i : ℕ) (s : SlotId) (name : PyStrInterned) → slice_get all_slots i ≡ Some s → IsNear (plain kept) name c k → is_name_of table_keys s name ≡ false → set kept c (part (plain kept) c i k) ≡ set kept c (part (plain kept) c (i + 1) k)
+  pub part-else : (i : ℕ) (s : SlotId) (name : PyStrInterned) → slice_get all_slots i ≡ Some s → IsNear (plain kept) name k → is_name_of table_keys s name ≡ false → set kept c (part (plain kept) i k) ≡ set kept c (part (plain kept) (i + 1) k)
   part-else i s name is near test =
-      let E = entries table_keys natives_of (plain kept) c in
-      ap (λ (ys : List (Option SlotEntry)). set kept c (record k { slots = ys })) (left E k.slots i (entry table_keys natives_of (plain kept) c s) (ap (slice_get k.slots) (sym (place-at i s is)) ∙ near.others s test) (entries-at (plain kept) c i s is))
-
-pub element : (kept : List Kept) (i : ℕ) → i < length kept → Kept
-element [] i l = absurd (omega arith)
-element (k ∷ kept) i l = k
+      let E = entries table_keys natives_of (plain kept) k.number in
+      ap (λ (ys : List (Option SlotEntry)). set kept c (record k { slots = ys })) (left E k.slots i (entry table_keys natives_of (plain kept) k.number s) (ap (slice_get k.slots) (sym (place-at i s is)) ∙ near.others s test) (entries-at (plain kept) k.number i s is))
 
 -- one more class of the table has been looked at
-module _ (class n : ℕ) (orig cur new : List Kept) (same : plain cur ≡ plain orig) (at : (i : ℕ) (k : Kept) → slice_get orig i ≡ Some k → slice_get cur i ≡ Some (cond (ltb i n) (refreshed_one (plain orig) class i k) k)) where
+module _ (class n : ℕ) (orig cur new : List Kept) (same : plain cur ≡ plain orig) (at : (i : ℕ) (k : Kept) → slice_get orig i ≡ Some k → slice_get cur i ≡ Some (cond (ltb i n) (refreshed_one (plain orig) class k) k)) where
   -- what stands at the place
   pub stands : (k : Kept) → slice_get orig n ≡ Some k → slice_get cur n ≡ Some k
-  stands k e = at n k e ∙ ap (λ b. Some (cond b (refreshed_one (plain orig) class n k) k)) (le-ltb n n (omega arith))
+  stands k e = at n k e ∙ ap (λ b. Some (cond b (refreshed_one (plain orig) class k) k)) (le-ltb n n (omega arith))
 
-  here : (k : Kept) → cond (ltb n (n + 1)) (refreshed_one (plain orig) class n k) k ≡ refreshed_one (plain orig) class n k
-  here k = ap (λ b. cond b (refreshed_one (plain orig) class n k) k) (lt-ltb n (n + 1) (omega arith))
+  here : (k : Kept) → cond (ltb n (n + 1)) (refreshed_one (plain orig) class k) k ≡ refreshed_one (plain orig) class k
+  here k = ap (λ b. cond b (refreshed_one (plain orig) class k) k) (lt-ltb n (n + 1) (omega arith))
 
-  away : (i : ℕ) (k : Kept) → (i ≡ n → ⊥) → cond (ltb i n) (refreshed_one (plain orig) class i k) k ≡ cond (ltb i (n + 1)) (refreshed_one (plain orig) class i k) k
-  away i k h = ap (λ b. cond b (refreshed_one (plain orig) class i k) k) (below-apart i n h)
+  away : (i : ℕ) (k : Kept) → (i ≡ n → ⊥) → cond (ltb i n) (refreshed_one (plain orig) class k) k ≡ cond (ltb i (n + 1)) (refreshed_one (plain orig) class k) k
+  away i k h = ap (λ b. cond b (refreshed_one (plain orig) class k) k) (below-apart i n h)
 
-  pub refreshed-then : (x : Kept) → n < length cur → x ≡ get_or cur n x → has x.mro class ≡ true → new ≡ set cur n (settled (plain cur) n x) → (i : ℕ) (k : Kept) → slice_get orig i ≡ Some k → slice_get new i ≡ Some (cond (ltb i (n + 1)) (refreshed_one (plain orig) class i k) k)
+  pub refreshed-then : (x : Kept) → n < length cur → x ≡ get_or cur n x → has x.mro class ≡ true → new ≡ set cur n (settled (plain cur) x) → (i : ℕ) (k : Kept) → slice_get orig i ≡ Some k → slice_get new i ≡ Some (cond (ltb i (n + 1)) (refreshed_one (plain orig) class k) k)
   refreshed-then x l held test is i k e = go (eqb i n) refl
     where
-      go : (b : Bool) → eqb i n ≡ b → slice_get new i ≡ Some (cond (ltb i (n + 1)) (refreshed_one (plain orig) class i k) k)
+      go : (b : Bool) → eqb i n ≡ b → slice_get new i ≡ Some (cond (ltb i (n + 1)) (refreshed_one (plain orig) class k) k)
       go true h =
           let j : i ≡ n = eqb-true i n h in
           let e' : slice_get orig n ≡ Some k = ap (slice_get orig) (sym j) ∙ e in
           let y : x ≡ k = held ∙ get_or_from_slice_get cur n k x (stands k e') in
           let t : has k.mro class ≡ true = ap (λ (z : Kept). has z.mro class) (sym y) ∙ test in
           ap (λ ys. slice_get ys i) is
-          ∙ ap (slice_get (set cur n (settled (plain cur) n x))) j
-          ∙ get-set_at cur n (settled (plain cur) n x) l
-          ∙ ap (λ (z : Kept). Some (settled (plain cur) n z)) y
-          ∙ ap (λ (u : Classes PyStrInterned). Some (settled u n k)) same
-          ∙ ap (λ b. Some (cond b (settled (plain orig) n k) k)) (sym t)
+          ∙ ap (slice_get (set cur n (settled (plain cur) x))) j
+          ∙ get-set_at cur n (settled (plain cur) x) l
+          ∙ ap (λ (z : Kept). Some (settled (plain cur) z)) y
+          ∙ ap (λ (u : Classes PyStrInterned). Some (settled u k)) same
+          ∙ ap (λ b. Some (cond b (settled (plain orig) k) k)) (sym t)
           ∙ ap Some (sym (here k))
-          ∙ ap (λ (m : ℕ). Some (cond (ltb m (n + 1)) (refreshed_one (plain orig) class m k) k)) (sym j)
+          ∙ ap (λ (m : ℕ). Some (cond (ltb m (n + 1)) (refreshed_one (plain orig) class k) k)) (sym j)
       go false h =
           let j : i ≡ n → ⊥ = eqb-false i n h in
-          ap (λ ys. slice_get ys i) is ∙ get-set_away cur n (settled (plain cur) n x) i j ∙ at i k e ∙ ap Some (away i k j)
+          ap (λ ys. slice_get ys i) is ∙ get-set_away cur n (settled (plain cur) x) i j ∙ at i k e ∙ ap Some (away i k j)
 
-  pub refreshed-else : (x : Kept) → x ≡ get_or cur n x → has x.mro class ≡ false → new ≡ cur → (i : ℕ) (k : Kept) → slice_get orig i ≡ Some k → slice_get new i ≡ Some (cond (ltb i (n + 1)) (refreshed_one (plain orig) class i k) k)
+  pub refreshed-else : (x : Kept) → x ≡ get_or cur n x → has x.mro class ≡ false → new ≡ cur → (i : ℕ) (k : Kept) → slice_get orig i ≡ Some k → slice_get new i ≡ Some (cond (ltb i (n + 1)) (refreshed_one (plain orig) class k) k)
   refreshed-else x held test is i k e = go (eqb i n) refl
     where
-      go : (b : Bool) → eqb i n ≡ b → slice_get new i ≡ Some (cond (ltb i (n + 1)) (refreshed_one (plain orig) class i k) k)
+      go : (b : Bool) → eqb i n ≡ b → slice_get new i ≡ Some (cond (ltb i (n + 1)) (refreshed_one (plain orig) class k) k)
       go true h =
           let j : i ≡ n = eqb-true i n h in
           let e' : slice_get orig n ≡ Some k = ap (slice_get orig) (sym j) ∙ e in
@@ -158,51 +161,51 @@ module _ (class n : ℕ) (orig cur new : List Kept) (same : plain cur ≡ plain 
           ap (λ ys. slice_get ys i) is
           ∙ ap (slice_get cur) j
           ∙ stands k e'
-          ∙ ap (λ b. Some (cond b (settled (plain orig) n k) k)) (sym t)
+          ∙ ap (λ b. Some (cond b (settled (plain orig) k) k)) (sym t)
           ∙ ap Some (sym (here k))
-          ∙ ap (λ (m : ℕ). Some (cond (ltb m (n + 1)) (refreshed_one (plain orig) class m k) k)) (sym j)
+          ∙ ap (λ (m : ℕ). Some (cond (ltb m (n + 1)) (refreshed_one (plain orig) class k) k)) (sym j)
       go false h =
           let j : i ≡ n → ⊥ = eqb-false i n h in
           ap (λ ys. slice_get ys i) is ∙ at i k e ∙ ap Some (away i k j)
 
   -- the slots of the class that is looked at are near their definitions
-  pub near-now : (name : PyStrInterned) (x : Kept) → AreNear name class orig → length cur ≡ length orig → n < length orig → x ≡ get_or cur n x → has x.mro class ≡ true → IsNear (plain cur) name n x
+  pub near-now : (name : PyStrInterned) (x : Kept) → AreNear name class orig → length cur ≡ length orig → n < length orig → x ≡ get_or cur n x → has x.mro class ≡ true → IsNear (plain cur) name x
   near-now name x near count l held test =
       let k = get_or orig n x in
       let e : slice_get orig n ≡ Some k = slice_get-get_or orig n x l in
       let y : x ≡ k = held ∙ get_or_from_slice_get cur n k x (stands k e) in
-      let P : Kept → Type 0 = λ z. IsNear (plain cur) name n z in
-      let Q : Classes PyStrInterned → Type 0 = λ t. IsNear t name n k in
+      let P : Kept → Type 0 = λ z. IsNear (plain cur) name z in
+      let Q : Classes PyStrInterned → Type 0 = λ t. IsNear t name k in
       subst P (sym y) (subst Q (sym same) (near n k e (ap (λ (z : Kept). has z.mro class) (sym y) ∙ test)))
 
-plain-refreshed_one : (t : Classes PyStrInterned) (class i : ℕ) (k : Kept) (b : Bool) → class_of (cond b (settled t i k) k) ≡ class_of k
-plain-refreshed_one t class i k true = refl
-plain-refreshed_one t class i k false = refl
+plain-refreshed_one : (t : Classes PyStrInterned) (k : Kept) (b : Bool) → class_of (cond b (settled t k) k) ≡ class_of k
+plain-refreshed_one t k true = refl
+plain-refreshed_one t k false = refl
 
 pub plain-refreshed : (class : ℕ) (old new : List Kept) → IsRefreshed class old new → plain new ≡ plain old
 plain-refreshed class old new r =
-    same-maps class_of old new r.count (λ i k e. (refreshed_one (plain old) class i k, r.at i k e, plain-refreshed_one (plain old) class i k (has k.mro class)))
+    same-maps class_of old new r.count (λ i k e. (refreshed_one (plain old) class k, r.at i k e, plain-refreshed_one (plain old) k (has k.mro class)))
 
 -- where every slot is near its definition, all are as defined
-pub settled-near : (t : Classes PyStrInterned) (name : PyStrInterned) (c : ℕ) (k : Kept) → 70 ≤ name.0 → IsNear t name c k → k.slots ≡ entries table_keys natives_of t c
-settled-near t name c k l near = same-lists (entries table_keys natives_of t c) k.slots (near.count ∙ sym (length-entries t c)) at
+pub settled-near : (t : Classes PyStrInterned) (name : PyStrInterned) (k : Kept) → 70 ≤ name.0 → IsNear t name k → k.slots ≡ entries table_keys natives_of t k.number
+settled-near t name k l near = same-lists (entries table_keys natives_of t k.number) k.slots (near.count ∙ sym (length-entries t k.number)) at
   where
-    at : (i : ℕ) (e : Option SlotEntry) → slice_get (entries table_keys natives_of t c) i ≡ Some e → slice_get k.slots i ≡ Some e
+    at : (i : ℕ) (e : Option SlotEntry) → slice_get (entries table_keys natives_of t k.number) i ≡ Some e → slice_get k.slots i ≡ Some e
     at i e is =
-        let m = slice_get_within (entries table_keys natives_of t c) i e is in
-        let n = length-entries t c in
+        let m = slice_get_within (entries table_keys natives_of t k.number) i e is in
+        let n = length-entries t k.number in
         let a = length-all in
         let s = get_or all_slots i Add in
         let h : slice_get all_slots i ≡ Some s = slice_get-get_or all_slots i Add (omega arith) in
-        ap (slice_get k.slots) (sym (place-at i s h)) ∙ near.others s (no_special s name l) ∙ sym (entries-at t c i s h) ∙ is
+        ap (slice_get k.slots) (sym (place-at i s h)) ∙ near.others s (no_special s name l) ∙ sym (entries-at t k.number i s h) ∙ is
 
-refreshed-one-same : (t : Classes PyStrInterned) (class i : ℕ) (k : Kept) (b : Bool) → (b ≡ true → k.slots ≡ entries table_keys natives_of t i) → k ≡ cond b (settled t i k) k
-refreshed-one-same t class i k true h = ap (λ (ys : List (Option SlotEntry)). record k { slots = ys }) (h refl)
-refreshed-one-same t class i k false h = refl
+refreshed-one-same : (t : Classes PyStrInterned) (k : Kept) (b : Bool) → (b ≡ true → k.slots ≡ entries table_keys natives_of t k.number) → k ≡ cond b (settled t k) k
+refreshed-one-same t k true h = ap (λ (ys : List (Option SlotEntry)). record k { slots = ys }) (h refl)
+refreshed-one-same t k false h = refl
 
 -- a name that is no special name leaves all as it is
 pub refreshed-none : (class : ℕ) (name : PyStrInterned) (kept : List Kept) → 70 ≤ name.0 → AreNear name class kept → IsRefreshed class kept kept
 refreshed-none class name kept l near = record {
   count = refl;
-  at = λ i k e. e ∙ ap Some (refreshed-one-same (plain kept) class i k (has k.mro class) (λ h. settled-near (plain kept) name i k l (near i k e h)));
+  at = λ i k e. e ∙ ap Some (refreshed-one-same (plain kept) k (has k.mro class) (λ h. settled-near (plain kept) name k l (near i k e h)));
 }

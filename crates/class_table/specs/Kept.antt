@@ -1,5 +1,5 @@
 -- What the table keeps of a class.
-use Rattle.std.specs.Prelude.{ℕ, List, Option, map}
+use Rattle.std.specs.Prelude.{◌≡◌, ℕ, List, Option, Some, map, slice_get, option_map}
 use Rattle.py_node.specs.declared.refs.PyStrInterned.{PyStrInterned}
 use Rattle.py_node.specs.declared.refs.PyObjectRef.{PyObjectRef}
 use Rattle.py_node.specs.declared.entry.SlotEntry.{SlotEntry}
@@ -8,7 +8,7 @@ use Rattle.class_model.specs.Class.{Class, Classes}
 
 pub record Kept : Type 0 where
   pub name : Text
-  pub node : PyObjectRef
+  pub number : ℕ
   pub bases : List ℕ
   pub attrs : List (PyStrInterned × PyObjectRef)
   pub members : List PyStrInterned
@@ -21,7 +21,17 @@ pub record Kept : Type 0 where
 
 -- the class itself, without what follows from it
 abbrev pub class_of : Kept → Class PyStrInterned
-class_of k = record { name = k.name; node = k.node; bases = k.bases; attrs = k.attrs; members = k.members; flags = k.flags }
+class_of k = record { name = k.name; number = k.number; bases = k.bases; attrs = k.attrs; members = k.members; flags = k.flags }
 
 abbrev pub plain : List Kept → Classes PyStrInterned
 plain kept = map class_of kept
+
+-- the number of the class at a place
+abbrev pub number_at : List Kept → ℕ → Option ℕ
+number_at kept i = option_map (λ k. k.number) (slice_get kept i)
+
+-- what is kept of a class, by its number
+pub record IsHere (kept : List Kept) (c : ℕ) (k : Kept) : Type 0 where
+  pub place : ℕ
+  pub at : slice_get kept place ≡ Some k
+  pub number : k.number ≡ c

@@ -4,12 +4,19 @@ use Rattle.py_node.specs.declared.refs.PyTypeRef.{PyTypeRef}
 use Rattle.py_node.specs.declared.refs.PyStrInterned.{PyStrInterned}
 use Rattle.class_model.specs.Class.{Class}
 use Rattle.class_model.specs.Layout.{built_ins, is_empty}
-use Rattle.class_table.specs.Kept.{Kept, class_of}
+use Rattle.class_table.specs.Kept.{Kept, class_of, number_at}
 
--- what is kept of the base
-abbrev pub parent : List Kept → Option PyTypeRef → Option Kept
+-- what is kept of the base, by its place
+abbrev pub parent : List Kept → Option ℕ → Option Kept
 parent kept None = None
-parent kept (Some b) = slice_get kept b.0
+parent kept (Some i) = slice_get kept i
+
+-- the place of the base
+abbrev pub IsAt : List Kept → Option PyTypeRef → Option ℕ → Type 0
+IsAt kept None None = Unit {0}
+IsAt kept None (Some i) = ⊥
+IsAt kept (Some b) None = ⊥
+IsAt kept (Some b) (Some i) = number_at kept i ≡ Some b.0
 
 abbrev pub line_of : Option Kept → List ℕ
 line_of None = []
@@ -29,15 +36,15 @@ abbrev pub solid_by : ℕ → List PyStrInterned → Option ℕ → Option ℕ
 solid_by n members inherited = cond (nat_lt n built_ins || not (is_empty members)) (Some n) inherited
 
 -- a class as it is made, before its slots are found
-pub record IsFresh (kept : List Kept) (n : ℕ) (c : Class PyStrInterned) (below : Option PyTypeRef) (k : Kept) : Type 0 where
+pub record IsFresh (kept : List Kept) (c : Class PyStrInterned) (below : Option PyTypeRef) (at : Option ℕ) (k : Kept) : Type 0 where
   pub class : class_of k ≡ c
   pub full : length k.slots ≡ 73
-  pub mro : k.mro ≡ n ∷ line_of (parent kept below)
-  pub base : k.base ≡ base_by below (solid_in (parent kept below))
-  pub solid : k.solid ≡ solid_by n c.members (solid_in (parent kept below))
+  pub mro : k.mro ≡ c.number ∷ line_of (parent kept at)
+  pub base : k.base ≡ base_by below (solid_in (parent kept at))
+  pub solid : k.solid ≡ solid_by c.number c.members (solid_in (parent kept at))
   pub subclasses : k.subclasses ≡ []
 
 -- a class is noted among its base's direct subclasses
-abbrev pub noted : Kept → List Kept → Option PyTypeRef → ℕ → List Kept
+abbrev pub noted : Kept → List Kept → Option ℕ → ℕ → List Kept
 noted d kept None n = kept
-noted d kept (Some b) n = slice_set kept b.0 (record (slice_index_or kept b.0 d) { subclasses = (slice_index_or kept b.0 d).subclasses ++ n ∷ [] })
+noted d kept (Some i) n = slice_set kept i (record (slice_index_or kept i d) { subclasses = (slice_index_or kept i d).subclasses ++ n ∷ [] })

@@ -11,22 +11,22 @@ use Rattle.class_table.specs.Keys.{table_keys}
 use Rattle.class_table.specs.Kept.{Kept, plain}
 
 -- every slot but those of a name holds what its definition says
-pub record IsNear (t : Classes PyStrInterned) (name : PyStrInterned) (c : ℕ) (k : Kept) : Type 0 where
+pub record IsNear (t : Classes PyStrInterned) (name : PyStrInterned) (k : Kept) : Type 0 where
   pub count : length k.slots ≡ 73
-  pub others : (s : SlotId) → is_name_of table_keys s name ≡ false → slice_get k.slots (place_of s) ≡ Some (entry table_keys natives_of t c s)
+  pub others : (s : SlotId) → is_name_of table_keys s name ≡ false → slice_get k.slots (place_of s) ≡ Some (entry table_keys natives_of t k.number s)
 
 -- the same of each class that has a class along its linearisation
 abbrev pub AreNear : PyStrInterned → ℕ → List Kept → Type 0
-AreNear name class kept = (i : ℕ) (k : Kept) → slice_get kept i ≡ Some k → has k.mro class ≡ true → IsNear (plain kept) name i k
+AreNear name class kept = (i : ℕ) (k : Kept) → slice_get kept i ≡ Some k → has k.mro class ≡ true → IsNear (plain kept) name k
 
 -- a class with the slots of its definition
-abbrev pub settled : Classes PyStrInterned → ℕ → Kept → Kept
-settled t i k = record k { slots = entries table_keys natives_of t i }
+abbrev pub settled : Classes PyStrInterned → Kept → Kept
+settled t k = record k { slots = entries table_keys natives_of t k.number }
 
 -- the slots are found anew where the class is along the linearisation
-abbrev pub refreshed_one : Classes PyStrInterned → ℕ → ℕ → Kept → Kept
-refreshed_one t class i k = cond (has k.mro class) (settled t i k) k
+abbrev pub refreshed_one : Classes PyStrInterned → ℕ → Kept → Kept
+refreshed_one t class k = cond (has k.mro class) (settled t k) k
 
 pub record IsRefreshed (class : ℕ) (old new : List Kept) : Type 0 where
   pub count : length new ≡ length old
-  pub at : (i : ℕ) (k : Kept) → slice_get old i ≡ Some k → slice_get new i ≡ Some (refreshed_one (plain old) class i k)
+  pub at : (i : ℕ) (k : Kept) → slice_get old i ≡ Some k → slice_get new i ≡ Some (refreshed_one (plain old) class k)

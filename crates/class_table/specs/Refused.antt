@@ -1,12 +1,12 @@
 -- When a class is refused.
-use Rattle.std.specs.Prelude.{ℕ, ◌<◌, Bool, false, not, cond, List, [], ◌∷◌, Option, Some, None, Result, Ok, Err, slice_get}
+use Rattle.std.specs.Prelude.{◌≡◌, ℕ, Bool, true, false, not, cond, List, [], ◌∷◌, Option, Some, None, Result, Ok, Err}
 use Rattle.py_node.specs.declared.raised.Cause.{Cause}
 use Rattle.py_node.specs.declared.raised.Cause.TheVariants.{EmptyBases, NotBaseType, ImmutableType}
 use Rattle.py_node.specs.declared.refs.PyObjectRef.{PyObjectRef}
 use Rattle.py_node.specs.declared.refs.PyStrInterned.{PyStrInterned}
 use Rattle.py_node.specs.BuiltIns.{base_type, heap_flags}
 use Rattle.py_node.specs.Tree.{Text}
-use Rattle.class_model.specs.Class.{Class, Classes, has_flag}
+use Rattle.class_model.specs.Class.{Class, Classes, class_at, is_class, has_flag}
 use Rattle.class_model.specs.Slot.{is_heap_at}
 use Rattle.class_table.specs.declared.fault.ClassFault.{ClassFault}
 use Rattle.class_table.specs.declared.fault.ClassFault.TheVariants.{Refused, OutOfMemory}
@@ -25,22 +25,22 @@ is_base_at (Some k) = has_flag base_type k
 -- why a class with these bases may not be made by a script
 abbrev pub refused_bases : {K : Type 0} → Classes K → List ℕ → Option Cause
 refused_bases t [] = Some EmptyBases
-refused_bases t (b ∷ bs) = cond (is_base_at (slice_get t b)) None (Some NotBaseType)
+refused_bases t (b ∷ bs) = cond (is_base_at (class_at t b)) None (Some NotBaseType)
 
 -- whether the first base may have no subclasses
 abbrev pub lacks_base : {K : Type 0} → Classes K → List ℕ → Bool
 lacks_base t [] = false
-lacks_base t (b ∷ bs) = not (is_base_at (slice_get t b))
+lacks_base t (b ∷ bs) = not (is_base_at (class_at t b))
 
 -- why an attribute of a class may not be set by a script
 abbrev pub refused_attr : {K : Type 0} → Classes K → ℕ → Option Cause
-refused_attr t c = cond (is_heap_at (slice_get t c)) None (Some ImmutableType)
+refused_attr t c = cond (is_heap_at (class_at t c)) None (Some ImmutableType)
 
 -- every class of a list is there
-abbrev pub AreBelow : ℕ → List ℕ → Type 0
-AreBelow n [] = Unit {0}
-AreBelow n (c ∷ cs) = (c < n) × AreBelow n cs
+abbrev pub AreThere : {K : Type 0} → Classes K → List ℕ → Type 0
+AreThere t [] = Unit {0}
+AreThere t (c ∷ cs) = (is_class t c ≡ true) × AreThere t cs
 
 -- a class that a script makes
-abbrev pub heap_class : Text → PyObjectRef → List ℕ → List (PyStrInterned × PyObjectRef) → List PyStrInterned → Class PyStrInterned
-heap_class name node bases attrs members = record { name = name; node = node; bases = bases; attrs = attrs; members = members; flags = heap_flags }
+abbrev pub heap_class : Text → ℕ → List ℕ → List (PyStrInterned × PyObjectRef) → List PyStrInterned → Class PyStrInterned
+heap_class name number bases attrs members = record { name = name; number = number; bases = bases; attrs = attrs; members = members; flags = heap_flags }

@@ -1,16 +1,15 @@
 // A class that is made.
 
-ghost use Rattle.std.specs.Prelude.{◌≡◌, ◌<◌, ◌++◌, ◌∷◌, [], not, ◌||◌, nat_lt, length, OnOk, OnErr, IfOk, slice_set, slice_index_or};
-ghost use Rattle.py_node.specs.Slots.{place_of};
+ghost use Rattle.std.specs.Prelude.{◌≡◌, ◌<◌, ◌≤◌, ◌++◌, ◌∷◌, [], length, OnOk, OnErr, IfOk, IfSome, true};
+ghost use Rattle.class_model.specs.Numbers.{is_ascending, limit};
 ghost use Rattle.class_model.specs.Change.{with_class};
-ghost use Rattle.class_model.specs.Layout.{built_ins, is_empty};
 ghost use Rattle.class_table.specs.Kept.{Kept, plain};
 ghost use Rattle.class_table.specs.Keys.{numbers, number_of};
-ghost use Rattle.class_table.specs.Coherent.{HasLines, IsCoherent};
-ghost use Rattle.class_table.specs.Patch.{settled};
+ghost use Rattle.class_table.specs.Coherent.{IsCoherent};
 ghost use Rattle.class_table.specs.New.{IsBelow, one_base, class_of_new};
-ghost use Rattle.class_table.specs.Made.{parent, line_of, solid_in, base_by, solid_by, IsFresh, noted};
+ghost use Rattle.class_table.specs.Made.{parent, line_of, solid_in, base_by, solid_by, IsAt, IsFresh, noted};
 
+use crate::place::place;
 use crate::refresh::settle;
 use crate::stored::{NewClass, SLOTS, Stored};
 use py_node::entry::SlotEntry;
@@ -48,27 +47,39 @@ fn line(
     classes: &[Stored],
     alloc: Global,
     number: PyTypeRef,
-    base: Option<PyTypeRef>,
+    base: Option<usize>,
 ) -> Result<Vec<PyTypeRef>, OutOfMemory>
     ensures { IfOk result (λ v. numbers v.items ≡ number.0 ∷ line_of (parent classes.now base)) }
 {
     let mut mro = Vec::new(alloc);
     mro.push(number)?;
-    if let Some(class) = base {
-        if let Some(stored) = classes.get(class.0 as usize) {
+    if let Some(place) = base {
+        if let Some(stored) = classes.get(place) {
             mro.extend_from_slice(stored.mro())?;
         }
     }
     Ok(mro)
 }
 
+// Where the classes of that line are likely kept: the class at the end, and the others as for its base.
+fn near(classes: &[Stored], alloc: Global, base: Option<usize>) -> Result<Vec<usize>, OutOfMemory> {
+    let mut near = Vec::new(alloc);
+    near.push(classes.len())?;
+    if let Some(place) = base {
+        if let Some(stored) = classes.get(place) {
+            near.extend_from_slice(stored.near())?;
+        }
+    }
+    Ok(near)
+}
+
 // The solid class of a base.
-fn inherited(classes: &[Stored], base: Option<PyTypeRef>) -> Option<PyTypeRef>
+fn inherited(classes: &[Stored], base: Option<usize>) -> Option<PyTypeRef>
     ensures { number_of result ≡ solid_in (parent classes.now base) }
 {
     match base {
         None => None,
-        Some(class) => match classes.get(class.0 as usize) {
+        Some(place) => match classes.get(place) {
             None => None,
             Some(stored) => stored.solid(),
         },
@@ -105,24 +116,26 @@ fn solid_of(
 fn build(
     classes: &[Stored],
     alloc: Global,
-    number: PyTypeRef,
+    base: Option<usize>,
     new: NewClass,
 ) -> Result<Stored, OutOfMemory>
-    ensures { IfOk result (λ k. IsFresh classes.now number.0 (class_of_new new) new.base k) }
+    ensures { IfOk result (λ k. IsFresh classes.now (class_of_new new) new.base base k) }
 {
     let slots = empty_slots(alloc)?;
     let bases = bases_of(alloc, new.base)?;
-    let mro = line(classes, alloc, number, new.base)?;
-    let above = inherited(classes, new.base);
-    let solid = solid_of(number, &new.members, above);
+    let mro = line(classes, alloc, new.number, base)?;
+    let near = near(classes, alloc, base)?;
+    let above = inherited(classes, base);
+    let solid = solid_of(new.number, &new.members, above);
     Ok(Stored {
         name: new.name,
-        node: new.node,
+        number: new.number,
         bases,
         attrs: new.attrs,
         members: new.members,
         flags: new.flags,
         mro,
+        near,
         slots,
         base: best_base(new.base, above),
         solid,
@@ -130,18 +143,26 @@ fn build(
     })
 }
 
+// The place of the base.
+fn base_place(classes: &[Stored], number: PyTypeRef, base: Option<PyTypeRef>) -> Option<usize>
+    requires ascending { is_ascending (plain classes.now) ≡ true }
+    requires base { IsBelow (plain classes.now) number.0 base }
+    ensures { IsAt classes.now base result }
+{
+    match base {
+        None => None,
+        Some(class) => Some(place(classes, class)),
+    }
+}
+
 // Notes a class among its base's direct subclasses.
-fn note(
-    classes: &mut [Stored],
-    base: Option<PyTypeRef>,
-    number: PyTypeRef,
-) -> Result<(), OutOfMemory>
-    requires { IsBelow (length classes.old) base }
+fn note(classes: &mut [Stored], base: Option<usize>, number: PyTypeRef) -> Result<(), OutOfMemory>
+    requires { IfSome base (λ i. i < length classes.old) }
     ensures ok { OnOk result ((d : Kept) → classes.new ≡ noted d classes.old base number.0) }
     ensures err { OnErr result (classes.new ≡ classes.old) }
 {
-    if let Some(class) = base {
-        classes[class.0 as usize].add_subclass(number)?;
+    if let Some(at) = base {
+        classes[at].add_subclass(number)?;
     }
     Ok(())
 }
@@ -149,11 +170,11 @@ fn note(
 // Puts a class at the end, and notes it in its base.
 fn attach(
     classes: &mut Vec<Stored>,
-    base: Option<PyTypeRef>,
+    base: Option<usize>,
     number: PyTypeRef,
     stored: Stored,
 ) -> Result<(), OutOfMemory>
-    requires { IsBelow (length classes.old.items) base }
+    requires { IfSome base (λ i. i < length classes.old.items) }
     ensures ok { OnOk result ((d : Kept) → classes.new.items ≡ noted d classes.old.items base number.0 ++ stored ∷ []) }
     ensures err { OnErr result (classes.new.items ≡ classes.old.items) }
 {
@@ -170,16 +191,18 @@ pub(crate) fn add(
     new: NewClass,
 ) -> Result<PyTypeRef, OutOfMemory>
     requires coherent { IsCoherent classes.old.items }
-    requires base { IsBelow (length classes.old.items) new.base }
-    ensures number { IfOk result (λ c. c.0 ≡ length classes.old.items) }
+    requires base { IsBelow (plain classes.old.items) new.number.0 new.base }
+    requires fresh { limit (plain classes.old.items) ≤ new.number.0 }
+    ensures number { IfOk result (λ c. c ≡ new.number) }
     ensures coherent { OnOk result (IsCoherent classes.new.items) }
     ensures added { OnOk result (plain classes.new.items ≡ with_class (plain classes.old.items) (class_of_new new)) }
     ensures err { OnErr result (classes.new.items ≡ classes.old.items) }
 {
-    let number = PyTypeRef(classes.len() as u64);
-    let base = new.base;
-    let stored = build(classes, alloc, number, new)?;
+    let at = classes.len();
+    let number = new.number;
+    let base = base_place(classes, number, new.base);
+    let stored = build(classes, alloc, base, new)?;
     attach(classes, base, number, stored)?;
-    settle(classes, number);
+    settle(classes, at);
     Ok(number)
 }

@@ -1,17 +1,19 @@
 // What a class itself has in a slot, found from the attributes and linearisations that are kept.
 
-ghost use Rattle.std.specs.Prelude.{◌≡◌, ◌<◌, ◌&&◌, not, Some, length, slice_get};
+ghost use Rattle.std.specs.Prelude.{◌≡◌, ◌<◌, ◌&&◌, true, not, Some, length, slice_index_or};
 ghost use Rattle.py_node.specs.Attributes.{value_of, is_same_name};
 ghost use Rattle.py_node.specs.Slots.{sort_of};
 ghost use Rattle.py_node.specs.declared.entry.SlotId.TheVariants.{Hash, New};
-ghost use Rattle.class_model.specs.Class.{is_heap, own_of, along, first_along};
+ghost use Rattle.class_model.specs.Class.{class_at, is_heap, own_of, along, first_along};
 ghost use Rattle.class_model.specs.Slot.{is_slot, is_none, is_name_of, wrapped, heap_entry, native_entry, given_entry, is_by_itself, entry};
+ghost use Rattle.class_model.specs.Numbers.{is_ascending};
 ghost use Rattle.class_model.specs.BuiltIn.{natives_of};
 ghost use Rattle.class_table.specs.Kept.{Kept, class_of, plain};
 ghost use Rattle.class_table.specs.Keys.{numbers, table_keys};
 ghost use Rattle.class_table.specs.Coherent.{HasLines};
 
 use crate::natives::built_in_native;
+use crate::place::{find_near, likely};
 use crate::special::{Reading, read_as, special_names};
 use crate::stored::Stored;
 use py_node::attributes::PyAttributes;
@@ -63,10 +65,11 @@ fn own_wrapper(attrs: &PyAttributes, slot: SlotId) -> Option<SlotEntry>
 }
 
 // The same of a class by its number, where there is such a class.
-fn wrapper_at(classes: &[Stored], class: PyTypeRef, slot: SlotId) -> Option<SlotEntry>
-    ensures { result ≡ wrapped slot (own_of (is_name_of table_keys slot) (slice_get (plain classes.now) class.0)) }
+fn wrapper_at(classes: &[Stored], near: usize, class: PyTypeRef, slot: SlotId) -> Option<SlotEntry>
+    requires { is_ascending (plain classes.now) ≡ true }
+    ensures { result ≡ wrapped slot (own_of (is_name_of table_keys slot) (class_at (plain classes.now) class.0)) }
 {
-    match classes.get(class.0 as usize) {
+    match find_near(classes, near, class) {
         None => None,
         Some(stored) => own_wrapper(stored.attributes(), slot),
     }
@@ -74,11 +77,17 @@ fn wrapper_at(classes: &[Stored], class: PyTypeRef, slot: SlotId) -> Option<Slot
 
 // What a slot holds by the attributes of some classes.
 #[tactic(auto, using(crate::proofs::Along::wrapped_or_else))]
-fn wrapper_along(classes: &[Stored], line: &[PyTypeRef], slot: SlotId) -> Option<SlotEntry>
+fn wrapper_along(
+    classes: &[Stored],
+    near: &[usize],
+    line: &[PyTypeRef],
+    slot: SlotId,
+) -> Option<SlotEntry>
+    requires { is_ascending (plain classes.now) ≡ true }
     ensures { result ≡ wrapped slot (along (is_name_of table_keys slot) (plain classes.now) (numbers line.now)) }
 {
-    for class in line {
-        if let Some(entry) = wrapper_at(classes, *class, slot) {
+    for (place, class) in line.iter().enumerate() {
+        if let Some(entry) = wrapper_at(classes, likely(near, place), *class, slot) {
             return Some(entry);
         }
     }
@@ -88,26 +97,34 @@ fn wrapper_along(classes: &[Stored], line: &[PyTypeRef], slot: SlotId) -> Option
 // What a heap class has in a slot.
 fn heap_entry(
     classes: &[Stored],
+    near: &[usize],
     class: PyTypeRef,
     line: &[PyTypeRef],
     slot: SlotId,
 ) -> Option<SlotEntry>
+    requires { is_ascending (plain classes.now) ≡ true }
     ensures { result ≡ heap_entry table_keys (plain classes.now) class.0 (numbers line.now) slot }
 {
     if is_new(slot) {
-        wrapper_at(classes, class, slot)
+        wrapper_at(classes, likely(near, 0), class, slot)
     } else {
-        wrapper_along(classes, line, slot)
+        wrapper_along(classes, near, line, slot)
     }
 }
 
 // What a class has in a slot by its attributes or as a native.
-fn given_entry(classes: &[Stored], class: PyTypeRef, slot: SlotId) -> Option<SlotEntry>
+fn given_entry(classes: &[Stored], near: usize, class: PyTypeRef, slot: SlotId) -> Option<SlotEntry>
     requires { HasLines classes.now }
     ensures { result ≡ given_entry table_keys natives_of (plain classes.now) slot class.0 }
 {
-    match classes.get(class.0 as usize) {
-        Some(stored) if stored.is_heap() => heap_entry(classes, class, stored.mro(), slot),
+    match find_near(classes, near, class) {
+        Some(stored) if stored.is_heap() => heap_entry(
+            classes,
+            stored.near(),
+            class,
+            stored.mro(),
+            slot,
+        ),
         _ => native_entry(class, slot),
     }
 }
@@ -122,12 +139,17 @@ fn native_entry(class: PyTypeRef, slot: SlotId) -> Option<SlotEntry>
 }
 
 // The first such among some classes.
-fn given_along(classes: &[Stored], line: &[PyTypeRef], slot: SlotId) -> Option<SlotEntry>
+fn given_along(
+    classes: &[Stored],
+    near: &[usize],
+    line: &[PyTypeRef],
+    slot: SlotId,
+) -> Option<SlotEntry>
     requires { HasLines classes.now }
     ensures { result ≡ first_along (given_entry table_keys natives_of (plain classes.now) slot) (numbers line.now) }
 {
-    for class in line {
-        if let Some(entry) = given_entry(classes, *class, slot) {
+    for (place, class) in line.iter().enumerate() {
+        if let Some(entry) = given_entry(classes, likely(near, place), *class, slot) {
             return Some(entry);
         }
     }
@@ -152,16 +174,16 @@ fn is_own(slot: SlotId) -> bool
     }
 }
 
-// What a class itself has in a slot.
-pub(crate) fn entry(classes: &[Stored], class: PyTypeRef, slot: SlotId) -> Option<SlotEntry>
+// What the class at a place itself has in a slot.
+pub(crate) fn entry(classes: &[Stored], place: usize, slot: SlotId) -> Option<SlotEntry>
     requires lines { HasLines classes.now }
-    requires inside { class.0 < length classes.now }
-    ensures { result ≡ entry table_keys natives_of (plain classes.now) class.0 slot }
+    requires inside { place < length classes.now }
+    ensures { (d : Kept) → result ≡ entry table_keys natives_of (plain classes.now) (slice_index_or classes.now place d).number slot }
 {
-    let stored = &classes[class.0 as usize];
+    let stored = &classes[place];
     if is_inherited(stored, slot) {
-        given_along(classes, stored.mro(), slot)
+        given_along(classes, stored.near(), stored.mro(), slot)
     } else {
-        given_entry(classes, class, slot)
+        given_entry(classes, place, stored.number(), slot)
     }
 }

@@ -1,18 +1,21 @@
 // Classes as scripts make and change them.
 
-ghost use Rattle.std.specs.Prelude.{◌≡◌, ◌<◌, ◌≤◌, ◌∷◌, [], length, OnOk, OnErr, IfOk, ◌↔◌, IsTrue, Some, slice_get};
+ghost use Rattle.std.specs.Prelude.{◌≡◌, true, ◌≤◌, ◌∷◌, [], length, OnOk, OnErr, IfOk, ◌↔◌, IsTrue, Some, slice_get};
 ghost use Rattle.py_node.specs.declared.raised.Cause.TheVariants.{EmptyBases, NotBaseType};
 ghost use Rattle.py_node.specs.Attributes.{is_same_name};
+ghost use Rattle.class_model.specs.Class.{class_at, is_class};
+ghost use Rattle.class_model.specs.Numbers.{is_ascending, limit};
 ghost use Rattle.class_model.specs.Change.{with_class, with_class_attr};
 ghost use Rattle.class_model.specs.Slot.{is_heap_at};
 ghost use Rattle.class_table.specs.Keys.{numbers};
 ghost use Rattle.class_table.specs.New.{class_of_new};
 ghost use Rattle.class_table.specs.Kept.{plain};
 ghost use Rattle.class_table.specs.Coherent.{IsCoherent};
-ghost use Rattle.class_table.specs.Refused.{refusal, refused_bases, refused_attr, is_base_at, lacks_base, AreBelow, heap_class};
+ghost use Rattle.class_table.specs.Refused.{refusal, refused_bases, refused_attr, is_base_at, lacks_base, AreThere, heap_class};
 
 use crate::add::add;
 use crate::fault::ClassFault;
+use crate::place::find;
 use crate::put::put_in;
 use crate::stored::{NewClass, Stored};
 use py_node::attributes::PyAttributes;
@@ -24,9 +27,10 @@ use std::alloc::Global;
 
 // Whether a class may have subclasses.
 fn is_base(classes: &[Stored], class: PyTypeRef) -> bool
-    ensures { result ≡ is_base_at (slice_get (plain classes.now) class.0) }
+    requires { is_ascending (plain classes.now) ≡ true }
+    ensures { result ≡ is_base_at (class_at (plain classes.now) class.0) }
 {
-    match classes.get(class.0 as usize) {
+    match find(classes, class) {
         None => false,
         Some(stored) => stored.flags().has_feature(PyTypeFlags::BASETYPE),
     }
@@ -34,9 +38,10 @@ fn is_base(classes: &[Stored], class: PyTypeRef) -> bool
 
 // Whether a class was made by a script.
 fn is_heap(classes: &[Stored], class: PyTypeRef) -> bool
-    ensures { result ≡ is_heap_at (slice_get (plain classes.now) class.0) }
+    requires { is_ascending (plain classes.now) ≡ true }
+    ensures { result ≡ is_heap_at (class_at (plain classes.now) class.0) }
 {
-    match classes.get(class.0 as usize) {
+    match find(classes, class) {
         None => false,
         Some(stored) => stored.is_heap(),
     }
@@ -44,6 +49,7 @@ fn is_heap(classes: &[Stored], class: PyTypeRef) -> bool
 
 // The base of a class that a script makes, or why there is none.
 fn base_for(classes: &[Stored], bases: &[PyTypeRef]) -> Result<PyTypeRef, ClassFault>
+    requires { is_ascending (plain classes.now) ≡ true }
     ensures first { IfOk result (λ b. slice_get bases.now 0 ≡ Some b) }
     ensures refused { refusal result ≡ refused_bases (plain classes.now) (numbers bases.now) }
 {
@@ -60,17 +66,17 @@ fn base_for(classes: &[Stored], bases: &[PyTypeRef]) -> Result<PyTypeRef, ClassF
 // A class with a base, named by a text.
 fn heap_parts(
     alloc: Global,
-    node: PyObjectRef,
+    number: PyTypeRef,
     name: &str,
     base: PyTypeRef,
     attrs: PyAttributes,
     members: Vec<PyStrInterned>,
 ) -> Result<NewClass, OutOfMemory>
-    ensures { IfOk result (λ n. (class_of_new n ≡ heap_class name.now node (base.0 ∷ []) attrs members.items) × (n.base ≡ Some base)) }
+    ensures { IfOk result (λ n. (class_of_new n ≡ heap_class name.now number.0 (base.0 ∷ []) attrs members.items) × (n.base ≡ Some base) × (n.number ≡ number)) }
 {
     Ok(NewClass {
         name: String::from_str(alloc, name)?,
-        node,
+        number,
         base: Some(base),
         attrs,
         members,
@@ -82,18 +88,19 @@ fn heap_parts(
 pub(crate) fn add_heap(
     classes: &mut Vec<Stored>,
     alloc: Global,
-    node: PyObjectRef,
+    number: PyTypeRef,
     name: &str,
     bases: Vec<PyTypeRef>,
     attrs: PyAttributes,
     members: Vec<PyStrInterned>,
 ) -> Result<PyTypeRef, ClassFault>
     requires coherent { IsCoherent classes.old.items }
-    requires bases { AreBelow (length classes.old.items) (numbers bases.items) }
+    requires bases { AreThere (plain classes.old.items) (numbers bases.items) }
+    requires fresh { limit (plain classes.old.items) ≤ number.0 }
     requires one { length bases.items ≤ 1 }
-    ensures number { IfOk result (λ c. c.0 ≡ length classes.old.items) }
+    ensures number { IfOk result (λ c. c ≡ number) }
     ensures coherent { OnOk result (IsCoherent classes.new.items) }
-    ensures added { OnOk result (plain classes.new.items ≡ with_class (plain classes.old.items) (heap_class name.now node (numbers bases.items) attrs members.items)) }
+    ensures added { OnOk result (plain classes.new.items ≡ with_class (plain classes.old.items) (heap_class name.now number.0 (numbers bases.items) attrs members.items)) }
     ensures refused { refusal result ≡ refused_bases (plain classes.old.items) (numbers bases.items) }
     ensures empty { (refusal result ≡ Some EmptyBases) ↔ (numbers bases.items ≡ []) }
     ensures base { (refusal result ≡ Some NotBaseType) ↔ IsTrue (lacks_base (plain classes.old.items) (numbers bases.items)) }
@@ -103,7 +110,7 @@ pub(crate) fn add_heap(
         Ok(base) => base,
         Err(fault) => return Err(fault),
     };
-    let new = match heap_parts(alloc, node, name, base, attrs, members) {
+    let new = match heap_parts(alloc, number, name, base, attrs, members) {
         Ok(new) => new,
         Err(_) => return Err(ClassFault::OutOfMemory),
     };
@@ -121,7 +128,7 @@ pub(crate) fn set_heap(
     value: PyObjectRef,
 ) -> Result<(), ClassFault>
     requires coherent { IsCoherent classes.old.items }
-    requires inside { class.0 < length classes.old.items }
+    requires there { is_class (plain classes.old.items) class.0 ≡ true }
     ensures coherent { OnOk result (IsCoherent classes.new.items) }
     ensures immutable { refusal result ≡ refused_attr (plain classes.old.items) class.0 }
     ensures set { OnOk result (plain classes.new.items ≡ with_class_attr is_same_name (plain classes.old.items) class.0 name value) }

@@ -7,6 +7,7 @@ pub mod entries;
 pub mod fault;
 pub mod heap;
 pub mod natives;
+pub mod place;
 pub mod put;
 pub mod read;
 pub mod refresh;

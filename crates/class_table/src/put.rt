@@ -1,11 +1,13 @@
 // An attribute of a class that is set.
 
-ghost use Rattle.std.specs.Prelude.{◌≡◌, ◌<◌, length, OnOk, OnErr};
+ghost use Rattle.std.specs.Prelude.{◌≡◌, true, OnOk, OnErr};
 ghost use Rattle.py_node.specs.Attributes.{is_same_name};
+ghost use Rattle.class_model.specs.Class.{is_class};
 ghost use Rattle.class_model.specs.Change.{with_class_attr};
 ghost use Rattle.class_table.specs.Kept.{Kept, plain};
 ghost use Rattle.class_table.specs.Coherent.{IsCoherent};
 
+use crate::place::place;
 use crate::refresh::refresh;
 use crate::stored::Stored;
 use py_node::memory::OutOfMemory;
@@ -19,12 +21,13 @@ pub(crate) fn put(
     value: PyObjectRef,
 ) -> Result<(), OutOfMemory>
     requires coherent { IsCoherent classes.old }
-    requires inside { class.0 < length classes.old }
+    requires there { is_class (plain classes.old) class.0 ≡ true }
     ensures coherent { OnOk result (IsCoherent classes.new) }
     ensures ok { OnOk result (plain classes.new ≡ with_class_attr is_same_name (plain classes.old) class.0 name value) }
     ensures err { OnErr result (classes.new ≡ classes.old) }
 {
-    classes[class.0 as usize].set_attr(name, value)?;
+    let at = place(classes, class);
+    classes[at].set_attr(name, value)?;
     refresh(classes, class, name);
     Ok(())
 }
@@ -37,7 +40,7 @@ pub(crate) fn put_in(
     value: PyObjectRef,
 ) -> Result<(), OutOfMemory>
     requires coherent { IsCoherent classes.old.items }
-    requires inside { class.0 < length classes.old.items }
+    requires there { is_class (plain classes.old.items) class.0 ≡ true }
     ensures coherent { OnOk result (IsCoherent classes.new.items) }
     ensures ok { OnOk result (plain classes.new.items ≡ with_class_attr is_same_name (plain classes.old.items) class.0 name value) }
     ensures err { OnErr result (classes.new.items ≡ classes.old.items) }

@@ -1,19 +1,21 @@
 // How a slot is read along a linearisation, and how an attribute is found.
 
-ghost use Rattle.std.specs.Prelude.{◌≡◌, ◌<◌, ℕ, Option, List, length, slice_get, is_some};
+ghost use Rattle.std.specs.Prelude.{◌≡◌, ℕ, true, Option};
 ghost use Rattle.py_node.specs.declared.entry.SlotEntry.{SlotEntry as Entry};
 ghost use Rattle.py_node.specs.declared.entry.SlotId.{SlotId as Slot};
 ghost use Rattle.py_node.specs.Attributes.{is_same_name};
 ghost use Rattle.py_node.specs.Slots.{all_slots, sort_of, ByMapping, BySequence};
 ghost use Rattle.class_model.specs.Order.{Holds};
-ghost use Rattle.class_model.specs.Class.{own_of, along, first_along, past_first};
+ghost use Rattle.class_model.specs.Class.{class_at, is_class, own_of, along, first_along, past_first};
 ghost use Rattle.class_model.specs.Slot.{entry, slot as slot_read, has_table, first_with, read_along};
+ghost use Rattle.class_model.specs.Numbers.{is_ascending};
 ghost use Rattle.class_model.specs.BuiltIn.{natives_of};
 ghost use Rattle.class_table.specs.Kept.{plain};
 ghost use Rattle.class_table.specs.Keys.{numbers, number_of, table_keys};
 ghost use Rattle.class_table.specs.Coherent.{IsCoherent};
 ghost use Rattle.class_table.specs.Table.{table_sort, any_filled};
 
+use crate::place::{find_near, likely, stored_at};
 use crate::special::{Reading, read_as};
 use crate::stored::Stored;
 use py_node::entry::{SlotEntry, SlotId};
@@ -22,12 +24,14 @@ use py_node::refs::{PyObjectRef, PyStrInterned, PyTypeRef};
 // A class's own value, where there is such a class.
 pub(crate) fn own_at(
     classes: &[Stored],
+    near: usize,
     class: PyTypeRef,
     name: PyStrInterned,
 ) -> Option<PyObjectRef>
-    ensures { result ≡ own_of (λ k. is_same_name k name) (slice_get (plain classes.now) class.0) }
+    requires { is_ascending (plain classes.now) ≡ true }
+    ensures { result ≡ own_of (λ k. is_same_name k name) (class_at (plain classes.now) class.0) }
 {
-    match classes.get(class.0 as usize) {
+    match find_near(classes, near, class) {
         None => None,
         Some(stored) => stored.own(name),
     }
@@ -36,13 +40,15 @@ pub(crate) fn own_at(
 // The first value along some classes.
 pub(crate) fn value_along(
     classes: &[Stored],
+    near: &[usize],
     line: &[PyTypeRef],
     name: PyStrInterned,
 ) -> Option<PyObjectRef>
+    requires { is_ascending (plain classes.now) ≡ true }
     ensures { result ≡ along (λ k. is_same_name k name) (plain classes.now) (numbers line.now) }
 {
-    for class in line {
-        if let Some(value) = own_at(classes, *class, name) {
+    for (place, class) in line.iter().enumerate() {
+        if let Some(value) = own_at(classes, likely(near, place), *class, name) {
             return Some(value);
         }
     }
@@ -52,31 +58,38 @@ pub(crate) fn value_along(
 // The first value along some classes past the first.
 pub(crate) fn value_past(
     classes: &[Stored],
+    near: &[usize],
     line: &[PyTypeRef],
     name: PyStrInterned,
 ) -> Option<PyObjectRef>
+    requires { is_ascending (plain classes.now) ≡ true }
     ensures { result ≡ along (λ k. is_same_name k name) (plain classes.now) (past_first (numbers line.now)) }
 {
     if line.is_empty() {
         None
     } else {
-        value_along(classes, &line[1..], name)
+        value_along(
+            classes,
+            if near.is_empty() { near } else { &near[1..] },
+            &line[1..],
+            name,
+        )
     }
 }
 
 // What a class itself has in a slot, as it is kept.
 pub(crate) fn own_entry(classes: &[Stored], class: PyTypeRef, slot: SlotId) -> Option<SlotEntry>
     requires coherent { IsCoherent classes.now }
-    requires inside { class.0 < length classes.now }
+    requires there { is_class (plain classes.now) class.0 ≡ true }
     ensures { result ≡ entry table_keys natives_of (plain classes.now) class.0 slot }
 {
-    classes[class.0 as usize].entry(slot)
+    stored_at(classes, class).entry(slot)
 }
 
 // The first own entry along some classes.
 fn nearest(classes: &[Stored], line: &[PyTypeRef], slot: SlotId) -> Option<SlotEntry>
     requires coherent { IsCoherent classes.now }
-    requires inside { (x : ℕ) → Holds (numbers line.now) x → x < length classes.now }
+    requires inside { (x : ℕ) → Holds (numbers line.now) x → is_class (plain classes.now) x ≡ true }
     ensures { result ≡ first_along (λ d. entry table_keys natives_of (plain classes.now) d slot) (numbers line.now) }
 {
     for class in line {
@@ -115,7 +128,7 @@ fn slots_in(mapping: bool) -> &'static [SlotId]
 // Whether a class fills any of some slots.
 fn fills_any(classes: &[Stored], class: PyTypeRef, slots: &[SlotId]) -> bool
     requires coherent { IsCoherent classes.now }
-    requires inside { class.0 < length classes.now }
+    requires there { is_class (plain classes.now) class.0 ≡ true }
     ensures { result ≡ any_filled (entry table_keys natives_of (plain classes.now) class.0) slots.now }
 {
     for slot in slots {
@@ -129,7 +142,7 @@ fn fills_any(classes: &[Stored], class: PyTypeRef, slots: &[SlotId]) -> bool
 // Whether a class has the table of sequences, or of mappings.
 fn has_table(classes: &[Stored], class: PyTypeRef, mapping: bool) -> bool
     requires coherent { IsCoherent classes.now }
-    requires inside { class.0 < length classes.now }
+    requires there { is_class (plain classes.now) class.0 ≡ true }
     ensures { result ≡ has_table (entry table_keys natives_of (plain classes.now) class.0) (table_sort mapping) all_slots }
 {
     fills_any(classes, class, slots_in(mapping))
@@ -143,7 +156,7 @@ fn of_table(
     slot: SlotId,
 ) -> Option<SlotEntry>
     requires coherent { IsCoherent classes.now }
-    requires inside { (x : ℕ) → Holds (numbers line.now) x → x < length classes.now }
+    requires inside { (x : ℕ) → Holds (numbers line.now) x → is_class (plain classes.now) x ≡ true }
     ensures { result ≡ read_along (entry table_keys natives_of (plain classes.now)) (table_sort mapping) 0 (numbers line.now) slot }
 {
     for class in line {
@@ -162,8 +175,8 @@ fn read_along(
     slot: SlotId,
 ) -> Option<SlotEntry>
     requires coherent { IsCoherent classes.now }
-    requires own { class.0 < length classes.now }
-    requires inside { (x : ℕ) → Holds (numbers line.now) x → x < length classes.now }
+    requires own { is_class (plain classes.now) class.0 ≡ true }
+    requires inside { (x : ℕ) → Holds (numbers line.now) x → is_class (plain classes.now) x ≡ true }
     ensures { result ≡ read_along (entry table_keys natives_of (plain classes.now)) (sort_of slot) class.0 (numbers line.now) slot }
 {
     match read_as(slot) {
@@ -177,8 +190,8 @@ fn read_along(
 // A slot as it is read for a class.
 pub(crate) fn read(classes: &[Stored], class: PyTypeRef, slot: SlotId) -> Option<SlotEntry>
     requires coherent { IsCoherent classes.now }
-    requires inside { class.0 < length classes.now }
+    requires there { is_class (plain classes.now) class.0 ≡ true }
     ensures { result ≡ slot_read table_keys natives_of (plain classes.now) class.0 slot }
 {
-    read_along(classes, class, classes[class.0 as usize].mro(), slot)
+    read_along(classes, class, stored_at(classes, class).mro(), slot)
 }

@@ -37,39 +37,39 @@ fn slot_at(place: usize) -> SlotId
 }
 
 // Finds one slot of a class anew.
-fn patch_slot(classes: &mut [Stored], class: PyTypeRef, slot: SlotId)
+fn patch_slot(classes: &mut [Stored], place: usize, slot: SlotId)
     requires lines { HasLines classes.old }
-    requires inside { class.0 < length classes.old }
-    ensures { (d : Kept) → classes.new ≡ slice_set classes.old class.0 (record (slice_index_or classes.old class.0 d) { slots = slice_set (slice_index_or classes.old class.0 d).slots (place_of slot) (entry table_keys natives_of (plain classes.old) class.0 slot) }) }
+    requires inside { place < length classes.old }
+    ensures { (d : Kept) → classes.new ≡ slice_set classes.old place (record (slice_index_or classes.old place d) { slots = slice_set (slice_index_or classes.old place d).slots (place_of slot) (entry table_keys natives_of (plain classes.old) (slice_index_or classes.old place d).number slot) }) }
 {
-    let found = entry(classes, class, slot);
-    classes[class.0 as usize].set_slot(slot, found);
+    let found = entry(classes, place, slot);
+    classes[place].set_slot(slot, found);
 }
 
 // Finds the slots of a name anew, where every other slot is as it should be.
-fn patch(classes: &mut [Stored], class: PyTypeRef, name: PyStrInterned)
+fn patch(classes: &mut [Stored], at: usize, name: PyStrInterned)
     requires lines { HasLines classes.old }
-    requires inside { class.0 < length classes.old }
-    requires near { (d : Kept) → IsNear (plain classes.old) name class.0 (slice_index_or classes.old class.0 d) }
-    ensures { (d : Kept) → classes.new ≡ slice_set classes.old class.0 (settled (plain classes.old) class.0 (slice_index_or classes.old class.0 d)) }
+    requires inside { at < length classes.old }
+    requires near { (d : Kept) → IsNear (plain classes.old) name (slice_index_or classes.old at d) }
+    ensures { (d : Kept) → classes.new ≡ slice_set classes.old at (settled (plain classes.old) (slice_index_or classes.old at d)) }
 {
     for place in 0..SLOTS {
         let slot = slot_at(place);
         if is_name_of(slot, name) {
-            patch_slot(classes, class, slot);
+            patch_slot(classes, at, slot);
         }
     }
 }
 
 // Finds every slot of a class.
-pub(crate) fn settle(classes: &mut [Stored], class: PyTypeRef)
+pub(crate) fn settle(classes: &mut [Stored], at: usize)
     requires lines { HasLines classes.old }
-    requires inside { class.0 < length classes.old }
-    requires full { (d : Kept) → length (slice_index_or classes.old class.0 d).slots ≡ 73 }
-    ensures { (d : Kept) → classes.new ≡ slice_set classes.old class.0 (settled (plain classes.old) class.0 (slice_index_or classes.old class.0 d)) }
+    requires inside { at < length classes.old }
+    requires full { (d : Kept) → length (slice_index_or classes.old at d).slots ≡ 73 }
+    ensures { (d : Kept) → classes.new ≡ slice_set classes.old at (settled (plain classes.old) (slice_index_or classes.old at d)) }
 {
     for place in 0..SLOTS {
-        patch_slot(classes, class, slot_at(place));
+        patch_slot(classes, at, slot_at(place));
     }
 }
 
@@ -79,9 +79,9 @@ fn patch_all(classes: &mut [Stored], class: PyTypeRef, name: PyStrInterned)
     requires near { AreNear name class.0 classes.old }
     ensures { IsRefreshed class.0 classes.old classes.new }
 {
-    for number in 0..classes.len() {
-        if classes[number].derives(class) {
-            patch(classes, PyTypeRef(number as u64), name);
+    for place in 0..classes.len() {
+        if classes[place].derives(class) {
+            patch(classes, place, name);
         }
     }
 }

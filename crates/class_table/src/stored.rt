@@ -22,7 +22,7 @@ pub(crate) const SLOTS: usize = 73;
 #[derive(Drop)]
 pub struct NewClass {
     pub name: String,
-    pub node: PyObjectRef,
+    pub number: PyTypeRef,
     pub base: Option<PyTypeRef>,
     pub attrs: PyAttributes,
     pub members: Vec<PyStrInterned>,
@@ -33,12 +33,14 @@ pub struct NewClass {
 #[derive(Drop)]
 pub(crate) struct Stored {
     pub(crate) name: String,
-    pub(crate) node: PyObjectRef,
+    pub(crate) number: PyTypeRef,
     pub(crate) bases: Vec<PyTypeRef>,
     pub(crate) attrs: PyAttributes,
     pub(crate) members: Vec<PyStrInterned>,
     pub(crate) flags: PyTypeFlags,
     pub(crate) mro: Vec<PyTypeRef>,
+    // Where each class of the linearisation is likely kept. Any number will do: each is tested.
+    pub(crate) near: Vec<usize>,
     pub(crate) slots: Vec<Option<SlotEntry>>,
     pub(crate) base: Option<PyTypeRef>,
     pub(crate) solid: Option<PyTypeRef>,
@@ -52,7 +54,7 @@ impl Model for Stored {
 
     ghost Value = { Kept };
 
-    ghost view = { λ a. record { name = string_bytes a.name; node = a.node; bases = numbers a.bases.items; attrs = a.attrs; members = a.members.items; flags = a.flags.0; mro = numbers a.mro.items; slots = a.slots.items; base = number_of a.base; solid = number_of a.solid; subclasses = numbers a.subclasses.items } };
+    ghost view = { λ a. record { name = string_bytes a.name; number = a.number.0; bases = numbers a.bases.items; attrs = a.attrs; members = a.members.items; flags = a.flags.0; mro = numbers a.mro.items; slots = a.slots.items; base = number_of a.base; solid = number_of a.solid; subclasses = numbers a.subclasses.items } };
 }
 
 impl Stored {
@@ -84,11 +86,11 @@ impl Stored {
         self.name.as_str()
     }
 
-    // The object that stands for the class.
-    pub(crate) fn node(&self) -> PyObjectRef
-        ensures { result ≡ self.now.node }
+    // The class's number.
+    pub(crate) fn number(&self) -> PyTypeRef
+        ensures { result.0 ≡ self.now.number }
     {
-        self.node
+        self.number
     }
 
     // The class's flags.
@@ -110,6 +112,11 @@ impl Stored {
         ensures { numbers result.now ≡ self.now.mro }
     {
         &self.mro
+    }
+
+    // Where each class of the linearisation is likely kept.
+    pub(crate) fn near(&self) -> &[usize] {
+        &self.near
     }
 
     // The class's nearest solid class, where it has one.

@@ -1,9 +1,10 @@
 // The table of classes.
 
-ghost use Rattle.std.specs.Prelude.{◌≡◌, ◌<◌, ◌≤◌, ◌∷◌, [], ℕ, length, OnOk, OnErr, IfOk, ◌↔◌, IsTrue, Some, is_some, slice_get, option_map};
+ghost use Rattle.std.specs.Prelude.{◌≡◌, ◌<◌, ◌≤◌, [], true, length, OnOk, OnErr, IfOk, ◌↔◌, IsTrue, Some, is_some, leb, option_map, slice_get};
 ghost use Rattle.py_node.specs.declared.raised.Cause.TheVariants.{EmptyBases, NotBaseType};
 ghost use Rattle.py_node.specs.Attributes.{is_same_name};
-ghost use Rattle.class_model.specs.Class.{Class, lin, is_sub, is_heap, found, found_past, own_of, subclasses};
+ghost use Rattle.class_model.specs.Class.{class_at, is_class, lin, is_sub, is_heap, found, found_past, own_of, subclasses};
+ghost use Rattle.class_model.specs.Numbers.{limit, numbers_of};
 ghost use Rattle.class_model.specs.Layout.{base, solid};
 ghost use Rattle.class_model.specs.Sound.{AreSound};
 ghost use Rattle.class_model.specs.Slot.{entry, slot as slot_read, candidates_of, is_heap_at};
@@ -12,13 +13,14 @@ ghost use Rattle.class_model.specs.Change.{with_class, with_class_attr};
 ghost use Rattle.class_table.specs.Keys.{numbers, number_of, table_keys};
 ghost use Rattle.class_table.specs.Kept.{plain};
 ghost use Rattle.class_table.specs.New.{IsBelow, class_of_new};
-ghost use Rattle.class_table.specs.Refused.{refusal, refused_bases, refused_attr, lacks_base, AreBelow, heap_class};
+ghost use Rattle.class_table.specs.Refused.{refusal, refused_bases, refused_attr, lacks_base, AreThere, heap_class};
 ghost use Rattle.class_table.specs.Turn.{list_of};
 
 use crate::add::add;
 use crate::candidates::{Candidates, in_turn, without_same};
 use crate::fault::ClassFault;
 use crate::heap::{add_heap, set_heap};
+use crate::place::{find, number_in, stored_at, takes};
 use crate::put::put_in;
 use crate::read::{own_entry, read, value_along, value_past};
 use crate::stored::{NewClass, Stored};
@@ -30,7 +32,7 @@ use py_node::refs::{PyObjectRef, PyStrInterned, PyTypeRef};
 use std::alloc::Global;
 use std::marker::Model;
 
-/// Classes, numbered in the order in which they were made.
+/// Classes, in the order of their numbers.
 #[derive(Drop)]
 pub struct ClassTable {
     classes: Vec<Stored>,
@@ -75,10 +77,34 @@ impl ClassTable {
         self.classes.len()
     }
 
+    /// The number of the class at a place.
+    pub fn number_at(&self, place: usize) -> PyTypeRef
+        requires { place < length self.now }
+        ensures number { slice_get (numbers_of self.now) place ≡ Some result.0 }
+        ensures there { is_class self.now result.0 ≡ true }
+    {
+        number_in(&self.classes, place)
+    }
+
+    /// Whether a number is that of a class.
+    pub fn has_class(&self, class: PyTypeRef) -> bool
+        ensures { result ≡ is_class self.now class.0 }
+    {
+        find(&self.classes, class).is_some()
+    }
+
+    /// Whether a new class can have a number: it is greater than all there.
+    pub fn takes(&self, number: PyTypeRef) -> bool
+        ensures { result ≡ leb (limit self.now) number.0 }
+    {
+        takes(&self.classes, number)
+    }
+
     /// One more class, with one base or none. Where memory runs out, the table stays as it was.
     pub fn add_class(&mut self, alloc: Global, new: NewClass) -> Result<PyTypeRef, OutOfMemory>
-        requires base { IsBelow (length self.old) new.base }
-        ensures number { IfOk result (λ c. c.0 ≡ length self.old) }
+        requires base { IsBelow self.old new.number.0 new.base }
+        requires fresh { limit self.old ≤ new.number.0 }
+        ensures number { IfOk result (λ c. c ≡ new.number) }
         ensures added { OnOk result (self.new ≡ with_class self.old (class_of_new new)) }
         ensures err { OnErr result (self.new ≡ self.old) }
     {
@@ -90,22 +116,31 @@ impl ClassTable {
     pub fn new_heap(
         &mut self,
         alloc: Global,
-        node: PyObjectRef,
+        number: PyTypeRef,
         name: &str,
         bases: Vec<PyTypeRef>,
         attrs: PyAttributes,
         members: Vec<PyStrInterned>,
     ) -> Result<PyTypeRef, ClassFault>
-        requires bases { AreBelow (length self.old) (numbers bases.items) }
+        requires bases { AreThere self.old (numbers bases.items) }
+        requires fresh { limit self.old ≤ number.0 }
         requires one { length bases.items ≤ 1 }
-        ensures number { IfOk result (λ c. c.0 ≡ length self.old) }
-        ensures added { OnOk result (self.new ≡ with_class self.old (heap_class name.now node (numbers bases.items) attrs members.items)) }
+        ensures number { IfOk result (λ c. c ≡ number) }
+        ensures added { OnOk result (self.new ≡ with_class self.old (heap_class name.now number.0 (numbers bases.items) attrs members.items)) }
         ensures refused { refusal result ≡ refused_bases self.old (numbers bases.items) }
         ensures empty { (refusal result ≡ Some EmptyBases) ↔ (numbers bases.items ≡ []) }
         ensures base { (refusal result ≡ Some NotBaseType) ↔ IsTrue (lacks_base self.old (numbers bases.items)) }
         ensures err { OnErr result (self.new ≡ self.old) }
     {
-        add_heap(&mut self.classes, alloc, node, name, bases, attrs, members)
+        add_heap(
+            &mut self.classes,
+            alloc,
+            number,
+            name,
+            bases,
+            attrs,
+            members,
+        )
     }
 
     /// Gives an own attribute of a class that a script made a value. Where it is refused or memory
@@ -116,7 +151,7 @@ impl ClassTable {
         name: PyStrInterned,
         value: PyObjectRef,
     ) -> Result<(), ClassFault>
-        requires { class.0 < length self.old }
+        requires { is_class self.old class.0 ≡ true }
         ensures immutable { refusal result ≡ refused_attr self.old class.0 }
         ensures set { OnOk result (self.new ≡ with_class_attr is_same_name self.old class.0 name value) }
         ensures err { OnErr result (self.new ≡ self.old) }
@@ -131,7 +166,7 @@ impl ClassTable {
         name: PyStrInterned,
         value: PyObjectRef,
     ) -> Result<(), OutOfMemory>
-        requires { class.0 < length self.old }
+        requires { is_class self.old class.0 ≡ true }
         ensures set { OnOk result (self.new ≡ with_class_attr is_same_name self.old class.0 name value) }
         ensures err { OnErr result (self.new ≡ self.old) }
     {
@@ -140,31 +175,33 @@ impl ClassTable {
 
     /// The value of a name, in the first class along the linearisation that has it.
     pub fn get_attr(&self, class: PyTypeRef, name: PyStrInterned) -> Option<PyObjectRef>
-        requires { class.0 < length self.now }
+        requires { is_class self.now class.0 ≡ true }
         ensures { result ≡ found is_same_name self.now class.0 name }
     {
-        value_along(&self.classes, self.classes[class.0 as usize].mro(), name)
+        let stored = stored_at(&self.classes, class);
+        value_along(&self.classes, stored.near(), stored.mro(), name)
     }
 
     /// A class's own value of a name.
     pub fn get_direct_attr(&self, class: PyTypeRef, name: PyStrInterned) -> Option<PyObjectRef>
-        requires { class.0 < length self.now }
-        ensures { result ≡ own_of (λ k. is_same_name k name) (slice_get self.now class.0) }
+        requires { is_class self.now class.0 ≡ true }
+        ensures { result ≡ own_of (λ k. is_same_name k name) (class_at self.now class.0) }
     {
-        self.classes[class.0 as usize].own(name)
+        stored_at(&self.classes, class).own(name)
     }
 
     /// The value of a name in the first class along the linearisation, past the class itself, that has it.
     pub fn get_super_attr(&self, class: PyTypeRef, name: PyStrInterned) -> Option<PyObjectRef>
-        requires { class.0 < length self.now }
+        requires { is_class self.now class.0 ≡ true }
         ensures { result ≡ found_past is_same_name self.now class.0 name }
     {
-        value_past(&self.classes, self.classes[class.0 as usize].mro(), name)
+        let stored = stored_at(&self.classes, class);
+        value_past(&self.classes, stored.near(), stored.mro(), name)
     }
 
     /// Whether a class or one along its linearisation has a name.
     pub fn has_attr(&self, class: PyTypeRef, name: PyStrInterned) -> bool
-        requires { class.0 < length self.now }
+        requires { is_class self.now class.0 ≡ true }
         ensures { result ≡ is_some (found is_same_name self.now class.0 name) }
     {
         self.get_attr(class, name).is_some()
@@ -172,15 +209,15 @@ impl ClassTable {
 
     /// Whether a class is another one or has it along its linearisation.
     pub fn fast_issubclass(&self, class: PyTypeRef, other: PyTypeRef) -> bool
-        requires { class.0 < length self.now }
+        requires { is_class self.now class.0 ≡ true }
         ensures { result ≡ is_sub self.now class.0 other.0 }
     {
-        self.classes[class.0 as usize].derives(other)
+        stored_at(&self.classes, class).derives(other)
     }
 
     /// A slot as it is read for a class.
     pub fn slot(&self, class: PyTypeRef, slot: SlotId) -> Option<SlotEntry>
-        requires { class.0 < length self.now }
+        requires { is_class self.now class.0 ≡ true }
         ensures { result ≡ slot_read table_keys natives_of self.now class.0 slot }
     {
         read(&self.classes, class, slot)
@@ -188,7 +225,7 @@ impl ClassTable {
 
     /// What a class itself has in a slot.
     pub fn own_slot(&self, class: PyTypeRef, slot: SlotId) -> Option<SlotEntry>
-        requires { class.0 < length self.now }
+        requires { is_class self.now class.0 ≡ true }
         ensures { result ≡ entry table_keys natives_of self.now class.0 slot }
     {
         own_entry(&self.classes, class, slot)
@@ -196,8 +233,8 @@ impl ClassTable {
 
     /// The candidates of an operator, from the slots of the classes of its operands.
     pub fn candidates(&self, left: SlotId, right: SlotId, a: PyTypeRef, b: PyTypeRef) -> Candidates
-        requires a { a.0 < length self.now }
-        requires b { b.0 < length self.now }
+        requires a { is_class self.now a.0 ≡ true }
+        requires b { is_class self.now b.0 ≡ true }
         ensures { list_of result ≡ candidates_of table_keys natives_of self.now left right a.0 b.0 }
     {
         let first = self.slot(a, left);
@@ -211,73 +248,65 @@ impl ClassTable {
 
     /// The classes that have a class among their bases, in order.
     pub fn subclasses(&self, class: PyTypeRef) -> &[PyTypeRef]
-        requires { class.0 < length self.now }
+        requires { is_class self.now class.0 ≡ true }
         ensures { numbers result.now ≡ subclasses self.now class.0 }
     {
-        self.classes[class.0 as usize].subclasses()
+        stored_at(&self.classes, class).subclasses()
     }
 
     /// The linearisation of a class.
     pub fn mro(&self, class: PyTypeRef) -> &[PyTypeRef]
-        requires { class.0 < length self.now }
+        requires { is_class self.now class.0 ≡ true }
         ensures { lin self.now class.0 ≡ Some (numbers result.now) }
     {
-        self.classes[class.0 as usize].mro()
+        stored_at(&self.classes, class).mro()
     }
 
     /// The best base of a class.
     pub fn base(&self, class: PyTypeRef) -> Option<PyTypeRef>
-        requires { class.0 < length self.now }
+        requires { is_class self.now class.0 ≡ true }
         ensures { number_of result ≡ base self.now class.0 }
     {
-        self.classes[class.0 as usize].base()
+        stored_at(&self.classes, class).base()
     }
 
     /// The nearest solid class of a class.
     pub fn solid_base(&self, class: PyTypeRef) -> Option<PyTypeRef>
-        requires { class.0 < length self.now }
+        requires { is_class self.now class.0 ≡ true }
         ensures { number_of result ≡ solid self.now class.0 }
     {
-        self.classes[class.0 as usize].solid()
+        stored_at(&self.classes, class).solid()
     }
 
     /// The name of a class.
     pub fn name(&self, class: PyTypeRef) -> &str
-        requires { class.0 < length self.now }
-        ensures { option_map (λ k. k.name) (slice_get self.now class.0) ≡ Some result.now }
+        requires { is_class self.now class.0 ≡ true }
+        ensures { option_map (λ k. k.name) (class_at self.now class.0) ≡ Some result.now }
     {
-        self.classes[class.0 as usize].name()
-    }
-
-    /// The object that stands for a class.
-    pub fn node(&self, class: PyTypeRef) -> PyObjectRef
-        requires { class.0 < length self.now }
-        ensures { option_map (λ k. k.node) (slice_get self.now class.0) ≡ Some result }
-    {
-        self.classes[class.0 as usize].node()
+        stored_at(&self.classes, class).name()
     }
 
     /// A class's own attributes.
     pub fn attributes(&self, class: PyTypeRef) -> &PyAttributes
-        requires { class.0 < length self.now }
-        ensures { option_map (λ k. k.attrs) (slice_get self.now class.0) ≡ Some result.now }
+        requires { is_class self.now class.0 ≡ true }
+        ensures { option_map (λ k. k.attrs) (class_at self.now class.0) ≡ Some result.now }
     {
-        self.classes[class.0 as usize].attributes()
+        stored_at(&self.classes, class).attributes()
     }
 
     /// The flags of a class.
     pub fn flags(&self, class: PyTypeRef) -> PyTypeFlags
-        requires { class.0 < length self.now }
-        ensures { option_map (λ k. k.flags) (slice_get self.now class.0) ≡ Some result.0 }
+        requires { is_class self.now class.0 ≡ true }
+        ensures { option_map (λ k. k.flags) (class_at self.now class.0) ≡ Some result.0 }
     {
-        self.classes[class.0 as usize].flags()
+        stored_at(&self.classes, class).flags()
     }
 
     /// Whether a class was made by a script.
     pub fn is_heap(&self, class: PyTypeRef) -> bool
-        requires { class.0 < length self.now }
-        ensures { result ≡ is_heap_at (slice_get self.now class.0) }
+        requires { is_class self.now class.0 ≡ true }
+        ensures { result ≡ is_heap_at (class_at self.now class.0) }
     {
-        self.classes[class.0 as usize].is_heap()
+        stored_at(&self.classes, class).is_heap()
     }
 }

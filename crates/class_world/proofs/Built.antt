@@ -1,10 +1,11 @@
 -- The fixed objects and the built-in classes are there.
-use Rattle.std.proofs.Common.{◌≡◌, ℕ, ◌<◌, length, Some, refl, sym, subst, arith, lit<}
+use Rattle.std.proofs.Common.{◌≡◌, ℕ, true, ◌<◌, length, Some, refl, sym, subst, arith, lit<}
 use Rattle.std.specs.Prelude.{slice_get}
 use Rattle.py_node.specs.declared.refs.PyObjectRef.{PyObjectRef}
 use Rattle.py_node.specs.declared.built_in.BuiltIn.{BuiltIn}
 use Rattle.py_node.specs.BuiltIns.{place_of, all_built_ins}
 use Rattle.plain_machine.specs.Sound.{holds_as}
+use Rattle.class_model.specs.Class.{is_class}
 use Rattle.class_world.specs.Held.{Held}
 use Rattle.class_world.specs.Sound.{IsNode, IsClass, IsOf, Holds, Sound}
 use Rattle.class_world.specs.declared.world.Fixed.{Fixed}
@@ -76,7 +77,7 @@ fixed-holds w now o r v s e = let l = fixed-low o in let m = s.fixed in subst (�
 
 pub built_in-holds : (w now : Held) (b : BuiltIn) (c : ℕ) → w ≡ now → Sound w → c ≡ place_of b → Holds now (IsClass c)
 unfolding Holds
-built_in-holds w now b c v s e = let l = place-low b in let m = s.built_in in subst (λ w. c < length w.classes) v (omega arith)
+built_in-holds w now b c v s e = let l = place-low b in subst (λ w. is_class w.classes c ≡ true) v (s.built_in c (omega (arith, l, e)))
 
 pub built_in_node-holds : (w now : Held) (b : BuiltIn) (r : PyObjectRef) → w ≡ now → Sound w → r.0 ≡ place_of b → Holds now (IsNode r)
 unfolding Holds

@@ -1,5 +1,5 @@
 -- Each change of a world keeps it sound.
-use Rattle.std.proofs.Common.{◌≡◌, ℕ, zero, suc, ◌+◌, ◌<◌, ◌≤◌, List, [], ◌∷◌, ◌++◌, length, Some, refl, subst, arith, get_or, map}
+use Rattle.std.proofs.Common.{◌≡◌, true, ℕ, zero, suc, ◌+◌, ◌<◌, ◌≤◌, List, [], ◌∷◌, ◌++◌, length, Some, refl, subst, arith, get_or, map}
 use Rattle.std.specs.Prelude.{slice_get}
 use Rattle.std.specs.List.{All}
 use Rattle.py_node.specs.declared.refs.PyStrInterned.{PyStrInterned}
@@ -7,6 +7,7 @@ use Rattle.py_node.specs.declared.payload.Node.{Node}
 use Rattle.py_node.specs.declared.payload.Form.{Form}
 use Rattle.py_node.specs.declared.payload.Form.TheVariants as form
 use Rattle.py_node.specs.Replies.{Started}
+use Rattle.class_model.specs.Class.{is_class}
 use Rattle.class_world.specs.Held.{Held}
 use Rattle.class_world.specs.Tables.{IsBelow, AreBelow}
 use Rattle.class_world.specs.Sound.{IsNode, IsClass, Holds, AllHold, Grows, of_node, of_form, Sound}
@@ -66,31 +67,31 @@ pub fixed-grow : (w new : Held) → 27 ≤ length w.nodes → Grows w new → 27
 unfolding Holds
 fixed-grow w new h g = let k = g.still (IsNode (record { 0 = 26 })) (omega arith) in omega arith
 
-pub built_in-grow : (w new : Held) → 23 ≤ length w.classes → Grows w new → 23 ≤ length new.classes
+pub built_in-grow : (w new : Held) → ((c : ℕ) → c < 23 → is_class w.classes c ≡ true) → Grows w new → (c : ℕ) → c < 23 → is_class new.classes c ≡ true
 unfolding Holds
-built_in-grow w new h g = let k = g.still (IsClass 22) (omega arith) in omega arith
+built_in-grow w new h g = λ c l. g.still (IsClass c) (h c l)
 
 module _ (w : Held) (s : Sound w) where
   pub node-sound : (n : Node) → AllHold w (of_node n) → Sound (record w { nodes = w.nodes ++ n ∷ [] })
   node-sound n h =
       let new = record w { nodes = w.nodes ++ n ∷ [] } in
       let go = all-grow w new (node-grows w n) in
-      record { forms = go _ s.forms; below = s.below; nodes = each-push new of_node w.nodes n (go _ s.nodes) (go (of_node n) h); classes = go _ s.classes; vars = go _ s.vars; scopes = go _ s.scopes; fixed = fixed-grow w new s.fixed (node-grows w n); built_in = built_in-grow w new s.built_in (node-grows w n); own = λ b. (node-grows w n).still _ (s.own b); standing = λ c k e. (node-grows w n).still _ (s.standing c k e); special = s.special }
+      record { forms = go _ s.forms; below = s.below; nodes = each-push new of_node w.nodes n (go _ s.nodes) (go (of_node n) h); classes = go _ s.classes; vars = go _ s.vars; scopes = go _ s.scopes; fixed = fixed-grow w new s.fixed (node-grows w n); built_in = built_in-grow w new s.built_in (node-grows w n); own = λ b. (node-grows w n).still _ (s.own b); standing = λ c e. (node-grows w n).still _ (s.standing c e); special = s.special }
 
   pub form-sound : (f : Form) → AllHold w (of_form f) → Sound (record w { forms = w.forms ++ f ∷ [] })
   form-sound f h =
       let new = record w { forms = w.forms ++ f ∷ [] } in
       let go = all-grow w new (form-grows w f) in
-      record { forms = each-push new of_form w.forms f (go _ s.forms) (go (of_form f) h); below = below-push w.forms f s.below (form-below w f h); nodes = go _ s.nodes; classes = go _ s.classes; vars = go _ s.vars; scopes = go _ s.scopes; fixed = fixed-grow w new s.fixed (form-grows w f); built_in = built_in-grow w new s.built_in (form-grows w f); own = λ b. (form-grows w f).still _ (s.own b); standing = λ c k e. (form-grows w f).still _ (s.standing c k e); special = s.special }
+      record { forms = each-push new of_form w.forms f (go _ s.forms) (go (of_form f) h); below = below-push w.forms f s.below (form-below w f h); nodes = go _ s.nodes; classes = go _ s.classes; vars = go _ s.vars; scopes = go _ s.scopes; fixed = fixed-grow w new s.fixed (form-grows w f); built_in = built_in-grow w new s.built_in (form-grows w f); own = λ b. (form-grows w f).still _ (s.own b); standing = λ c e. (form-grows w f).still _ (s.standing c e); special = s.special }
 
   pub names-sound : (names : List (List ℕ)) → length w.names ≤ length names → ((n : ℕ) (x : List ℕ) → slice_get w.names n ≡ Some x → slice_get names n ≡ Some x) → Sound (record w { names = names })
   names-sound names l k =
       let new = record w { names = names } in
       let go = all-grow w new (names-grow w names l) in
-      record { forms = go _ s.forms; below = s.below; nodes = go _ s.nodes; classes = go _ s.classes; vars = go _ s.vars; scopes = go _ s.scopes; fixed = fixed-grow w new s.fixed (names-grow w names l); built_in = built_in-grow w new s.built_in (names-grow w names l); own = λ b. (names-grow w names l).still _ (s.own b); standing = λ c k e. (names-grow w names l).still _ (s.standing c k e); special = λ n x e. k n x (s.special n x e) }
+      record { forms = go _ s.forms; below = s.below; nodes = go _ s.nodes; classes = go _ s.classes; vars = go _ s.vars; scopes = go _ s.scopes; fixed = fixed-grow w new s.fixed (names-grow w names l); built_in = built_in-grow w new s.built_in (names-grow w names l); own = λ b. (names-grow w names l).still _ (s.own b); standing = λ c e. (names-grow w names l).still _ (s.standing c e); special = λ n x e. k n x (s.special n x e) }
 
   pub rest-sound : (calls : List Started) → Sound (record w { scopes = []; calls = calls })
   rest-sound calls =
       let new = record w { scopes = []; calls = calls } in
       let go = all-grow w new (same-grows w new refl refl refl refl) in
-      record { forms = go _ s.forms; below = s.below; nodes = go _ s.nodes; classes = go _ s.classes; vars = go _ s.vars; scopes = tt; fixed = fixed-grow w new s.fixed (same-grows w new refl refl refl refl); built_in = built_in-grow w new s.built_in (same-grows w new refl refl refl refl); own = λ b. (same-grows w new refl refl refl refl).still _ (s.own b); standing = λ c k e. (same-grows w new refl refl refl refl).still _ (s.standing c k e); special = s.special }
+      record { forms = go _ s.forms; below = s.below; nodes = go _ s.nodes; classes = go _ s.classes; vars = go _ s.vars; scopes = tt; fixed = fixed-grow w new s.fixed (same-grows w new refl refl refl refl); built_in = built_in-grow w new s.built_in (same-grows w new refl refl refl refl); own = λ b. (same-grows w new refl refl refl refl).still _ (s.own b); standing = λ c e. (same-grows w new refl refl refl refl).still _ (s.standing c e); special = s.special }

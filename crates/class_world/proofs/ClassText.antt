@@ -1,8 +1,10 @@
 -- The lines of classes are the same by numbers as by texts.
-use Rattle.std.proofs.Common.{◌≡◌, ℕ, zero, suc, ◌+◌, ◌<◌, ◌≤◌, cond, List, [], ◌∷◌, ◌++◌, map, length, take, Option, Some, None, refl, sym, ap, ◌∙◌, arith}
+use Rattle.std.proofs.Common.{◌≡◌, ℕ, zero, suc, ◌+◌, ◌<◌, ◌≤◌, cond, List, [], ◌∷◌, ◌++◌, map, length, take, get_or, Option, Some, None, refl, sym, ap, ◌∙◌, arith}
 use Rattle.std.specs.Prelude.{codes, slice_get, option_map}
 use Rattle.std.specs.List.{flat_map}
-use Rattle.std.proofs.lemmas.Grind.{common_steps}
+use Rattle.std.proofs.lemmas.Grind.{common_steps, flat_map-append}
+use Rattle.std.proofs.lemmas.List.{take_more, take_all, length-map, append-nil}
+use Rattle.std.proofs.lemmas.Option.{slice_get_within, get_or_from_slice_get}
 use Rattle.py_node.specs.declared.refs.PyStrInterned.{PyStrInterned}
 use Rattle.py_node.specs.declared.refs.PyTypeRef.{PyTypeRef}
 use Rattle.py_node.specs.declared.entry.SlotId.{SlotId}
@@ -12,20 +14,21 @@ use Rattle.py_node.specs.Tree.{Text}
 use Rattle.reply_text.specs.Escapes.{escaped}
 use Rattle.reply_text.specs.Lines.{joined, end_of_line}
 use Rattle.reply_text.specs.Classes.{class_head, slots_head, slot_word, class_lines}
-use Rattle.class_model.specs.Class.{Class, Classes, lin, renamed}
+use Rattle.class_model.specs.Class.{Class, Classes, class_at, lin, renamed}
+use Rattle.class_model.specs.Numbers.{numbers_of}
 use Rattle.class_model.specs.Slot.{Keys, is_heap_at, entry}
 use Rattle.class_model.specs.BuiltIn.{natives_of}
-use Rattle.class_model.proofs.Renamed.{get-renamed, length-renamed, lin-renamed, entry-renamed}
+use Rattle.class_model.proofs.Renamed.{at-renamed, numbers-renamed, lin-renamed, entry-renamed}
 use Rattle.class_table.specs.Keys.{table_keys, numbers}
 use Rattle.plain_machine.specs.World.{text_keys, or_empty}
-use Rattle.plain_machine.specs.ClassText.{slot_words, own_words, name_at, names_along, class_text, heap_text, text_below, classes_text}
+use Rattle.plain_machine.specs.ClassText.{slot_words, own_words, name_at, names_along, class_text, heap_text, classes_text}
 use Rattle.class_world.specs.Held.{Held}
 use Rattle.class_world.specs.Reading.{Reading, Reads, spelled, plain}
 use Rattle.class_world.proofs.Look.{special-read}
 
 module _ {K L : Type 0} (f : K → L) (keys : Keys K) (others : Keys L) (agree : (a b : K) → others.same (f a) (f b) ≡ keys.same a b) (special : (k : ℕ) → k < 70 → others.special k ≡ f (keys.special k)) (t : Classes K) where
   name-renamed : (c : ℕ) → name_at (renamed f t) c ≡ name_at t c
-  name-renamed c = get-renamed f (λ o. or_empty (option_map (λ (k : Class L). k.name) o)) (λ o. or_empty (option_map (λ (k : Class K). k.name) o)) refl (λ k. refl) t c
+  name-renamed c = at-renamed f (λ o. or_empty (option_map (λ (k : Class L). k.name) o)) (λ o. or_empty (option_map (λ (k : Class K). k.name) o)) refl (λ k. refl) t c
 
   names-renamed : (o : Option (List ℕ)) → names_along (renamed f t) o ≡ names_along t o
   names-renamed None = refl
@@ -45,19 +48,19 @@ module _ {K L : Type 0} (f : K → L) (keys : Keys K) (others : Keys L) (agree :
 
   heap-renamed : (c : ℕ) → heap_text others (renamed f t) c ≡ heap_text keys t c
   heap-renamed c =
-      ap (λ b. cond b (class_text others (renamed f t) c) []) (get-renamed f is_heap_at is_heap_at refl (λ k. refl) t c)
-      ∙ ap (λ x. cond (is_heap_at (slice_get t c)) x []) (class-renamed c)
+      ap (λ b. cond b (class_text others (renamed f t) c) []) (at-renamed f is_heap_at is_heap_at refl (λ k. refl) t c)
+      ∙ ap (λ x. cond (is_heap_at (class_at t c)) x []) (class-renamed c)
 
-  below-renamed : (n : ℕ) → text_below others (renamed f t) n ≡ text_below keys t n
-  below-renamed zero = refl
-  below-renamed (suc n) =
-      ap (λ x. x ++ heap_text others (renamed f t) n) (below-renamed n) ∙ ap (λ x. text_below keys t n ++ x) (heap-renamed n)
+  all-renamed : (cs : List ℕ) → flat_map (heap_text others (renamed f t)) cs ≡ flat_map (heap_text keys t) cs
+  all-renamed [] = refl
+  all-renamed (c ∷ cs) =
+      ap (λ x. x ++ flat_map (heap_text others (renamed f t)) cs) (heap-renamed c) ∙ ap (λ x. heap_text keys t c ++ x) (all-renamed cs)
 
-  text-renamed : text_below others (renamed f t) (length (renamed f t)) ≡ text_below keys t (length t)
-  text-renamed = ap (text_below others (renamed f t)) (length-renamed f t) ∙ below-renamed (length t)
+  text-renamed : flat_map (heap_text others (renamed f t)) (numbers_of (renamed f t)) ≡ flat_map (heap_text keys t) (numbers_of t)
+  text-renamed = ap (flat_map (heap_text others (renamed f t))) (numbers-renamed f t) ∙ all-renamed (numbers_of t)
 
 -- what is written by numbers is the text of the plain world's classes
-pub text-seen : (w : Held) (t : Reading) → ((n : ℕ) (x : List ℕ) → slice_get special_names n ≡ Some x → slice_get w.names n ≡ Some x) → Reads t w → classes_text (plain t w) ≡ text_below table_keys w.classes (length w.classes)
+pub text-seen : (w : Held) (t : Reading) → ((n : ℕ) (x : List ℕ) → slice_get special_names n ≡ Some x → slice_get w.names n ≡ Some x) → Reads t w → classes_text (plain t w) ≡ flat_map (heap_text table_keys w.classes) (numbers_of w.classes)
 unfolding plain classes_text
 text-seen w t s r =
     text-renamed (spelled t) table_keys text_keys (λ a b. t.same a.0 b.0) (special-read w t s r) w.classes
@@ -70,14 +73,22 @@ names-end t (c ∷ line) zero l = absurd (omega arith)
 names-end t (c ∷ line) (suc i) l = ap (λ xs. name_at t c.0 ∷ xs) (names-end t line i (omega arith))
 
 -- one class more
-pub text-next : {K : Type 0} (keys : Keys K) (t : Classes K) (n : ℕ) → text_below keys t (n + 1) ≡ text_below keys t n ++ heap_text keys t n
-text-next keys t n = let next : n + 1 ≡ suc n = omega arith in ap (text_below keys t) next
+pub text-next : {K : Type 0} (keys : Keys K) (t : Classes K) (xs : List ℕ) (n c : ℕ) → slice_get xs n ≡ Some c → flat_map (heap_text keys t) (take (n + 1) xs) ≡ flat_map (heap_text keys t) (take n xs) ++ heap_text keys t c
+text-next keys t xs n c e =
+    let l = slice_get_within xs n c e in
+    ap (flat_map (heap_text keys t)) (take_more xs n c l)
+    ∙ flat_map-append (heap_text keys t) (take n xs) (get_or xs n c ∷ [])
+    ∙ ap (λ ys. flat_map (heap_text keys t) (take n xs) ++ ys) (append-nil (heap_text keys t (get_or xs n c)))
+    ∙ ap (λ d. flat_map (heap_text keys t) (take n xs) ++ heap_text keys t d) (get_or_from_slice_get xs n c c e)
+
+pub all-taken : {K : Type 0} (t : Classes K) (n : ℕ) → length t ≤ n → take n (numbers_of t) ≡ numbers_of t
+all-taken t n l = take_all n (numbers_of t) (omega (arith, length-map t (λ k. k.number), l))
 
 regrouped : (before head names end slots words : Text) → before ++ head ++ names ++ end ++ slots ++ words ++ end ≡ before ++ (head ++ names ++ end ++ slots ++ words ++ end)
 regrouped before head names end slots words = grind (arith, common_steps)
 
 -- both lines of a class, with its name and its linearisation
-pub class-written : {K : Type 0} (keys : Keys K) (t : Classes K) (c : ℕ) (name : Text) (line : List ℕ) (before mid new : Text) → option_map (λ k. k.name) (slice_get t c) ≡ Some name → lin t c ≡ Some line
+pub class-written : {K : Type 0} (keys : Keys K) (t : Classes K) (c : ℕ) (name : Text) (line : List ℕ) (before mid new : Text) → option_map (λ k. k.name) (class_at t c) ≡ Some name → lin t c ≡ Some line
     → mid ≡ before ++ class_head name ++ joined (codes ", ") (map escaped (map (name_at t) line)) ++ end_of_line
     → new ≡ mid ++ slots_head name ++ flat_map slot_word (own_words keys t c all_slots) ++ end_of_line
     → new ≡ before ++ class_text keys t c

@@ -3,7 +3,8 @@ use Rattle.std.proofs.Common.{◌≡◌, ℕ, zero, suc, ◌<◌, ◌≤◌, Lis
 use Rattle.std.specs.Prelude.{slice_get, is_some, true, option_map, option_and_then}
 use Rattle.py_node.specs.declared.built_in.BuiltIn.{BuiltIn}
 use Rattle.py_node.specs.declared.refs.PyStrInterned.{PyStrInterned}
-use Rattle.class_model.specs.Class.{Class}
+use Rattle.class_model.specs.Class.{Class, class_at, is_class}
+use Rattle.class_model.proofs.Numbers.{at-before}
 use Rattle.class_table.specs.Refused.{is_base_at}
 use Rattle.plain_machine.specs.Sound.{held_by, Key, AreKeys}
 use Rattle.py_node.specs.declared.refs.PyObjectRef.{PyObjectRef}
@@ -34,21 +35,27 @@ pub record Keep (old new : List Node) : Type 0 where
 
 pub record Like (old new : List (Class PyStrInterned)) : Type 0 where
   pub held : (c : ℕ) (b : BuiltIn) → held_by old c ≡ Some b → held_by new c ≡ Some b
-  pub bases : (c : ℕ) → is_base_at (slice_get old c) ≡ true → is_base_at (slice_get new c) ≡ true
+  pub bases : (c : ℕ) → is_base_at (class_at old c) ≡ true → is_base_at (class_at new c) ≡ true
+  pub there : (c : ℕ) → is_class old c ≡ true → is_class new c ≡ true
 
 pub like-itself : (ks : List (Class PyStrInterned)) → Like ks ks
-like-itself ks = record { held = λ c b h. h; bases = λ c h. h }
+like-itself ks = record { held = λ c b h. h; bases = λ c h. h; there = λ c h. h }
 
 pub keep-itself : (ns : List Node) → Keep ns ns
 keep-itself ns = record { stays = λ n x e. (x, e, refl) }
 
-bases-push : (ks : List (Class PyStrInterned)) (k : Class PyStrInterned) (c : ℕ) → is_base_at (slice_get ks c) ≡ true → is_base_at (slice_get (ks ++ k ∷ []) c) ≡ true
-bases-push [] k c e = cc
-bases-push (j ∷ ks) k zero e = e
-bases-push (j ∷ ks) k (suc c) e = bases-push ks k c e
+there-push : (ks : List (Class PyStrInterned)) (k : Class PyStrInterned) (c : ℕ) → is_class ks c ≡ true → is_class (ks ++ k ∷ []) c ≡ true
+there-push ks k c e = ap is_some (at-before ks k c e) ∙ e
+
+bases-there : (o : Option (Class PyStrInterned)) → is_base_at o ≡ true → is_some o ≡ true
+bases-there None e = cc
+bases-there (Some k) e = refl
+
+bases-push : (ks : List (Class PyStrInterned)) (k : Class PyStrInterned) (c : ℕ) → is_base_at (class_at ks c) ≡ true → is_base_at (class_at (ks ++ k ∷ []) c) ≡ true
+bases-push ks k c e = ap is_base_at (at-before ks k c (bases-there (class_at ks c) e)) ∙ e
 
 pub like-push : (ks : List (Class PyStrInterned)) (k : Class PyStrInterned) → Like ks (ks ++ k ∷ [])
-like-push ks k = record { held = held_by-push ks k; bases = bases-push ks k }
+like-push ks k = record { held = held_by-push ks k; bases = bases-push ks k; there = there-push ks k }
 
 pub keep-push : (ns : List Node) (x : Node) → Keep ns (ns ++ x ∷ [])
 keep-push ns x = record { stays = λ n y e. (y, get-pushed ns x n y e, refl) }
@@ -91,25 +98,25 @@ operand-stays old new e n s h = go (slice_get old e) refl h
     go None q h = absurd (omega arith)
     go (Some f) q h = subst (λ o. n < length (operands_at o)) (sym (s e f q)) h
 
-grows-at : (old new : Held) → length old.names ≤ length new.names → length old.forms ≤ length new.forms → Stays old.forms new.forms → length old.nodes ≤ length new.nodes → Keep old.nodes new.nodes → length old.classes ≤ length new.classes → Like old.classes new.classes → (c : Claim) → Holds old c → Holds new c
+grows-at : (old new : Held) → length old.names ≤ length new.names → length old.forms ≤ length new.forms → Stays old.forms new.forms → length old.nodes ≤ length new.nodes → Keep old.nodes new.nodes → Like old.classes new.classes → (c : Claim) → Holds old c → Holds new c
 unfolding Holds
-grows-at old new x e s n p k l (IsNode r) h = omega arith
-grows-at old new x e s n p k l (AreNodes rs) h = λ i d m. let below = h i d m in omega arith
-grows-at old new x e s n p k l (IsExpression m) h = omega arith
-grows-at old new x e s n p k l (AreExpressions es) h = λ i d m. let below = h i d m in omega arith
-grows-at old new x e s n p k l (IsName m) h = omega arith
-grows-at old new x e s n p k l (AreNames xs) h = λ i d m. let below = h i d m in omega arith
-grows-at old new x e s n p k l (IsClass c) h = omega arith
-grows-at old new x e s n p k l (IsOf c b) h = l.held c b h
-grows-at old new x e s n p k l (CanBeBase c) h = l.bases c h
-grows-at old new x e s n p k l (Holding r b) h = home-still old.nodes new.nodes p r.0 b h
-grows-at old new x e s n p k l (Standing c r) h = class-still old.nodes new.nodes p r c h
-grows-at old new x e s n p k l (KeysDiffer rs) h = keys-keep old.nodes new.nodes p rs h
-grows-at old new x e s n p k l (HasOperand m i) h = operand-stays old.forms new.forms m i s h
+grows-at old new x e s n p l (IsNode r) h = omega arith
+grows-at old new x e s n p l (AreNodes rs) h = λ i d m. let below = h i d m in omega arith
+grows-at old new x e s n p l (IsExpression m) h = omega arith
+grows-at old new x e s n p l (AreExpressions es) h = λ i d m. let below = h i d m in omega arith
+grows-at old new x e s n p l (IsName m) h = omega arith
+grows-at old new x e s n p l (AreNames xs) h = λ i d m. let below = h i d m in omega arith
+grows-at old new x e s n p l (IsClass c) h = l.there c h
+grows-at old new x e s n p l (IsOf c b) h = l.held c b h
+grows-at old new x e s n p l (CanBeBase c) h = l.bases c h
+grows-at old new x e s n p l (Holding r b) h = home-still old.nodes new.nodes p r.0 b h
+grows-at old new x e s n p l (Standing c r) h = class-still old.nodes new.nodes p r c h
+grows-at old new x e s n p l (KeysDiffer rs) h = keys-keep old.nodes new.nodes p rs h
+grows-at old new x e s n p l (HasOperand m i) h = operand-stays old.forms new.forms m i s h
 
 -- where no table is shorter
-pub grows : (old new : Held) → length old.names ≤ length new.names → length old.forms ≤ length new.forms → Stays old.forms new.forms → length old.nodes ≤ length new.nodes → Keep old.nodes new.nodes → length old.classes ≤ length new.classes → Like old.classes new.classes → Grows old new
-grows old new x e s n p k l = record { still = grows-at old new x e s n p k l }
+pub grows : (old new : Held) → length old.names ≤ length new.names → length old.forms ≤ length new.forms → Stays old.forms new.forms → length old.nodes ≤ length new.nodes → Keep old.nodes new.nodes → Like old.classes new.classes → Grows old new
+grows old new x e s n p l = record { still = grows-at old new x e s n p l }
 
 pub grows-itself : (w : Held) → Grows w w
 grows-itself w = record { still = λ c h. h }
@@ -123,17 +130,16 @@ same-grows old new x e n k =
     let a = ap length x in
     let b = ap length e in
     let d = ap length n in
-    let f = ap length k in
-    grows old new (omega arith) (omega arith) (λ m f h. subst (λ fs. slice_get fs m ≡ Some f) e h) (omega arith) (subst (λ ns. Keep old.nodes ns) n (keep-itself old.nodes)) (omega arith) (subst (λ ks. Like old.classes ks) k (like-itself old.classes))
+    grows old new (omega arith) (omega arith) (λ m f h. subst (λ fs. slice_get fs m ≡ Some f) e h) (omega arith) (subst (λ ns. Keep old.nodes ns) n (keep-itself old.nodes)) (subst (λ ks. Like old.classes ks) k (like-itself old.classes))
 
 pub grows-seen : (w now new : Held) → w ≡ now → Grows w new → Grows now new
 grows-seen w now new e g = subst (λ w. Grows w new) e g
 
 pub node-grows : (w : Held) (n : Node) → Grows w (record w { nodes = w.nodes ++ n ∷ [] })
-node-grows w n = let l = length-append w.nodes (n ∷ []) in grows w (record w { nodes = w.nodes ++ n ∷ [] }) (omega arith) (omega arith) (λ m f h. h) (omega arith) (keep-push w.nodes n) (omega arith) (like-itself w.classes)
+node-grows w n = let l = length-append w.nodes (n ∷ []) in grows w (record w { nodes = w.nodes ++ n ∷ [] }) (omega arith) (omega arith) (λ m f h. h) (omega arith) (keep-push w.nodes n) (like-itself w.classes)
 
 pub form-grows : (w : Held) (f : Form) → Grows w (record w { forms = w.forms ++ f ∷ [] })
-form-grows w f = let l = length-append w.forms (f ∷ []) in grows w (record w { forms = w.forms ++ f ∷ [] }) (omega arith) (omega arith) (λ m g h. get-pushed w.forms f m g h) (omega arith) (keep-itself w.nodes) (omega arith) (like-itself w.classes)
+form-grows w f = let l = length-append w.forms (f ∷ []) in grows w (record w { forms = w.forms ++ f ∷ [] }) (omega arith) (omega arith) (λ m g h. get-pushed w.forms f m g h) (omega arith) (keep-itself w.nodes) (like-itself w.classes)
 
 pub names-grow : (w : Held) (names : List (List ℕ)) → length w.names ≤ length names → Grows w (record w { names = names })
-names-grow w names l = grows w (record w { names = names }) l (omega arith) (λ m f h. h) (omega arith) (keep-itself w.nodes) (omega arith) (like-itself w.classes)
+names-grow w names l = grows w (record w { names = names }) l (omega arith) (λ m f h. h) (omega arith) (keep-itself w.nodes) (like-itself w.classes)

@@ -5,6 +5,7 @@ use Rattle.py_node.specs.declared.built_in.BuiltIn.{BuiltIn}
 use Rattle.py_node.specs.declared.refs.PyObjectRef.{PyObjectRef}
 use Rattle.py_node.specs.BuiltIns.{all_built_ins}
 use Rattle.class_model.specs.Class.{Class, Classes, lin}
+use Rattle.class_model.specs.Numbers.{limit}
 use Rattle.class_model.specs.Change.{with_class, with_class_attr}
 use Rattle.class_model.specs.Layout.{built_ins}
 use Rattle.class_model.specs.Slot.{first_with}
@@ -24,17 +25,17 @@ module _ {K : Type 0} where
       go (Some line) l e = ap by_line (lin-push t k c line l) ∙ e
 
   -- a class below one base, past the built-in ones
-  pub held_by-last : (t : Classes K) (k : Class K) (d : ℕ) (b : BuiltIn) → built_ins ≤ length t → k.bases ≡ d ∷ [] → held_by t d ≡ Some b → held_by (with_class t k) (length t) ≡ Some b
-  held_by-last t k d b m e h = go (lin t d) refl h
+  pub held_by-last : (t : Classes K) (k : Class K) (d : ℕ) (b : BuiltIn) → limit t ≤ k.number → built_ins ≤ k.number → k.bases ≡ d ∷ [] → held_by t d ≡ Some b → held_by (with_class t k) k.number ≡ Some b
+  held_by-last t k d b fresh m e h = go (lin t d) refl h
     where
-      late : (nat_lt (length t) built_ins) ≡ false
-      late = le-ltb (length t) built_ins m
+      late : (nat_lt k.number built_ins) ≡ false
+      late = le-ltb k.number built_ins m
 
-      go : (o : Option (List ℕ)) → lin t d ≡ o → by_line o ≡ Some b → held_by (with_class t k) (length t) ≡ Some b
+      go : (o : Option (List ℕ)) → lin t d ≡ o → by_line o ≡ Some b → held_by (with_class t k) k.number ≡ Some b
       go None l h = cc
       go (Some line) l h =
-          ap by_line (lin-one_base t k d line e l)
-          ∙ ap (λ w. option_map holds_as (option_and_then (slice_get all_built_ins) (cond w (Some (length t)) (first_with (λ d. nat_lt d built_ins) line)))) late
+          ap by_line (lin-one_base t k fresh d line e l)
+          ∙ ap (λ w. option_map holds_as (option_and_then (slice_get all_built_ins) (cond w (Some k.number) (first_with (λ d. nat_lt d built_ins) line)))) late
           ∙ h
 
   pub held_by-attr : (same : K → K → Bool) (t : Classes K) (c : ℕ) (n : K) (v : PyObjectRef) (d : ℕ) → held_by (with_class_attr same t c n v) d ≡ held_by t d

@@ -1,6 +1,6 @@
 -- What a world's tables say of a reading, and what the plain world has at a number.
 use Rattle.std.proofs.Common.{◌≡◌, ℕ, zero, suc, ◌^◌, ◌<◌, List, [], ◌∷◌, ◌++◌, length, Option, Some, None, Bool, true, false, refl, sym, ap, ◌∙◌, subst, arith}
-use Rattle.std.specs.Prelude.{slice_get, option_map, IsTrue}
+use Rattle.std.specs.Prelude.{slice_get, option_map, IsTrue, cond, eqb}
 use Rattle.py_node.specs.declared.refs.PyObjectRef.{PyObjectRef}
 use Rattle.py_node.specs.declared.payload.Node.{Node}
 use Rattle.py_node.specs.declared.payload.Form.{Form}
@@ -9,10 +9,10 @@ use Rattle.std.specs.Prelude.{◌==◌}
 use Rattle.std.specs.Int.RustNames.{bit_and}
 use Rattle.py_node.specs.declared.entry.SlotId.{SlotId}
 use Rattle.py_node.specs.Slots.{special_names}
-use Rattle.class_model.specs.Class.{Class, has_flag, renamed}
+use Rattle.class_model.specs.Class.{Class, class_at, has_flag, renamed}
 use Rattle.class_model.specs.Slot.{entry, slot, candidates_of}
 use Rattle.class_model.specs.BuiltIn.{natives_of}
-use Rattle.class_model.proofs.Renamed.{entry-renamed, slot-renamed, candidates_of-renamed}
+use Rattle.class_model.proofs.Renamed.{at-renamed, entry-renamed, slot-renamed, candidates_of-renamed}
 use Rattle.class_table.specs.Keys.{table_keys}
 use Rattle.plain_machine.specs.World.{node_at, has_dict, flag_in, text_keys, or_empty}
 use Rattle.plain_machine.specs.Known.{the_dict}
@@ -42,33 +42,36 @@ flag_at flag None = false
 flag_at flag (Some k) = has_flag flag k
 
 -- whether a class gives dicts is a flag of the class
-pub dict-read : (w now : Held) (c : ℕ) → w ≡ now → (t : Reading) → has_dict (plain t now) c ≡ flag_at (2 ^ 40) (slice_get w.classes c)
+pub dict-read : (w now : Held) (c : ℕ) → w ≡ now → (t : Reading) → has_dict (plain t now) c ≡ flag_at (2 ^ 40) (class_at w.classes c)
 unfolding plain
-dict-read w now c v t = subst (λ n. has_dict (plain t n) c ≡ flag_at (2 ^ 40) (slice_get w.classes c)) v (go w.classes c)
+dict-read w now c v t = subst (λ n. has_dict (plain t n) c ≡ flag_at (2 ^ 40) (class_at w.classes c)) v (go w.classes c)
   where
-    go : (ks : List (Class PyStrInterned)) (c : ℕ) → flag_in (slice_get (renamed (spelled t) ks) c) ≡ flag_at (2 ^ 40) (slice_get ks c)
-    go [] c = refl
-    go (k ∷ ks) zero = refl
-    go (k ∷ ks) (suc c) = go ks c
+    go : (ks : List (Class PyStrInterned)) (c : ℕ) → flag_in (class_at (renamed (spelled t) ks) c) ≡ flag_at (2 ^ 40) (class_at ks c)
+    go ks c = at-renamed (spelled t) flag_in (flag_at (2 ^ 40)) refl (λ k. refl) ks c
 
 -- then the class of dicts is there
-pub dict-there : (w now : Held) (c : ℕ) → w ≡ now → Sound w → IsTrue (flag_at (2 ^ 40) (slice_get w.classes c)) → Holds now (IsClass the_dict)
+pub dict-there : (w now : Held) (c : ℕ) → w ≡ now → Sound w → IsTrue (flag_at (2 ^ 40) (class_at w.classes c)) → Holds now (IsClass the_dict)
 dict-there w now c v s h = subst (λ w. Holds w (IsClass the_dict)) v (go w.classes c s.classes h)
   where
     of : (b : Bool) → IsTrue b → AllHold w (of_dict b) → Holds w (IsClass the_dict)
     of true h p = p.0
     of false h p = cc
 
-    go : (ks : List (Class PyStrInterned)) (c : ℕ) → AllHold w (of_each of_class ks) → IsTrue (flag_at (2 ^ 40) (slice_get ks c)) → Holds w (IsClass the_dict)
+    go : (ks : List (Class PyStrInterned)) (c : ℕ) → AllHold w (of_each of_class ks) → IsTrue (flag_at (2 ^ 40) (class_at ks c)) → Holds w (IsClass the_dict)
     go [] c p h = cc
-    go (k ∷ ks) zero p h = of (has_flag (2 ^ 40) k) h (all-first w (of_dict (has_flag (2 ^ 40) k)) _ (all-first w (of_class k) (of_each of_class ks) p).1.1)
-    go (k ∷ ks) (suc c) p h = go ks c (all-rest w (of_class k) _ p) h
+    go (k ∷ ks) c p h = pick (eqb k.number c) (go ks c (all-rest w (of_class k) _ p)) h
+      where
+        pick : (b : Bool) → (IsTrue (flag_at (2 ^ 40) (class_at ks c)) → Holds w (IsClass the_dict)) → IsTrue (flag_at (2 ^ 40) (cond b (Some k) (class_at ks c))) → Holds w (IsClass the_dict)
+        pick true more h = of (has_flag (2 ^ 40) k) h (all-first w (of_dict (has_flag (2 ^ 40) k)) _ (all-first w (of_class k) (of_each of_class ks) p).1.1)
+        pick false more h = more h
 
 -- the flags of a class that is there
-pub flags-read : (ks : List (Class PyStrInterned)) (c flags flag : ℕ) → option_map (λ k. k.flags) (slice_get ks c) ≡ Some flags → flag_at flag (slice_get ks c) ≡ (bit_and flags flag == flag)
-flags-read [] c flags flag e = cc
-flags-read (k ∷ ks) zero flags flag e = let same : k.flags ≡ flags = cc in ap (λ n. bit_and n flag == flag) same
-flags-read (k ∷ ks) (suc c) flags flag e = flags-read ks c flags flag e
+pub flags-read : (ks : List (Class PyStrInterned)) (c flags flag : ℕ) → option_map (λ k. k.flags) (class_at ks c) ≡ Some flags → flag_at flag (class_at ks c) ≡ (bit_and flags flag == flag)
+flags-read ks c flags flag e = go (class_at ks c) e
+  where
+    go : (o : Option (Class PyStrInterned)) → option_map (λ (k : Class PyStrInterned). k.flags) o ≡ Some flags → flag_at flag o ≡ (bit_and flags flag == flag)
+    go None e = cc
+    go (Some k) e = let same : k.flags ≡ flags = cc in ap (λ n. bit_and n flag == flag) same
 
 -- the special names are read as they are
 pub special-read : (w : Held) (t : Reading) → ((n : ℕ) (x : List ℕ) → slice_get special_names n ≡ Some x → slice_get w.names n ≡ Some x) → Reads t w → (k : ℕ) → k < 70 → text_keys.special k ≡ t.text k

@@ -1,5 +1,5 @@
 -- Classes, as a reading has them, and what holds of their attributes.
-use Rattle.std.proofs.Common.{◌≡◌, ℕ, zero, suc, ◌^◌, Bool, true, cond, List, [], ◌∷◌, Option, Some, None, refl, ap, ◌∙◌, subst, IfSome}
+use Rattle.std.proofs.Common.{◌≡◌, ℕ, ◌<◌, ◌^◌, Bool, true, false, cond, eqb, length, List, [], ◌∷◌, Option, Some, None, refl, ap, ◌∙◌, subst, IfSome}
 use Rattle.py_node.specs.declared.raised.Cause.TheVariants.{ImmutableType}
 use Rattle.class_table.specs.Refused.{is_base_at, refused_attr}
 use Rattle.std.specs.Prelude.{◌==◌, slice_get, option_map, option_and_then}
@@ -8,13 +8,15 @@ use Rattle.py_node.specs.declared.refs.PyObjectRef.{PyObjectRef}
 use Rattle.py_node.specs.declared.refs.PyStrInterned.{PyStrInterned}
 use Rattle.py_node.specs.Attributes.{is_same_name}
 use Rattle.py_node.specs.Tree.{Text}
-use Rattle.class_model.specs.Class.{Class, Classes, lin, has_flag, is_sub, own_of, or_else, along, found, past_first, found_past, rekeyed}
+use Rattle.class_model.specs.Class.{Class, Classes, class_at, lin, has_flag, is_sub, own_of, or_else, along, found, past_first, found_past, rekeyed}
 use Rattle.class_model.specs.Slot.{is_heap_at}
-use Rattle.class_model.proofs.Renamed.{get-renamed, lin-renamed, is_sub-renamed, own_of-renamed, found-renamed, found_past-renamed}
+use Rattle.class_model.proofs.Renamed.{at-renamed, lin-renamed, is_sub-renamed, own_of-renamed, found-renamed, found_past-renamed}
 use Rattle.plain_machine.specs.World.{is_text}
+use Rattle.py_node.specs.declared.payload.Node.{Node}
+use Rattle.std.proofs.lemmas.Option.{slice_get_within}
 use Rattle.class_world.specs.Held.{Held}
 use Rattle.class_world.specs.Reading.{Reading, spelled, plain}
-use Rattle.class_world.specs.Sound.{IsNode, Holds, AllHold, Sound, of_class, of_dict, of_each}
+use Rattle.class_world.specs.Sound.{IsNode, IsClass, class_in, Holds, AllHold, Sound, of_class, of_dict, of_each}
 use Rattle.class_world.proofs.Claims.{all-first, all-rest}
 use Rattle.class_world.proofs.Bound.{value-holds}
 
@@ -35,10 +37,10 @@ module _ (w now : Held) (v : w ≡ now) (t : Reading) where
       subst (λ n. found_past is_text (plain t n).classes c (t.text x.0) ≡ found_past is_same_name w.classes c x) v
       (found_past-renamed (spelled t) is_same_name is_text (λ a b. t.same a.0 b.0) w.classes c x)
 
-  pub own-seen : (c : ℕ) (x : PyStrInterned) → own_of (λ y. is_text y (t.text x.0)) (slice_get (plain t now).classes c) ≡ own_of (λ k. is_same_name k x) (slice_get w.classes c)
+  pub own-seen : (c : ℕ) (x : PyStrInterned) → own_of (λ y. is_text y (t.text x.0)) (class_at (plain t now).classes c) ≡ own_of (λ k. is_same_name k x) (class_at w.classes c)
   unfolding plain
   own-seen c x =
-      subst (λ n. own_of (λ y. is_text y (t.text x.0)) (slice_get (plain t n).classes c) ≡ own_of (λ k. is_same_name k x) (slice_get w.classes c)) v
+      subst (λ n. own_of (λ y. is_text y (t.text x.0)) (class_at (plain t n).classes c) ≡ own_of (λ k. is_same_name k x) (class_at w.classes c)) v
       (own_of-renamed (spelled t) (λ y. is_text y (t.text x.0)) (λ k. is_same_name k x) (λ k. t.same k.0 x.0) w.classes c)
 
   pub sub-seen : (c d : ℕ) → is_sub (plain t now).classes c d ≡ is_sub w.classes c d
@@ -50,18 +52,15 @@ module _ (w now : Held) (v : w ≡ now) (t : Reading) where
   line-seen c = subst (λ n. lin (plain t n).classes c ≡ lin w.classes c) v (lin-renamed (spelled t) w.classes c)
 
   -- what does not see the names of attributes
-  pub class-seen : {A : Type 0} (g : Option (Class Text) → A) (h : Option HeldClass → A) → g None ≡ h None → ((k : HeldClass) → g (Some (rekeyed (spelled t) k)) ≡ h (Some k)) → (c : ℕ) → g (slice_get (plain t now).classes c) ≡ h (slice_get w.classes c)
+  pub class-seen : {A : Type 0} (g : Option (Class Text) → A) (h : Option HeldClass → A) → g None ≡ h None → ((k : HeldClass) → g (Some (rekeyed (spelled t) k)) ≡ h (Some k)) → (c : ℕ) → g (class_at (plain t now).classes c) ≡ h (class_at w.classes c)
   unfolding plain
-  class-seen g h e i c = subst (λ n. g (slice_get (plain t n).classes c) ≡ h (slice_get w.classes c)) v (get-renamed (spelled t) g h e i w.classes c)
+  class-seen g h e i c = subst (λ n. g (class_at (plain t n).classes c) ≡ h (class_at w.classes c)) v (at-renamed (spelled t) g h e i w.classes c)
 
-  pub heap-seen : (c : ℕ) → is_heap_at (slice_get (plain t now).classes c) ≡ is_heap_at (slice_get w.classes c)
+  pub heap-seen : (c : ℕ) → is_heap_at (class_at (plain t now).classes c) ≡ is_heap_at (class_at w.classes c)
   heap-seen c = class-seen is_heap_at is_heap_at refl (λ k. refl) c
 
-  pub flag-seen : (c flag : ℕ) → option_map (λ (k : Class Text). has_flag flag k) (slice_get (plain t now).classes c) ≡ option_map (λ (k : HeldClass). has_flag flag k) (slice_get w.classes c)
+  pub flag-seen : (c flag : ℕ) → option_map (λ (k : Class Text). has_flag flag k) (class_at (plain t now).classes c) ≡ option_map (λ (k : HeldClass). has_flag flag k) (class_at w.classes c)
   flag-seen c flag = class-seen (option_map (λ (k : Class Text). has_flag flag k)) (option_map (λ (k : HeldClass). has_flag flag k)) refl (λ k. refl) c
-
-  pub node-seen : (c : ℕ) → option_map (λ (k : Class Text). k.node) (slice_get (plain t now).classes c) ≡ option_map (λ (k : HeldClass). k.node) (slice_get w.classes c)
-  node-seen c = class-seen (option_map (λ (k : Class Text). k.node)) (option_map (λ (k : HeldClass). k.node)) refl (λ k. refl) c
 
 -- a class's flags, and one of them
 pub flag-of : (o : Option HeldClass) (flags flag : ℕ) → option_map (λ (k : HeldClass). k.flags) o ≡ Some flags → option_map (λ (k : HeldClass). has_flag flag k) o ≡ Some (bit_and flags flag == flag)
@@ -77,10 +76,13 @@ refused-seen w now v t c = ap (λ b. cond b None (Some ImmutableType)) (heap-see
 
 -- the nodes of classes and of their attributes
 module _ (w : Held) where
-  own-holds : (test : PyStrInterned → Bool) (ks : Classes PyStrInterned) (c : ℕ) → AllHold w (of_each of_class ks) → IfSome (own_of test (slice_get ks c)) (λ r. Holds w (IsNode r))
+  own-holds : (test : PyStrInterned → Bool) (ks : Classes PyStrInterned) (c : ℕ) → AllHold w (of_each of_class ks) → IfSome (own_of test (class_at ks c)) (λ r. Holds w (IsNode r))
   own-holds test [] c h = tt
-  own-holds test (k ∷ ks) zero h = value-holds w test k.attrs (all-rest w (of_dict (has_flag (2 ^ 40) k)) _ (all-first w (of_class k) (of_each of_class ks) h).1.1)
-  own-holds test (k ∷ ks) (suc c) h = own-holds test ks c (all-rest w (of_class k) _ h)
+  own-holds test (k ∷ ks) c h =
+      elim (eqb k.number c) as (λ b. IfSome (own_of test (cond b (Some k) (class_at ks c))) (λ r. Holds w (IsNode r))) [
+        | true ↦ value-holds w test k.attrs (all-rest w (of_dict (has_flag (2 ^ 40) k)) _ (all-first w (of_class k) (of_each of_class ks) h).1.1)
+        | false ↦ own-holds test ks c (all-rest w (of_class k) _ h)
+      ]
 
   or-holds : (a b : Option PyObjectRef) → IfSome a (λ r. Holds w (IsNode r)) → IfSome b (λ r. Holds w (IsNode r)) → IfSome (or_else a b) (λ r. Holds w (IsNode r))
   or-holds None b h k = k
@@ -88,16 +90,11 @@ module _ (w : Held) where
 
   along-holds : (test : PyStrInterned → Bool) (ks : Classes PyStrInterned) (line : List ℕ) → AllHold w (of_each of_class ks) → IfSome (along test ks line) (λ r. Holds w (IsNode r))
   along-holds test ks [] h = tt
-  along-holds test ks (c ∷ line) h = or-holds (own_of test (slice_get ks c)) (along test ks line) (own-holds test ks c h) (along-holds test ks line h)
+  along-holds test ks (c ∷ line) h = or-holds (own_of test (class_at ks c)) (along test ks line) (own-holds test ks c h) (along-holds test ks line h)
 
   bind-holds : (o : Option (List ℕ)) (f : List ℕ → Option PyObjectRef) → ((line : List ℕ) → IfSome (f line) (λ r. Holds w (IsNode r))) → IfSome (option_and_then f o) (λ r. Holds w (IsNode r))
   bind-holds None f h = tt
   bind-holds (Some line) f h = h line
-
-  node-at : (ks : Classes PyStrInterned) (c : ℕ) (r : PyObjectRef) → option_map (λ (k : HeldClass). k.node) (slice_get ks c) ≡ Some r → AllHold w (of_each of_class ks) → Holds w (IsNode r)
-  node-at [] c r e h = cc
-  node-at (k ∷ ks) zero r e h = let same : k.node ≡ r = cc in subst (λ r. Holds w (IsNode r)) same h.0
-  node-at (k ∷ ks) (suc c) r e h = node-at ks c r e (all-rest w (of_class k) _ h)
 
 module _ (w now : Held) (v : w ≡ now) (s : Sound w) (c : ℕ) (x : PyStrInterned) where
   seen-some : (o : Option PyObjectRef) → IfSome o (λ r. Holds w (IsNode r)) → IfSome o (λ r. Holds now (IsNode r))
@@ -111,8 +108,14 @@ module _ (w now : Held) (v : w ≡ now) (s : Sound w) (c : ℕ) (x : PyStrIntern
   past-there =
       seen-some (found_past is_same_name w.classes c x) (bind-holds w (lin w.classes c) (λ line. along (λ k. is_same_name k x) w.classes (past_first line)) (λ line. along-holds w (λ k. is_same_name k x) w.classes (past_first line) s.classes))
 
-  pub own-there : IfSome (own_of (λ k. is_same_name k x) (slice_get w.classes c)) (λ r. Holds now (IsNode r))
-  own-there = seen-some (own_of (λ k. is_same_name k x) (slice_get w.classes c)) (own-holds w (λ k. is_same_name k x) w.classes c s.classes)
+  pub own-there : IfSome (own_of (λ k. is_same_name k x) (class_at w.classes c)) (λ r. Holds now (IsNode r))
+  own-there = seen-some (own_of (λ k. is_same_name k x) (class_at w.classes c)) (own-holds w (λ k. is_same_name k x) w.classes c s.classes)
 
-pub node-there : (w now : Held) (c : ℕ) (r : PyObjectRef) → w ≡ now → Sound w → option_map (λ (k : HeldClass). k.node) (slice_get w.classes c) ≡ Some r → Holds now (IsNode r)
-node-there w now c r v s e = subst (λ n. Holds n (IsNode r)) v (node-at w w.classes c r e s.classes)
+-- the object of a class is there
+pub node-there : (w now : Held) (c : ℕ) → w ≡ now → Sound w → Holds w (IsClass c) → Holds now (IsNode (record { 0 = c }))
+unfolding Holds
+node-there w now c v s h = subst (λ n. c < length n.nodes) v (go (slice_get w.nodes c) refl (s.standing c h))
+  where
+    go : (o : Option Node) → slice_get w.nodes c ≡ o → option_and_then (λ (x : Node). class_in x.payload) o ≡ Some c → c < length w.nodes
+    go None e h = cc
+    go (Some x) e h = slice_get_within w.nodes c x e

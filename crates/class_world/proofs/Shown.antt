@@ -7,21 +7,17 @@ use Rattle.py_node.specs.declared.refs.PyObjectRef.{PyObjectRef}
 use Rattle.py_node.specs.declared.refs.PyStrInterned.{PyStrInterned}
 use Rattle.py_node.specs.Tree.{Text}
 use Rattle.reply_text.specs.Lines.{joined}
-use Rattle.class_model.specs.Class.{Classes, renamed}
+use Rattle.class_model.specs.Class.{Class, class_at}
+use Rattle.class_model.proofs.Renamed.{at-renamed}
 use Rattle.plain_machine.specs.Show.{dots, rest_text, item_texts, entry_text, tuple_text, dict_text, containers, text_within}
 use Rattle.class_world.specs.Held.{Held}
 use Rattle.class_world.specs.Reading.{Reading, spelled, plain}
 use Rattle.class_world.specs.Sound.{IsNode, AreNodes, Holds}
 use Rattle.class_world.proofs.Stored.{map-push}
 
-name-there : (t : Reading) (ks : Classes PyStrInterned) (c : ℕ) (name : Text) → option_map (λ k. k.name) (slice_get ks c) ≡ Some name → option_map (λ k. k.name) (slice_get (renamed (spelled t) ks) c) ≡ Some name
-name-there t [] c name h = cc
-name-there t (k ∷ ks) zero name h = h
-name-there t (k ∷ ks) (suc c) name h = name-there t ks c name h
-
-pub name-read : (w now : Held) (c : ℕ) (name : Text) → w ≡ now → option_map (λ k. k.name) (slice_get w.classes c) ≡ Some name → (t : Reading) → option_map (λ k. k.name) (slice_get (plain t now).classes c) ≡ Some name
+pub name-read : (w now : Held) (c : ℕ) (name : Text) → w ≡ now → option_map (λ k. k.name) (class_at w.classes c) ≡ Some name → (t : Reading) → option_map (λ k. k.name) (class_at (plain t now).classes c) ≡ Some name
 unfolding plain
-name-read w now c name v h t = subst (λ n. option_map (λ k. k.name) (slice_get (plain t n).classes c) ≡ Some name) v (name-there t w.classes c name h)
+name-read w now c name v h t = subst (λ n. option_map (λ k. k.name) (class_at (plain t n).classes c) ≡ Some name) v (at-renamed (spelled t) (option_map (λ (k : Class Text). k.name)) (option_map (λ (k : Class PyStrInterned). k.name)) refl (λ k. refl) w.classes c ∙ h)
 
 -- texts with a separator, by what they are the texts of
 pub join-read : (between : Text) (xs : List (String Global)) → join_by string_bytes between xs ≡ joined between (map string_bytes xs)

@@ -1,5 +1,5 @@
 -- A world whose claims hold stands for a sound plain world.
-use Rattle.std.proofs.Common.{◌≡◌, ℕ, zero, suc, ◌<◌, ◌^◌, List, [], ◌∷◌, ◌++◌, length, map, Option, Some, None, refl, sym, ap, ◌∙◌, subst, arith}
+use Rattle.std.proofs.Common.{◌≡◌, ℕ, zero, suc, ◌<◌, ◌^◌, List, [], ◌∷◌, ◌++◌, length, get_or, map, Option, Some, None, refl, sym, ap, ◌∙◌, subst, arith}
 use Rattle.std.specs.Prelude.{slice_get, true, is_some, option_map, option_and_then}
 use Rattle.std.specs.List.{All}
 use Rattle.std.proofs.lemmas.List.{length-map}
@@ -11,10 +11,10 @@ use Rattle.py_node.specs.declared.payload.Node.{Node as StoredNode}
 use Rattle.py_node.specs.declared.payload.Payload.{Payload}
 use Rattle.py_node.specs.declared.payload.Payload.TheVariants as payload
 use Rattle.py_node.specs.Tree.{Text}
-use Rattle.class_model.specs.Class.{Class, Classes, has_flag, rekeyed, renamed}
+use Rattle.class_model.specs.Class.{Class, Classes, is_class, has_flag, rekeyed, renamed}
 use Rattle.class_model.specs.Sound.{AreSound}
 use Rattle.class_model.proofs.Sound.{sound-renamed}
-use Rattle.class_model.proofs.Renamed.{lin-renamed, length-renamed}
+use Rattle.class_model.proofs.Renamed.{at-renamed, lin-renamed}
 use Rattle.plain_machine.specs.Plain.{AClass, Node}
 use Rattle.plain_machine.specs.World.{datum_at}
 use Rattle.plain_machine.specs.Sound.{home, optional_class, optional, nodes_in, classes_in, Key, key_of, key_at, keys_in, AreKeys, IsSoundNode, IsSound}
@@ -150,10 +150,10 @@ module _ (w : Held) (t : Reading) where
   optional-there None h = none (λ r. r.0 < length w.nodes)
   optional-there (Some r) h = more (λ r. r.0 < length w.nodes) r [] h.0 (none (λ r. r.0 < length w.nodes))
 
-  optional_class-there : (o : Option PyTypeRef) → AllHold w (of_option of_class_ref o) → All (λ c. c < length w.classes) (optional_class (option_map (λ c. c.0) o))
+  optional_class-there : (o : Option PyTypeRef) → AllHold w (of_option of_class_ref o) → All (λ c. is_class w.classes c ≡ true) (optional_class (option_map (λ c. c.0) o))
   unfolding Holds
-  optional_class-there None h = none (λ c. c < length w.classes)
-  optional_class-there (Some c) h = more (λ c. c < length w.classes) c.0 [] h.0 (none (λ c. c < length w.classes))
+  optional_class-there None h = none (λ c. is_class w.classes c ≡ true)
+  optional_class-there (Some c) h = more (λ c. is_class w.classes c ≡ true) c.0 [] h.0 (none (λ c. is_class w.classes c ≡ true))
 
   nodes-there : (p : Payload) → AllHold w (of_payload p) → Below (length w.nodes) (nodes_in (datum t p))
   unfolding Holds
@@ -171,21 +171,21 @@ module _ (w : Held) (t : Reading) where
   nodes-there (payload.GetSet g) h = none (λ r. r.0 < length w.nodes)
   nodes-there (payload.ClassMethod r) h = more (λ r. r.0 < length w.nodes) r [] h.0 (none (λ r. r.0 < length w.nodes))
 
-  classes-there : (p : Payload) → AllHold w (of_payload p) → All (λ c. c < length w.classes) (classes_in (datum t p))
+  classes-there : (p : Payload) → AllHold w (of_payload p) → All (λ c. is_class w.classes c ≡ true) (classes_in (datum t p))
   unfolding Holds
-  classes-there payload.Object h = none (λ c. c < length w.classes)
-  classes-there (payload.Class c) h = more (λ c. c < length w.classes) c.0 [] h.0 (none (λ c. c < length w.classes))
-  classes-there (payload.Number z) h = none (λ c. c < length w.classes)
-  classes-there (payload.Text s) h = none (λ c. c < length w.classes)
-  classes-there (payload.Tuple rs) h = none (λ c. c < length w.classes)
-  classes-there (payload.Dict es) h = none (λ c. c < length w.classes)
+  classes-there payload.Object h = none (λ c. is_class w.classes c ≡ true)
+  classes-there (payload.Class c) h = more (λ c. is_class w.classes c ≡ true) c.0 [] h.0 (none (λ c. is_class w.classes c ≡ true))
+  classes-there (payload.Number z) h = none (λ c. is_class w.classes c ≡ true)
+  classes-there (payload.Text s) h = none (λ c. is_class w.classes c ≡ true)
+  classes-there (payload.Tuple rs) h = none (λ c. is_class w.classes c ≡ true)
+  classes-there (payload.Dict es) h = none (λ c. is_class w.classes c ≡ true)
   classes-there (payload.Function f) h = optional_class-there f.class h.1.1.1
-  classes-there (payload.Method m) h = none (λ c. c < length w.classes)
-  classes-there (payload.NativeFunction f) h = none (λ c. c < length w.classes)
-  classes-there (payload.BuiltinMethod m) h = none (λ c. c < length w.classes)
-  classes-there (payload.MethodDescriptor m) h = more (λ c. c < length w.classes) m.class.0 [] h.0 (none (λ c. c < length w.classes))
-  classes-there (payload.GetSet g) h = more (λ c. c < length w.classes) g.class.0 [] h.0 (none (λ c. c < length w.classes))
-  classes-there (payload.ClassMethod r) h = none (λ c. c < length w.classes)
+  classes-there (payload.Method m) h = none (λ c. is_class w.classes c ≡ true)
+  classes-there (payload.NativeFunction f) h = none (λ c. is_class w.classes c ≡ true)
+  classes-there (payload.BuiltinMethod m) h = none (λ c. is_class w.classes c ≡ true)
+  classes-there (payload.MethodDescriptor m) h = more (λ c. is_class w.classes c ≡ true) m.class.0 [] h.0 (none (λ c. is_class w.classes c ≡ true))
+  classes-there (payload.GetSet g) h = more (λ c. is_class w.classes c ≡ true) g.class.0 [] h.0 (none (λ c. is_class w.classes c ≡ true))
+  classes-there (payload.ClassMethod r) h = none (λ c. is_class w.classes c ≡ true)
 
   keys-there : (p : Payload) → AllHold w (of_payload p) → AreKeys (key_at (plain t w)) (keys_in (datum t p))
   unfolding Holds
@@ -219,11 +219,6 @@ module _ (w : Held) (t : Reading) where
   funcs-there (s ∷ ss) h =
       more (λ s. s.func.0 < length w.nodes) (scope_of t s) (map (scope_of t) ss) (all-first w (of_scope s) (of_each of_scope ss) h).0 (funcs-there ss (all-rest w (of_scope s) (of_each of_scope ss) h))
 
-  class-at : (ks : Classes PyStrInterned) (c : ℕ) (k : Class Text) → slice_get (renamed (spelled t) ks) c ≡ Some k → (j : Class PyStrInterned) × (slice_get ks c ≡ Some j) × (j.node ≡ k.node)
-  class-at [] c k e = cc
-  class-at (j ∷ ks) zero k e = let same : rekeyed (spelled t) j ≡ k = cc in (j, refl, ap (λ (k : Class Text). k.node) same)
-  class-at (j ∷ ks) (suc c) k e = class-at ks c k e
-
   class-read : (p : Payload) (c : ℕ) → class_in p ≡ Some c → datum t p ≡ AClass c
   class-read payload.Object c e = cc
   class-read (payload.Class d) c e = let same : d.0 ≡ c = cc in ap AClass same
@@ -244,11 +239,16 @@ module _ (w : Held) (t : Reading) where
   stands-at (x ∷ ns) zero c e = ap Some (class-read x.payload c e)
   stands-at (x ∷ ns) (suc n) c e = stands-at ns n c e
 
-  class-stands : ((c : ℕ) (k : Class PyStrInterned) → slice_get w.classes c ≡ Some k → Holds w (Standing c k.node)) → (c : ℕ) (k : Class Text) → slice_get (renamed (spelled t) w.classes) c ≡ Some k → datum_at (plain t w) k.node ≡ Some (AClass c)
+  there-read : (c : ℕ) → is_class (renamed (spelled t) w.classes) c ≡ is_class w.classes c
+  there-read c = at-renamed (spelled t) is_some is_some refl (λ k. refl) w.classes c
+
+  class-stands : ((c : ℕ) → is_class w.classes c ≡ true → Holds w (Standing c (record { 0 = c }))) → (c : ℕ) → is_class (renamed (spelled t) w.classes) c ≡ true → datum_at (plain t w) (record { 0 = c }) ≡ Some (AClass c)
   unfolding Holds plain
-  class-stands h c k e =
-      let j = class-at w.classes c k e in
-      ap (λ r. datum_at (plain t w) r) (sym j.2) ∙ stands-at w.nodes (j.0).node.0 c (h c j.0 j.1)
+  class-stands h c e = stands-at w.nodes c c (h c (sym (there-read c) ∙ e))
+
+  -- as many classes are there for the texts
+  all-read : (cs : List ℕ) → All (λ c. is_class w.classes c ≡ true) cs → All (λ c. is_class (renamed (spelled t) w.classes) c ≡ true) cs
+  all-read cs h = λ i d l. there-read (get_or cs i d) ∙ h i d l
 
   attrs-there : (ks : Classes PyStrInterned) → AllHold w (of_each of_class ks) → All (λ k. All (λ a. a.1.0 < length w.nodes) k.attrs) (renamed (spelled t) ks)
   attrs-there [] h = none (λ k. All (λ a. a.1.0 < length w.nodes) k.attrs)
@@ -266,13 +266,13 @@ module _ (w : Held) (t : Reading) where
       let dict = of_option of_dict_ref x.dict in
       let held = all-rest w dict (of_payload x.payload) h.1.1 in
       record {
-        class = subst (λ n. x.class.0 < n) (sym (length-renamed (spelled t) w.classes)) h.0;
+        class = there-read x.class.0 ∙ h.0;
         like = ap by_line (lin-renamed (spelled t) w.classes x.class.0) ∙ h.1.0 ∙ ap Some (sym (home-read t x.payload));
         dict = λ r e. dict-is x r (all-first w dict (of_payload x.payload) h.1.1) e;
         members = none _;
         nodes = subst (λ n. Below n (nodes_in (datum t x.payload))) (sym (length-map w.nodes (node_of t))) (nodes-there x.payload held);
         keys = keys-there x.payload held;
-        classes = subst (λ n. All (λ c. c < n) (classes_in (datum t x.payload))) (sym (length-renamed (spelled t) w.classes)) (classes-there x.payload held);
+        classes = all-read (classes_in (datum t x.payload)) (classes-there x.payload held);
       }
 
   world-is : Sound w → AreSound w.classes → IsSound (plain t w)

@@ -1,15 +1,18 @@
 -- The parts of a new machine's world: loops over the built-in classes and the special names.
-use Rattle.std.proofs.Common.{◌≡◌, ℕ, zero, suc, ◌+◌, ◌<◌, ◌≤◌, Bool, true, false, List, [], ◌∷◌, ◌++◌, length, Option, Some, None, refl, sym, ap, ◌∙◌, subst, arith, get_or, take, map, true≢false}
-use Rattle.std.specs.Prelude.{◌&&◌, not, slice_get, ltb, eqb}
+use Rattle.std.proofs.Common.{◌≡◌, ℕ, zero, suc, ◌+◌, ◌<◌, ◌≤◌, Bool, true, false, cond, List, [], ◌∷◌, ◌++◌, length, Option, Some, None, refl, sym, ap, ◌∙◌, subst, arith, get_or, take, map, true≢false}
+use Rattle.std.specs.Prelude.{◌&&◌, not, slice_get, ltb, eqb, nat_lt, is_some}
 use Rattle.std.specs.Str.{bytes_eq}
-use Rattle.std.proofs.lemmas.Bool.{ltb-true, eqb-true}
+use Rattle.std.proofs.lemmas.Bool.{ltb-true, eqb-true, eqb-false}
 use Rattle.std.proofs.lemmas.Slice.Eq.{bytes_eq-Decides}
 use Rattle.py_node.specs.declared.refs.PyTypeRef.{PyTypeRef}
 use Rattle.py_node.specs.declared.built_in.BuiltIn.{BuiltIn}
-use Rattle.py_node.specs.BuiltIns.{base_of, all_built_ins}
+use Rattle.py_node.specs.BuiltIns.{place_of, base_of, all_built_ins}
 use Rattle.py_node.specs.Slots.{special_names}
 use Rattle.py_node.specs.Texts.{AreDistinct}
-use Rattle.plain_machine.specs.Start.{bases_from}
+use Rattle.plain_machine.specs.Start.{bases_from, built_class}
+use Rattle.py_node.specs.declared.refs.PyStrInterned.{PyStrInterned}
+use Rattle.class_model.specs.Class.{Classes, class_at, is_class}
+use Rattle.class_model.specs.Numbers.{limit}
 use Rattle.class_table.specs.New.{one_base, IsBelow}
 
 module _ {A B : Type 0} (f : A → B) where
@@ -100,12 +103,59 @@ bases-at n (b ∷ bs) (suc i) d h l =
     subst (λ n. base_below n (base_of (get_or bs i d)) ≡ true) z (bases-at (suc n) bs i d (split (base_below n (base_of b)) (bases_below (suc n) bs) h).1 (omega arith))
 
 -- the base of a class that is to be made, by the bases that it has
-pub one-below : (n : ℕ) (o : Option PyTypeRef) (b : Option ℕ) → one_base o ≡ bases_from b → base_below n b ≡ true → IsBelow n o
-one-below n None None e h = eqb-true n 0 h
-one-below n None (Some b) e h = cc
-one-below n (Some c) None e h = cc
-one-below n (Some c) (Some b) e h = let same : c.0 ≡ b = cc in let l = ltb-true b n h in omega (arith, same, l)
+pub one-below : (t : Classes PyStrInterned) (n : ℕ) (o : Option PyTypeRef) (b : Option ℕ) → one_base o ≡ bases_from b → base_below n b ≡ true → ((c : ℕ) → c < n → is_class t c ≡ true) → IsBelow t n o
+one-below t n None None e h k = eqb-true n 0 h
+one-below t n None (Some b) e h k = cc
+one-below t n (Some c) None e h k = cc
+one-below t n (Some c) (Some b) e h k = let same : c.0 ≡ b = cc in let l = ltb-true b n h in k c.0 (omega (arith, same, l))
 
 pub built-below : (i : ℕ) (d : BuiltIn) → i < 23 → base_below i (base_of (get_or all_built_ins i d)) ≡ true
 unfolding all_built_ins base_of
 built-below i d h = let z : 0 + i ≡ i = omega arith in subst (λ n. base_below n (base_of (get_or all_built_ins i d)) ≡ true) z (bases-at 0 all_built_ins i d refl h)
+
+-- the built-in classes that were made so far: each has its place as its number
+places_at : ℕ → List BuiltIn → Bool
+places_at n [] = true
+places_at n (b ∷ bs) = eqb (place_of b) n && places_at (suc n) bs
+
+early-there : (n : ℕ) (bs : List BuiltIn) (i : ℕ) → places_at n bs ≡ true → i ≤ length bs → (c : ℕ) → n ≤ c → c < n + i → is_class (map (built_class {K = PyStrInterned}) (take i bs)) c ≡ true
+unfolding places_at
+early-there n bs zero h l c m k = absurd (omega arith)
+early-there n [] (suc i) h l c m k = absurd (omega arith)
+early-there n (b ∷ bs) (suc i) h l c m k = go (eqb (place_of b) c) refl (early-there (suc n) bs i (split (eqb (place_of b) n) (places_at (suc n) bs) h).1 (omega arith) c)
+  where
+    go : (v : Bool) → eqb (place_of b) c ≡ v → (suc n ≤ c → c < suc n + i → is_class (map (built_class {K = PyStrInterned}) (take i bs)) c ≡ true) → is_some (cond v (Some (built_class {K = PyStrInterned} b)) (class_at (map (built_class {K = PyStrInterned}) (take i bs)) c)) ≡ true
+    go true e more = refl
+    go false e more =
+        let both = split (eqb (place_of b) n) (places_at (suc n) bs) h in
+        let here = eqb-true (place_of b) n both.0 in
+        let away = eqb-false (place_of b) c e in
+        more (omega (arith, here, away, m)) (omega arith)
+
+early-limit : (n : ℕ) (bs : List BuiltIn) (i : ℕ) → places_at n bs ≡ true → i ≤ length bs → limit (map (built_class {K = PyStrInterned}) (take i bs)) ≤ n + i
+unfolding places_at
+early-limit n bs zero h l = omega arith
+early-limit n [] (suc i) h l = absurd (omega arith)
+early-limit n (b ∷ bs) (suc i) h l = go (nat_lt (place_of b) (limit (map (built_class {K = PyStrInterned}) (take i bs)))) (early-limit (suc n) bs i (split (eqb (place_of b) n) (places_at (suc n) bs) h).1 (omega arith))
+  where
+    go : (v : Bool) → limit (map (built_class {K = PyStrInterned}) (take i bs)) ≤ suc n + i → cond v (limit (map (built_class {K = PyStrInterned}) (take i bs))) (suc (place_of b)) ≤ n + suc i
+    go true r = omega arith
+    go false r = let here = eqb-true (place_of b) n (split (eqb (place_of b) n) (places_at (suc n) bs) h).0 in omega arith
+
+pub made-there : (i : ℕ) → i ≤ 23 → (c : ℕ) → c < i → is_class (map (built_class {K = PyStrInterned}) (take i all_built_ins)) c ≡ true
+unfolding all_built_ins place_of places_at
+made-there i l c k = early-there 0 all_built_ins i refl l c (omega arith) (omega arith)
+
+pub made-limit : (i : ℕ) → i ≤ 23 → limit (map (built_class {K = PyStrInterned}) (take i all_built_ins)) ≤ i
+unfolding all_built_ins place_of places_at
+made-limit i l = let r = early-limit 0 all_built_ins i refl l in omega arith
+
+place-from : (n : ℕ) (bs : List BuiltIn) (i : ℕ) (d : BuiltIn) → places_at n bs ≡ true → i < length bs → place_of (get_or bs i d) ≡ n + i
+unfolding places_at
+place-from n [] i d h l = absurd (omega arith)
+place-from n (b ∷ bs) zero d h l = let e = eqb-true (place_of b) n (split (eqb (place_of b) n) (places_at (suc n) bs) h).0 in omega arith
+place-from n (b ∷ bs) (suc i) d h l = let r = place-from (suc n) bs i d (split (eqb (place_of b) n) (places_at (suc n) bs) h).1 (omega arith) in omega arith
+
+pub made-place : (i : ℕ) (d : BuiltIn) → i < 23 → place_of (get_or all_built_ins i d) ≡ i
+unfolding all_built_ins place_of places_at
+made-place i d l = let r = place-from 0 all_built_ins i d refl l in omega arith

@@ -1,7 +1,7 @@
 -- The world of a new machine is sound, and is the plain machine's.
-use Rattle.std.proofs.Common.{◌≡◌, ℕ, zero, suc, ◌+◌, ◌^◌, ◌<◌, ◌≤◌, Bool, true, false, List, [], ◌∷◌, ◌++◌, length, Some, refl, ap, subst, arith, map}
-use Rattle.std.specs.Prelude.{◌&&◌, eqb, ltb, slice_get}
-use Rattle.std.proofs.lemmas.Bool.{eqb-true, ltb-true}
+use Rattle.std.proofs.Common.{◌≡◌, ℕ, zero, suc, ◌+◌, ◌^◌, ◌<◌, ◌≤◌, Bool, true, false, cond, List, [], ◌∷◌, ◌++◌, length, Some, refl, ap, subst, arith, map}
+use Rattle.std.specs.Prelude.{◌&&◌, eqb, ltb, is_some}
+use Rattle.std.proofs.lemmas.Bool.{eqb-true, eqb-false, ltb-true}
 use Rattle.py_node.specs.declared.refs.PyStrInterned.{PyStrInterned}
 use Rattle.py_node.specs.declared.built_in.BuiltIn.{BuiltIn}
 use Rattle.py_node.specs.declared.built_in.BuiltIn.TheVariants as built_in
@@ -9,7 +9,7 @@ use Rattle.plain_machine.specs.Sound.{holds_as, held_by}
 use Rattle.py_node.specs.BuiltIns.{place_of, base_of, all_built_ins}
 use Rattle.class_model.specs.Order.{linear, least_order, arrangements, all_arrangements}
 use Rattle.py_node.specs.Slots.{special_names}
-use Rattle.class_model.specs.Class.{Class, has_flag, renamed}
+use Rattle.class_model.specs.Class.{Class, class_at, is_class, has_flag, renamed}
 use Rattle.plain_machine.specs.Start.{built_class, class_node as plain_class_node, fixed_nodes as plain_fixed_nodes, bare}
 use Rattle.plain_machine.specs.Known.{the_dict}
 use Rattle.class_world.specs.Held.{Held}
@@ -28,24 +28,24 @@ abbrev built : BuiltIn → Class PyStrInterned
 built b = built_class b
 
 module _ (w : Held) where
-  nodes-hold : (n : ℕ) (bs : List BuiltIn) → places_below n bs ≡ true → 1 < length w.classes → held_by w.classes 1 ≡ Some built_in.TypeType → n ≤ length w.classes → AllHold w (of_each of_node (map class_node bs))
+  nodes-hold : (n : ℕ) (bs : List BuiltIn) → places_below n bs ≡ true → ((c : ℕ) → c < n → is_class w.classes c ≡ true) → 1 < n → held_by w.classes 1 ≡ Some built_in.TypeType → AllHold w (of_each of_node (map class_node bs))
   unfolding Holds
-  nodes-hold n [] h l m k = tt
-  nodes-hold n (b ∷ bs) h l m k =
+  nodes-hold n [] h l o m = tt
+  nodes-hold n (b ∷ bs) h l o m =
       let both = split (ltb (place_of b) n) (places_below n bs) h in
       let below = ltb-true (place_of b) n both.0 in
-      (l, (m, (omega (arith, below, k), nodes-hold n bs both.1 l m k)))
+      (l 1 o, (m, (l (place_of b) below, nodes-hold n bs both.1 l o m)))
 
-  fixed-hold : 5 < length w.classes → held_by w.classes 2 ≡ Some built_in.Object → held_by w.classes 3 ≡ Some built_in.Object → held_by w.classes 5 ≡ Some built_in.Int → AllHold w (of_each of_node fixed_nodes)
+  fixed-hold : ((c : ℕ) → c < 23 → is_class w.classes c ≡ true) → held_by w.classes 2 ≡ Some built_in.Object → held_by w.classes 3 ≡ Some built_in.Object → held_by w.classes 5 ≡ Some built_in.Int → AllHold w (of_each of_node fixed_nodes)
   unfolding Holds
-  fixed-hold l a b c = (omega arith, (a, (omega arith, (b, (omega arith, (c, (omega arith, (c, tt))))))))
+  fixed-hold l a b c = (l 2 (omega arith), (a, (l 3 (omega arith), (b, (l 5 (omega arith), (c, (l 5 (omega arith), (c, tt))))))))
 
-  dict-holds : (b : Bool) → the_dict < length w.classes → AllHold w (of_dict b)
+  dict-holds : (b : Bool) → is_class w.classes the_dict ≡ true → AllHold w (of_dict b)
   unfolding Holds
   dict-holds true l = (l, tt)
   dict-holds false l = tt
 
-  classes-hold : (n : ℕ) (bs : List BuiltIn) → places_below n bs ≡ true → the_dict < length w.classes → n ≤ length w.nodes → AllHold w (of_each of_class (map built bs))
+  classes-hold : (n : ℕ) (bs : List BuiltIn) → places_below n bs ≡ true → is_class w.classes the_dict ≡ true → n ≤ length w.nodes → AllHold w (of_each of_class (map built bs))
   unfolding Holds
   classes-hold n [] h l k = tt
   classes-hold n (b ∷ bs) h l k =
@@ -85,7 +85,7 @@ started-own built_in.Iterator = refl
 started-own built_in.Slice = refl
 
 -- the node of each class, by computing
-started-stands : (b : BuiltIn) → Holds started (Standing (place_of b) (built b).node)
+started-stands : (b : BuiltIn) → Holds started (Standing (place_of b) (record { 0 = place_of b }))
 unfolding all_built_ins place_of Holds
 started-stands built_in.Object = refl
 started-stands built_in.TypeType = refl
@@ -116,31 +116,44 @@ abbrev places_from : ℕ → List BuiltIn → Bool
 places_from n [] = true
 places_from n (b ∷ bs) = eqb (place_of b) n && places_from (suc n) bs
 
-places-stand : (n : ℕ) (bs : List BuiltIn) → places_from n bs ≡ true → (c : ℕ) (k : Class PyStrInterned) → slice_get (map built bs) c ≡ Some k → Holds started (Standing (n + c) k.node)
-places-stand n [] h c k e = cc
-places-stand n (b ∷ bs) h zero k e =
-    let both = split (eqb (place_of b) n) (places_from (suc n) bs) h in
-    let place : place_of b ≡ n + 0 = omega (arith, eqb-true (place_of b) n both.0) in
-    let same : built b ≡ k = cc in
-    subst (λ (j : Class PyStrInterned). Holds started (Standing (n + 0) j.node)) same (subst (λ m. Holds started (Standing m (built b).node)) place (started-stands b))
-places-stand n (b ∷ bs) h (suc c) k e =
-    let both = split (eqb (place_of b) n) (places_from (suc n) bs) h in
-    let sum : suc n + c ≡ n + suc c = omega arith in
-    subst (λ m. Holds started (Standing m k.node)) sum (places-stand (suc n) bs both.1 c k e)
+-- each number below is that of a class, and only those are
+there-from : (n : ℕ) (bs : List BuiltIn) → places_from n bs ≡ true → (c : ℕ) → n ≤ c → c < n + length bs → is_class (map built bs) c ≡ true
+there-from n [] h c l m = absurd (omega arith)
+there-from n (b ∷ bs) h c l m = go (eqb (place_of b) c) refl (there-from (suc n) bs (split (eqb (place_of b) n) (places_from (suc n) bs) h).1 c)
+  where
+    go : (v : Bool) → eqb (place_of b) c ≡ v → (suc n ≤ c → c < suc n + length bs → is_class (map built bs) c ≡ true) → is_some (cond v (Some (built b)) (class_at (map built bs) c)) ≡ true
+    go true e more = refl
+    go false e more =
+        let both = split (eqb (place_of b) n) (places_from (suc n) bs) h in
+        let here = eqb-true (place_of b) n both.0 in
+        let away = eqb-false (place_of b) c e in
+        more (omega (arith, here, away, l)) (omega arith)
+
+places-stand : (n : ℕ) (bs : List BuiltIn) → places_from n bs ≡ true → (c : ℕ) → is_class (map built bs) c ≡ true → Holds started (Standing c (record { 0 = c }))
+places-stand n [] h c e = cc
+places-stand n (b ∷ bs) h c e = go (eqb (place_of b) c) refl e (places-stand (suc n) bs (split (eqb (place_of b) n) (places_from (suc n) bs) h).1 c)
+  where
+    go : (v : Bool) → eqb (place_of b) c ≡ v → is_some (cond v (Some (built b)) (class_at (map built bs) c)) ≡ true → (is_class (map built bs) c ≡ true → Holds started (Standing c (record { 0 = c }))) → Holds started (Standing c (record { 0 = c }))
+    go true i e more = subst (λ m. Holds started (Standing m (record { 0 = m }))) (eqb-true (place_of b) c i) (started-stands b)
+    go false i e more = more e
+
+started-there : (c : ℕ) → c < 23 → is_class started.classes c ≡ true
+unfolding all_built_ins place_of
+started-there c l = there-from 0 all_built_ins refl c (omega arith) (omega arith)
 
 pub started-sound : Sound started
 unfolding all_built_ins place_of Holds
 started-sound = record {
   forms = tt;
   below = λ n x e. cc;
-  nodes = each-append started of_node (map class_node all_built_ins) fixed_nodes (nodes-hold started 23 all_built_ins refl (omega arith) (started-own built_in.TypeType) (omega arith)) (fixed-hold started (omega arith) (started-own built_in.NoneType) (started-own built_in.NotImplementedType) (started-own built_in.Bool));
-  classes = classes-hold started 23 all_built_ins refl (omega arith) (omega arith);
+  nodes = each-append started of_node (map class_node all_built_ins) fixed_nodes (nodes-hold started 23 all_built_ins refl started-there (omega arith) (started-own built_in.TypeType)) (fixed-hold started started-there (started-own built_in.NoneType) (started-own built_in.NotImplementedType) (started-own built_in.Bool));
+  classes = classes-hold started 23 all_built_ins refl (started-there the_dict (omega arith)) (omega arith);
   vars = tt;
   scopes = tt;
   fixed = omega arith;
-  built_in = omega arith;
+  built_in = started-there;
   own = started-own;
-  standing = λ c k e. subst (λ m. Holds started (Standing m k.node)) (omega arith) (places-stand 0 all_built_ins refl c k e);
+  standing = λ c e. places-stand 0 all_built_ins refl c e;
   special = λ n x e. e;
 }
 

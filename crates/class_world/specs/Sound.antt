@@ -13,7 +13,7 @@ use Rattle.py_node.specs.Slots.{special_names}
 use Rattle.py_node.specs.declared.built_in.BuiltIn.{BuiltIn}
 use Rattle.py_node.specs.declared.built_in.BuiltIn.TheVariants as built_in
 use Rattle.py_node.specs.BuiltIns.{place_of}
-use Rattle.class_model.specs.Class.{Class, has_flag}
+use Rattle.class_model.specs.Class.{Class, class_at, is_class, has_flag}
 use Rattle.class_table.specs.Refused.{is_base_at}
 use Rattle.plain_machine.specs.Known.{the_dict}
 use Rattle.plain_machine.specs.Sound.{holds_as, held_by, Key, NumberKey, TextKey, AreKeys}
@@ -101,11 +101,11 @@ Holds w (IsExpression e) = e < length w.forms
 Holds w (AreExpressions es) = All (λ e. e < length w.forms) es
 Holds w (IsName x) = x.0 < length w.names
 Holds w (AreNames xs) = All (λ x. x.0 < length w.names) xs
-Holds w (IsClass c) = c < length w.classes
+Holds w (IsClass c) = is_class w.classes c ≡ true
 Holds w (IsOf c b) = held_by w.classes c ≡ Some b
 Holds w (Holding r b) = home_at w.nodes r.0 ≡ Some b
 Holds w (Standing c r) = held_class w.nodes r ≡ Some c
-Holds w (CanBeBase c) = is_base_at (slice_get w.classes c) ≡ true
+Holds w (CanBeBase c) = is_base_at (class_at w.classes c) ≡ true
 Holds w (KeysDiffer rs) = AreKeys (held_key w.nodes) rs
 Holds w (HasOperand e n) = n < length (operands_at (slice_get w.forms e))
 
@@ -178,7 +178,7 @@ of_dict true = IsClass the_dict ∷ []
 of_dict false = []
 
 abbrev pub of_class : Class PyStrInterned → List Claim
-of_class k = IsNode k.node ∷ AreNames k.members ∷ of_dict (has_flag (2 ^ 40) k) ++ of_each of_binding k.attrs
+of_class k = IsNode (record { 0 = k.number }) ∷ AreNames k.members ∷ of_dict (has_flag (2 ^ 40) k) ++ of_each of_binding k.attrs
 
 -- all that the world says is so, the parts of each expression stand before it, and the special names come first
 pub record Sound (w : Held) : Type 0 where
@@ -189,10 +189,10 @@ pub record Sound (w : Held) : Type 0 where
   pub vars : AllHold w (of_each of_binding w.vars)
   pub scopes : AllHold w (of_each of_scope w.scopes)
   -- the node of each class stands for it
-  pub standing : (c : ℕ) (k : Class PyStrInterned) → slice_get w.classes c ≡ Some k → Holds w (Standing c k.node)
+  pub standing : (c : ℕ) → is_class w.classes c ≡ true → Holds w (Standing c (record { 0 = c }))
   -- the fixed nodes and the built-in classes are there
   pub fixed : 27 ≤ length w.nodes
-  pub built_in : 23 ≤ length w.classes
+  pub built_in : (c : ℕ) → c < 23 → is_class w.classes c ≡ true
   -- and the objects of each hold what they should
   pub own : (b : BuiltIn) → Holds w (IsOf (place_of b) (holds_as b))
   pub special : (n : ℕ) (x : List ℕ) → slice_get special_names n ≡ Some x → slice_get w.names n ≡ Some x

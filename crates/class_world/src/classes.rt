@@ -1,14 +1,16 @@
 // The lines of the classes that scripts made.
 
-ghost use Rattle.std.specs.Prelude.{◌≡◌, ◌<◌, ◌++◌, ℕ, OnOk, codes, map, length, Some};
+ghost use Rattle.std.specs.Prelude.{◌≡◌, ◌++◌, ℕ, true, OnOk, codes, map, Some};
 ghost use Rattle.std.specs.List.{flat_map};
 ghost use Rattle.py_node.specs.Slots.{all_slots};
 ghost use Rattle.reply_text.specs.Escapes.{escaped};
 ghost use Rattle.reply_text.specs.Lines.{joined, end_of_line};
 ghost use Rattle.reply_text.specs.Classes.{class_head, slots_head, slot_word};
 ghost use Rattle.class_model.specs.Order.{Holds};
+ghost use Rattle.class_model.specs.Class.{is_class};
+ghost use Rattle.class_model.specs.Numbers.{numbers_of};
 ghost use Rattle.class_table.specs.Keys.{table_keys, numbers};
-ghost use Rattle.plain_machine.specs.ClassText.{slot_words, own_words, name_at, class_text, heap_text, text_below, classes_text};
+ghost use Rattle.plain_machine.specs.ClassText.{slot_words, own_words, name_at, class_text, heap_text, classes_text};
 ghost use Rattle.class_world.specs.Reading.{Reading, Reads, plain};
 
 use crate::world::World;
@@ -28,10 +30,10 @@ pub fn push_classes(out: &mut Vec<u8>, world: &World) -> Result<(), OutOfMemory>
 
 // The lines of each class of a table that a script made.
 fn push_each(out: &mut Vec<u8>, classes: &ClassTable) -> Result<(), OutOfMemory>
-    ensures { OnOk result (out.new.items ≡ out.old.items ++ text_below table_keys classes.now (length classes.now)) }
+    ensures { OnOk result (out.new.items ≡ out.old.items ++ flat_map (heap_text table_keys classes.now) (numbers_of classes.now)) }
 {
-    for number in 0..classes.len() {
-        push_if_heap(out, classes, PyTypeRef(number as u64))?;
+    for place in 0..classes.len() {
+        push_if_heap(out, classes, classes.number_at(place))?;
     }
     Ok(())
 }
@@ -42,7 +44,7 @@ fn push_if_heap(
     classes: &ClassTable,
     class: PyTypeRef,
 ) -> Result<(), OutOfMemory>
-    requires { class.0 < length classes.now }
+    requires { is_class classes.now class.0 ≡ true }
     ensures { OnOk result (out.new.items ≡ out.old.items ++ heap_text table_keys classes.now class.0) }
 {
     if classes.is_heap(class) {
@@ -54,7 +56,7 @@ fn push_if_heap(
 
 // Both lines of a class.
 fn push_class(out: &mut Vec<u8>, classes: &ClassTable, class: PyTypeRef) -> Result<(), OutOfMemory>
-    requires { class.0 < length classes.now }
+    requires { is_class classes.now class.0 ≡ true }
     ensures { OnOk result (out.new.items ≡ out.old.items ++ class_text table_keys classes.now class.0) }
 {
     let name = classes.name(class);
@@ -70,7 +72,7 @@ fn push_names(
     name: &str,
     line: &[PyTypeRef],
 ) -> Result<(), OutOfMemory>
-    requires { (c : ℕ) → Holds (numbers line.now) c → c < length classes.now }
+    requires { (c : ℕ) → Holds (numbers line.now) c → is_class classes.now c ≡ true }
     ensures { OnOk result (out.new.items ≡ out.old.items ++ class_head name.now ++ joined (codes ", ") (map escaped (map (name_at classes.now) (numbers line.now))) ++ end_of_line) }
 {
     push_class_head(out, name)?;
@@ -85,7 +87,7 @@ fn push_slots(
     name: &str,
     class: PyTypeRef,
 ) -> Result<(), OutOfMemory>
-    requires { class.0 < length classes.now }
+    requires { is_class classes.now class.0 ≡ true }
     ensures { OnOk result (out.new.items ≡ out.old.items ++ slots_head name.now ++ flat_map slot_word (own_words table_keys classes.now class.0 all_slots) ++ end_of_line) }
 {
     push_slots_head(out, name)?;
@@ -99,7 +101,7 @@ fn push_members(
     classes: &ClassTable,
     line: &[PyTypeRef],
 ) -> Result<(), OutOfMemory>
-    requires { (c : ℕ) → Holds (numbers line.now) c → c < length classes.now }
+    requires { (c : ℕ) → Holds (numbers line.now) c → is_class classes.now c ≡ true }
     ensures { OnOk result (out.new.items ≡ out.old.items ++ joined (codes ", ") (map escaped (map (name_at classes.now) (numbers line.now)))) }
 {
     let mut is_first = true;
@@ -117,7 +119,7 @@ fn push_own_slots(
     class: PyTypeRef,
     slots: &[SlotId],
 ) -> Result<(), OutOfMemory>
-    requires { class.0 < length classes.now }
+    requires { is_class classes.now class.0 ≡ true }
     ensures { OnOk result (out.new.items ≡ out.old.items ++ flat_map slot_word (own_words table_keys classes.now class.0 slots.now)) }
 {
     for slot in slots {

@@ -2,7 +2,7 @@
 #![tactic(auto, unfolding(crate::specs::Reading::plain))]
 
 ghost use Rattle.std.specs.Prelude.{◌≡◌, Some, IfSome, option_map, nat_lt};
-ghost use Rattle.plain_machine.specs.World.{datum_at};
+ghost use Rattle.plain_machine.specs.World.{ref, datum_at};
 ghost use Rattle.plain_machine.specs.Objects.{class_object, type_object, class_number, special_at, is_instance, is_for_objects, is_fast, nearest_built_in};
 ghost use Rattle.class_model.specs.Layout.{built_ins};
 ghost use Rattle.class_model.specs.Slot.{first_with};
@@ -28,6 +28,7 @@ impl World {
     pub fn class_object(&self, class: PyTypeRef) -> PyObjectRef
         requires { Holds self.now (IsClass class.0) }
         ensures object { (t : Reading) → class_object (plain t self.now) class.0 ≡ result }
+        ensures number { result ≡ ref class.0 }
         ensures node { Holds self.now (IsNode result) }
     {
         self.class_node(class)

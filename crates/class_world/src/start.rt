@@ -158,7 +158,7 @@ fn new_class(alloc: Global, class: BuiltIn) -> Result<NewClass, OutOfMemory>
     let name = String::from_str(alloc, class.name())?;
     Ok(NewClass {
         name,
-        node: PyObjectRef(class.class().0),
+        number: class.class(),
         base: class.base(),
         attrs: PyAttributes::new(alloc),
         members: Vec::new(alloc),

@@ -11,7 +11,7 @@ ghost use Rattle.plain_machine.specs.Objects.{class_has_flag, with_definer};
 ghost use Rattle.plain_machine.specs.Sound.{holds_as, IsSound};
 ghost use Rattle.py_node.specs.declared.built_in.BuiltIn.{BuiltIn};
 ghost use Rattle.py_node.specs.declared.built_in.BuiltIn.TheVariants.{Dict, TypeType};
-ghost use Rattle.class_model.specs.Class.{found, found_past, own_of, is_sub, has_flag};
+ghost use Rattle.class_model.specs.Class.{class_at as class_numbered, found, found_past, own_of, is_sub, has_flag};
 ghost use Rattle.class_model.specs.Slot.{entry, slot as slot_read, candidates_of, is_heap_at};
 ghost use Rattle.class_model.specs.BuiltIn.{natives_of};
 ghost use Rattle.class_table.specs.Refused.{refusal, refused_attr};
@@ -234,7 +234,7 @@ impl World {
     /// The name of a class.
     pub fn class_name(&self, class: PyTypeRef) -> &str
         requires { Holds self.now (IsClass class.0) }
-        ensures { (t : Reading) → option_map (λ k. k.name) (slice_get (plain t self.now).classes class.0) ≡ Some result.now }
+        ensures { (t : Reading) → option_map (λ k. k.name) (class_numbered (plain t self.now).classes class.0) ≡ Some result.now }
     {
         self.classes.name(class)
     }
@@ -489,7 +489,7 @@ impl World {
     /// A class's own value of a name.
     pub fn own_attr(&self, class: PyTypeRef, name: PyStrInterned) -> Option<PyObjectRef>
         requires { Holds self.now (IsClass class.0) }
-        ensures found { (t : Reading) → Reads t self.now → own_of (λ y. is_text y (t.text name.0)) (slice_get (plain t self.now).classes class.0) ≡ result }
+        ensures found { (t : Reading) → Reads t self.now → own_of (λ y. is_text y (t.text name.0)) (class_numbered (plain t self.now).classes class.0) ≡ result }
         ensures node { IfSome result (λ r. Holds self.now (IsNode r)) }
     {
         self.classes.get_direct_attr(class, name)
@@ -506,7 +506,7 @@ impl World {
     /// Whether a class was made by a script.
     pub fn class_is_heap(&self, class: PyTypeRef) -> bool
         requires { Holds self.now (IsClass class.0) }
-        ensures { (t : Reading) → is_heap_at (slice_get (plain t self.now).classes class.0) ≡ result }
+        ensures { (t : Reading) → is_heap_at (class_numbered (plain t self.now).classes class.0) ≡ result }
     {
         self.classes.is_heap(class)
     }
@@ -523,18 +523,19 @@ impl World {
     /// Whether a class has a flag.
     pub fn class_flag(&self, class: PyTypeRef, flag: PyTypeFlags) -> bool
         requires { Holds self.now (IsClass class.0) }
-        ensures { (t : Reading) → option_map (λ k. has_flag flag.0 k) (slice_get (plain t self.now).classes class.0) ≡ Some result }
+        ensures { (t : Reading) → option_map (λ k. has_flag flag.0 k) (class_numbered (plain t self.now).classes class.0) ≡ Some result }
     {
         self.classes.flags(class).has_feature(flag)
     }
 
-    /// The object that stands for a class.
+    /// The object that stands for a class: it has the class's number.
     pub fn class_node(&self, class: PyTypeRef) -> PyObjectRef
         requires { Holds self.now (IsClass class.0) }
-        ensures reads { (t : Reading) → option_map (λ k. k.node) (slice_get (plain t self.now).classes class.0) ≡ Some result }
+        ensures reads { result ≡ ref class.0 }
         ensures node { Holds self.now (IsNode result) }
     {
-        self.classes.node(class)
+        let _classes = &self.classes;
+        PyObjectRef(class.0)
     }
 
     /// Gives a class's own attribute a value. The class must be made by a script. Where it is refused or
@@ -590,8 +591,8 @@ impl World {
         requires base { Holds self.old (IsClass base.0) }
         requires can_be { Holds self.old (CanBeBase base.0) }
         requires attrs { AllHold self.old (of_each of_binding attrs) }
-        ensures made { OnOk result ((t : Reading) → plain t self.new ≡ with_new_class (plain t self.old) class_of_class.0 (record { name = name.now; node = ref (length (plain t self.old).nodes); bases = base.0 ∷ []; attrs = bindings t attrs; members = []; flags = heap_flags })) }
-        ensures numbers { IfOk result (λ r. (t : Reading) → (r.0.0 ≡ length (plain t self.old).classes) × (r.1 ≡ ref (length (plain t self.old).nodes))) }
+        ensures made { OnOk result ((t : Reading) → plain t self.new ≡ with_new_class (plain t self.old) class_of_class.0 (record { name = name.now; number = length (plain t self.old).nodes; bases = base.0 ∷ []; attrs = bindings t attrs; members = []; flags = heap_flags })) }
+        ensures numbers { IfOk result (λ r. (t : Reading) → (r.0.0 ≡ length (plain t self.old).nodes) × (r.1 ≡ ref (length (plain t self.old).nodes))) }
         ensures err { OnErr result (self.new ≡ self.old) }
         ensures reads { (t : Reading) → Reads t self.new → Reads t self.old }
         ensures grows { Grows self.old self.new }
@@ -600,12 +601,12 @@ impl World {
         ensures node { IfOk result (λ r. Holds self.new (IsNode r.1)) }
     {
         self.nodes.reserve(1)?;
-        let node = PyObjectRef(self.nodes.len() as u64);
+        let number = PyTypeRef(self.nodes.len() as u64);
         let bases = vec![in alloc; base]?;
         let members = Vec::new(alloc);
         match self
             .classes
-            .new_heap(alloc, node, name, bases, attrs, members)
+            .new_heap(alloc, number, name, bases, attrs, members)
         {
             // Of its base it is known that it can be one: nothing but memory can lack.
             Err(_) => Err(OutOfMemory),
@@ -615,7 +616,7 @@ impl World {
                     dict: None,
                     payload: Payload::Class(class),
                 });
-                Ok((class, node))
+                Ok((class, PyObjectRef(class.0)))
             }
         }
     }

@@ -10,7 +10,7 @@ abbrev object : Node
 object = record { class = 0; dict = None; members = []; datum = AnObject }
 
 abbrev class : Class Text
-class = record { name = codes "A"; node = ref 0; bases = []; attrs = (codes "y", ref 0) ∷ []; members = []; flags = 0 }
+class = record { name = codes "A"; number = 0; bases = []; attrs = (codes "y", ref 0) ∷ []; members = []; flags = 0 }
 
 abbrev small : PlainWorld
 small = record { nodes = object ∷ object ∷ []; classes = class ∷ []; vars = []; scopes = []; calls = [] }

@@ -6,7 +6,8 @@ use Rattle.py_node.specs.declared.entry.SlotEntry.{SlotEntry}
 use Rattle.py_node.specs.declared.entry.SlotEntry.TheVariants.{Native, Wrapper, Unhashable}
 use Rattle.py_node.specs.Slots.{printed_name, all_slots}
 use Rattle.py_node.specs.Tree.{Text}
-use Rattle.class_model.specs.Class.{Classes, lin}
+use Rattle.class_model.specs.Class.{class_at as class_numbered, Classes, lin}
+use Rattle.class_model.specs.Numbers.{numbers_of}
 use Rattle.class_model.specs.Slot.{Keys, is_heap_at, entry}
 use Rattle.class_model.specs.BuiltIn.{natives_of}
 use Rattle.reply_text.specs.Classes.{class_lines}
@@ -28,7 +29,7 @@ abbrev pub own_words : {K : Type 0} → Keys K → Classes K → ℕ → List Sl
 own_words keys t c slots = flat_map (λ s. slot_words s (entry keys natives_of t c s)) slots
 
 abbrev pub name_at : {K : Type 0} → Classes K → ℕ → Text
-name_at t c = or_empty (option_map (λ k. k.name) (slice_get t c))
+name_at t c = or_empty (option_map (λ k. k.name) (class_numbered t c))
 
 abbrev pub names_along : {K : Type 0} → Classes K → Option (List ℕ) → List Text
 names_along t None = []
@@ -40,13 +41,8 @@ class_text keys t c = class_lines (name_at t c) (names_along t (lin t c)) (own_w
 
 -- a class that no script made has no lines
 abbrev pub heap_text : {K : Type 0} → Keys K → Classes K → ℕ → Text
-heap_text keys t c = cond (is_heap_at (slice_get t c)) (class_text keys t c) []
-
--- of the first n classes
-abbrev pub text_below : {K : Type 0} → Keys K → Classes K → ℕ → Text
-text_below keys t zero = []
-text_below keys t (suc n) = text_below keys t n ++ heap_text keys t n
+heap_text keys t c = cond (is_heap_at (class_numbered t c)) (class_text keys t c) []
 
 -- the lines of each class that a script made, by number
 unfoldable pub classes_text : PlainWorld → Text
-classes_text w = text_below text_keys w.classes (length w.classes)
+classes_text w = flat_map (heap_text text_keys w.classes) (numbers_of w.classes)

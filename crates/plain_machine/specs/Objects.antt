@@ -3,7 +3,7 @@ use Rattle.std.specs.Prelude.{ℕ, ◌^◌, Bool, true, false, ◌&&◌, ◌==�
 use Rattle.std.specs.Int.RustNames.{bit_and}
 use Rattle.py_node.specs.declared.refs.PyObjectRef.{PyObjectRef}
 use Rattle.py_node.specs.Tree.{Text}
-use Rattle.class_model.specs.Class.{Classes, found, is_sub, has_flag, lin}
+use Rattle.class_model.specs.Class.{class_at as class_numbered, Classes, found, is_sub, has_flag, lin}
 use Rattle.class_model.specs.Layout.{built_ins}
 use Rattle.class_model.specs.Slot.{first_with}
 use Rattle.plain_machine.specs.Plain.{Datum, AClass, AFunction, AClassMethod, AMethodDescriptor, Node, PlainWorld}
@@ -11,7 +11,7 @@ use Rattle.plain_machine.specs.World.{ref, datum_at, class_at, is_text, with_nod
 
 -- the object that stands for a class
 abbrev pub class_object : PlainWorld → ℕ → PyObjectRef
-class_object w c = elim (slice_get w.classes c) [ None ↦ ref 0 | Some k ↦ k.node ]
+class_object w c = ref c
 
 abbrev pub object_for : PlainWorld → Option ℕ → PyObjectRef
 object_for w None = ref 0
@@ -44,7 +44,7 @@ or_false (Some b) = b
 
 abbrev pub class_has_flag : PlainWorld → ℕ → Option ℕ → Bool
 class_has_flag w flag None = false
-class_has_flag w flag (Some c) = or_false (option_map (λ k. has_flag flag k) (slice_get w.classes c))
+class_has_flag w flag (Some c) = or_false (option_map (λ k. has_flag flag k) (class_numbered w.classes c))
 
 -- whether a native as a method has a flag
 abbrev pub method_has : ℕ → ℕ → Bool

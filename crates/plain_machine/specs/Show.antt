@@ -5,12 +5,13 @@ use Rattle.py_node.specs.declared.refs.PyObjectRef.{PyObjectRef}
 use Rattle.py_node.specs.Tree.{Text}
 use Rattle.reply_text.specs.Escapes.{escaped, quoted}
 use Rattle.reply_text.specs.Lines.{joined}
+use Rattle.class_model.specs.Class.{class_at as class_numbered}
 use Rattle.plain_machine.specs.Plain.{Datum, AClass, ANumber, AText, ATuple, ADict, Node, PlainWorld}
 use Rattle.plain_machine.specs.World.{node_at}
 
 -- the name of a class, escaped
 abbrev pub class_name : PlainWorld → ℕ → Text
-class_name w c = elim (slice_get w.classes c) [ None ↦ [] | Some k ↦ escaped k.name ]
+class_name w c = elim (class_numbered w.classes c) [ None ↦ [] | Some k ↦ escaped k.name ]
 
 -- an object of no class that has a text of its own
 abbrev pub plain_text : PlainWorld → ℕ → Text

@@ -6,11 +6,11 @@ use Rattle.py_node.specs.declared.built_in.BuiltIn.{BuiltIn}
 use Rattle.py_node.specs.declared.built_in.BuiltIn.TheVariants as built_in
 use Rattle.py_node.specs.BuiltIns.{all_built_ins}
 use Rattle.py_node.specs.Tree.{Text}
-use Rattle.class_model.specs.Class.{Class, Classes}
+use Rattle.class_model.specs.Class.{Classes, is_class}
 use Rattle.class_model.specs.Layout.{is_place}
 use Rattle.class_model.specs.Sound.{AreSound}
 use Rattle.plain_machine.specs.Plain.{Datum, AnObject, AClass, ANumber, AText, ATuple, ADict, AFunction, AMethod, ANativeFunction, ABuiltinMethod, AMethodDescriptor, AGetSet, AClassMethod, Node, Bindings, PlainWorld}
-use Rattle.plain_machine.specs.World.{datum_at}
+use Rattle.plain_machine.specs.World.{ref, datum_at}
 use Rattle.plain_machine.specs.Objects.{nearest_built_in}
 
 -- the built-in class whose objects hold such
@@ -109,20 +109,20 @@ AreBound w bs = All (λ b. b.1.0 < length w.nodes) bs
 
 -- its class is there, and it holds what the objects of such a class hold. Its dict is one, its members have places in its class's layout, what it names is there, and the keys of a dict differ
 pub record IsSoundNode (w : PlainWorld) (n : Node) : Type 0 where
-  pub class : n.class < length w.classes
+  pub class : is_class w.classes n.class ≡ true
   pub like : held_by w.classes n.class ≡ Some (home n.datum)
   pub dict : (r : PyObjectRef) → n.dict ≡ Some r → option_map home (datum_at w r) ≡ Some built_in.Dict
   pub members : All (λ m. is_place w.classes n.class m.0.0 m.0.1 ≡ true) n.members
   pub nodes : AreThere w (nodes_in n.datum)
   pub keys : AreKeys (key_at w) (keys_in n.datum)
-  pub classes : All (λ c. c < length w.classes) (classes_in n.datum)
+  pub classes : All (λ c. is_class w.classes c ≡ true) (classes_in n.datum)
 
 -- the classes and the nodes are sound, and so is all that the world names
 pub record IsSound (w : PlainWorld) : Type 0 where
   pub classes : AreSound w.classes
   pub nodes : (i : ℕ) (n : Node) → slice_get w.nodes i ≡ Some n → IsSoundNode w n
   -- the object that stands for a class holds that very class
-  pub standing : (c : ℕ) (k : Class Text) → slice_get w.classes c ≡ Some k → datum_at w k.node ≡ Some (AClass c)
+  pub standing : (c : ℕ) → is_class w.classes c ≡ true → datum_at w (ref c) ≡ Some (AClass c)
   pub attrs : All (λ k. All (λ a. a.1.0 < length w.nodes) k.attrs) w.classes
   pub vars : AreBound w w.vars
   pub scopes : All (λ s. AreBound w s.vars) w.scopes

@@ -15,9 +15,9 @@ abbrev pub bases_from : Option ℕ → List ℕ
 bases_from None = []
 bases_from (Some b) = b ∷ []
 
--- a built-in class. Its node has the number of its place
+-- a built-in class. Its number is its place
 abbrev pub built_class : {K : Type 0} → BuiltIn → Class K
-built_class b = record { name = name_of b; node = ref (place_of b); bases = bases_from (base_of b); attrs = []; members = []; flags = flags_of b }
+built_class b = record { name = name_of b; number = place_of b; bases = bases_from (base_of b); attrs = []; members = []; flags = flags_of b }
 
 abbrev pub simple_node : ℕ → Datum → Node
 simple_node c d = record { class = c; dict = None; members = []; datum = d }

@@ -8,7 +8,7 @@ use Rattle.py_node.specs.Attributes.{value_of, with_value}
 use Rattle.py_node.specs.Slots.{special_names}
 use Rattle.py_node.specs.Tree.{Text}
 use Rattle.py_node.specs.Replies.{Started}
-use Rattle.class_model.specs.Class.{Class, has_flag}
+use Rattle.class_model.specs.Class.{class_at as class_numbered, Class, has_flag}
 use Rattle.class_model.specs.Change.{with_class, with_class_attr}
 use Rattle.class_model.specs.Slot.{Keys, slot, candidates_of}
 use Rattle.class_model.specs.BuiltIn.{natives_of}
@@ -63,7 +63,7 @@ flag_in (Some k) = has_flag (2 ^ 40) k
 
 -- whether a class gives its objects a dict
 abbrev pub has_dict : PlainWorld → ℕ → Bool
-has_dict w c = flag_in (slice_get w.classes c)
+has_dict w c = flag_in (class_numbered w.classes c)
 
 abbrev pub push_node : PlainWorld → ℕ → Option PyObjectRef → Datum → PlainWorld
 push_node w c dict d = record w { nodes = w.nodes ++ record { class = c; dict = dict; members = []; datum = d } ∷ [] }
@@ -109,9 +109,9 @@ without_scope w = record w { scopes = take (length w.scopes - 1) w.scopes }
 abbrev pub with_own_attr : PlainWorld → ℕ → Text → PyObjectRef → PlainWorld
 with_own_attr w c x r = record w { classes = with_class_attr is_text w.classes c x r }
 
--- a new class, after which its node comes last. The node has no dict
+-- a new class, whose number is that of its node, which comes last. The node has no dict
 abbrev pub with_new_class : PlainWorld → ℕ → Class Text → PlainWorld
-with_new_class w meta k = record (push_node w meta None (AClass (length w.classes))) { classes = with_class w.classes k }
+with_new_class w meta k = record (push_node w meta None (AClass k.number)) { classes = with_class w.classes k }
 
 -- a command is over: no scope is left, and no start is noted
 abbrev pub at_rest : PlainWorld → PlainWorld

@@ -14,6 +14,7 @@ use Rattle.py_node.specs.declared.entry.CallableNative.TheVariants as callable
 use Rattle.py_node.specs.declared.task.Answer.TheVariants.{Done}
 use Rattle.py_node.specs.declared.task.LaterTask.TheVariants as later
 use Rattle.py_node.specs.Tree.{Text}
+use Rattle.class_model.specs.Class.{class_at as class_numbered}
 use Rattle.class_model.specs.Slot.{is_heap_at}
 use Rattle.plain_machine.specs.Plain.{Datum, AText, AMethod, ABuiltinMethod, AMethodDescriptor, PlainWorld, Bindings, AttributeJob, DoSetAttr, DoTypeSet, DoSpecial, DoBind, DoDescrGet, DoCall, ToAttribute, ToCall, ToLater, Ended, Chose, Said, Asks, Ends}
 use Rattle.plain_machine.specs.World.{datum_at, slot_at, with_node, next_node, with_own_attr}
@@ -48,7 +49,7 @@ type_set_by w by_descriptor heap c x v =
     (cond heap (Ends (with_own_attr w c x v) (Ok Done)) (Ends w (fault TypeError ImmutableType)))
 
 abbrev pub type_set_say : PlainWorld → ℕ → Text → PyObjectRef → Row
-type_set_say w c x v = start (type_set_by w (sets w (special_at w (class_object w c) x)) (is_heap_at (slice_get w.classes c)) c x v) (end w)
+type_set_say w c x v = start (type_set_by w (sets w (special_at w (class_object w c) x)) (is_heap_at (class_numbered w.classes c)) c x v) (end w)
 
 -- a special method that is fast is called with its object before the arguments, and another one is bound first
 abbrev pub special_by : PlainWorld → Bool → PyObjectRef → PyObjectRef → List PyObjectRef → Bindings → Said

@@ -2,6 +2,7 @@
 #![tactic(auto, unfolding(crate::specs::Say::attribute_say, py_node::specs::BuiltIns::place_of))]
 
 ghost use Rattle.std.specs.Prelude.{◌≡◌, Some, IfOk, slice_get};
+ghost use Rattle.class_model.specs.Class.{class_at as class_numbered};
 ghost use Rattle.class_model.specs.Slot.{is_heap_at};
 ghost use Rattle.class_world.specs.Sound.{AllHold, Holds, IsClass, IsNode, of_option, of_node_ref, of_class_ref};
 ghost use Rattle.class_world.specs.Claims.{of_attribute_task, of_step, Leaves};
@@ -176,7 +177,7 @@ fn type_set_by(
     value: PyObjectRef,
 ) -> Result<Step<AttributeKept>, OutOfMemory>
     requires { AllHold world.old (of_attribute_task (attribute.TypeSet class name value)) }
-    ensures goes { IfOk result (λ step. Starts (attribute.TypeSet class name value) (λ t w. type_set_by w by_descriptor (is_heap_at (slice_get w.classes class.0)) class.0 (spelled t name) value) world.old world.new step) }
+    ensures goes { IfOk result (λ step. Starts (attribute.TypeSet class name value) (λ t w. type_set_by w by_descriptor (is_heap_at (class_numbered w.classes class.0)) class.0 (spelled t name) value) world.old world.new step) }
     ensures safe { Leaves of_attribute_kept world.old world.new result }
 {
     if by_descriptor {

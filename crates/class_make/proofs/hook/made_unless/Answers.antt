@@ -25,5 +25,5 @@ returns-in_ok-class-in-None-clause-goes c =
     let e = c.in_ok-class-in-None.ensures in
     let old = c.args.world.now in
     goes-from c.args.kw.items (λ t u. made_unless c.args.refusal c.args.plan.meta.0 (string_bytes c.args.plan.name) c.args.plan.base.0 (u, bindings t c.args.plan.attrs)) (λ t u. told_of u c.in_ok-class-in-None.class.0 c.in_ok-class-in-None.node c.deref-in-None.result.now) old c.define_all.new.world c.told_of.new.world c.told_of.result (λ t r.
-    (e.reads t (c.define_all.ensures.reads t r), made-new (plain t old) (plain t c.make_class.new.self) (plain t c.define_all.new.world) c.args.refusal c.args.plan.meta.0 (string_bytes c.args.plan.name) c.args.plan.base.0 (bindings t c.args.plan.attrs) c.in_ok-class-in-None.class.0 c.in_ok-class-in-None.node c.deref.result.now c.deref-in-None.result.now c.in-None.is (e.made t ∙ ap (λ x. with_new_class (plain t old) c.args.plan.meta.0 (record { name = x; node = ref (length (plain t old).nodes); bases = c.args.plan.base.0 ∷ []; attrs = bindings t c.args.plan.attrs; members = []; flags = heap_flags })) c.as_str.ensures.value) (c.define_all.ensures.set t) (c.deref.ensures.value ∙ c.in_ok-values-in-None.ensures ∙ sym (values-read t c.args.plan.attrs)) (c.deref-in-None.ensures.value ∙ c.in_ok-values-in-None.ensures ∙ sym (values-read t c.args.plan.attrs)) (e.numbers t).0 (e.numbers t).1))
+    (e.reads t (c.define_all.ensures.reads t r), made-new (plain t old) (plain t c.make_class.new.self) (plain t c.define_all.new.world) c.args.refusal c.args.plan.meta.0 (string_bytes c.args.plan.name) c.args.plan.base.0 (bindings t c.args.plan.attrs) c.in_ok-class-in-None.class.0 c.in_ok-class-in-None.node c.deref.result.now c.deref-in-None.result.now c.in-None.is (e.made t ∙ ap (λ x. with_new_class (plain t old) c.args.plan.meta.0 (record { name = x; number = length (plain t old).nodes; bases = c.args.plan.base.0 ∷ []; attrs = bindings t c.args.plan.attrs; members = []; flags = heap_flags })) c.as_str.ensures.value) (c.define_all.ensures.set t) (c.deref.ensures.value ∙ c.in_ok-values-in-None.ensures ∙ sym (values-read t c.args.plan.attrs)) (c.deref-in-None.ensures.value ∙ c.in_ok-values-in-None.ensures ∙ sym (values-read t c.args.plan.attrs)) (e.numbers t).0 (e.numbers t).1))
     c.told_of.ensures.goes

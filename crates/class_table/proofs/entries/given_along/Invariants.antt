@@ -6,5 +6,5 @@ use Rattle.class_table.specs.Keys.{numbers, table_keys}
 use Rattle.class_table.specs.Kept.{plain}
 use Rattle.class_table.proofs.entries.given_along.Given as goal
 
-abbrev pub invariant-loop-class : goal.invariant-loop-class
-invariant-loop-class l = first_along (given_entry table_keys natives_of (plain l.classes) l.slot) (numbers (drop l.class-index l.line)) ≡ first_along (given_entry table_keys natives_of (plain l.classes) l.slot) (numbers l.line)
+abbrev pub invariant-loop-place : goal.invariant-loop-place
+invariant-loop-place l = first_along (given_entry table_keys natives_of (plain l.classes) l.slot) (numbers (drop l.place l.line)) ≡ first_along (given_entry table_keys natives_of (plain l.classes) l.slot) (numbers l.line)

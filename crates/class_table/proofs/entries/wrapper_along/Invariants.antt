@@ -5,5 +5,5 @@ use Rattle.class_table.specs.Keys.{numbers, table_keys}
 use Rattle.class_table.specs.Kept.{plain}
 use Rattle.class_table.proofs.entries.wrapper_along.Given as goal
 
-abbrev pub invariant-loop-class : goal.invariant-loop-class
-invariant-loop-class l = wrapped l.slot (along (is_name_of table_keys l.slot) (plain l.classes) (numbers (drop l.class-index l.line))) ≡ wrapped l.slot (along (is_name_of table_keys l.slot) (plain l.classes) (numbers l.line))
+abbrev pub invariant-loop-place : goal.invariant-loop-place
+invariant-loop-place l = wrapped l.slot (along (is_name_of table_keys l.slot) (plain l.classes) (numbers (drop l.place l.line))) ≡ wrapped l.slot (along (is_name_of table_keys l.slot) (plain l.classes) (numbers l.line))

@@ -1,5 +1,5 @@
 use Rattle.class_table.proofs.Along.{held-at}
 use Rattle.class_table.proofs.read.nearest.Goals as goal
 
-pub own_entry-requires-clause-inside : goal.own_entry-requires-clause-inside
-own_entry-requires-clause-inside c = c.requires.inside _ (held-at c.args.line.now c.loop-class.class-index (record { 0 = 0 }) c.loop-class-test.true)
+pub own_entry-requires-clause-there : goal.own_entry-requires-clause-there
+own_entry-requires-clause-there c = c.requires.inside _ (held-at c.args.line.now c.loop-class.class-index (record { 0 = 0 }) c.loop-class-test.true)

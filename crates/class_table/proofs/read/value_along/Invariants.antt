@@ -5,5 +5,5 @@ use Rattle.class_table.specs.Keys.{numbers}
 use Rattle.class_table.specs.Kept.{plain}
 use Rattle.class_table.proofs.read.value_along.Given as goal
 
-abbrev pub invariant-loop-class : goal.invariant-loop-class
-invariant-loop-class l = along (λ k. is_same_name k l.name) (plain l.classes) (numbers (drop l.class-index l.line)) ≡ along (λ k. is_same_name k l.name) (plain l.classes) (numbers l.line)
+abbrev pub invariant-loop-place : goal.invariant-loop-place
+invariant-loop-place l = along (λ k. is_same_name k l.name) (plain l.classes) (numbers (drop l.place l.line)) ≡ along (λ k. is_same_name k l.name) (plain l.classes) (numbers l.line)

@@ -2,24 +2,25 @@ use Rattle.std.proofs.Common.{◌≡◌, ◌+◌, List, get_or, set, sym, subst,
 use Rattle.std.proofs.lemmas.List.{get_or_default}
 use Rattle.class_table.specs.Kept.{Kept, plain}
 use Rattle.class_table.specs.Coherent.{HasLines}
-use Rattle.class_table.proofs.Refreshed.{part, part-start, part-end, part-lines, part-then, part-else, element}
+use Rattle.class_table.proofs.Found.{element}
+use Rattle.class_table.proofs.Refreshed.{part, part-start, part-end, part-lines, part-then, part-else}
 use Rattle.class_table.proofs.refresh.patch.Goals as goal
 use Rattle.class_table.proofs.refresh.patch.Goals.{then-is_name_of, else-is_name_of}
 
 pub loop-place-init : goal.loop-place-init
 loop-place-init c = record {
   lines = c.requires.lines;
-  is = λ d. part-start c.args.classes.now c.args.class.0 (get_or c.args.classes.now c.args.class.0 d) c.requires.inside (get_or_default c.args.classes.now c.args.class.0 d (get_or c.args.classes.now c.args.class.0 d) c.requires.inside);
+  is = λ d. part-start c.args.classes.now c.args.at (get_or c.args.classes.now c.args.at d) c.requires.inside (get_or_default c.args.classes.now c.args.at d (get_or c.args.classes.now c.args.at d) c.requires.inside);
 }
 
 pub loop-place-preserved : goal.loop-place-preserved
 loop-place-preserved c =
     let kept = c.args.classes.now in
-    let at = c.args.class.0 in
+    let at = c.args.at in
     let i = c.loop-place.place in
     let s = c.slot_at-slot.result in
     let same : (d : Kept) → get_or kept at d ≡ get_or kept at (get_or kept at d) = λ d. get_or_default kept at d (get_or kept at d) c.requires.inside in
-    let is : (d : Kept) → c.if-is_name_of.classes ≡ set kept at (part (plain kept) at (i + 1) (get_or kept at d)) = λ d.
+    let is : (d : Kept) → c.if-is_name_of.classes ≡ set kept at (part (plain kept) (i + 1) (get_or kept at d)) = λ d.
     elim c.if-is_name_of.branch [
       | then-is_name_of w ↦
           part-then kept at (get_or kept at d) c.requires.inside (same d) i s c.loop-place.classes c.if-is_name_of.classes c.slot_at-slot.ensures (c.requires.near d).count (c.loop-place.invariant.is d) (w.classes-is ∙ w.patch_slot.ensures (get_or kept at d))
@@ -33,4 +34,4 @@ loop-place-preserved c =
     }
 
 pub returns : goal.returns
-returns c = λ d. c.loop-place.invariant.is d ∙ part-end c.args.classes.now c.args.class.0 (get_or c.args.classes.now c.args.class.0 d) c.requires.inside (get_or_default c.args.classes.now c.args.class.0 d (get_or c.args.classes.now c.args.class.0 d) c.requires.inside) c.loop-place.place c.loop-place-test.false (c.requires.near d).count
+returns c = λ d. c.loop-place.invariant.is d ∙ part-end c.args.classes.now c.args.at (get_or c.args.classes.now c.args.at d) c.requires.inside (get_or_default c.args.classes.now c.args.at d (get_or c.args.classes.now c.args.at d) c.requires.inside) c.loop-place.place c.loop-place-test.false (c.requires.near d).count

@@ -7,5 +7,5 @@ use Rattle.class_table.proofs.refresh.patch.Given as goal
 abbrev pub invariant-loop-place : goal.invariant-loop-place
 invariant-loop-place l = record {
   lines : HasLines l.classes;
-  is : (d : Kept) → l.classes ≡ set l.fn.classes l.class.0 (part (plain l.fn.classes) l.class.0 l.place (get_or l.fn.classes l.class.0 d));
+  is : (d : Kept) → l.classes ≡ set l.fn.classes l.at (part (plain l.fn.classes) l.place (get_or l.fn.classes l.at d));
 }

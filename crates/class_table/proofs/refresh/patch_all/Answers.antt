@@ -10,55 +10,55 @@ use Rattle.class_table.proofs.Refreshed.{plain-set, lines-set, refreshed-then, r
 use Rattle.class_table.proofs.refresh.patch_all.Goals as goal
 use Rattle.class_table.proofs.refresh.patch_all.Goals.{then-derives, else-derives}
 
-pub loop-number-init : goal.loop-number-init
-loop-number-init c = record { lines = c.requires.lines; same = refl; at = λ i k e. e ∙ sym (ap (λ b. Some (cond b (refreshed_one (plain c.args.classes.now) c.args.class.0 i k) k)) (le-ltb i 0 (omega arith))) }
+pub loop-place-init : goal.loop-place-init
+loop-place-init c = record { lines = c.requires.lines; same = refl; at = λ i k e. e ∙ sym (ap (λ b. Some (cond b (refreshed_one (plain c.args.classes.now) c.args.class.0 k) k)) (le-ltb i 0 (omega arith))) }
 
-pub loop-number-preserved : goal.loop-number-preserved
-loop-number-preserved c =
+pub loop-place-preserved : goal.loop-place-preserved
+loop-place-preserved c =
     let orig = c.args.classes.now in
-    let cur = c.loop-number.classes in
-    let n = c.loop-number.number in
-    let x = c.index-classes-number.result in
-    let held = c.index-classes-number.is in
+    let cur = c.loop-place.classes in
+    let n = c.loop-place.place in
+    let x = c.index-classes-place.result in
+    let held = c.index-classes-place.is in
     let inside : n < length cur = omega arith in
     elim c.if-derives.branch [
       | then-derives w ↦
-          let is : c.if-derives.classes ≡ set cur n (settled (plain cur) n x) = w.classes-is ∙ w.patch.ensures x ∙ ap (λ (z : Kept). set cur n (settled (plain cur) n z)) (sym held) in
+          let is : c.if-derives.classes ≡ set cur n (settled (plain cur) x) = w.classes-is ∙ w.patch.ensures x ∙ ap (λ (z : Kept). set cur n (settled (plain cur) z)) (sym held) in
           let P : List Kept → Type 0 = λ ys. HasLines ys in
           record {
-            lines = subst P (sym is) (lines-set cur n x (settled (plain cur) n x) c.loop-number.invariant.lines inside held refl refl);
-            same = ap plain is ∙ plain-set cur n x (settled (plain cur) n x) inside held refl ∙ c.loop-number.invariant.same;
-            at = refreshed-then c.args.class.0 n orig cur c.if-derives.classes c.loop-number.invariant.same c.loop-number.invariant.at x inside held (ap (λ (z : Kept). has z.mro c.args.class.0) held ∙ sym c.derives.ensures ∙ w.if-derives.true) is;
+            lines = subst P (sym is) (lines-set cur n x (settled (plain cur) x) c.loop-place.invariant.lines inside held refl refl);
+            same = ap plain is ∙ plain-set cur n x (settled (plain cur) x) inside held refl ∙ c.loop-place.invariant.same;
+            at = refreshed-then c.args.class.0 n orig cur c.if-derives.classes c.loop-place.invariant.same c.loop-place.invariant.at x inside held (ap (λ (z : Kept). has z.mro c.args.class.0) held ∙ sym c.derives.ensures ∙ w.if-derives.true) is;
           }
       | else-derives w ↦
           let P : List Kept → Type 0 = λ ys. HasLines ys in
           record {
-            lines = subst P (sym w.classes-is) c.loop-number.invariant.lines;
-            same = ap plain w.classes-is ∙ c.loop-number.invariant.same;
-            at = refreshed-else c.args.class.0 n orig cur c.if-derives.classes c.loop-number.invariant.same c.loop-number.invariant.at x held (ap (λ (z : Kept). has z.mro c.args.class.0) held ∙ sym c.derives.ensures ∙ w.if-derives.false) w.classes-is;
+            lines = subst P (sym w.classes-is) c.loop-place.invariant.lines;
+            same = ap plain w.classes-is ∙ c.loop-place.invariant.same;
+            at = refreshed-else c.args.class.0 n orig cur c.if-derives.classes c.loop-place.invariant.same c.loop-place.invariant.at x held (ap (λ (z : Kept). has z.mro c.args.class.0) held ∙ sym c.derives.ensures ∙ w.if-derives.false) w.classes-is;
           }
     ]
 
 pub patch-requires : goal.patch-requires
 patch-requires c =
-    let cur = c.loop-number.classes in
-    let n = c.loop-number.number in
-    let x = c.index-classes-number.result in
-    let held = c.index-classes-number.is in
+    let cur = c.loop-place.classes in
+    let n = c.loop-place.place in
+    let x = c.index-classes-place.result in
+    let held = c.index-classes-place.is in
     let inside : n < length cur = omega arith in
     record {
-      lines = c.loop-number.invariant.lines;
+      lines = c.loop-place.invariant.lines;
       inside = inside;
       near = λ d.
-          let P : Kept → Type 0 = λ z. IsNear (plain cur) c.args.name n z in
-          subst P (held ∙ get_or_default cur n x d inside) (near-now c.args.class.0 n c.args.classes.now cur cur c.loop-number.invariant.same c.loop-number.invariant.at c.args.name x c.requires.near c.loop-number.auto.classes (omega arith) held (ap (λ (z : Kept). has z.mro c.args.class.0) held ∙ sym c.derives.ensures ∙ c.if-derives.true));
+          let P : Kept → Type 0 = λ z. IsNear (plain cur) c.args.name z in
+          subst P (held ∙ get_or_default cur n x d inside) (near-now c.args.class.0 n c.args.classes.now cur cur c.loop-place.invariant.same c.loop-place.invariant.at c.args.name x c.requires.near c.loop-place.auto.classes (omega arith) held (ap (λ (z : Kept). has z.mro c.args.class.0) held ∙ sym c.derives.ensures ∙ c.if-derives.true));
     }
 
 pub returns : goal.returns
 returns c = record {
-  count = c.loop-number.auto.classes;
+  count = c.loop-place.auto.classes;
   at = λ i k e.
       let l = slice_get_within c.args.classes.now i k e in
-      let b : i < c.loop-number.number = omega arith in
-      c.loop-number.invariant.at i k e ∙ ap (λ b. Some (cond b (refreshed_one (plain c.args.classes.now) c.args.class.0 i k) k)) (lt-ltb i c.loop-number.number b);
+      let b : i < c.loop-place.place = omega arith in
+      c.loop-place.invariant.at i k e ∙ ap (λ b. Some (cond b (refreshed_one (plain c.args.classes.now) c.args.class.0 k) k)) (lt-ltb i c.loop-place.place b);
 }

@@ -5,9 +5,9 @@ use Rattle.class_table.specs.Coherent.{HasLines}
 use Rattle.class_table.specs.Patch.{refreshed_one}
 use Rattle.class_table.proofs.refresh.patch_all.Given as goal
 
-abbrev pub invariant-loop-number : goal.invariant-loop-number
-invariant-loop-number l = record {
+abbrev pub invariant-loop-place : goal.invariant-loop-place
+invariant-loop-place l = record {
   lines : HasLines l.classes;
   same : plain l.classes ≡ plain l.fn.classes;
-  at : (i : ℕ) (k : Kept) → slice_get l.fn.classes i ≡ Some k → slice_get l.classes i ≡ Some (cond (ltb i l.number) (refreshed_one (plain l.fn.classes) l.class.0 i k) k);
+  at : (i : ℕ) (k : Kept) → slice_get l.fn.classes i ≡ Some k → slice_get l.classes i ≡ Some (cond (ltb i l.place) (refreshed_one (plain l.fn.classes) l.class.0 k) k);
 }

@@ -2,23 +2,24 @@ use Rattle.std.proofs.Common.{◌≡◌, ◌+◌, List, get_or, set, sym, subst,
 use Rattle.std.proofs.lemmas.List.{get_or_default}
 use Rattle.class_table.specs.Kept.{Kept, plain}
 use Rattle.class_table.specs.Coherent.{HasLines}
-use Rattle.class_table.proofs.Refreshed.{part, part-start, part-end, part-lines, part-then, element}
+use Rattle.class_table.proofs.Found.{element}
+use Rattle.class_table.proofs.Refreshed.{part, part-start, part-end, part-lines, part-then}
 use Rattle.class_table.proofs.refresh.settle.Goals as goal
 
 pub loop-place-init : goal.loop-place-init
 loop-place-init c = record {
   lines = c.requires.lines;
-  is = λ d. part-start c.args.classes.now c.args.class.0 (get_or c.args.classes.now c.args.class.0 d) c.requires.inside (get_or_default c.args.classes.now c.args.class.0 d (get_or c.args.classes.now c.args.class.0 d) c.requires.inside);
+  is = λ d. part-start c.args.classes.now c.args.at (get_or c.args.classes.now c.args.at d) c.requires.inside (get_or_default c.args.classes.now c.args.at d (get_or c.args.classes.now c.args.at d) c.requires.inside);
 }
 
 pub loop-place-preserved : goal.loop-place-preserved
 loop-place-preserved c =
     let kept = c.args.classes.now in
-    let at = c.args.class.0 in
+    let at = c.args.at in
     let i = c.loop-place.place in
     let e = element kept at c.requires.inside in
     let same : (d : Kept) → get_or kept at d ≡ get_or kept at (get_or kept at d) = λ d. get_or_default kept at d (get_or kept at d) c.requires.inside in
-    let is : (d : Kept) → c.patch_slot.new.classes ≡ set kept at (part (plain kept) at (i + 1) (get_or kept at d)) = λ d.
+    let is : (d : Kept) → c.patch_slot.new.classes ≡ set kept at (part (plain kept) (i + 1) (get_or kept at d)) = λ d.
     part-then kept at (get_or kept at d) c.requires.inside (same d) i c.slot_at.result c.loop-place.classes c.patch_slot.new.classes c.slot_at.ensures (c.requires.full d) (c.loop-place.invariant.is d) (c.patch_slot.ensures (get_or kept at d)) in
     let P : List Kept → Type 0 = λ ys. HasLines ys in
     record {
@@ -27,4 +28,4 @@ loop-place-preserved c =
     }
 
 pub returns : goal.returns
-returns c = λ d. c.loop-place.invariant.is d ∙ part-end c.args.classes.now c.args.class.0 (get_or c.args.classes.now c.args.class.0 d) c.requires.inside (get_or_default c.args.classes.now c.args.class.0 d (get_or c.args.classes.now c.args.class.0 d) c.requires.inside) c.loop-place.place c.loop-place-test.false (c.requires.full d)
+returns c = λ d. c.loop-place.invariant.is d ∙ part-end c.args.classes.now c.args.at (get_or c.args.classes.now c.args.at d) c.requires.inside (get_or_default c.args.classes.now c.args.at d (get_or c.args.classes.now c.args.at d) c.requires.inside) c.loop-place.place c.loop-place-test.false (c.requires.full d)

@@ -1,5 +1,5 @@
 use Rattle.std.proofs.Common.{Some, sym, ap, subst, ◌∙◌}
-use Rattle.std.specs.Prelude.{slice_get}
+use Rattle.class_model.specs.Class.{class_at}
 use Rattle.plain_machine.specs.Objects.{or_false}
 use Rattle.class_world.specs.contracts.world.World.{the_view}
 use Rattle.class_world.specs.Sound.{Holds, IsClass, CanBeBase}
@@ -15,7 +15,7 @@ pub returns-clause-flag : goal.returns-clause-flag
 returns-clause-flag c = λ t.
     ap or_false
     (flag-seen (the_view c.self.inside) c.args.self.now c.self.view_is t c.args.class.0 1024
-    ∙ flag-of (slice_get c.self.inside.classes c.args.class.0) c.flags.result.0 1024 c.flags.ensures
+    ∙ flag-of (class_at c.self.inside.classes c.args.class.0) c.flags.result.0 1024 c.flags.ensures
     ∙ ap Some (sym c.has_feature.ensures))
 
 pub returns-clause-can : goal.returns-clause-can
@@ -23,4 +23,4 @@ unfolding Holds
 returns-clause-can c = λ h.
     let w = the_view c.self.inside in
     subst (λ w. Holds w (CanBeBase c.args.class.0)) c.self.view_is
-    (base-of (slice_get w.classes c.args.class.0) c.flags.result.0 c.flags.ensures (sym c.has_feature.ensures ∙ h))
+    (base-of (class_at w.classes c.args.class.0) c.flags.result.0 c.flags.ensures (sym c.has_feature.ensures ∙ h))

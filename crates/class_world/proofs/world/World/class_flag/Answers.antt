@@ -1,5 +1,5 @@
 use Rattle.std.proofs.Common.{Some, sym, ap, ◌∙◌}
-use Rattle.std.specs.Prelude.{slice_get}
+use Rattle.class_model.specs.Class.{class_at}
 use Rattle.class_world.specs.contracts.world.World.{the_view}
 use Rattle.class_world.specs.Sound.{Holds, IsClass}
 use Rattle.class_world.proofs.Claims.{opened-one}
@@ -13,5 +13,5 @@ flags-requires c = opened-one (the_view c.self.inside) c.args.self.now (IsClass 
 pub returns : goal.returns
 returns c = λ t.
     flag-seen (the_view c.self.inside) c.args.self.now c.self.view_is t c.args.class.0 c.args.flag.0
-    ∙ flag-of (slice_get c.self.inside.classes c.args.class.0) c.flags.result.0 c.args.flag.0 c.flags.ensures
+    ∙ flag-of (class_at c.self.inside.classes c.args.class.0) c.flags.result.0 c.args.flag.0 c.flags.ensures
     ∙ ap Some (sym c.has_feature.ensures)

@@ -1,8 +1,8 @@
-use Rattle.std.proofs.Common.{ap, ◌<◌, length, refl, sym, subst, ◌∙◌}
+use Rattle.std.proofs.Common.{ap, ◌≡◌, true, refl, sym, subst, ◌∙◌}
 use Rattle.std.specs.Prelude.{nat_lt, slice_get, option_map, option_and_then}
 use Rattle.py_node.specs.BuiltIns.{all_built_ins}
 use Rattle.plain_machine.specs.Sound.{holds_as}
-use Rattle.class_model.specs.Class.{lin}
+use Rattle.class_model.specs.Class.{is_class, lin}
 use Rattle.class_model.specs.Layout.{built_ins}
 use Rattle.class_model.specs.Slot.{first_with}
 use Rattle.class_world.specs.Sound.{Holds}
@@ -12,7 +12,7 @@ use Rattle.class_world.proofs.world.World.nearest_built_in.Goals as goal
 
 pub mro-requires : goal.mro-requires
 unfolding Holds
-mro-requires c = subst (λ ks. c.args.class.0 < length ks) (sym c.classes.ensures.same) c.requires
+mro-requires c = subst (λ ks. is_class ks c.args.class.0 ≡ true) (sym c.classes.ensures.same) c.requires
 
 pub returns-clause-nearest : goal.returns-clause-nearest
 returns-clause-nearest c = λ t.

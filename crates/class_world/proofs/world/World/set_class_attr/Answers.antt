@@ -3,7 +3,7 @@ use Rattle.class_world.specs.contracts.world.World.{the_view}
 use Rattle.class_world.specs.Sound.{Holds, IsClass, IsName, IsNode}
 use Rattle.class_world.proofs.Claims.{opened-one}
 use Rattle.class_world.proofs.Growth.{grows-seen}
-use Rattle.class_world.proofs.ClassChanges.{classes-grow, set-long, set-like, set-sound, set-read}
+use Rattle.class_world.proofs.ClassChanges.{classes-grow, set-like, set-sound, set-read}
 use Rattle.class_world.proofs.OfClasses.{refused-seen}
 use Rattle.class_world.proofs.world.World.set_class_attr.Goals as goal
 
@@ -25,7 +25,7 @@ returns-clause-set c =
 pub returns-clause-grows : goal.returns-clause-grows
 returns-clause-grows c =
     let w = the_view c.self.inside in
-    grows-seen w _ _ c.self.view_is (classes-grow w c.set_attr.new.self (set-long w c.args.class.0 c.args.name c.args.value c.set_attr.new.self c.set_attr.result c.set_attr.ensures.set c.set_attr.ensures.err) (set-like w c.args.class.0 c.args.name c.args.value c.set_attr.new.self c.set_attr.result c.set_attr.ensures.set c.set_attr.ensures.err))
+    grows-seen w _ _ c.self.view_is (classes-grow w c.set_attr.new.self (set-like w c.args.class.0 c.args.name c.args.value c.set_attr.new.self c.set_attr.result c.set_attr.ensures.set c.set_attr.ensures.err))
 
 pub returns-clause-refused : goal.returns-clause-refused
 returns-clause-refused c = λ t. c.set_attr.ensures.immutable ∙ sym (refused-seen (the_view c.self.inside) c.args.self.now c.self.view_is t c.args.class.0)

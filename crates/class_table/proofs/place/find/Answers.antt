@@ -1,0 +1,7 @@
+use Rattle.std.proofs.Common.{sym}
+use Rattle.class_table.proofs.Found.{read-class}
+use Rattle.class_table.proofs.place.find.Goals as goal
+
+pub returns-in-Some-clause-class : goal.returns-in-Some-clause-class
+returns-in-Some-clause-class c =
+    sym (read-class c.args.classes.now c.requires c.in-Some.place c.args.class.0 c.index-classes-place.result c.in-Some.ensures.place c.index-classes-place.is)
