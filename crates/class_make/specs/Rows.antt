@@ -11,7 +11,7 @@ use Rattle.plain_machine.specs.Plain.{PlainWorld, ClassJob, DoMakeClass, DoType,
 use Rattle.plain_machine.specs.Row.{value}
 use Rattle.plain_machine.specs.Rows.{Pending, fresh, given}
 use Rattle.class_world.specs.declared.world.World.{World}
-use Rattle.class_world.specs.Reading.{Reading, Reads, bindings, class_job, plain}
+use Rattle.class_world.specs.Reading.{Reading, Reads, bindings, class_job, plain, ended_of}
 use Rattle.class_world.specs.Rows.{Follows, Goes}
 use Rattle.class_world.specs.Sound.{Claim, IsNode, of_binding, of_each}
 use Rattle.class_make.specs.declared.ClassKept.{ClassKept}
@@ -34,7 +34,7 @@ abbrev pub Begins : ClassTask → World → World → Step ClassKept → Type 0
 Begins task = Goes class_job_say class_stands (λ t. fresh (class_job t task))
 
 abbrev pub Resumes : ClassKept → Result Answer Fault → World → World → Step ClassKept → Type 0
-Resumes kept r = Goes class_job_say class_stands (λ t. given (class_stands t kept) r)
+Resumes kept r = Goes class_job_say class_stands (λ t. given (class_stands t kept) (ended_of r))
 
 -- names with values, by the names' numbers
 abbrev pub Bound : Type 0

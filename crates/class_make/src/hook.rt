@@ -258,11 +258,8 @@ pub(crate) fn bound(
     ensures safe { Leaves of_class_kept world.old world.new result }
 {
     match answer {
-        Err(raised) => Ok(Step::End(Err(raised))),
-        Ok(answer) => match answer {
-            Answer::Done => Ok(Step::End(Ok(Answer::Done))),
-            Answer::Value(method) => call_hook(world, alloc, class, kw, method),
-        },
+        Ok(Answer::Value(method)) => call_hook(world, alloc, class, kw, method),
+        other => Ok(Step::End(other)),
     }
 }
 
@@ -319,6 +316,6 @@ pub(crate) fn called(
     let _class = world.class_of(class);
     match answer {
         Err(raised) => Step::End(Err(raised)),
-        Ok(_) => Step::End(Ok(Answer::Value(class))),
+        Ok(_given) => Step::End(Ok(Answer::Value(class))),
     }
 }

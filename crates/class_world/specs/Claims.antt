@@ -3,7 +3,7 @@ use Rattle.std.specs.Prelude.{List, [], ◌∷◌, ◌++◌, Result, Ok, Err, If
 use Rattle.py_node.specs.declared.memory.OutOfMemory.{OutOfMemory}
 use Rattle.py_node.specs.declared.raised.Raised.{Raised as Fault}
 use Rattle.py_node.specs.declared.task.Answer.{Answer}
-use Rattle.py_node.specs.declared.task.Answer.TheVariants.{Value, Done}
+use Rattle.py_node.specs.declared.task.Answer.TheVariants.{Value, Done, Number, Objects}
 use Rattle.py_node.specs.declared.task.Task.{Task}
 use Rattle.py_node.specs.declared.task.Task.TheVariants as task
 use Rattle.py_node.specs.declared.task.EvalTask.{EvalTask}
@@ -67,6 +67,8 @@ of_task (task.Later job) = []
 abbrev pub of_answer : Answer → List Claim
 of_answer (Value r) = IsNode r ∷ []
 of_answer Done = []
+of_answer (Number z) = []
+of_answer (Objects rs) = AreNodes rs.items ∷ []
 
 -- of how a row ended
 abbrev pub of_ended : Result Answer Fault → List Claim

@@ -1,5 +1,5 @@
 -- How the numbers of the code are read as texts and trees.
-use Rattle.std.specs.Prelude.{◌≡◌, ℕ, eqb, List, [], ◌∷◌, Some, map, slice_get, string_bytes, option_map}
+use Rattle.std.specs.Prelude.{◌≡◌, ℕ, eqb, List, [], ◌∷◌, Some, Result, Ok, Err, map, slice_get, string_bytes, option_map}
 use Rattle.py_node.specs.declared.refs.PyObjectRef.{PyObjectRef}
 use Rattle.py_node.specs.declared.refs.PyStrInterned.{PyStrInterned}
 use Rattle.py_node.specs.declared.payload.Node.{Node as StoredNode}
@@ -7,6 +7,9 @@ use Rattle.py_node.specs.declared.payload.Payload.{Payload}
 use Rattle.py_node.specs.declared.payload.Payload.TheVariants as payload
 use Rattle.py_node.specs.declared.payload.Form.{Form}
 use Rattle.py_node.specs.declared.payload.Form.TheVariants as form
+use Rattle.py_node.specs.declared.raised.Raised.{Raised as Fault}
+use Rattle.py_node.specs.declared.task.Answer.{Answer}
+use Rattle.py_node.specs.declared.task.Answer.TheVariants as answer
 use Rattle.py_node.specs.declared.task.Task.{Task}
 use Rattle.py_node.specs.declared.task.Task.TheVariants as task
 use Rattle.py_node.specs.declared.task.EvalTask.{EvalTask}
@@ -21,7 +24,7 @@ use Rattle.py_node.specs.declared.task.OperatorTask.{OperatorTask}
 use Rattle.py_node.specs.declared.task.OperatorTask.TheVariants as operator
 use Rattle.py_node.specs.Tree.{Text, Tree, TConst, TName, TBind, TFunc, TSetAttr, TCall, TOp, TClass, Entries, no_entries, entry, trees_of, literal_of}
 use Rattle.class_model.specs.Class.{renamed}
-use Rattle.plain_machine.specs.Plain.{Datum, AnObject, AClass, ANumber, AText, ATuple, ADict, AFunction, AMethod, ANativeFunction, ABuiltinMethod, AMethodDescriptor, AGetSet, AClassMethod, Node, Bindings, Scope, PlainWorld, EvalJob, DoEval, AttributeJob, DoSetAttr, DoTypeSet, DoSpecial, DoBind, DoDescrGet, CallJob, DoCall, DoBody, DoTypeCall, DoNew, DoInit, DoObject, ClassJob, DoMakeClass, DoType, OperatorJob, DoAdd, DoBinOp1, DoEnter, DoInt, PlainTask, ToEval, ToAttribute, ToCall, ToClass, ToOperator, ToLater}
+use Rattle.plain_machine.specs.Plain.{Datum, AnObject, AClass, ANumber, AText, ATuple, ADict, AFunction, AMethod, ANativeFunction, ABuiltinMethod, AMethodDescriptor, AGetSet, AClassMethod, Node, Bindings, Scope, PlainWorld, EvalJob, DoEval, AttributeJob, DoSetAttr, DoTypeSet, DoSpecial, DoBind, DoDescrGet, CallJob, DoCall, DoBody, DoTypeCall, DoNew, DoInit, DoObject, ClassJob, DoMakeClass, DoType, OperatorJob, DoAdd, DoBinOp1, DoEnter, DoInt, PlainTask, ToEval, ToAttribute, ToCall, ToClass, ToOperator, ToLater, PlainAnswer, AsValue, AsDone, AsNumber, AsObjects, Ended}
 use Rattle.plain_machine.specs.World.{is_text}
 use Rattle.class_world.specs.declared.scope.Scope.{Scope as HeldScope}
 use Rattle.class_world.specs.declared.world.World.{World}
@@ -128,3 +131,14 @@ task_of t (task.Call job) = ToCall (call_job t job)
 task_of t (task.Class job) = ToClass (class_job t job)
 task_of t (task.Operator job) = ToOperator (operator_job t job)
 task_of t (task.Later job) = ToLater job
+
+abbrev pub answer_of : Answer → PlainAnswer
+answer_of (answer.Value r) = AsValue r
+answer_of answer.Done = AsDone
+answer_of (answer.Number z) = AsNumber z
+answer_of (answer.Objects rs) = AsObjects rs.items
+
+-- how a row ended
+abbrev pub ended_of : Result Answer Fault → Ended
+ended_of (Ok a) = Ok (answer_of a)
+ended_of (Err x) = Err x

@@ -5,7 +5,7 @@ use Rattle.py_node.specs.declared.task.Step.TheVariants.{Ask, End}
 use Rattle.plain_machine.specs.Plain.{PlainWorld, Told, Said, Asks, Ends, Saying}
 use Rattle.plain_machine.specs.Rows.{Pending, Alike}
 use Rattle.class_world.specs.declared.world.World.{World}
-use Rattle.class_world.specs.Reading.{Reading, Reads, plain, task_of}
+use Rattle.class_world.specs.Reading.{Reading, Reads, plain, task_of, ended_of}
 
 -- the code's step is what the row at this point says. What it keeps stands for a row that goes on alike
 abbrev pub Steps : {J K : Type 0} → Saying J → (K → Pending J) → Reading → J → Told → Said → Step K → World → Type 0
@@ -13,7 +13,7 @@ Steps say stands t task told (Asks w learnt other) (Ask asked kept) new =
     (task_of t asked ≡ other) × (plain t new ≡ w) × Alike say (record { task = task; told = told ++ learnt }) (stands kept)
 Steps say stands t task told (Asks w learnt other) (End r) new = ⊥
 Steps say stands t task told (Ends w r) (Ask asked kept) new = ⊥
-Steps say stands t task told (Ends w r) (End s) new = (s ≡ r) × (plain t new ≡ w)
+Steps say stands t task told (Ends w r) (End s) new = (ended_of s ≡ r) × (plain t new ≡ w)
 
 -- the step that is said to follow at a point of a row, however the numbers are read
 abbrev pub Follows : {J K : Type 0} → Saying J → (Reading → K → Pending J) → (Reading → Pending J) → (Reading → PlainWorld → Said) → World → World → Step K → Type 0

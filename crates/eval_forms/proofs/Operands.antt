@@ -8,14 +8,15 @@ use Rattle.py_node.specs.declared.refs.PyObjectRef.{PyObjectRef}
 use Rattle.py_node.specs.declared.refs.PyStrInterned.{PyStrInterned}
 use Rattle.py_node.specs.declared.memory.OutOfMemory.{OutOfMemory}
 use Rattle.py_node.specs.declared.raised.Raised.{Raised as Fault}
-use Rattle.py_node.specs.declared.task.Answer.TheVariants.{Done}
+use Rattle.py_node.specs.declared.task.Answer.{Answer}
+use Rattle.py_node.specs.declared.task.Answer.TheVariants.{Value, Done, Number, Objects}
 use Rattle.py_node.specs.declared.payload.Form.{Form}
 use Rattle.py_node.specs.declared.payload.Form.TheVariants as form
 use Rattle.py_node.specs.Tree.{Text, Tree, trees_of, list_of, entry_trees}
 use Rattle.plain_machine.specs.Plain.{PlainWorld, DoEval, ToEval, Answered, Told, Said, Asks, Ends}
-use Rattle.plain_machine.specs.Row.{Row, evaluate}
+use Rattle.plain_machine.specs.Row.{Row, on_value, evaluate}
 use Rattle.class_world.specs.Held.{Held}
-use Rattle.class_world.specs.Reading.{Reading, Reads, form_tree, entry_list, plain}
+use Rattle.class_world.specs.Reading.{Reading, Reads, form_tree, entry_list, plain, ended_of}
 use Rattle.class_world.specs.Sound.{Holds, AllHold, IsNode, IsName, AreNames, AreNodes, IsExpression, AreExpressions, HasOperand, of_form, of_node_ref, of_option, operands, operands_at}
 use Rattle.class_world.proofs.Claims.{expression-in, got-map, node-in}
 use Rattle.py_node.specs.declared.task.Step.{Step}
@@ -32,7 +33,7 @@ use Rattle.eval_forms.specs.declared.Own.TheVariants as own
 use Rattle.py_node.specs.declared.expr.Word.{Word}
 use Rattle.eval_forms.specs.Say.{operand_trees, own_say, one_of, func_say, set_attr_say, call_say, op_say, add_of, class_say, entry_names, eval_say}
 use Rattle.plain_machine.specs.Args.{two_of}
-use Rattle.eval_forms.specs.Rows.{answered, eval_stands, Continues, Closes, TakesAt, Takes, StepsAt, EndsSo, HasValues, IsOwn}
+use Rattle.eval_forms.specs.Rows.{answered, eval_stands, Continues, Closes, TakesAt, Takes, StepsAt, EndsSo, HasValues, IsOther, IsOwn}
 
 list_of-trees_of : (ts : List Tree) → list_of (trees_of ts) ≡ ts
 list_of-trees_of [] = refl
@@ -76,16 +77,19 @@ module _ (w : PlainWorld) where
   evaluate-ask (t ∷ ts) go [] e h = let same : t ≡ e = cc in ap (λ e. Asks w [] (ToEval (DoEval e))) same
   evaluate-ask (t ∷ ts) go (v ∷ vs) e h = evaluate-ask ts (λ us. go (v ∷ us)) vs e h
 
-  -- a fault of an operand is that of the expression
-  pub evaluate-fault : (ts : List Tree) (go : List PyObjectRef → Row) (vs : List PyObjectRef) (e : Tree) (x : Fault) (more : Told) → slice_get ts (length vs) ≡ Some e → evaluate w ts go (map answered vs ++ Answered (Err x) ∷ more) ≡ Ends w (Err x)
-  evaluate-fault [] go vs e x more h = cc
-  evaluate-fault (t ∷ ts) go [] e x more h = refl
-  evaluate-fault (t ∷ ts) go (v ∷ vs) e x more h = evaluate-fault ts (λ us. go (v ∷ us)) vs e x more h
+  -- an answer that is no object is passed on
+  on-other : (r : Result Answer Fault) (go : PyObjectRef → Row) (more : Told) → IsOther r → on_value w (ended_of r) go more ≡ Ends w (ended_of r)
+  on-other (Ok (Value v)) go more o = absurd o
+  on-other (Ok Done) go more o = refl
+  on-other (Ok (Number z)) go more o = refl
+  on-other (Ok (Objects rs)) go more o = refl
+  on-other (Err x) go more o = refl
 
-  pub evaluate-done : (ts : List Tree) (go : List PyObjectRef → Row) (vs : List PyObjectRef) (e : Tree) (more : Told) → slice_get ts (length vs) ≡ Some e → evaluate w ts go (map answered vs ++ Answered (Ok Done) ∷ more) ≡ Ends w (Ok Done)
-  evaluate-done [] go vs e more h = cc
-  evaluate-done (t ∷ ts) go [] e more h = refl
-  evaluate-done (t ∷ ts) go (v ∷ vs) e more h = evaluate-done ts (λ us. go (v ∷ us)) vs e more h
+  -- an operand that is answered no object ends the expression so
+  pub evaluate-other : (ts : List Tree) (go : List PyObjectRef → Row) (vs : List PyObjectRef) (e : Tree) (r : Result Answer Fault) (more : Told) → IsOther r → slice_get ts (length vs) ≡ Some e → evaluate w ts go (map answered vs ++ Answered (ended_of r) ∷ more) ≡ Ends w (ended_of r)
+  evaluate-other [] go vs e r more o h = cc
+  evaluate-other (t ∷ ts) go [] e r more o h = on-other r (λ v. evaluate w ts (λ vs. go (v ∷ vs))) more o
+  evaluate-other (t ∷ ts) go (v ∷ vs) e r more o h = evaluate-other ts (λ us. go (v ∷ us)) vs e r more o h
 
   -- where all have values, the expression goes on with them
   pub evaluate-all : (ts : List Tree) (go : List PyObjectRef → Row) (vs : List PyObjectRef) (more : Told) → length ts ≡ length vs → evaluate w ts go (map answered vs ++ more) ≡ go vs more
@@ -130,28 +134,17 @@ goes-on w e n f vs h k = λ t r. (r, step t (r.trees e f h))
         evaluate-ask (plain t w) (operand_trees (t.tree e)) (own_say (plain t w) (t.tree e)) vs.items (t.tree n) (ap (λ x. slice_get (operand_trees x) (length vs.items)) q ∙ ap (λ ts. slice_get ts (length vs.items)) (operand_trees-form t.text t.tree f) ∙ got-map t.tree (operands f) (length vs.items) n k) in
         subst (λ said. Steps eval_say (eval_stands t) t (DoEval (t.tree e)) (map answered vs.items) said (Ask (task.Eval (eval.Eval n)) (Operands e vs)) w) (sym asks) (refl, refl, record { says = λ w r more. ap (λ told. eval_say w (DoEval (t.tree e)) (told ++ Answered r ∷ more)) (append-nil (map answered vs.items)) })
 
--- a fault of an operand is that of the expression, and so is an answer that is no value
-pub ends-with : (w : World) (e : ℕ) (vs : List PyObjectRef) (x : Fault) → Holds w (HasOperand e (length vs)) → EndsSo e vs w (Err x)
+-- an operand that is answered no object ends the expression so
+pub ends-with : (w : World) (e : ℕ) (vs : List PyObjectRef) (s : Result Answer Fault) → IsOther s → Holds w (HasOperand e (length vs)) → EndsSo e vs w s
 unfolding Holds eval_say
-ends-with w e vs x h = go (slice_get w.forms e) refl h
+ends-with w e vs s o h = go (slice_get w.forms e) refl h
   where
-    go : (o : Option Form) → slice_get w.forms e ≡ o → length vs < length (operands_at o) → EndsSo e vs w (Err x)
+    go : (f : Option Form) → slice_get w.forms e ≡ f → length vs < length (operands_at f) → EndsSo e vs w s
     go None q h = absurd (omega arith)
     go (Some f) q h = λ t r.
         let some = there (operands f) (length vs) h in
-        let asks = evaluate-fault (plain t w) (operand_trees (t.tree e)) (own_say (plain t w) (t.tree e)) vs (t.tree some.0) x [] (ap (λ x. slice_get (operand_trees x) (length vs)) (r.trees e f q) ∙ ap (λ ts. slice_get ts (length vs)) (operand_trees-form t.text t.tree f) ∙ got-map t.tree (operands f) (length vs) some.0 some.1) in
-        (r, subst (λ said. Steps eval_say (eval_stands t) t (DoEval (t.tree e)) (map answered vs ++ Answered (Err x) ∷ []) said (End (Err x)) w) (sym asks) (refl, refl))
-
-pub ends-done : (w : World) (e : ℕ) (vs : List PyObjectRef) → Holds w (HasOperand e (length vs)) → EndsSo e vs w (Ok Done)
-unfolding Holds eval_say
-ends-done w e vs h = go (slice_get w.forms e) refl h
-  where
-    go : (o : Option Form) → slice_get w.forms e ≡ o → length vs < length (operands_at o) → EndsSo e vs w (Ok Done)
-    go None q h = absurd (omega arith)
-    go (Some f) q h = λ t r.
-        let some = there (operands f) (length vs) h in
-        let asks = evaluate-done (plain t w) (operand_trees (t.tree e)) (own_say (plain t w) (t.tree e)) vs (t.tree some.0) [] (ap (λ x. slice_get (operand_trees x) (length vs)) (r.trees e f q) ∙ ap (λ ts. slice_get ts (length vs)) (operand_trees-form t.text t.tree f) ∙ got-map t.tree (operands f) (length vs) some.0 some.1) in
-        (r, subst (λ said. Steps eval_say (eval_stands t) t (DoEval (t.tree e)) (map answered vs ++ Answered (Ok Done) ∷ []) said (End (Ok Done)) w) (sym asks) (refl, refl))
+        let asks = evaluate-other (plain t w) (operand_trees (t.tree e)) (own_say (plain t w) (t.tree e)) vs (t.tree some.0) s [] o (ap (λ x. slice_get (operand_trees x) (length vs)) (r.trees e f q) ∙ ap (λ ts. slice_get ts (length vs)) (operand_trees-form t.text t.tree f) ∙ got-map t.tree (operands f) (length vs) some.0 some.1) in
+        (r, subst (λ said. Steps eval_say (eval_stands t) t (DoEval (t.tree e)) (map answered vs ++ Answered (ended_of s) ∷ []) said (End s) w) (sym asks) (refl, refl))
 
 pub has-operand : (w : Held) (e n : ℕ) (f : Form) (x : ℕ) → slice_get w.forms e ≡ Some f → slice_get (operands f) n ≡ Some x → Holds w (HasOperand e n)
 unfolding Holds

@@ -1,9 +1,10 @@
 -- What the contracts of the rows of expressions say.
-use Rattle.std.specs.Prelude.{◌≡◌, ℕ, List, [], ◌∷◌, ◌++◌, map, length, Result, slice_get}
+use Rattle.std.specs.Prelude.{◌≡◌, ℕ, List, [], ◌∷◌, ◌++◌, map, length, Result, Ok, slice_get}
 use Rattle.py_node.specs.declared.raised.Raised.{Raised as Fault}
 use Rattle.py_node.specs.declared.refs.PyObjectRef.{PyObjectRef}
 use Rattle.py_node.specs.declared.expr.Word.TheVariants.{Add}
 use Rattle.py_node.specs.declared.task.Answer.{Answer}
+use Rattle.py_node.specs.declared.task.Answer.TheVariants.{Value}
 use Rattle.py_node.specs.declared.task.EvalTask.{EvalTask}
 use Rattle.py_node.specs.declared.task.Step.{Step}
 use Rattle.py_node.specs.declared.task.Step.TheVariants.{Ask, End}
@@ -14,7 +15,7 @@ use Rattle.plain_machine.specs.Plain.{PlainWorld, EvalJob, DoEval, Ended, Fact, 
 use Rattle.plain_machine.specs.Row.{Row, value}
 use Rattle.plain_machine.specs.Rows.{Pending, fresh, given}
 use Rattle.class_world.specs.declared.world.World.{World}
-use Rattle.class_world.specs.Reading.{Reading, Reads, plain, eval_job, task_of}
+use Rattle.class_world.specs.Reading.{Reading, Reads, plain, eval_job, task_of, ended_of}
 use Rattle.class_world.specs.Rows.{Goes, Steps}
 use Rattle.class_world.specs.Sound.{Claim, AreNodes, IsExpression, HasOperand, operands_at}
 use Rattle.eval_forms.specs.declared.EvalKept.{EvalKept}
@@ -54,7 +55,7 @@ abbrev pub Begins : EvalTask → World → World → Step EvalKept → Type 0
 Begins task = Goes eval_say eval_stands (λ t. fresh (eval_job t task))
 
 abbrev pub Resumes : EvalKept → Result Answer Fault → World → World → Step EvalKept → Type 0
-Resumes kept r = Goes eval_say eval_stands (λ t. given (eval_stands t kept) r)
+Resumes kept r = Goes eval_say eval_stands (λ t. given (eval_stands t kept) (ended_of r))
 
 -- the row of an expression whose operands have these values so far
 abbrev pub Continues : ℕ → List PyObjectRef → World → World → Step EvalKept → Type 0
@@ -97,7 +98,7 @@ TakesAt row t (Asks w learnt other) (Ask asked kept) new =
     (task_of t asked ≡ other) × (plain t new ≡ w) × ((u : PlainWorld) (r : Ended) (more : Told) → row u (learnt ++ Answered r ∷ more) ≡ eval_say u (eval_stands t kept).task ((eval_stands t kept).told ++ Answered r ∷ more))
 TakesAt row t (Asks w learnt other) (End r) new = ⊥
 TakesAt row t (Ends w r) (Ask asked kept) new = ⊥
-TakesAt row t (Ends w r) (End s) new = (s ≡ r) × (plain t new ≡ w)
+TakesAt row t (Ends w r) (End s) new = (ended_of s ≡ r) × (plain t new ≡ w)
 
 abbrev pub Takes : (Reading → PlainWorld → Row) → World → World → Step EvalKept → Type 0
 Takes row old new step = (t : Reading) → Reads t new → Reads t old × TakesAt (row t) t (row t (plain t old) []) step new
@@ -105,8 +106,13 @@ Takes row old new step = (t : Reading) → Reads t new → Reads t old × TakesA
 -- a step ends a row, as the row says under every reading
 abbrev pub Closes : (Reading → PlainWorld → Row) → World → World → Step EvalKept → Type 0
 Closes row old new (Ask asked kept) = ⊥
-Closes row old new (End r) = (t : Reading) → Reads t new → Reads t old × (row t (plain t old) [] ≡ Ends (plain t new) r)
+Closes row old new (End r) = (t : Reading) → Reads t new → Reads t old × (row t (plain t old) [] ≡ Ends (plain t new) (ended_of r))
+
+-- an operand was answered no object
+abbrev pub IsOther : Result Answer Fault → Type 0
+IsOther (Ok (Value r)) = ⊥
+IsOther _ = Unit {0}
 
 -- an expression ends as its operand did
 abbrev pub EndsSo : ℕ → List PyObjectRef → World → Result Answer Fault → Type 0
-EndsSo e vs w r = Goes eval_say eval_stands (λ t. record { task = DoEval (t.tree e); told = map answered vs ++ Answered r ∷ [] }) w w (End r)
+EndsSo e vs w r = Goes eval_say eval_stands (λ t. record { task = DoEval (t.tree e); told = map answered vs ++ Answered (ended_of r) ∷ [] }) w w (End r)

@@ -1,14 +1,14 @@
 // The rows of expressions, each a small automaton: `begin` and `resume`.
 #![tactic(auto, unfolding(crate::specs::Say::eval_say))]
 
-ghost use Rattle.std.specs.Prelude.{◌≡◌, ◌≤◌, ◌++◌, [], ◌∷◌, map, length, slice_get, IfOk, OnOk, IfSome};
+ghost use Rattle.std.specs.Prelude.{◌≡◌, ◌≤◌, ◌++◌, [], ◌∷◌, map, length, slice_get, Ok, IfOk, IfErr, OnOk, IfSome};
 ghost use Rattle.class_world.specs.Sound.{AllHold, Holds, IsExpression, IsName, IsNode, AreNodes, HasOperand, of_form, of_node_ref, of_option, operands, operands_at};
 ghost use Rattle.class_world.specs.Claims.{of_eval_task, of_ended, of_step, Leaves};
 ghost use Rattle.class_world.specs.Reading.{Reading, Reads};
 ghost use Rattle.eval_forms.specs.Say.{built_in_named, name_say, one_of, bind_say, func_say, set_attr_say, call_say, add_of};
 ghost use Rattle.plain_machine.specs.Args.{two_of};
 ghost use Rattle.py_node.specs.Tree.{TConst, literal_of};
-ghost use Rattle.eval_forms.specs.Rows.{Begins, Resumes, Continues, ContinuesTree, Closes, Takes, IsOwn, HasValues, of_eval_kept};
+ghost use Rattle.eval_forms.specs.Rows.{Begins, Resumes, Continues, ContinuesTree, Closes, Takes, IsOwn, HasValues, IsOther, of_eval_kept};
 
 mod class_form;
 #[cfg(test)]
@@ -66,17 +66,26 @@ pub fn resume(
 {
     match kept {
         EvalKept::Pass => Ok(Step::End(answer)),
-        EvalKept::Operands(e, values) => match answer {
-            Err(raised) => Ok(Step::End(Err(raised))),
-            Ok(answer) => match answer {
-                Answer::Value(value) => one_more(world, alloc, e, values, value),
-                Answer::Done => Ok(Step::End(Ok(Answer::Done))),
-            },
+        EvalKept::Operands(e, values) => match object_of(answer) {
+            Ok(value) => one_more(world, alloc, e, values, value),
+            Err(other) => Ok(Step::End(other)),
         },
         EvalKept::SetDone => {
             let step = set_done(world, answer);
             Ok(step)
         }
+    }
+}
+
+// The object that was answered, or else the answer as it is.
+fn object_of(answer: Result<Answer, Raised>) -> Result<PyObjectRef, Result<Answer, Raised>>
+    ensures object { IfOk result (λ r. answer ≡ Ok (Answer.Value r)) }
+    ensures same { IfErr result (λ other. other ≡ answer) }
+    ensures other { IfErr result (λ _. IsOther answer) }
+{
+    match answer {
+        Ok(Answer::Value(value)) => Ok(value),
+        other => Err(other),
     }
 }
 
@@ -87,7 +96,7 @@ fn set_done(world: &World, answer: Result<Answer, Raised>) -> Step<EvalKept>
 {
     match answer {
         Err(raised) => Step::End(Err(raised)),
-        Ok(_) => Step::End(Ok(Answer::Value(world.fixed(Fixed::None)))),
+        Ok(_given) => Step::End(Ok(Answer::Value(world.fixed(Fixed::None)))),
     }
 }
 

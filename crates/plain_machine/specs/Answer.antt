@@ -1,12 +1,11 @@
 -- What a task answers: its row is followed until it ends. And what a list of commands is answered.
 use Rattle.std.specs.Prelude.{ℕ, zero, suc, List, [], ◌∷◌, ◌++◌, nat_lt, cond, Ok, Err}
-use Rattle.py_node.specs.declared.task.Answer.TheVariants.{Value, Done}
 use Rattle.py_node.specs.declared.raised.Kind.TheVariants.{RecursionError}
 use Rattle.py_node.specs.declared.raised.Cause.TheVariants.{DepthLimit}
 use Rattle.py_node.specs.Tree.{Tree}
 use Rattle.py_node.specs.Replies.{PlainReply, ToldValue, ToldRaise, ToldBudget}
 use Rattle.py_node.specs.Replies.{Told as Answering}
-use Rattle.plain_machine.specs.Plain.{PlainWorld, DoEval, PlainTask, ToEval, Ended, Answered, Told, Said, Asks, Ends, Saying}
+use Rattle.plain_machine.specs.Plain.{PlainWorld, DoEval, PlainTask, ToEval, AsValue, Ended, Answered, Told, Said, Asks, Ends, Saying}
 use Rattle.plain_machine.specs.World.{at_rest, ref}
 use Rattle.plain_machine.specs.Row.{fault}
 use Rattle.plain_machine.specs.Show.{show}
@@ -55,10 +54,10 @@ pub record Run : Type 0 where
   pub world : PlainWorld
   pub replies : List PlainReply
 
--- how a command is answered, with the text of its value in the world at its end. One that is done without a value answers None
+-- how a command is answered, with the text of its value in the world at its end. One that is answered no object answers None
 abbrev pub answering : PlainWorld → Ending → Answering
-answering w (Over (Ok (Value r))) = ToldValue r (show w r)
-answering w (Over (Ok Done)) = ToldValue (ref 23) (show w (ref 23))
+answering w (Over (Ok (AsValue r))) = ToldValue r (show w r)
+answering w (Over (Ok other)) = ToldValue (ref 23) (show w (ref 23))
 answering w (Over (Err x)) = ToldRaise x
 answering w NoUnits = ToldBudget
 

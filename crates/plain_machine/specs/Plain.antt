@@ -7,7 +7,6 @@ use Rattle.py_node.specs.declared.entry.ObjectNative.{ObjectNative}
 use Rattle.py_node.specs.declared.entry.TypeNative.{TypeNative}
 use Rattle.py_node.specs.declared.entry.NativeEntry.{NativeEntry}
 use Rattle.py_node.specs.declared.entry.SlotEntry.{SlotEntry}
-use Rattle.py_node.specs.declared.task.Answer.{Answer}
 use Rattle.py_node.specs.declared.task.PyNumberBinaryOp.{PyNumberBinaryOp}
 use Rattle.py_node.specs.declared.task.LaterTask.{LaterTask}
 use Rattle.py_node.specs.Tree.{Text, Tree}
@@ -96,9 +95,16 @@ pub data PlainTask : Type 0 where
   ToOperator : OperatorJob → PlainTask
   ToLater : LaterTask → PlainTask
 
+-- what a task answers: an object, that it is done, a number, or a list of objects
+pub data PlainAnswer : Type 0 where
+  AsValue : PyObjectRef → PlainAnswer
+  AsDone : PlainAnswer
+  AsNumber : ℤ → PlainAnswer
+  AsObjects : List PyObjectRef → PlainAnswer
+
 -- how a row ends
 abbrev pub Ended : Type 0
-Ended = Result Answer Fault
+Ended = Result PlainAnswer Fault
 
 -- what a row has learnt: the answer to what it asked, the node that it made, a list that it read once, or which of two ways it went
 pub data Fact : Type 0 where

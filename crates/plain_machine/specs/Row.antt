@@ -1,12 +1,12 @@
 -- The words that rows are written in.
-use Rattle.std.specs.Prelude.{ℕ, Bool, List, [], ◌∷◌, Ok, Err}
+use Rattle.std.specs.Prelude.{ℕ, Bool, List, [], ◌∷◌, Result, Ok, Err}
 use Rattle.py_node.specs.declared.refs.PyObjectRef.{PyObjectRef}
+use Rattle.py_node.specs.declared.raised.Raised.{Raised as Fault}
 use Rattle.py_node.specs.declared.raised.Kind.{Kind}
 use Rattle.py_node.specs.declared.raised.Cause.{Cause}
 use Rattle.py_node.specs.declared.entry.SlotEntry.{SlotEntry}
-use Rattle.py_node.specs.declared.task.Answer.TheVariants.{Value, Done}
 use Rattle.py_node.specs.Tree.{Tree}
-use Rattle.plain_machine.specs.Plain.{Datum, PlainWorld, DoEval, PlainTask, ToEval, Ended, Answered, Made, Read, Chose, Told, Said, Asks, Ends}
+use Rattle.plain_machine.specs.Plain.{Datum, PlainWorld, DoEval, PlainTask, ToEval, AsValue, AsDone, Ended, Answered, Made, Read, Chose, Told, Said, Asks, Ends}
 use Rattle.plain_machine.specs.World.{ref, with_node, next_node}
 
 -- a row, at a point where it has learnt nothing that follows
@@ -39,7 +39,10 @@ abbrev pub end : PlainWorld → Ended → Row
 end w r told = Ends w r
 
 abbrev pub value : PyObjectRef → Ended
-value r = Ok (Value r)
+value r = Ok (AsValue r)
+
+abbrev pub done : Ended
+done = Ok AsDone
 
 -- None, as an object
 abbrev pub none : PyObjectRef
@@ -49,14 +52,13 @@ none = ref 23
 abbrev pub pass : PlainWorld → PlainTask → Said
 pass w task = Asks w [] task
 
-abbrev pub fault : Kind → Cause → Ended
+abbrev pub fault : {A : Type 0} → Kind → Cause → Result A Fault
 fault kind cause = Err (record { kind = kind; cause = cause })
 
--- goes on with a value, and passes all else on
+-- goes on with an object. A row that gets any other answer ends with it
 abbrev pub on_value : PlainWorld → Ended → (PyObjectRef → Row) → Row
-on_value w (Ok (Value r)) go = go r
-on_value w (Ok Done) go = end w (Ok Done)
-on_value w (Err x) go = end w (Err x)
+on_value w (Ok (AsValue r)) go = go r
+on_value w other go = end w other
 
 -- goes on unless there was a fault
 abbrev pub on_done : PlainWorld → Ended → Row → Row

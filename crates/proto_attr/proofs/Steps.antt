@@ -4,11 +4,13 @@ use Rattle.std.specs.Prelude.{Result, IfOk}
 use Rattle.std.specs.Global.{Vec}
 use Rattle.py_node.specs.declared.refs.PyObjectRef.{PyObjectRef}
 use Rattle.py_node.specs.declared.refs.PyStrInterned.{PyStrInterned}
+use Rattle.py_node.specs.declared.raised.Raised.{Raised as Fault}
+use Rattle.py_node.specs.declared.task.Answer.{Answer}
 use Rattle.py_node.specs.declared.task.AttributeTask.{AttributeTask}
 use Rattle.py_node.specs.declared.task.AttributeTask.TheVariants as attribute
 use Rattle.py_node.specs.declared.task.Step.{Step}
 use Rattle.py_node.specs.declared.task.Step.TheVariants.{End}
-use Rattle.plain_machine.specs.Plain.{PlainWorld, Ended, Said, Asks, Ends}
+use Rattle.plain_machine.specs.Plain.{PlainWorld, Said, Asks, Ends}
 use Rattle.plain_machine.specs.Objects.{special_at, is_fast}
 use Rattle.class_world.specs.declared.world.World.{World}
 use Rattle.class_world.specs.Reading.{Reading, Reads, plain, attribute_job, bindings}
@@ -40,11 +42,11 @@ special-found w o x args kw m fast step here starts =
     read-starts (attribute.Special o x args kw) (λ t u f. special_by u f m o args.items (bindings t kw.items)) (λ t u. is_fast u m) fast w w step (λ t r. here t) starts
 
 -- a row that is said to end ends
-ends-so : (t : Reading) (task : AttributeTask) (said : Said) (r : Ended) (new : World) → EndsSo said r (plain t new) → Steps attribute_say (attribute_stands t) t (attribute_job t task) [] said (End r) new
+ends-so : (t : Reading) (task : AttributeTask) (said : Said) (r : Result Answer Fault) (new : World) → EndsSo said r (plain t new) → Steps attribute_say (attribute_stands t) t (attribute_job t task) [] said (End r) new
 ends-so t task (Asks w learnt other) r new h = absurd h
 ends-so t task (Ends w s) r new h = h
 
-pub closes-starts : (task : AttributeTask) (said other : Reading → PlainWorld → Said) (old new : World) (r : Ended) → ((t : Reading) → Reads t old → said t (plain t old) ≡ other t (plain t old)) → Closes other old new r → Starts task said old new (End r)
+pub closes-starts : (task : AttributeTask) (said other : Reading → PlainWorld → Said) (old new : World) (r : Result Answer Fault) → ((t : Reading) → Reads t old → said t (plain t old) ≡ other t (plain t old)) → Closes other old new r → Starts task said old new (End r)
 closes-starts task said other old new r same closes = λ t q.
     let k = closes t q in
     (k.0, subst (λ s. Steps attribute_say (attribute_stands t) t (attribute_job t task) [] s (End r) new) (sym (same t k.0)) (ends-so t task (other t (plain t old)) r new k.1))

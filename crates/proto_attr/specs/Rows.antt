@@ -8,10 +8,10 @@ use Rattle.py_node.specs.declared.payload.Payload.TheVariants as payload
 use Rattle.py_node.specs.declared.task.Answer.{Answer}
 use Rattle.py_node.specs.declared.task.AttributeTask.{AttributeTask}
 use Rattle.py_node.specs.declared.task.Step.{Step}
-use Rattle.plain_machine.specs.Plain.{Datum, PlainWorld, AttributeJob, DoSpecial, DoBind, Ended, Chose, Said, Asks, Ends}
+use Rattle.plain_machine.specs.Plain.{Datum, PlainWorld, AttributeJob, DoSpecial, DoBind, Chose, Said, Asks, Ends}
 use Rattle.plain_machine.specs.Rows.{Pending, fresh, given}
 use Rattle.class_world.specs.declared.world.World.{World}
-use Rattle.class_world.specs.Reading.{Reading, Reads, plain, attribute_job, bindings, datum}
+use Rattle.class_world.specs.Reading.{Reading, Reads, plain, attribute_job, bindings, datum, ended_of}
 use Rattle.class_world.specs.Rows.{Goes, Follows}
 use Rattle.class_world.specs.Sound.{Claim, IsName, IsNode, AreNodes, Holds}
 use Rattle.class_world.specs.Claims.{of_args}
@@ -33,19 +33,19 @@ abbrev pub Begins : AttributeTask → World → World → Step AttributeKept →
 Begins task = Goes attribute_say attribute_stands (λ t. fresh (attribute_job t task))
 
 abbrev pub Resumes : AttributeKept → Result Answer Fault → World → World → Step AttributeKept → Type 0
-Resumes kept r = Goes attribute_say attribute_stands (λ t. given (attribute_stands t kept) r)
+Resumes kept r = Goes attribute_say attribute_stands (λ t. given (attribute_stands t kept) (ended_of r))
 
 -- the first step of a task, which is said to be this
 abbrev pub Starts : AttributeTask → (Reading → PlainWorld → Said) → World → World → Step AttributeKept → Type 0
 Starts task said = Follows attribute_say attribute_stands (λ t. fresh (attribute_job t task)) said
 
 -- the row ends so in a world
-abbrev pub EndsSo : Said → Ended → PlainWorld → Type 0
+abbrev pub EndsSo : Said → Result Answer Fault → PlainWorld → Type 0
 EndsSo (Asks w learnt task) s new = ⊥
-EndsSo (Ends w r) s new = (s ≡ r) × (new ≡ w)
+EndsSo (Ends w r) s new = (ended_of s ≡ r) × (new ≡ w)
 
 -- a row is said to end, and ends so, however the numbers are read
-abbrev pub Closes : (Reading → PlainWorld → Said) → World → World → Ended → Type 0
+abbrev pub Closes : (Reading → PlainWorld → Said) → World → World → Result Answer Fault → Type 0
 Closes said old new r = (t : Reading) → Reads t new → Reads t old × EndsSo (said t (plain t old)) r (plain t new)
 
 -- a class by its number

@@ -1,5 +1,5 @@
 -- What the rows of attributes, special methods and descriptors say.
-use Rattle.std.specs.Prelude.{ℕ, Bool, cond, not, eqb, ◌&&◌, true, false, codes, List, [], ◌∷◌, Option, Some, None, Ok, is_some, slice_get}
+use Rattle.std.specs.Prelude.{ℕ, Bool, cond, not, eqb, ◌&&◌, true, false, codes, List, [], ◌∷◌, Option, Some, None, is_some, slice_get}
 use Rattle.py_node.specs.declared.refs.PyObjectRef.{PyObjectRef}
 use Rattle.py_node.specs.declared.raised.Kind.TheVariants.{TypeError, AttributeError}
 use Rattle.py_node.specs.declared.raised.Cause.TheVariants.{ImmutableType, NeedsType, NoSpecial}
@@ -11,7 +11,6 @@ use Rattle.py_node.specs.declared.entry.NativeEntry.TheVariants.{OfObject, OfTyp
 use Rattle.py_node.specs.declared.entry.ObjectNative.TheVariants as object
 use Rattle.py_node.specs.declared.entry.TypeNative.TheVariants as type
 use Rattle.py_node.specs.declared.entry.CallableNative.TheVariants as callable
-use Rattle.py_node.specs.declared.task.Answer.TheVariants.{Done}
 use Rattle.py_node.specs.declared.task.LaterTask.TheVariants as later
 use Rattle.py_node.specs.Tree.{Text}
 use Rattle.class_model.specs.Class.{class_at as class_numbered}
@@ -20,7 +19,7 @@ use Rattle.plain_machine.specs.Plain.{Datum, AText, AMethod, ABuiltinMethod, AMe
 use Rattle.plain_machine.specs.World.{datum_at, slot_at, with_node, next_node, with_own_attr}
 use Rattle.plain_machine.specs.Objects.{class_object, type_object, class_number, special_at, is_fast, for_objects, for_classes}
 use Rattle.plain_machine.specs.Known.{the_none_type, the_str, the_method, the_builtin_method}
-use Rattle.plain_machine.specs.Row.{Row, start, fork, pass, end, value, fault, none, on_value}
+use Rattle.plain_machine.specs.Row.{Row, start, fork, pass, end, value, done, fault, none, on_value}
 
 -- an object's attribute is set as its class's entry for that says: as objects do, as classes do, or by a special method, which is given the name as a new text
 abbrev pub set_in_class : PlainWorld → Option ℕ → Text → PyObjectRef → Said
@@ -46,7 +45,7 @@ sets w (Some a) = is_some (slot_at w a DescrSet)
 abbrev pub type_set_by : PlainWorld → Bool → Bool → ℕ → Text → PyObjectRef → Said
 type_set_by w by_descriptor heap c x v =
     cond by_descriptor (pass w (ToLater later.DescrSet))
-    (cond heap (Ends (with_own_attr w c x v) (Ok Done)) (Ends w (fault TypeError ImmutableType)))
+    (cond heap (Ends (with_own_attr w c x v) done) (Ends w (fault TypeError ImmutableType)))
 
 abbrev pub type_set_say : PlainWorld → ℕ → Text → PyObjectRef → Row
 type_set_say w c x v = start (type_set_by w (sets w (special_at w (class_object w c) x)) (is_heap_at (class_numbered w.classes c)) c x v) (end w)

@@ -5,7 +5,7 @@ ghost use Rattle.std.specs.Prelude.{◌≡◌, ◌∷◌, ◌++◌, Option, Some
 ghost use Rattle.class_world.specs.Sound.{AllHold, Grows, Holds, IsClass, IsName, IsNode, of_option, of_node_ref, of_class_ref};
 ghost use Rattle.class_world.specs.Held.{Held};
 ghost use Rattle.class_world.specs.Claims.{of_attribute_task, of_ended, of_step, Leaves};
-ghost use Rattle.class_world.specs.Reading.{Reading, plain, spelled};
+ghost use Rattle.class_world.specs.Reading.{Reading, plain, spelled, ended_of};
 ghost use Rattle.plain_machine.specs.Objects.{for_objects, for_classes};
 ghost use Rattle.plain_machine.specs.Plain.{PlainWorld, Ends};
 ghost use Rattle.plain_machine.specs.World.{datum_at};
@@ -277,7 +277,7 @@ fn class_get(
 
 // A static native is itself, and of no object.
 fn static_get(m: PyObjectRef, o: Option<PyObjectRef>) -> Ended
-    ensures goes { (w : PlainWorld) → static_get w m o ≡ Ends w result }
+    ensures goes { (w : PlainWorld) → static_get w m o ≡ Ends w (ended_of result) }
     ensures safe { (w : Held) → Holds w (IsNode m) → AllHold w (of_ended result) }
 {
     match o {

@@ -68,14 +68,11 @@ pub fn resume(
     match kept {
         AttributeKept::Pass => Ok(Step::End(answer)),
         AttributeKept::AfterBind(args, kw) => match answer {
-            Err(raised) => Ok(Step::End(Err(raised))),
-            Ok(answer) => match answer {
-                Answer::Done => Ok(Step::End(Ok(Answer::Done))),
-                Answer::Value(bound) => {
-                    let task = Task::Call(CallTask::Call(bound, args, kw));
-                    Ok(Step::Ask(task, AttributeKept::Pass))
-                }
-            },
+            Ok(Answer::Value(bound)) => {
+                let task = Task::Call(CallTask::Call(bound, args, kw));
+                Ok(Step::Ask(task, AttributeKept::Pass))
+            }
+            other => Ok(Step::End(other)),
         },
     }
 }

@@ -9,7 +9,7 @@ use Rattle.plain_machine.specs.World.{ref}
 use Rattle.plain_machine.specs.Row.{value}
 use Rattle.plain_machine.specs.Rows.{Pending, fresh, given}
 use Rattle.class_world.specs.declared.world.World.{World}
-use Rattle.class_world.specs.Reading.{Reading, bindings, call_job}
+use Rattle.class_world.specs.Reading.{Reading, bindings, call_job, ended_of}
 use Rattle.class_world.specs.Rows.{Goes, Follows}
 use Rattle.class_world.specs.Sound.{Claim, IsNode, IsClass}
 use Rattle.class_world.specs.Claims.{of_args}
@@ -37,7 +37,7 @@ abbrev pub Begins : CallTask → World → World → Step CallKept → Type 0
 Begins task = Goes call_job_say call_stands (λ t. fresh (call_job t task))
 
 abbrev pub Resumes : CallKept → Result Answer Fault → World → World → Step CallKept → Type 0
-Resumes kept r = Goes call_job_say call_stands (λ t. given (call_stands t kept) r)
+Resumes kept r = Goes call_job_say call_stands (λ t. given (call_stands t kept) (ended_of r))
 
 -- a task begins with what is decided so
 abbrev pub Decides : CallTask → (Reading → PlainWorld → Said) → World → World → Step CallKept → Type 0
@@ -45,7 +45,7 @@ Decides task = Follows call_job_say call_stands (λ t. fresh (call_job t task))
 
 -- a row goes on at an answer with what is decided so
 abbrev pub Continues : CallKept → Result Answer Fault → (Reading → PlainWorld → Said) → World → World → Step CallKept → Type 0
-Continues kept r = Follows call_job_say call_stands (λ t. given (call_stands t kept) r)
+Continues kept r = Follows call_job_say call_stands (λ t. given (call_stands t kept) (ended_of r))
 
 -- any row ends as is decided so
 abbrev pub Closes : (Reading → PlainWorld → Said) → World → World → Step CallKept → Type 0

@@ -12,7 +12,6 @@ use Rattle.py_node.specs.declared.entry.ObjectNative.{ObjectNative}
 use Rattle.py_node.specs.declared.entry.ObjectNative.TheVariants as object
 use Rattle.py_node.specs.declared.entry.TypeNative.TheVariants as type
 use Rattle.py_node.specs.declared.entry.CallableNative.TheVariants as callable
-use Rattle.py_node.specs.declared.task.Answer.TheVariants.{Done}
 use Rattle.py_node.specs.declared.task.LaterTask.TheVariants as later
 use Rattle.py_node.specs.Attributes.{value_of, with_value}
 use Rattle.py_node.specs.Tree.{Text, Tree}
@@ -27,7 +26,7 @@ use Rattle.plain_machine.specs.Args.{filled}
 use Rattle.plain_machine.specs.Known.{the_object, the_type, the_tuple}
 use Rattle.plain_machine.specs.Native.{native_task}
 use Rattle.plain_machine.specs.Show.{show}
-use Rattle.plain_machine.specs.Row.{Row, start, fork, ask, pass, end, value, fault, none, on_value, on_done}
+use Rattle.plain_machine.specs.Row.{Row, start, fork, ask, pass, end, value, done, fault, none, on_value, on_done}
 
 abbrev pub is_empty : {A : Type 0} → List A → Bool
 is_empty [] = true
@@ -165,7 +164,7 @@ new_say w k c args kw = start (new_by w (slot text_keys natives_of w.classes k N
 abbrev pub init_by : PlainWorld → Option SlotEntry → PyObjectRef → List PyObjectRef → Bindings → Said
 init_by w (Some (Native n)) o args kw = Asks w (Chose true ∷ []) (native_task n (o ∷ args) kw)
 init_by w (Some (Wrapper s)) o args kw = Asks w (Chose false ∷ []) (ToAttribute (DoSpecial o (codes "__init__") args kw))
-init_by w _ o args kw = Ends w (Ok Done)
+init_by w _ o args kw = Ends w done
 
 -- a method that initialises must give None
 abbrev pub init_rest : PlainWorld → Bool → Ended → Row

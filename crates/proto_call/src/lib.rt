@@ -82,18 +82,16 @@ pub fn resume(
             Ok(Step::End(answer))
         }
         CallKept::AfterNew(class, args, kw) => match answer {
-            Err(raised) => Ok(Step::End(Err(raised))),
-            Ok(Answer::Done) => Ok(Step::End(Ok(Answer::Done))),
             Ok(Answer::Value(object)) => Ok(resume_type_call(world, class, args, kw, object)),
+            other => Ok(Step::End(other)),
         },
         CallKept::AfterInit(object) => match answer {
             Err(raised) => Ok(Step::End(Err(raised))),
-            Ok(_) => Ok(Step::End(Ok(Answer::Value(object)))),
+            Ok(_given) => Ok(Step::End(Ok(Answer::Value(object)))),
         },
         CallKept::AfterSpecialInit => match answer {
-            Err(raised) => Ok(Step::End(Err(raised))),
-            Ok(Answer::Done) => Ok(Step::End(Ok(Answer::Done))),
             Ok(Answer::Value(given)) => Ok(resume_init(world, given)),
+            other => Ok(Step::End(other)),
         },
     }
 }

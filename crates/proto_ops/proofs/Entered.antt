@@ -73,13 +73,13 @@ entered-holds w none a b (s ∷ []) n p q = (p, (q, (p, (q, tt))))
 entered-holds w none a b (s ∷ (u ∷ ss)) n p q = (p, (q, (p, (q, tt))))
 
 -- the sum of two numbers is a new one
-pub sum-made : (w new : World) (a b r : PyObjectRef) (x y z : ℤ) → ((t : Reading) → number_of (datum_at (plain t w) a) ≡ Some x) → ((t : Reading) → number_of (datum_at (plain t w) b) ≡ Some y) → total x y ≡ Some z → ((t : Reading) → plain t new ≡ with_node (plain t w) 4 (ANumber z)) → ((t : Reading) → r ≡ next_node (plain t w) 4) → ((t : Reading) → Reads t new → Reads t w) → Sums a b w new (End (value r))
+pub sum-made : (w new : World) (a b r : PyObjectRef) (x y z : ℤ) → ((t : Reading) → number_of (datum_at (plain t w) a) ≡ Some x) → ((t : Reading) → number_of (datum_at (plain t w) b) ≡ Some y) → total x y ≡ Some z → ((t : Reading) → plain t new ≡ with_node (plain t w) 4 (ANumber z)) → ((t : Reading) → r ≡ next_node (plain t w) 4) → ((t : Reading) → Reads t new → Reads t w) → Sums a b w new (End (Ok (Value r)))
 unfolding operator_say
 sum-made w new a b r x y z hx hy f made number reads = λ t q.
     let u = plain t w in
     let said : sum_say u (number_of (datum_at u a)) (number_of (datum_at u b)) [] ≡ Ends (with_node u 4 (ANumber z)) (value (next_node u 4)) =
     ap (λ m. sum_say u m (number_of (datum_at u b)) []) (hx t) ∙ ap (λ m. sum_say u (Some x) m []) (hy t) ∙ ap (λ o. int_or_fault u o []) f in
-    (reads t q, subst (λ s. Steps operator_say (operator_stands t) t (DoInt int.Add (a ∷ b ∷ []) []) [] s (End (value r)) new) (sym said) (ap value (number t), made t))
+    (reads t q, subst (λ s. Steps operator_say (operator_stands t) t (DoInt int.Add (a ∷ b ∷ []) []) [] s (End (Ok (Value r))) new) (sym said) (ap value (number t), made t))
 
 -- a special method that is asked says of numbers only what held before
 pub special-leaves : (old new : World) (name : PyStrInterned) (object other : PyObjectRef) (r : Result (Step OperatorKept) OutOfMemory) → Grows old new → Holds new (IsName name) → Holds old (IsNode object) → Holds old (IsNode other) → IfOk r (λ step. AsksSpecial name object other step) → Leaves of_operator_kept old new r

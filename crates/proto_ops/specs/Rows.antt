@@ -1,10 +1,11 @@
 -- What the contracts of the rows of operators say.
-use Rattle.std.specs.Prelude.{◌≡◌, List, [], ◌∷◌, Result, Option, Some, None}
+use Rattle.std.specs.Prelude.{◌≡◌, List, [], ◌∷◌, Result, Ok, Option, Some, None}
 use Rattle.py_node.specs.declared.raised.Raised.{Raised as Fault}
 use Rattle.py_node.specs.declared.refs.PyObjectRef.{PyObjectRef}
 use Rattle.py_node.specs.declared.entry.SlotEntry.{SlotEntry}
 use Rattle.py_node.specs.declared.entry.SlotEntry.TheVariants.{Unhashable}
 use Rattle.py_node.specs.declared.task.Answer.{Answer}
+use Rattle.py_node.specs.declared.task.Answer.TheVariants.{Value}
 use Rattle.py_node.specs.declared.task.OperatorTask.{OperatorTask}
 use Rattle.py_node.specs.declared.task.PyNumberBinaryOp.TheVariants.{Add}
 use Rattle.py_node.specs.declared.task.Step.{Step}
@@ -17,10 +18,10 @@ use Rattle.py_node.specs.declared.task.OperatorTask.TheVariants as operator
 use Rattle.py_node.specs.declared.task.AttributeTask.TheVariants as attribute
 use Rattle.py_node.specs.declared.refs.PyStrInterned.{PyStrInterned}
 use Rattle.py_node.specs.declared.task.LaterTask.TheVariants as later
-use Rattle.plain_machine.specs.Row.{pass, value, fault}
+use Rattle.plain_machine.specs.Row.{pass, fault}
 use Rattle.plain_machine.specs.Rows.{Pending, fresh, given}
 use Rattle.class_world.specs.declared.world.World.{World}
-use Rattle.class_world.specs.Reading.{Reading, operator_job}
+use Rattle.class_world.specs.Reading.{Reading, operator_job, ended_of}
 use Rattle.class_world.specs.Rows.{Follows, Goes}
 use Rattle.class_world.specs.Sound.{Claim, IsNode, AreNodes, Holds}
 use Rattle.py_node.specs.declared.entry.IntNative.TheVariants as int
@@ -49,7 +50,7 @@ abbrev pub Begins : OperatorTask → World → World → Step OperatorKept → T
 Begins task = Goes operator_say operator_stands (λ t. fresh (operator_job t task))
 
 abbrev pub Resumes : OperatorKept → Result Answer Fault → World → World → Step OperatorKept → Type 0
-Resumes kept r = Goes operator_say operator_stands (λ t. given (operator_stands t kept) r)
+Resumes kept r = Goes operator_say operator_stands (λ t. given (operator_stands t kept) (ended_of r))
 
 -- the sum of two objects
 abbrev pub Sums : PyObjectRef → PyObjectRef → World → World → Step OperatorKept → Type 0
@@ -75,6 +76,6 @@ joining None = End (fault TypeError UnsupportedOperand)
 joining (Some s) = Ask (task.Later later.Concat) Pass
 
 abbrev pub entered : PyObjectRef → PyObjectRef → PyObjectRef → List SlotEntry → Step OperatorKept
-entered none a b [] = End (value none)
+entered none a b [] = End (Ok (Value none))
 entered none a b (s ∷ []) = Ask (task.Operator (operator.Enter s a b)) (Candidate None a b)
 entered none a b (s ∷ (u ∷ ss)) = Ask (task.Operator (operator.Enter s a b)) (Candidate (Some u) a b)

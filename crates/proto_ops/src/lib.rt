@@ -73,18 +73,12 @@ pub fn resume(
     match kept {
         OperatorKept::Pass => Ok(Step::End(answer)),
         OperatorKept::AddRest(a) => match answer {
-            Err(raised) => Ok(Step::End(Err(raised))),
-            Ok(answer) => match answer {
-                Answer::Done => Ok(Step::End(Ok(Answer::Done))),
-                Answer::Value(x) => add_rest(world, a, x),
-            },
+            Ok(Answer::Value(x)) => add_rest(world, a, x),
+            other => Ok(Step::End(other)),
         },
         OperatorKept::Candidate(next, a, b) => match answer {
-            Err(raised) => Ok(Step::End(Err(raised))),
-            Ok(answer) => match answer {
-                Answer::Done => Ok(Step::End(Ok(Answer::Done))),
-                Answer::Value(x) => next_candidate(world, next, a, b, x),
-            },
+            Ok(Answer::Value(x)) => next_candidate(world, next, a, b, x),
+            other => Ok(Step::End(other)),
         },
     }
 }

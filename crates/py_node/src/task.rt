@@ -10,11 +10,13 @@ pub enum PyNumberBinaryOp {
     Add,
 }
 
-/// What a task answers: an object, or that it is done.
-#[derive(Clone, Copy, PartialEq, Eq, Debug)]
+/// What a task answers: an object, that it is done, a number, or a list of objects.
+#[derive(Drop)]
 pub enum Answer {
     Value(PyObjectRef),
     Done,
+    Number(i64),
+    Objects(Vec<PyObjectRef>),
 }
 
 /// How a command or a task that is asked from outside ends.

@@ -14,11 +14,11 @@ use Rattle.py_node.specs.declared.task.Step.{Step}
 use Rattle.py_node.specs.declared.task.Step.TheVariants.{Ask, End}
 use Rattle.py_node.specs.declared.raised.Kind.TheVariants.{NotImplementedError}
 use Rattle.py_node.specs.declared.raised.Cause.TheVariants.{NotYet}
-use Rattle.plain_machine.specs.Plain.{PlainWorld, PlainTask, ToEval, ToAttribute, ToCall, ToClass, ToOperator, Ended, Answered, Told, Said, Asks, Ends, Saying}
+use Rattle.plain_machine.specs.Plain.{PlainWorld, PlainTask, ToEval, ToAttribute, ToCall, ToClass, ToOperator, Answered, Told, Said, Asks, Ends, Saying}
 use Rattle.plain_machine.specs.Row.{fault}
 use Rattle.plain_machine.specs.Rows.{Pending, Alike, fresh, given}
 use Rattle.class_world.specs.declared.world.World.{World}
-use Rattle.class_world.specs.Reading.{Reading, plain, eval_job, attribute_job, call_job, class_job, operator_job}
+use Rattle.class_world.specs.Reading.{Reading, plain, eval_job, attribute_job, call_job, class_job, operator_job, ended_of}
 use Rattle.class_world.specs.Rows.{Steps, Goes}
 use Rattle.eval_forms.specs.declared.EvalKept.{EvalKept}
 use Rattle.eval_forms.specs.Say.{eval_say}
@@ -62,11 +62,11 @@ module _ {J K : Type 0} (group : Saying J) (held : Reading → K → Pending J) 
         (steps-among t (p t).task (p t).told (group (plain t old) (p t).task (p t).told) step new (h t reads).1),
   )
 
-  resumes-among : (kept : K) (r : Ended) (old new : World) (step : Step K) → Goes group held (λ t. given (held t kept) r) old new step → Goes say stands (λ t. given (stands t (for kept)) r) old new (step_among for step)
+  resumes-among : (kept : K) (r : Result Answer Fault) (old new : World) (step : Step K) → Goes group held (λ t. given (held t kept) (ended_of r)) old new step → Goes say stands (λ t. given (stands t (for kept)) (ended_of r)) old new (step_among for step)
   resumes-among kept r old new step h = λ t reads.
-      let all = goes-among (λ t. given (held t kept) r) old new step h t reads in (
+      let all = goes-among (λ t. given (held t kept) (ended_of r)) old new step h t reads in (
         all.0,
-        subst (λ (q : Pending PlainTask). Steps say (stands t) t q.task (q.told ++ Answered r ∷ []) (say (plain t old) q.task (q.told ++ Answered r ∷ [])) (step_among for step) new) (sym (g.keeps t kept)) all.1,
+        subst (λ (q : Pending PlainTask). Steps say (stands t) t q.task (q.told ++ Answered (ended_of r) ∷ []) (say (plain t old) q.task (q.told ++ Answered (ended_of r) ∷ [])) (step_among for step) new) (sym (g.keeps t kept)) all.1,
       )
 
 eval-group : Among eval_say eval_stands ToEval ForEval

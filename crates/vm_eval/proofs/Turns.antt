@@ -1,8 +1,11 @@
 -- One turn of the machine keeps the outcome, whatever the rows are.
 use Rattle.std.proofs.Common.{◌≡◌, ℕ, zero, suc, ◌+◌, List, [], ◌∷◌, ◌++◌, length, map, refl, sym, ap, ◌∙◌, arith, zero-add, true, false, cond, nat_lt, length-append}
+use Rattle.std.specs.Prelude.{Result}
 use Rattle.std.proofs.lemmas.List.{map-append, length-map}
 use Rattle.py_node.specs.declared.raised.Kind.TheVariants.{RecursionError}
 use Rattle.py_node.specs.declared.raised.Cause.TheVariants.{DepthLimit}
+use Rattle.py_node.specs.declared.raised.Raised.{Raised as Fault}
+use Rattle.py_node.specs.declared.task.Answer.{Answer}
 use Rattle.py_node.specs.declared.task.Task.{Task}
 use Rattle.py_node.specs.declared.task.Step.{Step}
 use Rattle.py_node.specs.declared.task.Step.TheVariants.{Ask, End}
@@ -12,7 +15,7 @@ use Rattle.plain_machine.specs.Answer.{Over, NoUnits, Outcome, Out, carry, asked
 use Rattle.plain_machine.specs.Rows.{Pending}
 use Rattle.plain_machine.proofs.Follow.{answer-is, answer-alike}
 use Rattle.class_world.specs.declared.world.World.{World}
-use Rattle.class_world.specs.Reading.{Reading, Reads, plain, task_of}
+use Rattle.class_world.specs.Reading.{Reading, Reads, plain, task_of, ended_of}
 use Rattle.class_world.specs.Rows.{Steps}
 use Rattle.vm_eval.specs.declared.stack.Kept.{Kept}
 use Rattle.vm_eval.specs.Say.{say, stands, Begins, Resumes}
@@ -48,15 +51,15 @@ step-coming t task told (Asks w learnt other) (Ask next kept) new (suc left) dep
     ∙ ap (λ other. finish (stands t kept) depth (asked (answer say) (plain t new) other left (suc depth))) (sym h.0)
 
 -- an answer goes to the frame on top
-pub state-resume : (t : Reading) (old new : World) (stack : List Kept) (kept : Kept) (r : Ended) (left : ℕ) (next : Step Kept) → Resumes kept r old new next → Reads t new → state t new stack left next ≡ state t old (stack ++ kept ∷ []) left (End r)
+pub state-resume : (t : Reading) (old new : World) (stack : List Kept) (kept : Kept) (r : Result Answer Fault) (left : ℕ) (next : Step Kept) → Resumes kept r old new next → Reads t new → state t new stack left next ≡ state t old (stack ++ kept ∷ []) left (End r)
 unfolding state
 state-resume t old new stack kept r left next h reads =
     let p = stands t kept in
     let w = plain t old in
-    let told = p.told ++ Answered r ∷ [] in
+    let told = p.told ++ Answered (ended_of r) ∷ [] in
     let d : length (map (stands t) stack) ≡ length stack = length-map stack (stands t) in
-    sym (ap (λ ps. unwind 0 ps (Out w (Over r) left)) (map-append (stands t) stack (kept ∷ []))
-    ∙ unwind-push (map (stands t) stack) p (Out w (Over r) left)
+    sym (ap (λ ps. unwind 0 ps (Out w (Over (ended_of r)) left)) (map-append (stands t) stack (kept ∷ []))
+    ∙ unwind-push (map (stands t) stack) p (Out w (Over (ended_of r)) left)
     ∙ ap (unwind 0 (map (stands t) stack)) (
     answer-is say w p.task told left (length (map (stands t) stack))
     ∙ step-coming t p.task told (say w p.task told) next new left (length (map (stands t) stack)) (h t reads).1
@@ -100,7 +103,7 @@ unfolding state
 state-no_units t w stack task kept = sym (unwind-no_units 0 (map (stands t) stack) (plain t w) 0)
 
 -- an answer is the end where no frame waits
-pub state-end : (t : Reading) (w : World) (left : ℕ) (r : Ended) → Out (plain t w) (Over r) left ≡ state t w [] left (End r)
+pub state-end : (t : Reading) (w : World) (left : ℕ) (r : Result Answer Fault) → Out (plain t w) (Over (ended_of r)) left ≡ state t w [] left (End r)
 unfolding state
 state-end t w left r = refl
 

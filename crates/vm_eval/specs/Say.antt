@@ -11,7 +11,7 @@ use Rattle.plain_machine.specs.Plain.{PlainTask, ToEval, ToAttribute, ToCall, To
 use Rattle.plain_machine.specs.Row.{end, fault}
 use Rattle.plain_machine.specs.Rows.{Pending, fresh, given}
 use Rattle.class_world.specs.declared.world.World.{World}
-use Rattle.class_world.specs.Reading.{Reading, task_of}
+use Rattle.class_world.specs.Reading.{Reading, task_of, ended_of}
 use Rattle.class_world.specs.Rows.{Goes}
 use Rattle.class_world.specs.Sound.{Claim}
 use Rattle.eval_forms.specs.Say.{eval_say}
@@ -56,7 +56,7 @@ abbrev pub Begins : Task → World → World → Step Kept → Type 0
 Begins task = Goes say stands (λ t. fresh (task_of t task))
 
 abbrev pub Resumes : Kept → Result Answer Fault → World → World → Step Kept → Type 0
-Resumes kept r = Goes say stands (λ t. given (stands t kept) r)
+Resumes kept r = Goes say stands (λ t. given (stands t kept) (ended_of r))
 
 abbrev pub of_kept : Kept → List Claim
 of_kept (ForEval kept) = of_eval_kept kept

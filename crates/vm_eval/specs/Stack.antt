@@ -7,7 +7,7 @@ use Rattle.plain_machine.specs.Plain.{PlainWorld, PlainTask, Answered}
 use Rattle.plain_machine.specs.Answer.{Ending, Over, NoUnits, Outcome, Out, carry, asked, answer}
 use Rattle.plain_machine.specs.Rows.{Pending}
 use Rattle.class_world.specs.declared.world.World.{World}
-use Rattle.class_world.specs.Reading.{Reading, Reads, plain, task_of}
+use Rattle.class_world.specs.Reading.{Reading, Reads, plain, task_of, ended_of}
 use Rattle.class_world.specs.Sound.{Claim}
 use Rattle.class_world.specs.Claims.{of_step, of_ended}
 use Rattle.vm_eval.specs.declared.stack.Kept.{Kept}
@@ -28,7 +28,7 @@ unwind depth (p ∷ ps) o = finish p depth (unwind (suc depth) ps o)
 
 -- the outcome of a row that has come to this step
 abbrev pub coming : Reading → Step Kept → PlainWorld → ℕ → ℕ → Outcome
-coming t (End r) w left depth = Out w (Over r) left
+coming t (End r) w left depth = Out w (Over (ended_of r)) left
 coming t (Ask task kept) w zero depth = Out w NoUnits zero
 coming t (Ask task kept) w (suc left) depth = finish (stands t kept) depth (asked (answer say) w (task_of t task) left (suc depth))
 
@@ -38,7 +38,7 @@ state t w stack left step = unwind 0 (map (stands t) stack) (coming t step (plai
 
 abbrev pub leads : Reading → World → List Kept → ℕ → Turn → Outcome
 leads t w stack left (On step) = state t w stack left step
-leads t w stack left (Finished r) = Out (plain t w) (Over r) left
+leads t w stack left (Finished r) = Out (plain t w) (Over (ended_of r)) left
 leads t w stack left OutOfUnits = Out (plain t w) NoUnits left
 
 -- a turn keeps the outcome
@@ -54,7 +54,7 @@ turns_left left stack OutOfUnits = 0
 
 -- how a command ended, in the terms of the plain machine
 abbrev pub ending_of : CodeEnd → Ending
-ending_of (code.Over r) = Over r
+ending_of (code.Over r) = Over (ended_of r)
 ending_of code.NoUnits = NoUnits
 
 -- the task ends so, from one world to the other

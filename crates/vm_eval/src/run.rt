@@ -84,7 +84,7 @@ fn answering(world: &World, alloc: Global, end: End) -> Result<ReplyAnswer, OutO
         End::NoUnits => Ok(ReplyAnswer::Budget),
         End::Over(Err(raised)) => Ok(ReplyAnswer::Raised(raised)),
         End::Over(Ok(Answer::Value(node))) => shown(world, alloc, node),
-        End::Over(Ok(Answer::Done)) => shown(world, alloc, world.fixed(Fixed::None)),
+        End::Over(Ok(_)) => shown(world, alloc, world.fixed(Fixed::None)),
     }
 }
 

@@ -36,7 +36,7 @@ pub enum Kept {
 }
 
 /// How a command ended: its row ended, or its units were used up.
-#[derive(Clone, Copy)]
+#[derive(Drop)]
 pub enum End {
     Over(Result<Answer, Raised>),
     NoUnits,
