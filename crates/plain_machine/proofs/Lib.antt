@@ -1,3 +1,4 @@
 pub mod Follow
 pub mod NewMachine
 pub mod Changes
+pub mod Facts

@@ -106,12 +106,14 @@ pub data PlainAnswer : Type 0 where
 abbrev pub Ended : Type 0
 Ended = Result PlainAnswer Fault
 
--- what a row has learnt: the answer to what it asked, the node that it made, a list that it read once, or which of two ways it went
+-- what a row has learnt: the answer to what it asked, the node that it made, entries, objects or names with objects that it read once, or which of several ways it went
 pub data Fact : Type 0 where
   Answered : Ended → Fact
   Made : PyObjectRef → Fact
   Read : List SlotEntry → Fact
-  Chose : Bool → Fact
+  ReadObjects : List PyObjectRef → Fact
+  ReadNames : Bindings → Fact
+  Chose : ℕ → Fact
 
 abbrev pub Told : Type 0
 Told = List Fact

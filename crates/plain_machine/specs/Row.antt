@@ -1,12 +1,12 @@
 -- The words that rows are written in.
-use Rattle.std.specs.Prelude.{ℕ, Bool, List, [], ◌∷◌, Result, Ok, Err}
+use Rattle.std.specs.Prelude.{ℕ, List, [], ◌∷◌, Option, Some, None, Result, Ok, Err}
 use Rattle.py_node.specs.declared.refs.PyObjectRef.{PyObjectRef}
 use Rattle.py_node.specs.declared.raised.Raised.{Raised as Fault}
 use Rattle.py_node.specs.declared.raised.Kind.{Kind}
 use Rattle.py_node.specs.declared.raised.Cause.{Cause}
 use Rattle.py_node.specs.declared.entry.SlotEntry.{SlotEntry}
 use Rattle.py_node.specs.Tree.{Tree}
-use Rattle.plain_machine.specs.Plain.{Datum, PlainWorld, DoEval, PlainTask, ToEval, AsValue, AsDone, Ended, Answered, Made, Read, Chose, Told, Said, Asks, Ends}
+use Rattle.plain_machine.specs.Plain.{Datum, Bindings, PlainWorld, DoEval, PlainTask, ToEval, AsValue, AsDone, Ended, Fact, Answered, Made, Read, ReadObjects, ReadNames, Chose, Told, Said, Asks, Ends}
 use Rattle.plain_machine.specs.World.{ref, with_node, next_node}
 
 -- a row, at a point where it has learnt nothing that follows
@@ -15,14 +15,11 @@ Row = Told → Said
 
 -- does this, and goes on with the answer to what it asked
 abbrev pub start : Said → (Ended → Row) → Row
-start said go [] = said
 start said go (Answered r ∷ more) = go r more
-start said go (Made r ∷ more) = said
-start said go (Read ss ∷ more) = said
-start said go (Chose way ∷ more) = said
+start said go _ = said
 
--- does this, having gone one of two ways, and goes on with that and the answer to what it asked
-abbrev pub fork : Said → (Bool → Ended → Row) → Row
+-- does this, having gone one of several ways, and goes on with its number and the answer to what it asked
+abbrev pub fork : Said → (ℕ → Ended → Row) → Row
 fork said go (Chose way ∷ (Answered r ∷ more)) = go way r more
 fork said go _ = said
 
@@ -69,17 +66,48 @@ on_done w (Err x) go = end w (Err x)
 abbrev pub make : PlainWorld → ℕ → Datum → Row
 make w c d = end (with_node w c d) (value (next_node w c))
 
--- keeps in mind a list that is read but once
-abbrev pub noting : List SlotEntry → Said → Said
-noting ss (Asks w learnt task) = Asks w (Read ss ∷ learnt) task
-noting ss (Ends w r) = Ends w r
+-- keeps a fact in mind
+abbrev pub noting : Fact → Said → Said
+noting f (Asks w learnt task) = Asks w (f ∷ learnt) task
+noting f (Ends w r) = Ends w r
+
+abbrev pub once_told : {A : Type 0} → A → (A → Row) → Fact → Told → Option A → Said
+once_told x go f more (Some y) = go y more
+once_told x go f more None = go x (f ∷ more)
+
+-- goes on with what is read but once: as it is now, or as it was then, which the next fact tells. What is read so can be read in turn
+abbrev pub once : {A : Type 0} → (A → Fact) → (Fact → Option A) → A → (A → Row) → Row
+once note of x go [] = noting (note x) (go x [])
+once note of x go (f ∷ more) = once_told x go f more (of f)
+
+abbrev pub entries_in : Fact → Option (List SlotEntry)
+entries_in (Read ss) = Some ss
+entries_in _ = None
+
+abbrev pub objects_in : Fact → Option (List PyObjectRef)
+objects_in (ReadObjects rs) = Some rs
+objects_in _ = None
+
+abbrev pub names_in : Fact → Option Bindings
+names_in (ReadNames bs) = Some bs
+names_in _ = None
+
+abbrev pub way_in : Fact → Option ℕ
+way_in (Chose way) = Some way
+way_in _ = None
 
 abbrev pub read_once : List SlotEntry → (List SlotEntry → Row) → Row
-read_once ss go [] = noting ss (go ss [])
-read_once ss go (Read us ∷ more) = go us more
-read_once ss go (Answered r ∷ more) = go ss (Answered r ∷ more)
-read_once ss go (Made r ∷ more) = go ss (Made r ∷ more)
-read_once ss go (Chose way ∷ more) = go ss (Chose way ∷ more)
+read_once ss go = once Read entries_in ss go
+
+abbrev pub read_objects : List PyObjectRef → (List PyObjectRef → Row) → Row
+read_objects rs go = once ReadObjects objects_in rs go
+
+abbrev pub read_names : Bindings → (Bindings → Row) → Row
+read_names bs go = once ReadNames names_in bs go
+
+-- chooses one of several ways, and keeps to it
+abbrev pub choose : ℕ → (ℕ → Row) → Row
+choose way go = once Chose way_in way go
 
 -- evaluates expressions in order, and goes on with their values
 abbrev pub evaluate : PlainWorld → List Tree → (List PyObjectRef → Row) → Row

@@ -1,5 +1,5 @@
 -- What the contracts of the rows of attributes say.
-use Rattle.std.specs.Prelude.{◌≡◌, ℕ, false, List, [], ◌∷◌, Result, Option, Some, None, option_map}
+use Rattle.std.specs.Prelude.{◌≡◌, ℕ, List, [], ◌∷◌, Result, Option, Some, None, option_map}
 use Rattle.py_node.specs.declared.raised.Raised.{Raised as Fault}
 use Rattle.py_node.specs.declared.refs.PyObjectRef.{PyObjectRef}
 use Rattle.py_node.specs.declared.refs.PyTypeRef.{PyTypeRef}
@@ -22,7 +22,7 @@ use Rattle.proto_attr.specs.Say.{attribute_say}
 -- the row that goes on, at each answer, just as the row that the code keeps this for
 abbrev pub attribute_stands : Reading → AttributeKept → Pending AttributeJob
 attribute_stands t Pass = record { task = DoBind (record { 0 = 0 }) None (record { 0 = 0 }); told = [] }
-attribute_stands t (AfterBind args kw) = record { task = DoSpecial (record { 0 = 0 }) [] args.items (bindings t kw.items); told = Chose false ∷ [] }
+attribute_stands t (AfterBind args kw) = record { task = DoSpecial (record { 0 = 0 }) [] args.items (bindings t kw.items); told = Chose 1 ∷ [] }
 
 -- what is said of what is kept
 abbrev pub of_attribute_kept : AttributeKept → List Claim

@@ -1,5 +1,5 @@
 -- What the rows of attributes, special methods and descriptors say.
-use Rattle.std.specs.Prelude.{ℕ, Bool, cond, not, eqb, ◌&&◌, true, false, codes, List, [], ◌∷◌, Option, Some, None, is_some, slice_get}
+use Rattle.std.specs.Prelude.{ℕ, zero, suc, Bool, cond, not, eqb, ◌&&◌, true, false, codes, List, [], ◌∷◌, Option, Some, None, is_some, slice_get}
 use Rattle.py_node.specs.declared.refs.PyObjectRef.{PyObjectRef}
 use Rattle.py_node.specs.declared.raised.Kind.TheVariants.{TypeError, AttributeError}
 use Rattle.py_node.specs.declared.raised.Cause.TheVariants.{ImmutableType, NeedsType, NoSpecial}
@@ -53,16 +53,17 @@ type_set_say w c x v = start (type_set_by w (sets w (special_at w (class_object 
 -- a special method that is fast is called with its object before the arguments, and another one is bound first
 abbrev pub special_by : PlainWorld → Bool → PyObjectRef → PyObjectRef → List PyObjectRef → Bindings → Said
 special_by w fast m o args kw =
-    cond fast (Asks w (Chose true ∷ []) (ToCall (DoCall m (o ∷ args) kw)))
-    (Asks w (Chose false ∷ []) (ToAttribute (DoBind m (Some o) (type_object w o))))
+    cond fast (Asks w (Chose 0 ∷ []) (ToCall (DoCall m (o ∷ args) kw)))
+    (Asks w (Chose 1 ∷ []) (ToAttribute (DoBind m (Some o) (type_object w o))))
 
 abbrev pub special_found : PlainWorld → Option PyObjectRef → PyObjectRef → List PyObjectRef → Bindings → Said
 special_found w None o args kw = Ends w (fault AttributeError NoSpecial)
 special_found w (Some m) o args kw = special_by w (is_fast w m) m o args kw
 
 -- what was asked first was the call, or it was the binding, and then what is bound is called
-abbrev pub special_rest : PlainWorld → List PyObjectRef → Bindings → Bool → Ended → Row
-special_rest w args kw fast r = cond fast (end w r) (on_value w r (λ b. start (pass w (ToCall (DoCall b args kw))) (end w)))
+abbrev pub special_rest : PlainWorld → List PyObjectRef → Bindings → ℕ → Ended → Row
+special_rest w args kw zero r = end w r
+special_rest w args kw (suc n) r = on_value w r (λ b. start (pass w (ToCall (DoCall b args kw))) (end w))
 
 abbrev pub special_say : PlainWorld → PyObjectRef → Text → List PyObjectRef → Bindings → Row
 special_say w o x args kw = fork (special_found w (special_at w o x) o args kw) (special_rest w args kw)

@@ -1,5 +1,5 @@
 -- What the contracts of the rows of calls say.
-use Rattle.std.specs.Prelude.{false, List, [], ◌∷◌, Result}
+use Rattle.std.specs.Prelude.{List, [], ◌∷◌, Result}
 use Rattle.py_node.specs.declared.raised.Raised.{Raised as Fault}
 use Rattle.py_node.specs.declared.task.Answer.{Answer}
 use Rattle.py_node.specs.declared.task.CallTask.{CallTask}
@@ -23,7 +23,7 @@ call_stands t Pass = record { task = DoCall (ref 0) [] []; told = [] }
 call_stands t Scope = record { task = DoBody (ref 0) [] []; told = [] }
 call_stands t (AfterNew c args kw) = record { task = DoTypeCall c.0 args.items (bindings t kw.items); told = [] }
 call_stands t (AfterInit o) = record { task = DoTypeCall 0 [] []; told = Answered (value o) ∷ [] }
-call_stands t AfterSpecialInit = record { task = DoInit (ref 0) [] []; told = Chose false ∷ [] }
+call_stands t AfterSpecialInit = record { task = DoInit (ref 0) [] []; told = Chose 1 ∷ [] }
 
 -- what is said of what is kept
 abbrev pub of_call_kept : CallKept → List Claim

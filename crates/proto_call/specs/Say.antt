@@ -1,5 +1,5 @@
 -- What the rows of calls say.
-use Rattle.std.specs.Prelude.{ℕ, Bool, true, false, cond, not, eqb, ◌&&◌, ◌||◌, codes, List, [], ◌∷◌, Option, Some, None, Ok, is_some, is_none, map}
+use Rattle.std.specs.Prelude.{ℕ, zero, suc, Bool, true, false, cond, not, eqb, ◌&&◌, ◌||◌, codes, List, [], ◌∷◌, Option, Some, None, is_some, is_none, map}
 use Rattle.py_node.specs.declared.refs.PyObjectRef.{PyObjectRef}
 use Rattle.py_node.specs.declared.raised.Kind.TheVariants.{TypeError, AttributeError, NotImplementedError}
 use Rattle.py_node.specs.declared.raised.Cause.TheVariants.{AbstractMethods, ArgCount, CannotCreate, InitNotNone, NoSpecial, NotCallable, NotYet, SelfType, UnexpectedKeyword, UnsafeNew}
@@ -162,13 +162,14 @@ new_say w k c args kw = start (new_by w (slot text_keys natives_of w.classes k N
 -- Init
 
 abbrev pub init_by : PlainWorld → Option SlotEntry → PyObjectRef → List PyObjectRef → Bindings → Said
-init_by w (Some (Native n)) o args kw = Asks w (Chose true ∷ []) (native_task n (o ∷ args) kw)
-init_by w (Some (Wrapper s)) o args kw = Asks w (Chose false ∷ []) (ToAttribute (DoSpecial o (codes "__init__") args kw))
+init_by w (Some (Native n)) o args kw = Asks w (Chose 0 ∷ []) (native_task n (o ∷ args) kw)
+init_by w (Some (Wrapper s)) o args kw = Asks w (Chose 1 ∷ []) (ToAttribute (DoSpecial o (codes "__init__") args kw))
 init_by w _ o args kw = Ends w done
 
 -- a method that initialises must give None
-abbrev pub init_rest : PlainWorld → Bool → Ended → Row
-init_rest w native r = cond native (end w r) (on_value w r (λ v. cond (eqb v.0 23) (end w (value v)) (end w (fault TypeError InitNotNone))))
+abbrev pub init_rest : PlainWorld → ℕ → Ended → Row
+init_rest w zero r = end w r
+init_rest w (suc n) r = on_value w r (λ v. cond (eqb v.0 23) (end w (value v)) (end w (fault TypeError InitNotNone)))
 
 abbrev pub init_say : PlainWorld → PyObjectRef → List PyObjectRef → Bindings → Row
 init_say w o args kw = fork (init_by w (slot_at w o Init) o args kw) (init_rest w)
