@@ -173,7 +173,7 @@ fn a_body_has_its_own_variables(rt: HostRuntime) -> Result<(), Fail> {
     let (during, after) = in_a_body(&mut world, alloc)?;
     assert_eq!(rt; during, Some(PyObjectRef(26)));
     assert_eq!(rt; after, Some(PyObjectRef(23)));
-    let calls = world.rest(alloc);
+    let calls = world.take_calls(alloc);
     assert_eq!(rt; calls.len(), 1);
     assert_eq!(rt; calls[0].name.as_str(), "x");
     Ok(())

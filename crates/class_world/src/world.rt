@@ -5,7 +5,7 @@ ghost use Rattle.py_node.specs.Tree.{tree_of};
 ghost use Rattle.py_node.specs.Replies.{started_of};
 ghost use Rattle.py_node.specs.Slots.{special_names};
 ghost use Rattle.plain_machine.specs.Start.{bare, start};
-ghost use Rattle.plain_machine.specs.World.{ref, push_node, with_node, next_node, has_dict, at_rest, class_at, datum_at, number_of, text_keys, slot_at, candidates_at, variable, with_binding, with_scope, without_scope, with_own_attr, with_new_class, is_text};
+ghost use Rattle.plain_machine.specs.World.{ref, push_node, with_node, next_node, has_dict, at_depth, without_calls, class_at, datum_at, number_of, text_keys, slot_at, candidates_at, variable, with_binding, with_scope, without_scope, with_own_attr, with_new_class, is_text};
 ghost use Rattle.plain_machine.specs.Known.{the_dict};
 ghost use Rattle.plain_machine.specs.Objects.{class_has_flag, with_definer};
 ghost use Rattle.plain_machine.specs.Sound.{holds_as, IsSound};
@@ -405,14 +405,29 @@ impl World {
         Ok(number as u64)
     }
 
-    /// Takes the notes of the bodies that were started, and closes every scope: a command is over.
-    pub fn rest(&mut self, alloc: Global) -> Vec<BodyCall>
-        ensures calls { (t : Reading) → map started_of result.items ≡ (plain t self.old).calls }
-        ensures rest { (t : Reading) → plain t self.new ≡ at_rest (plain t self.old) }
+    /// How many bodies run.
+    pub fn depth(&self) -> usize
+        ensures { (t : Reading) → length (plain t self.now).scopes ≡ result }
+    {
+        self.scopes.len()
+    }
+
+    /// All bodies but the first so many are over: their scopes are taken away.
+    pub fn end_bodies(&mut self, depth: usize)
+        ensures ended { (t : Reading) → plain t self.new ≡ at_depth depth (plain t self.old) }
         ensures reads { (t : Reading) → Reads t self.new → Reads t self.old }
         ensures grows { Grows self.old self.new }
     {
-        self.scopes.clear();
+        self.scopes.truncate(depth);
+    }
+
+    /// Takes the notes of the bodies that were started.
+    pub fn take_calls(&mut self, alloc: Global) -> Vec<BodyCall>
+        ensures calls { (t : Reading) → map started_of result.items ≡ (plain t self.old).calls }
+        ensures taken { (t : Reading) → plain t self.new ≡ without_calls (plain t self.old) }
+        ensures reads { (t : Reading) → Reads t self.new → Reads t self.old }
+        ensures grows { Grows self.old self.new }
+    {
         mem::replace(&mut self.calls, Vec::new(alloc))
     }
 

@@ -1,10 +1,10 @@
--- The laws of `answer` that need no bound on the units: it follows what the row says, and rows that go on alike come out alike.
+-- The laws of `reach` that need no bound on the units: it follows what the row says, and rows that go on alike come out alike.
 use Rattle.std.proofs.Common.{◌≡◌, ℕ, zero, suc, ◌<◌, ◌≤◌, [], ◌∷◌, ◌++◌, refl, sym, ap, ◌∙◌, arith, append_assoc, true, false, cond, nat_lt}
 use Rattle.py_node.specs.declared.raised.Kind.TheVariants.{RecursionError}
 use Rattle.py_node.specs.declared.raised.Cause.TheVariants.{DepthLimit}
 use Rattle.plain_machine.specs.Plain.{PlainWorld, PlainTask, Ended, Answered, Told, Said, Asks, Ends, Saying}
 use Rattle.plain_machine.specs.Row.{fault}
-use Rattle.plain_machine.specs.Answer.{Over, NoUnits, Outcome, Out, Follow, carry, asked, step, follow, answer}
+use Rattle.plain_machine.specs.Answer.{Over, NoUnits, Outcome, Out, Follow, carry, asked, step, follow, reach}
 use Rattle.plain_machine.specs.Rows.{Pending, Alike}
 
 abbrev units_of : Outcome → ℕ
@@ -70,15 +70,15 @@ module _ (say : Saying PlainTask) where
   follow-agrees (suc n) (suc m) l =
       record { same = λ w task told left depth h. step-agrees (follow say n) (follow say m) n (follow-spends n) (follow-agrees n m (omega arith)) task told depth (say w task told) left h }
 
-  answer-agrees : (n : ℕ) → Agree (follow say n) (answer say) n
-  unfolding answer
-  answer-agrees n = record { same = λ w task told left depth h. sym ((follow-agrees (suc left) n (omega arith)).same w task told left depth (omega arith)) }
+  reach-agrees : (n : ℕ) → Agree (follow say n) (reach say) n
+  unfolding reach
+  reach-agrees n = record { same = λ w task told left depth h. sym ((follow-agrees (suc left) n (omega arith)).same w task told left depth (omega arith)) }
 
-  -- the rule of `answer`: it follows what the row says
-  pub answer-is : (w : PlainWorld) (task : PlainTask) (told : Told) (left depth : ℕ) → answer say w task told left depth ≡ step (answer say) task told depth (say w task told) left
-  unfolding answer follow
-  answer-is w task told left depth =
-      step-agrees (follow say left) (answer say) left (follow-spends left) (answer-agrees left) task told depth (say w task told) left (omega arith)
+  -- the rule of `reach`: it follows what the row says
+  pub reach-is : (w : PlainWorld) (task : PlainTask) (told : Told) (left depth : ℕ) → reach say w task told left depth ≡ step (reach say) task told depth (say w task told) left
+  unfolding reach follow
+  reach-is w task told left depth =
+      step-agrees (follow say left) (reach say) left (follow-spends left) (reach-agrees left) task told depth (say w task told) left (omega arith)
 
   -- rows that go on alike come to the same, in the same world
   record Likes (f : Follow) : Type 0 where
@@ -110,7 +110,7 @@ module _ (say : Saying PlainTask) where
             ∙ ap (λ said. step (follow say n) q.task (q.told ++ Answered r ∷ more) depth said left) (a.says w r more);
       }
 
-  -- two rows that go on alike are answered alike
-  pub answer-alike : (p q : Pending PlainTask) → Alike say p q → (w : PlainWorld) (r : Ended) (left depth : ℕ) → answer say w p.task (p.told ++ Answered r ∷ []) left depth ≡ answer say w q.task (q.told ++ Answered r ∷ []) left depth
-  unfolding answer
-  answer-alike p q a w r left depth = (follow-likes (suc left)).likes p q a w r [] left depth
+  -- two rows that go on alike come to the same, whatever their answer
+  pub reach-alike : (p q : Pending PlainTask) → Alike say p q → (w : PlainWorld) (r : Ended) (left depth : ℕ) → reach say w p.task (p.told ++ Answered r ∷ []) left depth ≡ reach say w q.task (q.told ++ Answered r ∷ []) left depth
+  unfolding reach
+  reach-alike p q a w r left depth = (follow-likes (suc left)).likes p q a w r [] left depth

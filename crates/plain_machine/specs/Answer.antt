@@ -1,12 +1,12 @@
 -- What a task answers: its row is followed until it ends. And what a list of commands is answered.
-use Rattle.std.specs.Prelude.{ℕ, zero, suc, List, [], ◌∷◌, ◌++◌, nat_lt, cond, Ok, Err}
+use Rattle.std.specs.Prelude.{ℕ, zero, suc, List, [], ◌∷◌, ◌++◌, nat_lt, cond, length, Ok, Err}
 use Rattle.py_node.specs.declared.raised.Kind.TheVariants.{RecursionError}
 use Rattle.py_node.specs.declared.raised.Cause.TheVariants.{DepthLimit}
 use Rattle.py_node.specs.Tree.{Tree}
 use Rattle.py_node.specs.Replies.{PlainReply, ToldValue, ToldRaise, ToldBudget}
 use Rattle.py_node.specs.Replies.{Told as Answering}
 use Rattle.plain_machine.specs.Plain.{PlainWorld, DoEval, PlainTask, ToEval, AsValue, Ended, Answered, Told, Said, Asks, Ends, Saying}
-use Rattle.plain_machine.specs.World.{at_rest, ref}
+use Rattle.plain_machine.specs.World.{at_depth, without_calls, ref}
 use Rattle.plain_machine.specs.Row.{fault}
 use Rattle.plain_machine.specs.Show.{show}
 
@@ -19,7 +19,7 @@ pub data Ending : Type 0 where
 pub data Outcome : Type 0 where
   Out : PlainWorld → Ending → ℕ → Outcome
 
--- the answer of a task that has learnt something, with units left, at a depth
+-- the outcome of a task that has learnt something, with units left, at a depth
 abbrev pub Follow : Type 0
 Follow = PlainWorld → PlainTask → Told → ℕ → ℕ → Outcome
 
@@ -40,14 +40,21 @@ step self task told depth (Asks w learnt other) zero = Out w NoUnits zero
 step self task told depth (Asks w learnt other) (suc left) =
     carry (λ w r left. self w task ((told ++ learnt) ++ Answered r ∷ []) left depth) (asked self w other left (suc depth))
 
--- as `answer`, for fewer units than n
+-- as `reach`, for fewer units than n
 unfoldable pub follow : Saying PlainTask → ℕ → Follow
 follow say zero w task told left depth = Out w NoUnits left
 follow say (suc n) w task told left depth = step (follow say n) task told depth (say w task told) left
 
--- the answer of a task: its row is followed until it ends
-unfoldable pub answer : Saying PlainTask → Follow
-answer say w task told left depth = follow say (suc left) w task told left depth
+-- what a task comes to that has learnt something: its row is followed until it ends
+unfoldable pub reach : Saying PlainTask → Follow
+reach say w task told left depth = follow say (suc left) w task told left depth
+
+abbrev pub closing : ℕ → Outcome → Outcome
+closing n (Out w e left) = Out (at_depth n w) e left
+
+-- the answer of a task, with units left, at a depth. However it ends, the bodies that it began are over
+abbrev pub answer : Saying PlainTask → PlainWorld → PlainTask → ℕ → ℕ → Outcome
+answer say w task left depth = closing (length w.scopes) (reach say w task [] left depth)
 
 -- the replies to commands and the world after them
 pub record Run : Type 0 where
@@ -63,9 +70,9 @@ answering w NoUnits = ToldBudget
 
 abbrev pub replied : (PlainWorld → Run) → Outcome → Run
 replied go (Out w e left) =
-    let rest = go (at_rest w) in record { world = rest.world; replies = record { answer = answering w e; calls = w.calls } ∷ rest.replies }
+    let rest = go (without_calls w) in record { world = rest.world; replies = record { answer = answering w e; calls = w.calls } ∷ rest.replies }
 
 -- each command is evaluated at depth 0 with the same units. A fault, or the end of the units, ends its command alone
 abbrev pub plain_run : Saying PlainTask → PlainWorld → List Tree → ℕ → Run
 plain_run say w [] units = record { world = w; replies = [] }
-plain_run say w (e ∷ es) units = replied (λ w. plain_run say w es units) (answer say w (ToEval (DoEval e)) [] units 0)
+plain_run say w (e ∷ es) units = replied (λ w. plain_run say w es units) (answer say w (ToEval (DoEval e)) units 0)

@@ -113,9 +113,13 @@ with_own_attr w c x r = record w { classes = with_class_attr is_text w.classes c
 abbrev pub with_new_class : PlainWorld → ℕ → Class Text → PlainWorld
 with_new_class w meta k = record (push_node w meta None (AClass k.number)) { classes = with_class w.classes k }
 
--- a command is over: no scope is left, and no start is noted
-abbrev pub at_rest : PlainWorld → PlainWorld
-at_rest w = record w { scopes = []; calls = [] }
+-- all bodies but the first so many are over: their scopes are taken away
+abbrev pub at_depth : ℕ → PlainWorld → PlainWorld
+at_depth n w = record w { scopes = take n w.scopes }
+
+-- no start is noted
+abbrev pub without_calls : PlainWorld → PlainWorld
+without_calls w = record w { calls = [] }
 
 -- a variable, in the running body or else in the machine
 abbrev pub in_last : List Scope → Text → Option PyObjectRef

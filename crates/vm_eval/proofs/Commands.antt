@@ -6,7 +6,7 @@ use Rattle.py_node.specs.Tree.{Tree}
 use Rattle.py_node.specs.Replies.{Told, Started}
 use Rattle.plain_machine.specs.Plain.{PlainWorld, DoEval, ToEval}
 use Rattle.plain_machine.specs.Answer.{Run, Out, answer, answering, replied}
-use Rattle.plain_machine.specs.World.{at_rest}
+use Rattle.plain_machine.specs.World.{without_calls}
 use Rattle.class_world.specs.declared.world.World.{World}
 use Rattle.class_world.specs.Reading.{Reading, Reads, plain}
 use Rattle.vm_eval.specs.declared.stack.End.{End}
@@ -14,12 +14,12 @@ use Rattle.vm_eval.specs.Say.{say}
 use Rattle.vm_eval.specs.Stack.{Answers, ending_of}
 use Rattle.vm_eval.specs.Runs.{Replied, before}
 
--- a command's expression is stored, driven to its end, shown, and left at rest
+-- a command's expression is stored, driven to its end, shown, and its starts are told
 pub command-replied : (command : Tree) (number units : ℕ) (old mid last new : World) (end : End) (told : Told) (calls : List Started)
     → ((t : Reading) → Reads t mid → t.tree number ≡ command) → ((t : Reading) → plain t mid ≡ plain t old) → ((t : Reading) → Reads t mid → Reads t old)
     → Answers (task.Eval (eval.Eval number)) mid units last end
     → ((t : Reading) → told ≡ answering (plain t last) (ending_of end))
-    → ((t : Reading) → calls ≡ (plain t last).calls) → ((t : Reading) → plain t new ≡ at_rest (plain t last)) → ((t : Reading) → Reads t new → Reads t last)
+    → ((t : Reading) → calls ≡ (plain t last).calls) → ((t : Reading) → plain t new ≡ without_calls (plain t last)) → ((t : Reading) → Reads t new → Reads t last)
     → Replied command old units new (record { answer = told; calls = calls })
 command-replied command number units old mid last new end told calls spelled same reads answers shows notes rests back = λ t r.
     let a = answers t (back t r) in
@@ -27,10 +27,10 @@ command-replied command number units old mid last new end told calls spelled sam
     let tree = spelled t a.0 in
     (reads t a.0, λ go. go-on t go a.1 a.2 here tree)
   where
-    go-on : (t : Reading) (go : PlainWorld → Run) (left : ℕ) → answer say (plain t mid) (ToEval (DoEval (t.tree number))) [] units 0 ≡ Out (plain t last) (ending_of end) left → plain t old ≡ plain t mid → t.tree number ≡ command → replied go (answer say (plain t old) (ToEval (DoEval command)) [] units 0) ≡ before (record { answer = told; calls = calls }) (go (plain t new))
+    go-on : (t : Reading) (go : PlainWorld → Run) (left : ℕ) → answer say (plain t mid) (ToEval (DoEval (t.tree number))) units 0 ≡ Out (plain t last) (ending_of end) left → plain t old ≡ plain t mid → t.tree number ≡ command → replied go (answer say (plain t old) (ToEval (DoEval command)) units 0) ≡ before (record { answer = told; calls = calls }) (go (plain t new))
     go-on t go left e here tree =
-        ap (λ w. replied go (answer say w (ToEval (DoEval command)) [] units 0)) here
-        ∙ ap (λ x. replied go (answer say (plain t mid) (ToEval (DoEval x)) [] units 0)) (sym tree)
+        ap (λ w. replied go (answer say w (ToEval (DoEval command)) units 0)) here
+        ∙ ap (λ x. replied go (answer say (plain t mid) (ToEval (DoEval x)) units 0)) (sym tree)
         ∙ ap (replied go) e
         ∙ ap (λ w. before (record { answer = answering (plain t last) (ending_of end); calls = (plain t last).calls }) (go w)) (sym (rests t))
         ∙ ap (λ x. before (record { answer = x; calls = (plain t last).calls }) (go (plain t new))) (sym (shows t))

@@ -11,9 +11,9 @@ use Rattle.py_node.specs.declared.task.Step.{Step}
 use Rattle.py_node.specs.declared.task.Step.TheVariants.{Ask, End}
 use Rattle.plain_machine.specs.Plain.{PlainWorld, PlainTask, Ended, Answered, Told, Said, Asks, Ends}
 use Rattle.plain_machine.specs.Row.{fault}
-use Rattle.plain_machine.specs.Answer.{Over, NoUnits, Outcome, Out, carry, asked, step, answer}
+use Rattle.plain_machine.specs.Answer.{Over, NoUnits, Outcome, Out, carry, asked, step, reach}
 use Rattle.plain_machine.specs.Rows.{Pending}
-use Rattle.plain_machine.proofs.Follow.{answer-is, answer-alike}
+use Rattle.plain_machine.proofs.Follow.{reach-is, reach-alike}
 use Rattle.class_world.specs.declared.world.World.{World}
 use Rattle.class_world.specs.Reading.{Reading, Reads, plain, task_of, ended_of}
 use Rattle.class_world.specs.Rows.{Steps}
@@ -39,16 +39,16 @@ carry-like f g (Out w (Over r) left) k = k w r left
 carry-like f g (Out w NoUnits left) k = refl
 
 -- what follows from a row's words is what follows from the code's step
-step-coming : (t : Reading) (task : PlainTask) (told : Told) (said : Said) (next : Step Kept) (new : World) (left depth : ℕ) → Steps say (stands t) t task told said next new → step (answer say) task told depth said left ≡ coming t next (plain t new) left depth
+step-coming : (t : Reading) (task : PlainTask) (told : Told) (said : Said) (next : Step Kept) (new : World) (left depth : ℕ) → Steps say (stands t) t task told said next new → step (reach say) task told depth said left ≡ coming t next (plain t new) left depth
 step-coming t task told (Ends w r) (Ask other kept) new left depth h = absurd h
 step-coming t task told (Ends w r) (End s) new left depth h =
     ap (λ w. Out w (Over r) left) (sym h.1) ∙ ap (λ r. Out (plain t new) (Over r) left) (sym h.0)
 step-coming t task told (Asks w learnt other) (End s) new left depth h = absurd h
 step-coming t task told (Asks w learnt other) (Ask next kept) new zero depth h = ap (λ w. Out w NoUnits zero) (sym h.1)
 step-coming t task told (Asks w learnt other) (Ask next kept) new (suc left) depth h =
-    carry-like _ _ (asked (answer say) w other left (suc depth)) (λ w r left. answer-alike say (record { task = task; told = told ++ learnt }) (stands t kept) h.2 w r left depth)
-    ∙ ap (λ w. finish (stands t kept) depth (asked (answer say) w other left (suc depth))) (sym h.1)
-    ∙ ap (λ other. finish (stands t kept) depth (asked (answer say) (plain t new) other left (suc depth))) (sym h.0)
+    carry-like _ _ (asked (reach say) w other left (suc depth)) (λ w r left. reach-alike say (record { task = task; told = told ++ learnt }) (stands t kept) h.2 w r left depth)
+    ∙ ap (λ w. finish (stands t kept) depth (asked (reach say) w other left (suc depth))) (sym h.1)
+    ∙ ap (λ other. finish (stands t kept) depth (asked (reach say) (plain t new) other left (suc depth))) (sym h.0)
 
 -- an answer goes to the frame on top
 pub state-resume : (t : Reading) (old new : World) (stack : List Kept) (kept : Kept) (r : Result Answer Fault) (left : ℕ) (next : Step Kept) → Resumes kept r old new next → Reads t new → state t new stack left next ≡ state t old (stack ++ kept ∷ []) left (End r)
@@ -61,21 +61,21 @@ state-resume t old new stack kept r left next h reads =
     sym (ap (λ ps. unwind 0 ps (Out w (Over (ended_of r)) left)) (map-append (stands t) stack (kept ∷ []))
     ∙ unwind-push (map (stands t) stack) p (Out w (Over (ended_of r)) left)
     ∙ ap (unwind 0 (map (stands t) stack)) (
-    answer-is say w p.task told left (length (map (stands t) stack))
+    reach-is say w p.task told left (length (map (stands t) stack))
     ∙ step-coming t p.task told (say w p.task told) next new left (length (map (stands t) stack)) (h t reads).1
     ∙ ap (coming t next (plain t new) left) d))
 
 module _ (t : Reading) (old : World) (stack : List Kept) (task : Task) (kept : Kept) (left : ℕ) where
   -- a frame goes onto the stack
-  pushed : state t old stack (suc left) (Ask task kept) ≡ unwind 0 (map (stands t) (stack ++ kept ∷ [])) (asked (answer say) (plain t old) (task_of t task) left (length (stack ++ kept ∷ [])))
+  pushed : state t old stack (suc left) (Ask task kept) ≡ unwind 0 (map (stands t) (stack ++ kept ∷ [])) (asked (reach say) (plain t old) (task_of t task) left (length (stack ++ kept ∷ [])))
   unfolding state
   pushed =
-      let o = asked (answer say) (plain t old) (task_of t task) left (suc (length stack)) in
+      let o = asked (reach say) (plain t old) (task_of t task) left (suc (length stack)) in
       let n : suc (length stack) ≡ length (stack ++ kept ∷ []) = omega (arith, length-append stack (kept ∷ [])) in
       ap (λ d. unwind 0 (map (stands t) stack) (finish (stands t kept) d o)) (sym (length-map stack (stands t)))
       ∙ sym (unwind-push (map (stands t) stack) (stands t kept) o)
       ∙ ap (λ ps. unwind 0 ps o) (sym (map-append (stands t) stack (kept ∷ [])))
-      ∙ ap (λ n. unwind 0 (map (stands t) (stack ++ kept ∷ [])) (asked (answer say) (plain t old) (task_of t task) left n)) n
+      ∙ ap (λ n. unwind 0 (map (stands t) (stack ++ kept ∷ [])) (asked (reach say) (plain t old) (task_of t task) left n)) n
 
   -- an asked task begins
   pub state-begin : (new : World) (next : Step Kept) → nat_lt (length (stack ++ kept ∷ [])) 1000 ≡ true → Begins task old new next → Reads t new → state t new (stack ++ kept ∷ []) left next ≡ state t old stack (suc left) (Ask task kept)
@@ -84,8 +84,8 @@ module _ (t : Reading) (old : World) (stack : List Kept) (task : Task) (kept : K
       let w = plain t old in
       let n = length (stack ++ kept ∷ []) in
       sym (pushed ∙ ap (unwind 0 (map (stands t) (stack ++ kept ∷ []))) (
-      ap (λ b. cond b (answer say w (task_of t task) [] left n) (Out w (Over (fault RecursionError DepthLimit)) left)) low
-      ∙ answer-is say w (task_of t task) [] left n
+      ap (λ b. cond b (reach say w (task_of t task) [] left n) (Out w (Over (fault RecursionError DepthLimit)) left)) low
+      ∙ reach-is say w (task_of t task) [] left n
       ∙ step-coming t (task_of t task) [] (say w (task_of t task) []) next new left n (h t reads).1))
 
   -- or it stands too deep
@@ -95,7 +95,7 @@ module _ (t : Reading) (old : World) (stack : List Kept) (task : Task) (kept : K
       let w = plain t old in
       let n = length (stack ++ kept ∷ []) in
       sym (pushed ∙ ap (unwind 0 (map (stands t) (stack ++ kept ∷ []))) (
-      ap (λ b. cond b (answer say w (task_of t task) [] left n) (Out w (Over (fault RecursionError DepthLimit)) left)) high))
+      ap (λ b. cond b (reach say w (task_of t task) [] left n) (Out w (Over (fault RecursionError DepthLimit)) left)) high))
 
 -- no unit is left
 pub state-no_units : (t : Reading) (w : World) (stack : List Kept) (task : Task) (kept : Kept) → Out (plain t w) NoUnits 0 ≡ state t w stack 0 (Ask task kept)
@@ -108,10 +108,10 @@ unfolding state
 state-end t w left r = refl
 
 -- the first task begins
-pub state-first : (t : Reading) (old new : World) (task : Task) (left : ℕ) (next : Step Kept) → Begins task old new next → Reads t new → state t new [] left next ≡ answer say (plain t old) (task_of t task) [] left 0
+pub state-first : (t : Reading) (old new : World) (task : Task) (left : ℕ) (next : Step Kept) → Begins task old new next → Reads t new → state t new [] left next ≡ reach say (plain t old) (task_of t task) [] left 0
 unfolding state
 state-first t old new task left next h reads =
-    sym (answer-is say (plain t old) (task_of t task) [] left 0
+    sym (reach-is say (plain t old) (task_of t task) [] left 0
     ∙ step-coming t (task_of t task) [] (say (plain t old) (task_of t task) []) next new left 0 (h t reads).1)
 
 pub no-frames : (stack : List Kept) → length stack ≡ 0 → stack ≡ []

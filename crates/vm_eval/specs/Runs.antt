@@ -1,12 +1,11 @@
 -- What the machine's replies to commands are, in the terms of the plain run.
-use Rattle.std.specs.Prelude.{◌≡◌, ℕ, List, [], ◌∷◌, map}
+use Rattle.std.specs.Prelude.{◌≡◌, ◌≤◌, ℕ, List, ◌∷◌, length, map}
 use Rattle.py_node.specs.declared.expr.Command.{Command}
 use Rattle.py_node.specs.declared.reply.Reply.{Reply}
 use Rattle.py_node.specs.Tree.{Tree, tree_of}
 use Rattle.py_node.specs.Replies.{PlainReply, reply_of}
 use Rattle.plain_machine.specs.Plain.{PlainWorld, DoEval, ToEval}
 use Rattle.plain_machine.specs.Answer.{Run, answer, replied, plain_run}
-use Rattle.plain_machine.specs.World.{at_rest}
 use Rattle.class_world.specs.declared.world.World.{World}
 use Rattle.class_world.specs.Reading.{Reading, Reads, plain}
 use Rattle.vm_eval.specs.Say.{say}
@@ -18,11 +17,11 @@ before reply rest = record { world = rest.world; replies = reply ∷ rest.replie
 -- what one command leaves, whatever comes after it
 abbrev pub Replied : Tree → World → ℕ → World → PlainReply → Type 0
 Replied command old units new reply =
-    (t : Reading) → Reads t new → Reads t old × ((go : PlainWorld → Run) → replied go (answer say (plain t old) (ToEval (DoEval command)) [] units 0) ≡ before reply (go (plain t new)))
+    (t : Reading) → Reads t new → Reads t old × ((go : PlainWorld → Run) → replied go (answer say (plain t old) (ToEval (DoEval command)) units 0) ≡ before reply (go (plain t new)))
 
--- no body runs, and no start is noted
-abbrev pub IsAtRest : PlainWorld → Type 0
-IsAtRest w = at_rest w ≡ w
+-- no more bodies run than before
+abbrev pub NoDeeper : PlainWorld → PlainWorld → Type 0
+NoDeeper old new = length new.scopes ≤ length old.scopes
 
 abbrev pub trees_in : List Command → List Tree
 trees_in commands = map (λ c. tree_of c.expr) commands

@@ -1,10 +1,10 @@
--- What a stack of frames comes to, in the terms of `answer`.
+-- What a stack of frames comes to, in the terms of `reach`.
 use Rattle.std.specs.Prelude.{◌≡◌, ℕ, zero, suc, ◌+◌, List, [], ◌∷◌, ◌++◌, length, map}
 use Rattle.py_node.specs.declared.task.Task.{Task}
 use Rattle.py_node.specs.declared.task.Step.{Step}
 use Rattle.py_node.specs.declared.task.Step.TheVariants.{Ask, End}
 use Rattle.plain_machine.specs.Plain.{PlainWorld, PlainTask, Answered}
-use Rattle.plain_machine.specs.Answer.{Ending, Over, NoUnits, Outcome, Out, carry, asked, answer}
+use Rattle.plain_machine.specs.Answer.{Ending, Over, NoUnits, Outcome, Out, carry, asked, reach, answer}
 use Rattle.plain_machine.specs.Rows.{Pending}
 use Rattle.class_world.specs.declared.world.World.{World}
 use Rattle.class_world.specs.Reading.{Reading, Reads, plain, task_of, ended_of}
@@ -19,7 +19,7 @@ use Rattle.vm_eval.specs.Say.{say, stands, of_kept}
 
 -- a row's outcome, from the outcome of what it asked
 abbrev pub finish : Pending PlainTask → ℕ → Outcome → Outcome
-finish p depth o = carry (λ w r left. answer say w p.task (p.told ++ Answered r ∷ []) left depth) o
+finish p depth o = carry (λ w r left. reach say w p.task (p.told ++ Answered r ∷ []) left depth) o
 
 -- the outcome of the lowest frame, from the outcome of what the top frame asked
 abbrev pub unwind : ℕ → List (Pending PlainTask) → Outcome → Outcome
@@ -30,7 +30,7 @@ unwind depth (p ∷ ps) o = finish p depth (unwind (suc depth) ps o)
 abbrev pub coming : Reading → Step Kept → PlainWorld → ℕ → ℕ → Outcome
 coming t (End r) w left depth = Out w (Over (ended_of r)) left
 coming t (Ask task kept) w zero depth = Out w NoUnits zero
-coming t (Ask task kept) w (suc left) depth = finish (stands t kept) depth (asked (answer say) w (task_of t task) left (suc depth))
+coming t (Ask task kept) w (suc left) depth = finish (stands t kept) depth (asked (reach say) w (task_of t task) left (suc depth))
 
 -- the outcome that the machine is on its way to
 unfoldable pub state : Reading → World → List Kept → ℕ → Step Kept → Outcome
@@ -57,10 +57,15 @@ abbrev pub ending_of : CodeEnd → Ending
 ending_of (code.Over r) = Over (ended_of r)
 ending_of code.NoUnits = NoUnits
 
--- the task ends so, from one world to the other
+-- the task comes to this, from one world to the other
+abbrev pub Reaches : Task → World → ℕ → World → CodeEnd → Type 0
+Reaches task old units new end =
+    (t : Reading) → Reads t new → Reads t old × (left : ℕ) × (reach say (plain t old) (task_of t task) [] units 0 ≡ Out (plain t new) (ending_of end) left)
+
+-- the task is answered so
 abbrev pub Answers : Task → World → ℕ → World → CodeEnd → Type 0
 Answers task old units new end =
-    (t : Reading) → Reads t new → Reads t old × (left : ℕ) × (answer say (plain t old) (task_of t task) [] units 0 ≡ Out (plain t new) (ending_of end) left)
+    (t : Reading) → Reads t new → Reads t old × (left : ℕ) × (answer say (plain t old) (task_of t task) units 0 ≡ Out (plain t new) (ending_of end) left)
 
 abbrev pub of_turn : Turn → List Claim
 of_turn (On step) = of_step of_kept step

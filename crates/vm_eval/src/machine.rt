@@ -5,7 +5,7 @@ ghost use Rattle.plain_machine.specs.Start.{start};
 ghost use Rattle.class_world.specs.Reading.{Reading, Reads, plain, IsReadable};
 ghost use Rattle.plain_machine.specs.Sound.{IsSound};
 ghost use Rattle.class_world.specs.Sound.{Grows};
-ghost use Rattle.vm_eval.specs.Runs.{IsAtRest, Runs};
+ghost use Rattle.vm_eval.specs.Runs.{NoDeeper, Runs};
 
 use crate::run::replies;
 use crate::stack::{DEPTH, Kept};
@@ -72,7 +72,7 @@ impl VirtualMachine {
     ) -> Result<Vec<Reply>, RunFault>
         ensures runs { IfOk result (λ replies. Runs commands.now self.old.world units self.new.world replies.items) }
         ensures grows { Grows self.old.world self.new.world }
-        ensures rests { OnOk result ((t : Reading) → IsAtRest (plain t self.old.world) → IsAtRest (plain t self.new.world)) }
+        ensures rests { OnOk result ((t : Reading) → NoDeeper (plain t self.old.world) (plain t self.new.world)) }
         ensures readable { OnOk result (IsReadable self.new.world) }
         ensures works { OnOk result (self.new.failed ≡ self.old.failed) }
         ensures gives_up { OnErr result (IsTrue self.new.failed) }

@@ -8,7 +8,7 @@ ghost use Rattle.plain_machine.specs.Answer.{answering};
 ghost use Rattle.class_world.specs.Reading.{Reading, plain};
 ghost use Rattle.class_world.specs.Sound.{AllHold, Grows, Holds, IsNode};
 ghost use Rattle.vm_eval.specs.Stack.{of_end, ending_of};
-ghost use Rattle.vm_eval.specs.Runs.{IsAtRest, Replied, Runs};
+ghost use Rattle.vm_eval.specs.Runs.{NoDeeper, Replied, Runs};
 
 use crate::stack::{End, Kept, drive};
 use class_world::show::show;
@@ -31,7 +31,7 @@ pub(crate) fn replies(
 ) -> Result<Vec<Reply>, OutOfMemory>
     ensures runs { IfOk result (λ replies. Runs commands.now world.old units world.new replies.items) }
     ensures grows { Grows world.old world.new }
-    ensures rests { OnOk result ((t : Reading) → IsAtRest (plain t world.old) → IsAtRest (plain t world.new)) }
+    ensures rests { OnOk result ((t : Reading) → NoDeeper (plain t world.old) (plain t world.new)) }
     ensures idle { commands.now ≡ [] → IfErr result (λ _. ⊥) }
 {
     let mut replies = Vec::new(alloc);
@@ -60,7 +60,7 @@ fn reply(
 ) -> Result<Reply, OutOfMemory>
     ensures replied { IfOk result (λ reply. Replied (tree_of command.now.expr) world.old units world.new (reply_of reply)) }
     ensures grows { Grows world.old world.new }
-    ensures rests { OnOk result ((t : Reading) → IsAtRest (plain t world.new)) }
+    ensures rests { OnOk result ((t : Reading) → NoDeeper (plain t world.old) (plain t world.new)) }
 {
     let number = add_expr(world, alloc, &command.expr)?;
     let end = drive(
@@ -71,7 +71,7 @@ fn reply(
         units,
     )?;
     let answer = answering(world, alloc, end)?;
-    let calls = world.rest(alloc);
+    let calls = world.take_calls(alloc);
     Ok(Reply { answer, calls })
 }
 

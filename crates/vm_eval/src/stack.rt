@@ -2,6 +2,8 @@
 
 ghost use Rattle.std.specs.Prelude.{◌≡◌, ◌<◌, [], ◌∷◌, ◌++◌, IfOk, OnErr, OnOk};
 ghost use Rattle.class_world.specs.Sound.{AllHold, Grows, of_each};
+ghost use Rattle.class_world.specs.Reading.{Reading, plain};
+ghost use Rattle.vm_eval.specs.Runs.{NoDeeper};
 ghost use Rattle.class_world.specs.Claims.{of_task, of_ended, of_step, Leaves};
 ghost use Rattle.eval_forms.specs.Rows.{of_eval_kept};
 ghost use Rattle.proto_attr.specs.Rows.{of_attribute_kept};
@@ -9,7 +11,7 @@ ghost use Rattle.proto_call.specs.Rows.{of_call_kept};
 ghost use Rattle.class_make.specs.Rows.{of_class_kept};
 ghost use Rattle.proto_ops.specs.Rows.{of_operator_kept};
 ghost use Rattle.vm_eval.specs.Say.{Begins, Resumes, step_among, of_kept};
-ghost use Rattle.vm_eval.specs.Stack.{Answers, Keeps, turns_left, of_turn, of_end};
+ghost use Rattle.vm_eval.specs.Stack.{Answers, Reaches, Keeps, turns_left, of_turn, of_end};
 
 use class_make::ClassKept;
 use class_world::world::World;
@@ -226,7 +228,7 @@ fn push(stack: &mut Vec<Kept>, kept: Kept) -> Result<(), OutOfMemory>
     Ok(())
 }
 
-// How a task ends that may use so many units, on a stack that is empty.
+// How a task ends that may use so many units, on a stack that is empty. The bodies that it began are over.
 pub(crate) fn drive(
     world: &mut World,
     alloc: Global,
@@ -236,6 +238,26 @@ pub(crate) fn drive(
 ) -> Result<End, OutOfMemory>
     requires { AllHold world.old (of_task task) }
     ensures answers { IfOk result (λ end. Answers task world.old units world.new end) }
+    ensures grows { Grows world.old world.new }
+    ensures holds { IfOk result (λ end. AllHold world.new (of_end end)) }
+    ensures rests { OnOk result ((t : Reading) → NoDeeper (plain t world.old) (plain t world.new)) }
+{
+    let depth = world.depth();
+    let end = take_turns(world, alloc, stack, task, units)?;
+    world.end_bodies(depth);
+    Ok(end)
+}
+
+// The turns of a task, on a stack that is empty.
+fn take_turns(
+    world: &mut World,
+    alloc: Global,
+    stack: &mut Vec<Kept>,
+    task: Task,
+    units: u64,
+) -> Result<End, OutOfMemory>
+    requires { AllHold world.old (of_task task) }
+    ensures reaches { IfOk result (λ end. Reaches task world.old units world.new end) }
     ensures grows { Grows world.old world.new }
     ensures holds { IfOk result (λ end. AllHold world.new (of_end end)) }
 {

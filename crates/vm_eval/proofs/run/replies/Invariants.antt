@@ -4,7 +4,7 @@ use Rattle.plain_machine.specs.Answer.{plain_run}
 use Rattle.class_world.specs.Reading.{Reading, Reads, plain}
 use Rattle.class_world.specs.Sound.{Grows}
 use Rattle.vm_eval.specs.Say.{say}
-use Rattle.vm_eval.specs.Runs.{IsAtRest, trees_in}
+use Rattle.vm_eval.specs.Runs.{NoDeeper, trees_in}
 use Rattle.vm_eval.proofs.run.replies.Given as goal
 
 -- the replies so far, and those to what is left, are those to all
@@ -14,5 +14,5 @@ invariant-loop-command l = record {
       let rest = plain_run say (plain t l.world) (trees_in (drop l.command-index l.commands)) l.units in
       Reads t l.fn.world × (plain_run say (plain t l.fn.world) (trees_in l.commands) l.units ≡ record { world = rest.world; replies = map reply_of l.replies.items ++ rest.replies });
   grows : Grows l.fn.world l.world;
-  rests : (t : Reading) → IsAtRest (plain t l.fn.world) → IsAtRest (plain t l.world);
+  rests : (t : Reading) → NoDeeper (plain t l.fn.world) (plain t l.world);
 }

@@ -1,0 +1,32 @@
+use Rattle.std.proofs.Common.{◌≡◌, ℕ, List, map, take, ap, sym, ◌∙◌}
+use Rattle.std.proofs.lemmas.List.{take-map}
+use Rattle.plain_machine.specs.World.{at_depth}
+use Rattle.class_world.specs.Held.{Held}
+use Rattle.class_world.specs.declared.scope.Scope.{Scope}
+use Rattle.class_world.specs.contracts.world.World.{the_view}
+use Rattle.class_world.specs.Reading.{Reading, plain, scope_of}
+use Rattle.class_world.specs.Sound.{of_scope}
+use Rattle.class_world.proofs.Claims.{each-take}
+use Rattle.class_world.proofs.Growth.{grows-seen}
+use Rattle.class_world.proofs.Bound.{other-sound, other-grows}
+use Rattle.class_world.proofs.world.World.end_bodies.Goals as goal
+
+pub invariant_of-self : goal.invariant_of-self
+invariant_of-self c =
+    let w = the_view c.self.inside in
+    rw c.truncate.ensures.items (other-sound w w.vars _ w.calls c.self.invariant c.self.invariant.vars (each-take w of_scope w.scopes _ c.self.invariant.scopes))
+
+pub returns-clause-grows : goal.returns-clause-grows
+returns-clause-grows c = grows-seen (the_view c.self.inside) _ _ c.self.view_is (other-grows _ _ _ _)
+
+-- the first scopes, as they are read
+first-read : (t : Reading) (w : Held) (n : ℕ) (ss : List Scope) → ss ≡ take n w.scopes → plain t (record w { scopes = ss }) ≡ at_depth n (plain t w)
+unfolding plain
+first-read t w n ss e =
+    ap (λ ss. record (plain t w) { scopes = map (scope_of t) ss }) e
+    ∙ ap (λ ss. record (plain t w) { scopes = ss }) (sym (take-map (scope_of t) n w.scopes))
+
+pub returns-clause-ended : goal.returns-clause-ended
+returns-clause-ended c = λ t.
+    first-read t (the_view c.self.inside) c.args.depth _ c.truncate.ensures.items
+    ∙ ap (λ w. at_depth c.args.depth (plain t w)) c.self.view_is
