@@ -1,3 +1,4 @@
 pub mod Groups
 pub mod Turns
 pub mod Commands
+pub mod Rests

@@ -32,11 +32,15 @@ pub struct VirtualMachine {
 }
 
 impl Model for VirtualMachine {
+    ghost use Rattle.std.specs.Prelude.{◌≡◌, []};
     ghost use Rattle.vm_eval.specs.State.{State};
 
     ghost Value = { State };
 
     ghost view = { λ a. record { world = a.world; failed = a.failed } };
+
+    // No body runs.
+    ghost invariant = { λ a. a.world.scopes ≡ [] };
 }
 
 impl VirtualMachine {
@@ -47,6 +51,7 @@ impl VirtualMachine {
     {
         let world = World::new(alloc)?;
         let stack = Vec::with_capacity(alloc, DEPTH)?;
+        world.readable();
         Ok(VirtualMachine {
             world,
             stack,
@@ -72,7 +77,7 @@ impl VirtualMachine {
     ) -> Result<Vec<Reply>, RunFault>
         ensures runs { IfOk result (λ replies. Runs commands.now self.old.world units self.new.world replies.items) }
         ensures grows { Grows self.old.world self.new.world }
-        ensures rests { OnOk result ((t : Reading) → NoDeeper (plain t self.old.world) (plain t self.new.world)) }
+        ensures rests { (t : Reading) → (plain t self.new.world).scopes ≡ [] }
         ensures readable { OnOk result (IsReadable self.new.world) }
         ensures works { OnOk result (self.new.failed ≡ self.old.failed) }
         ensures gives_up { OnErr result (IsTrue self.new.failed) }
@@ -93,7 +98,9 @@ impl VirtualMachine {
                 Ok(replies)
             }
             Err(_) => {
+                self.world.end_bodies(0);
                 self.failed = true;
+                self.world.readable();
                 self.world.sound();
                 Err(RunFault::OutOfMemory)
             }
