@@ -46,10 +46,10 @@ module _ (t : Reading) where
   give-new s u bs x c d h k =
       k ∙ sym (ap (λ b. cond b (u, bindings t bs) (put (u, bindings t bs) (t.text x.0) c d)) (ap is_some (value-read t bs x) ∙ h))
 
-  pub dict-given : (s : Space) (u v : PlainWorld) (bs : Bound) (x : PyStrInterned) (c o : ℕ) → s ≡ give (v, bindings t bs) (t.text x.0) c (AGetSet o (t.text x.0) (Some (Getter property.Dict)) (Some (Setter property.Dict))) → v ≡ u → t.text x.0 ≡ codes "__dict__" → c ≡ 15 → o ≡ 0 → s ≡ give_dict (u, bindings t bs)
+  pub dict-given : (s : Space) (u v : PlainWorld) (bs : Bound) (x : PyStrInterned) (c o : ℕ) → s ≡ give (v, bindings t bs) (t.text x.0) c (AGetSet o (t.text x.0) (Some (Getter property.InstanceDict)) (Some (Setter property.InstanceDict))) → v ≡ u → t.text x.0 ≡ codes "__dict__" → c ≡ 15 → o ≡ 0 → s ≡ give_dict (u, bindings t bs)
   unfolding give_dict
   dict-given s u v bs x c o h e f k m =
-      h ∙ (λ i. give (e i, bindings t bs) (f i) (k i) (AGetSet (m i) (f i) (Some (Getter property.Dict)) (Some (Setter property.Dict))))
+      h ∙ (λ i. give (e i, bindings t bs) (f i) (k i) (AGetSet (m i) (f i) (Some (Getter property.InstanceDict)) (Some (Setter property.InstanceDict))))
 
   pub qualified : (s : Space) (u v : PlainWorld) (bs : Bound) (x : PyStrInterned) (c : ℕ) (name text : Text) → s ≡ give (v, bindings t bs) (t.text x.0) c (AText text) → v ≡ u → t.text x.0 ≡ codes "__qualname__" → c ≡ 6 → text ≡ name → s ≡ qualify name (u, bindings t bs)
   unfolding qualify

@@ -80,7 +80,7 @@ unhash s = cond (has_name s.1 (codes "__eq__") && not (has_name s.1 (codes "__ha
 -- the attribute that reads and sets an object's dict
 unfoldable pub give_dict : Space → Space
 give_dict s =
-    give s (codes "__dict__") the_getset (AGetSet the_object (codes "__dict__") (Some (Getter property.Dict)) (Some (Setter property.Dict)))
+    give s (codes "__dict__") the_getset (AGetSet the_object (codes "__dict__") (Some (Getter property.InstanceDict)) (Some (Setter property.InstanceDict)))
 
 unfoldable pub completed : Text → Space → Space
 completed name s = give_dict (unhash (qualify name (wrap (codes "__class_getitem__") (wrap (codes "__init_subclass__") s))))

@@ -173,8 +173,8 @@ fn give_dict(
     let dict = GetSet {
         class: world.built_in(BuiltIn::Object),
         name,
-        getter: Some(NativeEntry::Getter(Property::Dict)),
-        setter: Some(NativeEntry::Setter(Property::Dict)),
+        getter: Some(NativeEntry::Getter(Property::InstanceDict)),
+        setter: Some(NativeEntry::Setter(Property::InstanceDict)),
     };
     let class = world.built_in(BuiltIn::GetSetDescriptor);
     let more = give(world, alloc, name, class, Payload::GetSet(dict), attrs)?;

@@ -7,7 +7,7 @@ use Rattle.py_node.specs.declared.entry.SlotEntry.{SlotEntry}
 use Rattle.py_node.specs.Slots.{Sort, ByItself, BySequence, ByMapping, Nearest, all_slots, sort_of}
 use Rattle.class_model.specs.Order.{Holds}
 use Rattle.class_model.specs.Class.{Classes, class_at, lin, own_of, first_along, along}
-use Rattle.class_model.specs.Slot.{Keys, Natives, is_name_of, is_slot, wrapped, heap_entry, native_entry, is_heap_at, given_entry, is_by_itself, entry, has_table, first_with, read_along}
+use Rattle.class_model.specs.Slot.{Keys, Natives, is_name_of, is_slot, wrapped, heap_entry, is_heap_at, given_entry, is_by_itself, entry, has_table, first_with, read_along}
 
 pub bind-agrees : {A B : Type 0} (f g : A → Option B) (o p : Option A) → o ≡ p → ((x : A) → o ≡ Some x → f x ≡ g x) → option_and_then f o ≡ option_and_then g p
 bind-agrees {A = A} {B = B} f g o p e h = go o h ∙ ap (option_and_then g) e
@@ -60,7 +60,7 @@ module _ {K L : Type 0} (keys : Keys K) (others : Keys L) (natives : Natives) (s
   given_entry-agrees c p =
       let a : option_and_then (λ line. heap_entry keys t c line s) (lin t c) ≡ option_and_then (λ line. heap_entry others u c line s) (lin u c) =
       bind-agrees (λ line. heap_entry keys t c line s) (λ line. heap_entry others u c line s) (lin t c) (lin u c) (lins c p) (λ line e. heap_entry-agrees c line p e) in
-      ap (λ o. cond (is_heap_at (class_at t c)) o (native_entry natives c s)) a ∙ ap (λ b. cond b (option_and_then (λ line. heap_entry others u c line s) (lin u c)) (native_entry natives c s)) (heaps c p)
+      ap (λ o. cond (is_heap_at (class_at t c)) o (natives c s)) a ∙ ap (λ b. cond b (option_and_then (λ line. heap_entry others u c line s) (lin u c)) (natives c s)) (heaps c p)
 
   pub entry-agrees : (c : ℕ) → At c → entry keys natives t c s ≡ entry others natives u c s
   entry-agrees c p =

@@ -2,7 +2,7 @@
 use Rattle.std.proofs.Common.{◌≡◌, ℕ, ◌<◌, Bool, true, ◌&&◌, ltb, List, [], ◌∷◌, inl, inr, refl, subst}
 use Rattle.std.proofs.lemmas.Bool.{ltb-true, and_parts}
 use Rattle.py_node.specs.declared.entry.SlotId.{SlotId}
-use Rattle.py_node.specs.declared.entry.SlotId.TheVariants.{Add, RightAdd, InplaceAdd, Subtract, RightSubtract, InplaceSubtract, Multiply, RightMultiply, InplaceMultiply, Remainder, RightRemainder, InplaceRemainder, Divmod, RightDivmod, Power, RightPower, InplacePower, Lshift, RightLshift, InplaceLshift, Rshift, RightRshift, InplaceRshift, And, RightAnd, InplaceAnd, Xor, RightXor, InplaceXor, Or, RightOr, InplaceOr, FloorDivide, RightFloorDivide, InplaceFloorDivide, TrueDivide, RightTrueDivide, InplaceTrueDivide, MatrixMultiply, RightMatrixMultiply, InplaceMatrixMultiply, Int, Index, Float, Negative, Positive, Absolute, Invert, Boolean, SeqLength, SeqItem, SeqAssItem, SeqContains, SeqConcat, SeqRepeat, SeqInplaceConcat, SeqInplaceRepeat, MapLength, MapSubscript, MapAssSubscript, Hash, Call, Repr, Getattro, Setattro, Richcompare, Iter, Iternext, DescrGet, DescrSet, Init, New, Del}
+use Rattle.py_node.specs.declared.entry.SlotId.TheVariants.{Add, RightAdd, InplaceAdd, Subtract, RightSubtract, InplaceSubtract, Multiply, RightMultiply, InplaceMultiply, Remainder, RightRemainder, InplaceRemainder, Divmod, RightDivmod, Power, RightPower, InplacePower, Lshift, RightLshift, InplaceLshift, Rshift, RightRshift, InplaceRshift, And, RightAnd, InplaceAnd, Xor, RightXor, InplaceXor, Or, RightOr, InplaceOr, FloorDivide, RightFloorDivide, InplaceFloorDivide, TrueDivide, RightTrueDivide, InplaceTrueDivide, MatrixMultiply, RightMatrixMultiply, InplaceMatrixMultiply, Int, Index, Float, Negative, Positive, Absolute, Invert, Boolean, SeqLength, SeqItem, SeqAssItem, SeqContains, Concat, Repeat, InplaceConcat, InplaceRepeat, MapLength, MapSubscript, MapAssSubscript, Hash, Call, Repr, Getattro, Setattro, Richcompare, Iter, Iternext, DescrGet, DescrSet, Init, New, Del}
 use Rattle.py_node.specs.Slots.{names_of}
 use Rattle.class_model.specs.Order.{Holds}
 
@@ -65,10 +65,10 @@ low SeqLength = refl
 low SeqItem = refl
 low SeqAssItem = refl
 low SeqContains = refl
-low SeqConcat = refl
-low SeqRepeat = refl
-low SeqInplaceConcat = refl
-low SeqInplaceRepeat = refl
+low Concat = refl
+low Repeat = refl
+low InplaceConcat = refl
+low InplaceRepeat = refl
 low MapLength = refl
 low MapSubscript = refl
 low MapAssSubscript = refl

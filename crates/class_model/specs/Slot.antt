@@ -1,11 +1,10 @@
 -- What a class has in a slot, and what is read there.
-use Rattle.std.specs.Prelude.{ℕ, Bool, true, false, cond, not, ◌&&◌, ◌||◌, eqb, List, [], ◌∷◌, map, Option, Some, None, option_map, option_and_then, is_some}
+use Rattle.std.specs.Prelude.{ℕ, Bool, true, false, cond, not, ◌&&◌, ◌||◌, eqb, List, [], ◌∷◌, map, Option, Some, None, option_and_then, is_some}
 use Rattle.py_node.specs.declared.refs.PyObjectRef.{PyObjectRef}
 use Rattle.py_node.specs.declared.entry.SlotId.{SlotId}
 use Rattle.py_node.specs.declared.entry.SlotId.TheVariants.{Hash, New}
-use Rattle.py_node.specs.declared.entry.NativeEntry.{NativeEntry}
 use Rattle.py_node.specs.declared.entry.SlotEntry.{SlotEntry}
-use Rattle.py_node.specs.declared.entry.SlotEntry.TheVariants.{Native, Wrapper, Unhashable}
+use Rattle.py_node.specs.declared.entry.SlotEntry.TheVariants.{Wrapper, Unhashable}
 use Rattle.py_node.specs.Slots.{Sort, ByItself, BySequence, ByMapping, Nearest, place_of, names_of, all_slots, sort_of}
 use Rattle.py_node.specs.Natives.{is_same_entry}
 use Rattle.class_model.specs.Class.{Class, Classes, class_at, is_heap, lin, is_sub, own_of, first_along, along}
@@ -15,9 +14,9 @@ pub record Keys (K : Type 0) : Type 0 where
   pub same : K → K → Bool
   pub special : ℕ → K
 
--- the natives that fill the slots of a built-in class
+-- what stands in the slots of each built-in class, by its number: a native, or that its objects have no hash
 abbrev pub Natives : Type 0
-Natives = ℕ → SlotId → Option NativeEntry
+Natives = ℕ → SlotId → Option SlotEntry
 
 abbrev pub is_one_of : {K : Type 0} → (K → K → Bool) → List K → K → Bool
 is_one_of same [] k = false
@@ -44,18 +43,14 @@ abbrev pub heap_entry : {K : Type 0} → Keys K → Classes K → ℕ → List �
 heap_entry keys t c line s =
     wrapped s (cond (is_slot s New) (own_of (is_name_of keys s) (class_at t c)) (along (is_name_of keys s) t line))
 
--- of a built-in or static class: its native
-abbrev pub native_entry : Natives → ℕ → SlotId → Option SlotEntry
-native_entry natives c s = option_map (λ n. Native n) (natives c s)
-
 abbrev pub is_heap_at : {K : Type 0} → Option (Class K) → Bool
 is_heap_at None = false
 is_heap_at (Some k) = is_heap k
 
--- what a class has itself, given each class's linearisation
+-- what a class has itself: a heap class by the names along its linearisation, a built-in class what stands in its row
 abbrev pub given_entry : {K : Type 0} → Keys K → Natives → Classes K → SlotId → ℕ → Option SlotEntry
 given_entry keys natives t s c =
-    cond (is_heap_at (class_at t c)) (option_and_then (λ line. heap_entry keys t c line s) (lin t c)) (native_entry natives c s)
+    cond (is_heap_at (class_at t c)) (option_and_then (λ line. heap_entry keys t c line s) (lin t c)) (natives c s)
 
 abbrev pub is_by_itself : Sort → Bool
 is_by_itself ByItself = true

@@ -14,7 +14,7 @@ use Rattle.py_node.specs.Attributes.{value_of, is_same_name}
 use Rattle.py_node.specs.Slots.{names_of, sort_of}
 use Rattle.class_model.specs.Order.{Holds}
 use Rattle.class_model.specs.Class.{Class, Classes, class_at, is_heap, lin, own_of, or_else, first_along, along}
-use Rattle.class_model.specs.Slot.{is_slot, is_none, is_one_of, is_name_of, wrapped, heap_entry, native_entry, is_heap_at, given_entry, is_by_itself, entry}
+use Rattle.class_model.specs.Slot.{is_slot, is_none, is_one_of, is_name_of, wrapped, heap_entry, is_heap_at, given_entry, is_by_itself, entry}
 use Rattle.class_model.specs.BuiltIn.{natives_of}
 use Rattle.class_table.specs.Keys.{numbers, table_keys}
 use Rattle.class_table.specs.Kept.{Kept, plain}
@@ -113,12 +113,12 @@ module _ (t : Classes PyStrInterned) (c : ℕ) (k : Class PyStrInterned) (line :
 
   pub given-heap : is_heap k ≡ true → given_entry table_keys natives_of t s c ≡ heap_entry table_keys t c line s
   given-heap e =
-      ap (λ (o : Option (Class PyStrInterned)). cond (is_heap_at o) (option_and_then (λ line. heap_entry table_keys t c line s) (lin t c)) (native_entry natives_of c s)) there
-      ∙ ap (λ b. cond b (option_and_then (λ line. heap_entry table_keys t c line s) (lin t c)) (native_entry natives_of c s)) e
+      ap (λ (o : Option (Class PyStrInterned)). cond (is_heap_at o) (option_and_then (λ line. heap_entry table_keys t c line s) (lin t c)) (natives_of c s)) there
+      ∙ ap (λ b. cond b (option_and_then (λ line. heap_entry table_keys t c line s) (lin t c)) (natives_of c s)) e
       ∙ ap (option_and_then (λ line. heap_entry table_keys t c line s)) is
 
-pub given-native : (t : Classes PyStrInterned) (c : ℕ) (s : SlotId) → is_heap_at (class_at t c) ≡ false → given_entry table_keys natives_of t s c ≡ native_entry natives_of c s
-given-native t c s e = ap (λ b. cond b (option_and_then (λ line. heap_entry table_keys t c line s) (lin t c)) (native_entry natives_of c s)) e
+pub given-native : (t : Classes PyStrInterned) (c : ℕ) (s : SlotId) → is_heap_at (class_at t c) ≡ false → given_entry table_keys natives_of t s c ≡ natives_of c s
+given-native t c s e = ap (λ b. cond b (option_and_then (λ line. heap_entry table_keys t c line s) (lin t c)) (natives_of c s)) e
 
 pub wrapped-along-found : (s : SlotId) (kept : List Kept) (line : List PyTypeRef) (i : ℕ) (d : PyTypeRef) (e : SlotEntry) → i < length line → Some e ≡ wrapped s (own_of (is_name_of table_keys s) (class_at (plain kept) (get_or line i d).0)) → wrapped s (along (is_name_of table_keys s) (plain kept) (numbers (drop i line))) ≡ Some e
 wrapped-along-found s kept line i d e l is =

@@ -2,7 +2,7 @@
 use Rattle.std.proofs.Common.{◌≡◌, ℕ, zero, suc, ◌+◌, ◌≤◌, Bool, true, false, ◌&&◌, ◌||◌, map, eqb, ltb, List, [], ◌∷◌, length, Some, refl, ap, ◌∙◌, sym, arith}
 use Rattle.std.specs.Prelude.{slice_get}
 use Rattle.py_node.specs.declared.entry.SlotId.{SlotId}
-use Rattle.py_node.specs.declared.entry.SlotId.TheVariants.{Add, RightAdd, InplaceAdd, Subtract, RightSubtract, InplaceSubtract, Multiply, RightMultiply, InplaceMultiply, Remainder, RightRemainder, InplaceRemainder, Divmod, RightDivmod, Power, RightPower, InplacePower, Lshift, RightLshift, InplaceLshift, Rshift, RightRshift, InplaceRshift, And, RightAnd, InplaceAnd, Xor, RightXor, InplaceXor, Or, RightOr, InplaceOr, FloorDivide, RightFloorDivide, InplaceFloorDivide, TrueDivide, RightTrueDivide, InplaceTrueDivide, MatrixMultiply, RightMatrixMultiply, InplaceMatrixMultiply, Int, Index, Float, Negative, Positive, Absolute, Invert, Boolean, SeqLength, SeqItem, SeqAssItem, SeqContains, SeqConcat, SeqRepeat, SeqInplaceConcat, SeqInplaceRepeat, MapLength, MapSubscript, MapAssSubscript, Hash, Call, Repr, Getattro, Setattro, Richcompare, Iter, Iternext, DescrGet, DescrSet, Init, New, Del}
+use Rattle.py_node.specs.declared.entry.SlotId.TheVariants.{Add, RightAdd, InplaceAdd, Subtract, RightSubtract, InplaceSubtract, Multiply, RightMultiply, InplaceMultiply, Remainder, RightRemainder, InplaceRemainder, Divmod, RightDivmod, Power, RightPower, InplacePower, Lshift, RightLshift, InplaceLshift, Rshift, RightRshift, InplaceRshift, And, RightAnd, InplaceAnd, Xor, RightXor, InplaceXor, Or, RightOr, InplaceOr, FloorDivide, RightFloorDivide, InplaceFloorDivide, TrueDivide, RightTrueDivide, InplaceTrueDivide, MatrixMultiply, RightMatrixMultiply, InplaceMatrixMultiply, Int, Index, Float, Negative, Positive, Absolute, Invert, Boolean, SeqLength, SeqItem, SeqAssItem, SeqContains, Concat, Repeat, InplaceConcat, InplaceRepeat, MapLength, MapSubscript, MapAssSubscript, Hash, Call, Repr, Getattro, Setattro, Richcompare, Iter, Iternext, DescrGet, DescrSet, Init, New, Del}
 use Rattle.std.proofs.lemmas.Bool.{eqb-true, ltb-true, ne_eqb}
 use Rattle.py_node.specs.Slots.{place_of, names_of, all_slots}
 use Rattle.class_model.specs.Slot.{is_slot, is_one_of, is_name_of}
@@ -66,10 +66,10 @@ slot-at_place SeqLength = refl
 slot-at_place SeqItem = refl
 slot-at_place SeqAssItem = refl
 slot-at_place SeqContains = refl
-slot-at_place SeqConcat = refl
-slot-at_place SeqRepeat = refl
-slot-at_place SeqInplaceConcat = refl
-slot-at_place SeqInplaceRepeat = refl
+slot-at_place Concat = refl
+slot-at_place Repeat = refl
+slot-at_place InplaceConcat = refl
+slot-at_place InplaceRepeat = refl
 slot-at_place MapLength = refl
 slot-at_place MapSubscript = refl
 slot-at_place MapAssSubscript = refl
@@ -143,10 +143,10 @@ names-hash SeqLength e = cc
 names-hash SeqItem e = cc
 names-hash SeqAssItem e = cc
 names-hash SeqContains e = cc
-names-hash SeqConcat e = cc
-names-hash SeqRepeat e = cc
-names-hash SeqInplaceConcat e = cc
-names-hash SeqInplaceRepeat e = cc
+names-hash Concat e = cc
+names-hash Repeat e = cc
+names-hash InplaceConcat e = cc
+names-hash InplaceRepeat e = cc
 names-hash MapLength e = cc
 names-hash MapSubscript e = cc
 names-hash MapAssSubscript e = cc
@@ -223,10 +223,10 @@ names-below SeqLength = refl
 names-below SeqItem = refl
 names-below SeqAssItem = refl
 names-below SeqContains = refl
-names-below SeqConcat = refl
-names-below SeqRepeat = refl
-names-below SeqInplaceConcat = refl
-names-below SeqInplaceRepeat = refl
+names-below Concat = refl
+names-below Repeat = refl
+names-below InplaceConcat = refl
+names-below InplaceRepeat = refl
 names-below MapLength = refl
 names-below MapSubscript = refl
 names-below MapAssSubscript = refl

@@ -5,14 +5,14 @@ ghost use Rattle.py_node.specs.Attributes.{value_of, is_same_name};
 ghost use Rattle.py_node.specs.Slots.{sort_of};
 ghost use Rattle.py_node.specs.declared.entry.SlotId.TheVariants.{Hash, New};
 ghost use Rattle.class_model.specs.Class.{class_at, is_heap, own_of, along, first_along};
-ghost use Rattle.class_model.specs.Slot.{is_slot, is_none, is_name_of, wrapped, heap_entry, native_entry, given_entry, is_by_itself, entry};
+ghost use Rattle.class_model.specs.Slot.{is_slot, is_none, is_name_of, wrapped, heap_entry, given_entry, is_by_itself, entry};
 ghost use Rattle.class_model.specs.Numbers.{is_ascending};
 ghost use Rattle.class_model.specs.BuiltIn.{natives_of};
 ghost use Rattle.class_table.specs.Kept.{Kept, class_of, plain};
 ghost use Rattle.class_table.specs.Keys.{numbers, table_keys};
 ghost use Rattle.class_table.specs.Coherent.{HasLines};
 
-use crate::natives::built_in_native;
+use crate::natives::built_in_entry;
 use crate::place::{find_near, likely};
 use crate::special::{Reading, read_as, special_names};
 use crate::stored::Stored;
@@ -125,16 +125,7 @@ fn given_entry(classes: &[Stored], near: usize, class: PyTypeRef, slot: SlotId) 
             stored.mro(),
             slot,
         ),
-        _ => native_entry(class, slot),
-    }
-}
-
-fn native_entry(class: PyTypeRef, slot: SlotId) -> Option<SlotEntry>
-    ensures { result ≡ native_entry natives_of class.0 slot }
-{
-    match built_in_native(class, slot) {
-        None => None,
-        Some(native) => Some(SlotEntry::Native(native)),
+        _ => built_in_entry(class, slot),
     }
 }
 

@@ -117,10 +117,10 @@ fn slots_in(mapping: bool) -> &'static [SlotId]
             SlotId::SeqItem,
             SlotId::SeqAssItem,
             SlotId::SeqContains,
-            SlotId::SeqConcat,
-            SlotId::SeqRepeat,
-            SlotId::SeqInplaceConcat,
-            SlotId::SeqInplaceRepeat,
+            SlotId::Concat,
+            SlotId::Repeat,
+            SlotId::InplaceConcat,
+            SlotId::InplaceRepeat,
         ]
     }
 }

@@ -3,7 +3,7 @@ use Rattle.std.specs.Prelude.{List, [], ◌∷◌, ◌++◌, Result, Ok, Err, If
 use Rattle.py_node.specs.declared.memory.OutOfMemory.{OutOfMemory}
 use Rattle.py_node.specs.declared.raised.Raised.{Raised as Fault}
 use Rattle.py_node.specs.declared.task.Answer.{Answer}
-use Rattle.py_node.specs.declared.task.Answer.TheVariants.{Value, Done, Number, Objects}
+use Rattle.py_node.specs.declared.task.Answer.TheVariants.{Value, Done, Number, Truth, Maybe, Objects, Exhausted, Method, Start}
 use Rattle.py_node.specs.declared.task.Task.{Task}
 use Rattle.py_node.specs.declared.task.Task.TheVariants as task
 use Rattle.py_node.specs.declared.task.EvalTask.{EvalTask}
@@ -64,11 +64,19 @@ of_task (task.Class job) = of_class_task job
 of_task (task.Operator job) = of_operator_task job
 of_task (task.Later job) = []
 
+abbrev pub of_method : PyMethod → List Claim
+of_method m = ?
+
 abbrev pub of_answer : Answer → List Claim
 of_answer (Value r) = IsNode r ∷ []
 of_answer Done = []
 of_answer (Number z) = []
+of_answer (Truth b) = []
+of_answer (Maybe o) = of_option of_node_ref o
 of_answer (Objects rs) = AreNodes rs.items ∷ []
+of_answer Exhausted = []
+of_answer (Method m) = of_method m
+of_answer (Start c) = IsClass c.0 ∷ []
 
 -- of how a row ended
 abbrev pub of_ended : Result Answer Fault → List Claim

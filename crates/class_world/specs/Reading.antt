@@ -24,7 +24,7 @@ use Rattle.py_node.specs.declared.task.OperatorTask.{OperatorTask}
 use Rattle.py_node.specs.declared.task.OperatorTask.TheVariants as operator
 use Rattle.py_node.specs.Tree.{Text, Tree, TConst, TName, TBind, TFunc, TSetAttr, TCall, TOp, TClass, Entries, no_entries, entry, trees_of, literal_of}
 use Rattle.class_model.specs.Class.{renamed}
-use Rattle.plain_machine.specs.Plain.{Datum, AnObject, AClass, ANumber, AText, ATuple, ADict, AFunction, AMethod, ANativeFunction, ABuiltinMethod, AMethodDescriptor, AGetSet, AClassMethod, Node, Bindings, Scope, PlainWorld, EvalJob, DoEval, AttributeJob, DoSetAttr, DoTypeSet, DoSpecial, DoBind, DoDescrGet, CallJob, DoCall, DoBody, DoTypeCall, DoNew, DoInit, DoObject, ClassJob, DoMakeClass, DoType, OperatorJob, DoAdd, DoBinOp1, DoEnter, DoInt, PlainTask, ToEval, ToAttribute, ToCall, ToClass, ToOperator, ToLater, PlainAnswer, AsValue, AsDone, AsNumber, AsObjects, Ended}
+use Rattle.plain_machine.specs.Plain.{Datum, AnObject, AClass, ANumber, AText, ATuple, ADict, AFunction, AMethod, ANativeFunction, ABuiltinMethod, AMethodDescriptor, AGetSet, AClassMethod, no_members, Node, Bindings, Scope, PlainWorld, EvalJob, DoEval, AttributeJob, DoSetAttr, DoTypeSet, DoSpecial, DoBind, DoDescrGet, CallJob, DoCall, DoBody, DoTypeCall, DoNew, DoInit, DoObject, ClassJob, DoMakeClass, DoType, OperatorJob, DoAdd, DoBinOp1, DoEnter, DoInt, PlainTask, ToEval, ToAttribute, ToCall, ToClass, ToOperator, ToLater, PlainAnswer, AsValue, AsDone, AsNumber, AsObjects, Ended}
 use Rattle.plain_machine.specs.World.{is_text}
 use Rattle.class_world.specs.declared.scope.Scope.{Scope as HeldScope}
 use Rattle.class_world.specs.declared.world.World.{World}
@@ -78,7 +78,7 @@ datum t (payload.GetSet g) = AGetSet g.class.0 (spelled t g.name) g.getter g.set
 datum t (payload.ClassMethod r) = AClassMethod r
 
 abbrev pub node_of : Reading → StoredNode → Node
-node_of t n = record { class = n.class.0; dict = n.dict; members = []; datum = datum t n.payload }
+node_of t n = record { class = n.class.0; dict = n.dict; members = no_members; datum = datum t n.payload }
 
 abbrev pub bindings : Reading → List (PyStrInterned × PyObjectRef) → Bindings
 bindings t bs = map (λ b. (spelled t b.0, b.1)) bs
@@ -132,11 +132,19 @@ task_of t (task.Class job) = ToClass (class_job t job)
 task_of t (task.Operator job) = ToOperator (operator_job t job)
 task_of t (task.Later job) = ToLater job
 
+abbrev pub method_of : PyMethod → PlainAnswer
+method_of m = ?
+
 abbrev pub answer_of : Answer → PlainAnswer
 answer_of (answer.Value r) = AsValue r
 answer_of answer.Done = AsDone
 answer_of (answer.Number z) = AsNumber z
+answer_of (answer.Truth b) = AsTruth b
+answer_of (answer.Maybe o) = AsMaybe o
 answer_of (answer.Objects rs) = AsObjects rs.items
+answer_of answer.Exhausted = AsExhausted
+answer_of (answer.Method m) = method_of m
+answer_of (answer.Start c) = AsStart c.0
 
 -- how a row ended
 abbrev pub ended_of : Result Answer Fault → Ended

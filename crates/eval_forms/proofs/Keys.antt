@@ -8,7 +8,7 @@ use Rattle.py_node.specs.declared.refs.PyStrInterned.{PyStrInterned}
 use Rattle.py_node.specs.Attributes.{is_same_name, AreNamesDistinct}
 use Rattle.std.specs.Map.{keys_of}
 use Rattle.py_node.specs.Tree.{Text}
-use Rattle.plain_machine.specs.Plain.{Datum, AText, ADict, Node, PlainWorld}
+use Rattle.plain_machine.specs.Plain.{Datum, AText, ADict, no_members, Node, PlainWorld}
 use Rattle.plain_machine.specs.World.{ref, is_text, datum_at, has_dict, push_node, with_node, next_node}
 use Rattle.plain_machine.specs.Known.{the_dict}
 use Rattle.plain_machine.specs.Sound.{TextKey, key_of, key_at}
@@ -38,10 +38,10 @@ datum-push (y ∷ ns) x (suc n) d e = datum-push ns x n d e
 -- what a node holds stays, and a new one holds what it was made with
 module _ (w : PlainWorld) (c : ℕ) (d : Datum) where
   abbrev the_dict_node : Node
-  the_dict_node = record { class = the_dict; dict = None; members = []; datum = ADict [] }
+  the_dict_node = record { class = the_dict; dict = None; members = no_members; datum = ADict [] }
 
   abbrev node_with : Option PyObjectRef → Node
-  node_with dict = record { class = c; dict = dict; members = []; datum = d }
+  node_with dict = record { class = c; dict = dict; members = no_members; datum = d }
 
   datum-stays : (e : Datum) (r : PyObjectRef) → datum_at w r ≡ Some e → datum_at (with_node w c d) r ≡ Some e
   datum-stays e r h = go (has_dict w c)

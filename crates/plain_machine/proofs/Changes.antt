@@ -2,12 +2,12 @@
 use Rattle.std.proofs.Common.{◌≡◌, [], ◌∷◌, codes, Some, None, refl}
 use Rattle.py_node.specs.Tree.{Text}
 use Rattle.class_model.specs.Class.{Class}
-use Rattle.plain_machine.specs.Plain.{AnObject, AText, Node, PlainWorld}
+use Rattle.plain_machine.specs.Plain.{AnObject, AText, no_members, Node, PlainWorld}
 use Rattle.plain_machine.specs.World.{ref}
 use Rattle.plain_machine.specs.Change.{SetOwn, SetBases, SetName, SetClass, SetMember, SetDict, SetDatum, apply}
 
 abbrev object : Node
-object = record { class = 0; dict = None; members = []; datum = AnObject }
+object = record { class = 0; dict = None; members = no_members; datum = AnObject }
 
 abbrev class : Class Text
 class = record { name = codes "A"; number = 0; bases = []; attrs = (codes "y", ref 0) ∷ []; members = []; flags = 0 }

@@ -11,5 +11,6 @@ pub mod BuiltInAttrs
 pub mod Start
 pub mod Objects
 pub mod Change
+pub mod Conditions
 pub mod Native
 pub mod Sound

@@ -1,5 +1,5 @@
 -- The plain world, the tasks, and what their rows say. Texts and trees stand where the code has numbers.
-use Rattle.std.specs.Prelude.{ℕ, ℤ, Bool, List, Option, Result}
+use Rattle.std.specs.Prelude.{ℕ, ℤ, Bool, List, Option, None, Result}
 use Rattle.py_node.specs.declared.refs.PyObjectRef.{PyObjectRef}
 use Rattle.py_node.specs.declared.raised.Raised.{Raised as Fault}
 use Rattle.py_node.specs.declared.entry.IntNative.{IntNative}
@@ -33,11 +33,19 @@ pub data Datum : Type 0 where
   AGetSet : ℕ → Text → Option NativeEntry → Option NativeEntry → Datum
   AClassMethod : PyObjectRef → Datum
 
--- an object: its class, the node of its dict, its members by solid class and index, and the rest
+-- what stands in the places of an object, by their solid class and their index there. As a map from all places it has one form, however it was written
+abbrev pub Places : Type 0
+Places = ℕ → ℕ → Option PyObjectRef
+
+-- no place is filled
+abbrev pub no_members : Places
+no_members c i = None
+
+-- an object: its class, the node of its dict, its members by their places, and the rest
 pub record Node : Type 0 where
   pub class : ℕ
   pub dict : Option PyObjectRef
-  pub members : List ((ℕ × ℕ) × PyObjectRef)
+  pub members : Places
   pub datum : Datum
 
 abbrev pub Bindings : Type 0
@@ -95,12 +103,20 @@ pub data PlainTask : Type 0 where
   ToOperator : OperatorJob → PlainTask
   ToLater : LaterTask → PlainTask
 
--- what a task answers: an object, that it is done, a number, or a list of objects
+-- what a task answers: an object, that it is done, a number, a truth value, an object or that there is none, a list of objects, or that an iteration has come to its end
 pub data PlainAnswer : Type 0 where
   AsValue : PyObjectRef → PlainAnswer
   AsDone : PlainAnswer
   AsNumber : ℤ → PlainAnswer
+  AsTruth : Bool → PlainAnswer
+  AsMaybe : Option PyObjectRef → PlainAnswer
   AsObjects : List PyObjectRef → PlainAnswer
+  AsExhausted : PlainAnswer
+  -- a method: its target and its function, or what the attribute gave
+  AsFunction : PyObjectRef → PyObjectRef → PlainAnswer
+  AsAttribute : PyObjectRef → PlainAnswer
+  -- the class past which `super` starts to look
+  AsStart : ℕ → PlainAnswer
 
 -- how a row ends
 abbrev pub Ended : Type 0

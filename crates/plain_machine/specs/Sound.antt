@@ -1,16 +1,18 @@
 -- What a plain world keeps to, before and after each of its changes.
-use Rattle.std.specs.List.{All}
+use Rattle.std.specs.List.{All, IsDistinct}
+use Rattle.std.specs.Map.{keys_of}
 use Rattle.std.specs.Prelude.{◌≡◌, ℕ, ℤ, ◌<◌, true, is_some, List, [], ◌∷◌, ◌++◌, map, length, Option, Some, None, slice_get, option_map, option_and_then}
 use Rattle.py_node.specs.declared.refs.PyObjectRef.{PyObjectRef}
 use Rattle.py_node.specs.declared.built_in.BuiltIn.{BuiltIn}
 use Rattle.py_node.specs.declared.built_in.BuiltIn.TheVariants as built_in
 use Rattle.py_node.specs.BuiltIns.{all_built_ins}
+use Rattle.py_node.specs.Attributes.{value_of}
 use Rattle.py_node.specs.Tree.{Text}
 use Rattle.class_model.specs.Class.{Classes, is_class}
 use Rattle.class_model.specs.Layout.{is_place}
 use Rattle.class_model.specs.Sound.{AreSound}
-use Rattle.plain_machine.specs.Plain.{Datum, AnObject, AClass, ANumber, AText, ATuple, ADict, AFunction, AMethod, ANativeFunction, ABuiltinMethod, AMethodDescriptor, AGetSet, AClassMethod, Node, Bindings, PlainWorld}
-use Rattle.plain_machine.specs.World.{ref, datum_at}
+use Rattle.plain_machine.specs.Plain.{Datum, AnObject, AClass, ANumber, AText, ATuple, ADict, AFunction, AMethod, ANativeFunction, ABuiltinMethod, AMethodDescriptor, AGetSet, AClassMethod, Node, Bindings, Scope, PlainWorld}
+use Rattle.plain_machine.specs.World.{is_text, ref, datum_at}
 use Rattle.plain_machine.specs.Objects.{nearest_built_in}
 
 -- the built-in class whose objects hold such
@@ -107,23 +109,40 @@ AreThere w rs = All (λ r. r.0 < length w.nodes) rs
 abbrev pub AreBound : PlainWorld → Bindings → Type 0
 AreBound w bs = All (λ b. b.1.0 < length w.nodes) bs
 
--- its class is there, and it holds what the objects of such a class hold. Its dict is one, its members have places in its class's layout, what it names is there, and the keys of a dict differ
+-- its class is there, and it holds what the objects of such a class hold. Its dict is one, its members are nodes that stand in places of its class's layout, what it names is there, and the keys of a dict differ
 pub record IsSoundNode (w : PlainWorld) (n : Node) : Type 0 where
   pub class : is_class w.classes n.class ≡ true
   pub like : held_by w.classes n.class ≡ Some (home n.datum)
   pub dict : (r : PyObjectRef) → n.dict ≡ Some r → option_map home (datum_at w r) ≡ Some built_in.Dict
-  pub members : All (λ m. is_place w.classes n.class m.0.0 m.0.1 ≡ true) n.members
+  pub members : (c i : ℕ) (r : PyObjectRef) → n.members c i ≡ Some r → (is_place w.classes n.class c i ≡ true) × (r.0 < length w.nodes)
   pub nodes : AreThere w (nodes_in n.datum)
   pub keys : AreKeys (key_at w) (keys_in n.datum)
   pub classes : All (λ c. is_class w.classes c ≡ true) (classes_in n.datum)
+
+-- no name stands twice
+abbrev pub AreApart : {V : Type 0} → List (Text × V) → Type 0
+AreApart bs = IsDistinct is_text (keys_of bs)
+
+-- the parameters of a function
+abbrev pub params_in : Option Datum → List Text
+params_in (Some (AFunction x ps rest e c)) = ps
+params_in _ = []
+
+-- a running body is that of a function, and has a value for each of its parameters. No variable stands twice
+pub record IsSoundScope (w : PlainWorld) (s : Scope) : Type 0 where
+  pub func : option_map home (datum_at w s.func) ≡ Some built_in.Function
+  pub params : All (λ x. is_some (value_of (λ y. is_text y x) s.vars) ≡ true) (params_in (datum_at w s.func))
+  pub vars : AreBound w s.vars
+  pub apart : AreApart s.vars
 
 -- the classes and the nodes are sound, and so is all that the world names
 pub record IsSound (w : PlainWorld) : Type 0 where
   pub classes : AreSound w.classes
   pub nodes : (i : ℕ) (n : Node) → slice_get w.nodes i ≡ Some n → IsSoundNode w n
-  -- the object that stands for a class holds that very class
+  -- the node of a class's number is that class, and no other node is
   pub standing : (c : ℕ) → is_class w.classes c ≡ true → datum_at w (ref c) ≡ Some (AClass c)
-  pub attrs : All (λ k. All (λ a. a.1.0 < length w.nodes) k.attrs) w.classes
+  pub itself : (n c : ℕ) → datum_at w (ref n) ≡ Some (AClass c) → n ≡ c
+  pub attrs : All (λ k. AreBound w k.attrs × AreApart k.attrs) w.classes
   pub vars : AreBound w w.vars
-  pub scopes : All (λ s. AreBound w s.vars) w.scopes
-  pub funcs : All (λ s. s.func.0 < length w.nodes) w.scopes
+  pub apart : AreApart w.vars
+  pub scopes : All (IsSoundScope w) w.scopes

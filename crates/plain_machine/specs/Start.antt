@@ -7,7 +7,7 @@ use Rattle.py_node.specs.BuiltIns.{place_of, name_of, base_of, flags_of, all_bui
 use Rattle.py_node.specs.Tree.{Text}
 use Rattle.class_model.specs.Class.{Class}
 use Rattle.plain_machine.specs.Known.{the_type}
-use Rattle.plain_machine.specs.Plain.{Datum, AnObject, AClass, ANumber, ANativeFunction, AMethodDescriptor, AGetSet, Node, PlainWorld}
+use Rattle.plain_machine.specs.Plain.{Datum, AnObject, AClass, ANumber, ANativeFunction, AMethodDescriptor, AGetSet, no_members, Node, PlainWorld}
 use Rattle.plain_machine.specs.World.{ref, with_node, next_node, with_own_attr}
 use Rattle.plain_machine.specs.BuiltInAttrs.{Attr, New, Method, ClassMethod, ReadOnly, Settable, BuiltInAttr, built_in_attrs}
 
@@ -20,7 +20,7 @@ abbrev pub built_class : {K : Type 0} → BuiltIn → Class K
 built_class b = record { name = name_of b; number = place_of b; bases = bases_from (base_of b); attrs = []; members = []; flags = flags_of b }
 
 abbrev pub simple_node : ℕ → Datum → Node
-simple_node c d = record { class = c; dict = None; members = []; datum = d }
+simple_node c d = record { class = c; dict = None; members = no_members; datum = d }
 
 abbrev pub class_node : BuiltIn → Node
 class_node b = simple_node the_type (AClass (place_of b))

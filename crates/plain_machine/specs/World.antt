@@ -13,7 +13,7 @@ use Rattle.class_model.specs.Change.{with_class, with_class_attr}
 use Rattle.class_model.specs.Slot.{Keys, slot, candidates_of}
 use Rattle.class_model.specs.BuiltIn.{natives_of}
 use Rattle.plain_machine.specs.Known.{the_dict}
-use Rattle.plain_machine.specs.Plain.{Datum, AClass, ADict, ANumber, Node, Bindings, Scope, PlainWorld}
+use Rattle.plain_machine.specs.Plain.{Datum, AClass, ADict, ANumber, no_members, Node, Bindings, Scope, PlainWorld}
 
 -- whether two texts are one
 abbrev pub is_text : Text → Text → Bool
@@ -66,7 +66,7 @@ abbrev pub has_dict : PlainWorld → ℕ → Bool
 has_dict w c = flag_in (class_numbered w.classes c)
 
 abbrev pub push_node : PlainWorld → ℕ → Option PyObjectRef → Datum → PlainWorld
-push_node w c dict d = record w { nodes = w.nodes ++ record { class = c; dict = dict; members = []; datum = d } ∷ [] }
+push_node w c dict d = record w { nodes = w.nodes ++ record { class = c; dict = dict; members = no_members; datum = d } ∷ [] }
 
 -- a new node, after its dict where its class gives it one
 abbrev pub with_node : PlainWorld → ℕ → Datum → PlainWorld

@@ -82,6 +82,7 @@ property_place property.Base = 7
 property_place property.Mro = 8
 property_place property.Flags = 9
 property_place property.TextSignature = 10
+property_place property.InstanceDict = 11
 
 -- whether two natives are one
 unfoldable pub is_same_native : NativeEntry → NativeEntry → Bool

@@ -1,7 +1,7 @@
 -- The slots, in their order, with their special names.
 use Rattle.std.specs.Prelude.{ℕ, List, [], ◌∷◌, codes}
 use Rattle.py_node.specs.declared.entry.SlotId.{SlotId}
-use Rattle.py_node.specs.declared.entry.SlotId.TheVariants.{Add, RightAdd, InplaceAdd, Subtract, RightSubtract, InplaceSubtract, Multiply, RightMultiply, InplaceMultiply, Remainder, RightRemainder, InplaceRemainder, Divmod, RightDivmod, Power, RightPower, InplacePower, Lshift, RightLshift, InplaceLshift, Rshift, RightRshift, InplaceRshift, And, RightAnd, InplaceAnd, Xor, RightXor, InplaceXor, Or, RightOr, InplaceOr, FloorDivide, RightFloorDivide, InplaceFloorDivide, TrueDivide, RightTrueDivide, InplaceTrueDivide, MatrixMultiply, RightMatrixMultiply, InplaceMatrixMultiply, Int, Index, Float, Negative, Positive, Absolute, Invert, Boolean, SeqLength, SeqItem, SeqAssItem, SeqContains, SeqConcat, SeqRepeat, SeqInplaceConcat, SeqInplaceRepeat, MapLength, MapSubscript, MapAssSubscript, Hash, Call, Repr, Getattro, Setattro, Richcompare, Iter, Iternext, DescrGet, DescrSet, Init, New, Del}
+use Rattle.py_node.specs.declared.entry.SlotId.TheVariants.{Add, RightAdd, InplaceAdd, Subtract, RightSubtract, InplaceSubtract, Multiply, RightMultiply, InplaceMultiply, Remainder, RightRemainder, InplaceRemainder, Divmod, RightDivmod, Power, RightPower, InplacePower, Lshift, RightLshift, InplaceLshift, Rshift, RightRshift, InplaceRshift, And, RightAnd, InplaceAnd, Xor, RightXor, InplaceXor, Or, RightOr, InplaceOr, FloorDivide, RightFloorDivide, InplaceFloorDivide, TrueDivide, RightTrueDivide, InplaceTrueDivide, MatrixMultiply, RightMatrixMultiply, InplaceMatrixMultiply, Int, Index, Float, Negative, Positive, Absolute, Invert, Boolean, SeqLength, SeqItem, SeqAssItem, SeqContains, Concat, Repeat, InplaceConcat, InplaceRepeat, MapLength, MapSubscript, MapAssSubscript, Hash, Call, Repr, Getattro, Setattro, Richcompare, Iter, Iternext, DescrGet, DescrSet, Init, New, Del}
 
 -- where a slot stands among all
 unfoldable pub place_of : SlotId → ℕ
@@ -58,10 +58,10 @@ place_of SeqLength = 49
 place_of SeqItem = 50
 place_of SeqAssItem = 51
 place_of SeqContains = 52
-place_of SeqConcat = 53
-place_of SeqRepeat = 54
-place_of SeqInplaceConcat = 55
-place_of SeqInplaceRepeat = 56
+place_of Concat = 53
+place_of Repeat = 54
+place_of InplaceConcat = 55
+place_of InplaceRepeat = 56
 place_of MapLength = 57
 place_of MapSubscript = 58
 place_of MapAssSubscript = 59
@@ -134,10 +134,10 @@ printed_name SeqLength = codes "seq_length"
 printed_name SeqItem = codes "seq_item"
 printed_name SeqAssItem = codes "seq_ass_item"
 printed_name SeqContains = codes "seq_contains"
-printed_name SeqConcat = codes "seq_concat"
-printed_name SeqRepeat = codes "seq_repeat"
-printed_name SeqInplaceConcat = codes "seq_inplace_concat"
-printed_name SeqInplaceRepeat = codes "seq_inplace_repeat"
+printed_name Concat = codes "concat"
+printed_name Repeat = codes "repeat"
+printed_name InplaceConcat = codes "inplace_concat"
+printed_name InplaceRepeat = codes "inplace_repeat"
 printed_name MapLength = codes "map_length"
 printed_name MapSubscript = codes "map_subscript"
 printed_name MapAssSubscript = codes "map_ass_subscript"
@@ -157,7 +157,7 @@ printed_name Del = codes "del"
 
 -- all slots, in order
 unfoldable pub all_slots : List SlotId
-all_slots = Add ∷ RightAdd ∷ InplaceAdd ∷ Subtract ∷ RightSubtract ∷ InplaceSubtract ∷ Multiply ∷ RightMultiply ∷ InplaceMultiply ∷ Remainder ∷ RightRemainder ∷ InplaceRemainder ∷ Divmod ∷ RightDivmod ∷ Power ∷ RightPower ∷ InplacePower ∷ Lshift ∷ RightLshift ∷ InplaceLshift ∷ Rshift ∷ RightRshift ∷ InplaceRshift ∷ And ∷ RightAnd ∷ InplaceAnd ∷ Xor ∷ RightXor ∷ InplaceXor ∷ Or ∷ RightOr ∷ InplaceOr ∷ FloorDivide ∷ RightFloorDivide ∷ InplaceFloorDivide ∷ TrueDivide ∷ RightTrueDivide ∷ InplaceTrueDivide ∷ MatrixMultiply ∷ RightMatrixMultiply ∷ InplaceMatrixMultiply ∷ Int ∷ Index ∷ Float ∷ Negative ∷ Positive ∷ Absolute ∷ Invert ∷ Boolean ∷ SeqLength ∷ SeqItem ∷ SeqAssItem ∷ SeqContains ∷ SeqConcat ∷ SeqRepeat ∷ SeqInplaceConcat ∷ SeqInplaceRepeat ∷ MapLength ∷ MapSubscript ∷ MapAssSubscript ∷ Hash ∷ Call ∷ Repr ∷ Getattro ∷ Setattro ∷ Richcompare ∷ Iter ∷ Iternext ∷ DescrGet ∷ DescrSet ∷ Init ∷ New ∷ Del ∷ []
+all_slots = Add ∷ RightAdd ∷ InplaceAdd ∷ Subtract ∷ RightSubtract ∷ InplaceSubtract ∷ Multiply ∷ RightMultiply ∷ InplaceMultiply ∷ Remainder ∷ RightRemainder ∷ InplaceRemainder ∷ Divmod ∷ RightDivmod ∷ Power ∷ RightPower ∷ InplacePower ∷ Lshift ∷ RightLshift ∷ InplaceLshift ∷ Rshift ∷ RightRshift ∷ InplaceRshift ∷ And ∷ RightAnd ∷ InplaceAnd ∷ Xor ∷ RightXor ∷ InplaceXor ∷ Or ∷ RightOr ∷ InplaceOr ∷ FloorDivide ∷ RightFloorDivide ∷ InplaceFloorDivide ∷ TrueDivide ∷ RightTrueDivide ∷ InplaceTrueDivide ∷ MatrixMultiply ∷ RightMatrixMultiply ∷ InplaceMatrixMultiply ∷ Int ∷ Index ∷ Float ∷ Negative ∷ Positive ∷ Absolute ∷ Invert ∷ Boolean ∷ SeqLength ∷ SeqItem ∷ SeqAssItem ∷ SeqContains ∷ Concat ∷ Repeat ∷ InplaceConcat ∷ InplaceRepeat ∷ MapLength ∷ MapSubscript ∷ MapAssSubscript ∷ Hash ∷ Call ∷ Repr ∷ Getattro ∷ Setattro ∷ Richcompare ∷ Iter ∷ Iternext ∷ DescrGet ∷ DescrSet ∷ Init ∷ New ∷ Del ∷ []
 
 -- the special names, in order. A name's place is its number
 unfoldable pub special_names : List (List ℕ)
@@ -218,10 +218,10 @@ names_of SeqLength = 44 ∷ []
 names_of SeqItem = 45 ∷ []
 names_of SeqAssItem = 46 ∷ 47 ∷ []
 names_of SeqContains = 48 ∷ []
-names_of SeqConcat = []
-names_of SeqRepeat = []
-names_of SeqInplaceConcat = []
-names_of SeqInplaceRepeat = []
+names_of Concat = []
+names_of Repeat = []
+names_of InplaceConcat = []
+names_of InplaceRepeat = []
 names_of MapLength = 44 ∷ []
 names_of MapSubscript = 45 ∷ []
 names_of MapAssSubscript = 46 ∷ 47 ∷ []
@@ -301,10 +301,10 @@ sort_of SeqLength = BySequence
 sort_of SeqItem = BySequence
 sort_of SeqAssItem = BySequence
 sort_of SeqContains = BySequence
-sort_of SeqConcat = BySequence
-sort_of SeqRepeat = BySequence
-sort_of SeqInplaceConcat = BySequence
-sort_of SeqInplaceRepeat = BySequence
+sort_of Concat = BySequence
+sort_of Repeat = BySequence
+sort_of InplaceConcat = BySequence
+sort_of InplaceRepeat = BySequence
 sort_of MapLength = ByMapping
 sort_of MapSubscript = ByMapping
 sort_of MapAssSubscript = ByMapping

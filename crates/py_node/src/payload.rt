@@ -8,7 +8,7 @@ use crate::refs::{PyObjectRef, PyStrInterned, PyTypeRef};
 pub enum Payload {
     /// An object of a class that keeps nothing else, and None and NotImplemented.
     Object,
-    /// A class, by its place among all classes.
+    /// A class: that of the node's own number.
     Class(PyTypeRef),
     /// A whole number, also of a bool.
     Number(i128),

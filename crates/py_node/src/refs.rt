@@ -4,7 +4,7 @@
 #[derive(Clone, Copy, PartialEq, Eq, Hash, Debug)]
 pub struct PyObjectRef(pub u64);
 
-/// A class: its place among the classes of the machine, in the order in which they were made.
+/// A class: the number of the node that is the class. There are gaps between the numbers of classes.
 #[derive(Clone, Copy, PartialEq, Eq, Hash, Debug)]
 pub struct PyTypeRef(pub u64);
 

@@ -10,13 +10,38 @@ pub enum PyNumberBinaryOp {
     Add,
 }
 
-/// What a task answers: an object, that it is done, a number, or a list of objects.
+/// A method that was loaded to be called at once: a function with the object that goes before its
+/// arguments, or what the attribute gave.
+#[derive(Clone, Copy, PartialEq, Eq, Debug)]
+pub enum PyMethod {
+    Function {
+        target: PyObjectRef,
+        func: PyObjectRef,
+    },
+    Attribute(PyObjectRef),
+}
+
+/// What a task answers.
 #[derive(Drop)]
 pub enum Answer {
+    /// An object.
     Value(PyObjectRef),
+    /// It is done.
     Done,
+    /// A number: a length or a hash.
     Number(i64),
+    /// A truth value.
+    Truth(bool),
+    /// An object, or that there is none.
+    Maybe(Option<PyObjectRef>),
+    /// A list of objects.
     Objects(Vec<PyObjectRef>),
+    /// An iteration has come to its end.
+    Exhausted,
+    /// A method with its target.
+    Method(PyMethod),
+    /// The class past which `super` starts to look.
+    Start(PyTypeRef),
 }
 
 /// How a command or a task that is asked from outside ends.
