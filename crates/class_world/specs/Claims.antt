@@ -4,6 +4,8 @@ use Rattle.py_node.specs.declared.memory.OutOfMemory.{OutOfMemory}
 use Rattle.py_node.specs.declared.raised.Raised.{Raised as Fault}
 use Rattle.py_node.specs.declared.task.Answer.{Answer}
 use Rattle.py_node.specs.declared.task.Answer.TheVariants.{Value, Done, Number, Truth, Maybe, Objects, Exhausted, Method, Start}
+use Rattle.py_node.specs.declared.task.PyMethod.{PyMethod}
+use Rattle.py_node.specs.declared.task.PyMethod.TheVariants as method
 use Rattle.py_node.specs.declared.task.Task.{Task}
 use Rattle.py_node.specs.declared.task.Task.TheVariants as task
 use Rattle.py_node.specs.declared.task.EvalTask.{EvalTask}
@@ -65,7 +67,8 @@ of_task (task.Operator job) = of_operator_task job
 of_task (task.Later job) = []
 
 abbrev pub of_method : PyMethod → List Claim
-of_method m = ?
+of_method (method.Function r f) = IsNode r ∷ IsNode f ∷ []
+of_method (method.Attribute r) = IsNode r ∷ []
 
 abbrev pub of_answer : Answer → List Claim
 of_answer (Value r) = IsNode r ∷ []

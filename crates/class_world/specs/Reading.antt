@@ -10,6 +10,8 @@ use Rattle.py_node.specs.declared.payload.Form.TheVariants as form
 use Rattle.py_node.specs.declared.raised.Raised.{Raised as Fault}
 use Rattle.py_node.specs.declared.task.Answer.{Answer}
 use Rattle.py_node.specs.declared.task.Answer.TheVariants as answer
+use Rattle.py_node.specs.declared.task.PyMethod.{PyMethod}
+use Rattle.py_node.specs.declared.task.PyMethod.TheVariants as method
 use Rattle.py_node.specs.declared.task.Task.{Task}
 use Rattle.py_node.specs.declared.task.Task.TheVariants as task
 use Rattle.py_node.specs.declared.task.EvalTask.{EvalTask}
@@ -24,7 +26,7 @@ use Rattle.py_node.specs.declared.task.OperatorTask.{OperatorTask}
 use Rattle.py_node.specs.declared.task.OperatorTask.TheVariants as operator
 use Rattle.py_node.specs.Tree.{Text, Tree, TConst, TName, TBind, TFunc, TSetAttr, TCall, TOp, TClass, Entries, no_entries, entry, trees_of, literal_of}
 use Rattle.class_model.specs.Class.{renamed}
-use Rattle.plain_machine.specs.Plain.{Datum, AnObject, AClass, ANumber, AText, ATuple, ADict, AFunction, AMethod, ANativeFunction, ABuiltinMethod, AMethodDescriptor, AGetSet, AClassMethod, no_members, Node, Bindings, Scope, PlainWorld, EvalJob, DoEval, AttributeJob, DoSetAttr, DoTypeSet, DoSpecial, DoBind, DoDescrGet, CallJob, DoCall, DoBody, DoTypeCall, DoNew, DoInit, DoObject, ClassJob, DoMakeClass, DoType, OperatorJob, DoAdd, DoBinOp1, DoEnter, DoInt, PlainTask, ToEval, ToAttribute, ToCall, ToClass, ToOperator, ToLater, PlainAnswer, AsValue, AsDone, AsNumber, AsObjects, Ended}
+use Rattle.plain_machine.specs.Plain.{Datum, AnObject, AClass, ANumber, AText, ATuple, ADict, AFunction, AMethod, ANativeFunction, ABuiltinMethod, AMethodDescriptor, AGetSet, AClassMethod, no_members, Node, Bindings, Scope, PlainWorld, EvalJob, DoEval, AttributeJob, DoSetAttr, DoTypeSet, DoSpecial, DoBind, DoDescrGet, CallJob, DoCall, DoBody, DoTypeCall, DoNew, DoInit, DoObject, ClassJob, DoMakeClass, DoType, OperatorJob, DoAdd, DoBinOp1, DoEnter, DoInt, PlainTask, ToEval, ToAttribute, ToCall, ToClass, ToOperator, ToLater, PlainAnswer, AsValue, AsDone, AsNumber, AsTruth, AsMaybe, AsObjects, AsExhausted, AsFunction, AsAttribute, AsStart, Ended}
 use Rattle.plain_machine.specs.World.{is_text}
 use Rattle.class_world.specs.declared.scope.Scope.{Scope as HeldScope}
 use Rattle.class_world.specs.declared.world.World.{World}
@@ -133,7 +135,8 @@ task_of t (task.Operator job) = ToOperator (operator_job t job)
 task_of t (task.Later job) = ToLater job
 
 abbrev pub method_of : PyMethod → PlainAnswer
-method_of m = ?
+method_of (method.Function r f) = AsFunction r f
+method_of (method.Attribute r) = AsAttribute r
 
 abbrev pub answer_of : Answer → PlainAnswer
 answer_of (answer.Value r) = AsValue r

@@ -1,5 +1,5 @@
 -- The changes of a plain world, computed on a small one: two objects of one class.
-use Rattle.std.proofs.Common.{◌≡◌, [], ◌∷◌, codes, Some, None, refl}
+use Rattle.std.proofs.Common.{◌≡◌, [], ◌∷◌, map, codes, Some, None, refl}
 use Rattle.py_node.specs.Tree.{Text}
 use Rattle.class_model.specs.Class.{Class}
 use Rattle.plain_machine.specs.Plain.{AnObject, AText, no_members, Node, PlainWorld}
@@ -32,8 +32,12 @@ class-set : (apply small (SetClass (ref 1) 5)).nodes ≡ object ∷ record objec
 class-set = refl
 
 -- places of one object don't touch each other
-places-apart : apply (apply (apply small (SetMember (ref 1) (0, 0) (Some (ref 0)))) (SetMember (ref 1) (0, 1) (Some (ref 1)))) (SetMember (ref 1) (0, 0) None) ≡ apply small (SetMember (ref 1) (0, 1) (Some (ref 1)))
-places-apart = refl
+written : PlainWorld
+written = apply (apply (apply small (SetMember (ref 1) (0, 0) (Some (ref 0)))) (SetMember (ref 1) (0, 1) (Some (ref 1)))) (SetMember (ref 1) (0, 0) None)
+
+places-apart : (map (λ n. n.members 0 0) written.nodes ≡ None ∷ None ∷ []) × (map (λ n. n.members 0 1) written.nodes ≡ None ∷ Some (ref 1) ∷ [])
+unfolding written
+places-apart = (refl, refl)
 
 dict-set : (apply small (SetDict (ref 0) (ref 1))).nodes ≡ record object { dict = Some (ref 1) } ∷ object ∷ []
 dict-set = refl

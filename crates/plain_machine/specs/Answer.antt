@@ -49,10 +49,12 @@ follow say (suc n) w task told left depth = step (follow say n) task told depth 
 unfoldable pub reach : Saying PlainTask → Follow
 reach say w task told left depth = follow say (suc left) w task told left depth
 
+-- where the units are used up, all bodies but the first so many are over
 abbrev pub closing : ℕ → Outcome → Outcome
-closing n (Out w e left) = Out (at_depth n w) e left
+closing n (Out w (Over r) left) = Out w (Over r) left
+closing n (Out w NoUnits left) = Out (at_depth n w) NoUnits left
 
--- the answer of a task, with units left, at a depth. However it ends, the bodies that it began are over
+-- the answer of a task, with units left, at a depth. A row that begins a body takes its scope away at its end; where the units are used up, the bodies that the task began are over
 abbrev pub answer : Saying PlainTask → PlainWorld → PlainTask → ℕ → ℕ → Outcome
 answer say w task left depth = closing (length w.scopes) (reach say w task [] left depth)
 

@@ -34,7 +34,7 @@ pub record CanMakeNode (w : PlainWorld) (c : ℕ) (d : Datum) : Type 0 where
 
 -- a new class of a metaclass, whose number is the next node's. Its bases are there; it has an order and a best base
 pub record CanMakeClass (w : PlainWorld) (meta : ℕ) (k : Class Text) : Type 0 where
-  pub meta : is_class w.classes meta ≡ true
+  pub class : is_class w.classes meta ≡ true
   pub like : held_by w.classes meta ≡ Some built_in.TypeType
   pub number : k.number ≡ length w.nodes
   pub some : is_empty k.bases ≡ false
