@@ -8,10 +8,10 @@ use Rattle.plain_machine.specs.World.{is_text, or_else_var, bound, bound_last, i
 use Rattle.class_world.specs.declared.scope.Scope.{Scope}
 use Rattle.class_world.specs.Held.{Held}
 use Rattle.class_world.specs.Reading.{Reading, spelled, bindings, scope_of, plain}
-use Rattle.class_world.specs.Sound.{IsName, IsNode, Holds, AllHold, Grows, Sound, of_binding, of_scope, of_each}
+use Rattle.class_world.specs.Sound.{IsName, IsNode, Holds, AllHold, Lasts, Grows, Sound, of_binding, of_scope, of_each}
 use Rattle.class_world.specs.Bound.{last_value, value_in, bound_vars, bound_scopes}
-use Rattle.class_world.proofs.Claims.{all-grow, all-append, all-first, all-rest}
-use Rattle.class_world.proofs.Growth.{same-grows}
+use Rattle.class_world.proofs.Claims.{all-last, all-append, all-first, all-rest}
+use Rattle.class_world.proofs.Growth.{same-lasts}
 use Rattle.class_world.proofs.Changes.{fixed-grow, built_in-grow}
 
 abbrev Bound : Type 0
@@ -142,14 +142,22 @@ module _ (w : Held) where
       all-append w (of_scope s) _ (all-first w (of_scope s) _ h) (bound_scopes-holds (u ∷ ss) x r (all-rest w (of_scope s) _ h) n k)
 
 -- other variables, scopes and notes
-pub other-grows : (w : Held) (vars : Bound) (scopes : List Scope) (calls : List Started) → Grows w (record w { vars = vars; scopes = scopes; calls = calls })
-other-grows w vars scopes calls = same-grows w (record w { vars = vars; scopes = scopes; calls = calls }) refl refl refl refl
+pub other-lasts : (w : Held) (vars : Bound) (scopes : List Scope) (calls : List Started) → Lasts w (record w { vars = vars; scopes = scopes; calls = calls })
+other-lasts w vars scopes calls = same-lasts w (record w { vars = vars; scopes = scopes; calls = calls }) refl refl refl refl
+
+pub other-grows : (w : Held) (vars : Bound) (scopes : List Scope) (calls : List Started) → length scopes ≡ length w.scopes → Grows w (record w { vars = vars; scopes = scopes; calls = calls })
+other-grows w vars scopes calls e = record { still = (other-lasts w vars scopes calls).still; bodies = e }
+
+length-bound : (ss : List Scope) (x : PyStrInterned) (r : PyObjectRef) → length (bound_scopes ss x r) ≡ length ss
+length-bound [] x r = refl
+length-bound (s ∷ []) x r = refl
+length-bound (s ∷ (u ∷ ss)) x r = ap suc (length-bound (u ∷ ss) x r)
 
 pub other-sound : (w : Held) (vars : Bound) (scopes : List Scope) (calls : List Started) → Sound w → AllHold w (of_each of_binding vars) → AllHold w (of_each of_scope scopes) → Sound (record w { vars = vars; scopes = scopes; calls = calls })
 other-sound w vars scopes calls s h k =
     let new = record w { vars = vars; scopes = scopes; calls = calls } in
-    let more = other-grows w vars scopes calls in
-    let go = all-grow w new more in
+    let more = other-lasts w vars scopes calls in
+    let go = all-last w new more in
     record { forms = go _ s.forms; below = s.below; nodes = go _ s.nodes; classes = go _ s.classes; vars = go _ h; scopes = go _ k; fixed = fixed-grow w new s.fixed more; built_in = built_in-grow w new s.built_in more; own = λ b. more.still _ (s.own b); standing = λ c e. more.still _ (s.standing c e); special = s.special }
 
 -- a variable is bound, or memory ran out and nothing changed
@@ -159,6 +167,10 @@ module _ {A E : Type 0} (w : Held) (x : PyStrInterned) (r : PyObjectRef) (vars :
       other-sound w vars scopes w.calls s (subst (λ vs. AllHold w (of_each of_binding vs)) (sym p) (bound_vars-holds w w.scopes w.vars x r s.vars n k)) (subst (λ ss. AllHold w (of_each of_scope ss)) (sym q) (bound_scopes-holds w w.scopes x r s.scopes n k))
   bind-sound (Err e) p q f g s n k =
       other-sound w vars scopes w.calls s (subst (λ vs. AllHold w (of_each of_binding vs)) (sym f) s.vars) (subst (λ ss. AllHold w (of_each of_scope ss)) (sym g) s.scopes)
+
+  pub bind-grows : (o : Result A E) → OnOk o (scopes ≡ bound_scopes w.scopes x r) → OnErr o (scopes ≡ w.scopes) → Grows w (record w { vars = vars; scopes = scopes })
+  bind-grows (Ok a) q g = other-grows w vars scopes w.calls (ap length q ∙ length-bound w.scopes x r)
+  bind-grows (Err e) q g = other-grows w vars scopes w.calls (ap length g)
 
   pub bind-read : (now : Held) (o : Result A E) → OnOk o (vars ≡ bound_vars w.scopes w.vars x r) → OnOk o (scopes ≡ bound_scopes w.scopes x r) → w ≡ now → OnOk o ((t : Reading) → plain t (record w { vars = vars; scopes = scopes }) ≡ with_binding (plain t now) (t.text x.0) r)
   bind-read now (Ok a) p q v = λ t.

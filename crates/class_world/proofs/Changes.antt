@@ -10,9 +10,9 @@ use Rattle.py_node.specs.Replies.{Started}
 use Rattle.class_model.specs.Class.{is_class}
 use Rattle.class_world.specs.Held.{Held}
 use Rattle.class_world.specs.Tables.{IsBelow, AreBelow}
-use Rattle.class_world.specs.Sound.{IsNode, IsClass, Holds, AllHold, Grows, of_node, of_form, Sound}
+use Rattle.class_world.specs.Sound.{IsNode, IsClass, Holds, AllHold, Lasts, of_node, of_form, Sound}
 use Rattle.class_world.proofs.Claims.{all-grow, each-push}
-use Rattle.class_world.proofs.Growth.{node-grows, form-grows, names-grow, same-grows}
+use Rattle.class_world.proofs.Growth.{grows-lasts, node-grows, form-grows, names-grow}
 
 all-unmap : (n : ℕ) (es : List (PyStrInterned × ℕ)) → All (λ e. e < n) (map (λ e. e.1) es) → All (λ e. e.1 < n) es
 all-unmap n es h = λ i d l. go es i d l (λ j l. h j 0 l)
@@ -63,11 +63,11 @@ below-push forms f b h = λ n x e. go forms n x (λ m y k. b m y k) h e
         let l : length forms ≡ 0 + length forms = omega arith in
         subst (λ m. IsBelow m x) z (walk 0 forms n x (λ m y k. let q : m ≡ 0 + m = omega arith in subst (λ m. IsBelow m y) q (b m y k)) (subst (λ m. IsBelow m f) l h) e)
 
-pub fixed-grow : (w new : Held) → 27 ≤ length w.nodes → Grows w new → 27 ≤ length new.nodes
+pub fixed-grow : (w new : Held) → 27 ≤ length w.nodes → Lasts w new → 27 ≤ length new.nodes
 unfolding Holds
 fixed-grow w new h g = let k = g.still (IsNode (record { 0 = 26 })) (omega arith) in omega arith
 
-pub built_in-grow : (w new : Held) → ((c : ℕ) → c < 23 → is_class w.classes c ≡ true) → Grows w new → (c : ℕ) → c < 23 → is_class new.classes c ≡ true
+pub built_in-grow : (w new : Held) → ((c : ℕ) → c < 23 → is_class w.classes c ≡ true) → Lasts w new → (c : ℕ) → c < 23 → is_class new.classes c ≡ true
 unfolding Holds
 built_in-grow w new h g = λ c l. g.still (IsClass c) (h c l)
 
@@ -76,22 +76,16 @@ module _ (w : Held) (s : Sound w) where
   node-sound n h =
       let new = record w { nodes = w.nodes ++ n ∷ [] } in
       let go = all-grow w new (node-grows w n) in
-      record { forms = go _ s.forms; below = s.below; nodes = each-push new of_node w.nodes n (go _ s.nodes) (go (of_node n) h); classes = go _ s.classes; vars = go _ s.vars; scopes = go _ s.scopes; fixed = fixed-grow w new s.fixed (node-grows w n); built_in = built_in-grow w new s.built_in (node-grows w n); own = λ b. (node-grows w n).still _ (s.own b); standing = λ c e. (node-grows w n).still _ (s.standing c e); special = s.special }
+      record { forms = go _ s.forms; below = s.below; nodes = each-push new of_node w.nodes n (go _ s.nodes) (go (of_node n) h); classes = go _ s.classes; vars = go _ s.vars; scopes = go _ s.scopes; fixed = fixed-grow w new s.fixed (grows-lasts w new (node-grows w n)); built_in = built_in-grow w new s.built_in (grows-lasts w new (node-grows w n)); own = λ b. (node-grows w n).still _ (s.own b); standing = λ c e. (node-grows w n).still _ (s.standing c e); special = s.special }
 
   pub form-sound : (f : Form) → AllHold w (of_form f) → Sound (record w { forms = w.forms ++ f ∷ [] })
   form-sound f h =
       let new = record w { forms = w.forms ++ f ∷ [] } in
       let go = all-grow w new (form-grows w f) in
-      record { forms = each-push new of_form w.forms f (go _ s.forms) (go (of_form f) h); below = below-push w.forms f s.below (form-below w f h); nodes = go _ s.nodes; classes = go _ s.classes; vars = go _ s.vars; scopes = go _ s.scopes; fixed = fixed-grow w new s.fixed (form-grows w f); built_in = built_in-grow w new s.built_in (form-grows w f); own = λ b. (form-grows w f).still _ (s.own b); standing = λ c e. (form-grows w f).still _ (s.standing c e); special = s.special }
+      record { forms = each-push new of_form w.forms f (go _ s.forms) (go (of_form f) h); below = below-push w.forms f s.below (form-below w f h); nodes = go _ s.nodes; classes = go _ s.classes; vars = go _ s.vars; scopes = go _ s.scopes; fixed = fixed-grow w new s.fixed (grows-lasts w new (form-grows w f)); built_in = built_in-grow w new s.built_in (grows-lasts w new (form-grows w f)); own = λ b. (form-grows w f).still _ (s.own b); standing = λ c e. (form-grows w f).still _ (s.standing c e); special = s.special }
 
   pub names-sound : (names : List (List ℕ)) → length w.names ≤ length names → ((n : ℕ) (x : List ℕ) → slice_get w.names n ≡ Some x → slice_get names n ≡ Some x) → Sound (record w { names = names })
   names-sound names l k =
       let new = record w { names = names } in
       let go = all-grow w new (names-grow w names l) in
-      record { forms = go _ s.forms; below = s.below; nodes = go _ s.nodes; classes = go _ s.classes; vars = go _ s.vars; scopes = go _ s.scopes; fixed = fixed-grow w new s.fixed (names-grow w names l); built_in = built_in-grow w new s.built_in (names-grow w names l); own = λ b. (names-grow w names l).still _ (s.own b); standing = λ c e. (names-grow w names l).still _ (s.standing c e); special = λ n x e. k n x (s.special n x e) }
-
-  pub rest-sound : (calls : List Started) → Sound (record w { scopes = []; calls = calls })
-  rest-sound calls =
-      let new = record w { scopes = []; calls = calls } in
-      let go = all-grow w new (same-grows w new refl refl refl refl) in
-      record { forms = go _ s.forms; below = s.below; nodes = go _ s.nodes; classes = go _ s.classes; vars = go _ s.vars; scopes = tt; fixed = fixed-grow w new s.fixed (same-grows w new refl refl refl refl); built_in = built_in-grow w new s.built_in (same-grows w new refl refl refl refl); own = λ b. (same-grows w new refl refl refl refl).still _ (s.own b); standing = λ c e. (same-grows w new refl refl refl refl).still _ (s.standing c e); special = s.special }
+      record { forms = go _ s.forms; below = s.below; nodes = go _ s.nodes; classes = go _ s.classes; vars = go _ s.vars; scopes = go _ s.scopes; fixed = fixed-grow w new s.fixed (grows-lasts w new (names-grow w names l)); built_in = built_in-grow w new s.built_in (grows-lasts w new (names-grow w names l)); own = λ b. (names-grow w names l).still _ (s.own b); standing = λ c e. (names-grow w names l).still _ (s.standing c e); special = λ n x e. k n x (s.special n x e) }

@@ -3,7 +3,11 @@ use Rattle.std.proofs.Common.{◌≡◌, ℕ, zero, suc, ◌<◌, List, [], ◌�
 use Rattle.std.specs.Prelude.{slice_get}
 use Rattle.class_world.specs.Held.{Held}
 use Rattle.py_node.specs.declared.refs.PyObjectRef.{PyObjectRef}
-use Rattle.class_world.specs.Sound.{Claim, IsNode, AreNodes, IsExpression, AreExpressions, Holds, AllHold, Grows, of_each}
+use Rattle.class_world.specs.Sound.{Claim, IsNode, AreNodes, IsExpression, AreExpressions, Holds, AllHold, Lasts, Grows, of_each}
+
+pub all-last : (old new : Held) → Lasts old new → (cs : List Claim) → AllHold old cs → AllHold new cs
+all-last old new g [] h = tt
+all-last old new g (c ∷ cs) h = (g.still c h.0, all-last old new g cs h.1)
 
 pub all-grow : (old new : Held) → Grows old new → (cs : List Claim) → AllHold old cs → AllHold new cs
 all-grow old new g [] h = tt

@@ -23,7 +23,7 @@ use Rattle.py_node.specs.declared.built_in.BuiltIn.TheVariants.{TypeType}
 use Rattle.plain_machine.specs.Known.{the_dict}
 use Rattle.plain_machine.specs.Sound.{held_by}
 use Rattle.class_world.proofs.Homes.{held_by-last, held_by-attr}
-use Rattle.class_world.proofs.Growth.{Like, like-itself, like-push, keep-itself, keep-push, grows}
+use Rattle.class_world.proofs.Growth.{Like, like-itself, like-push, keep-itself, keep-push, grows, grows-lasts}
 use Rattle.class_world.proofs.Stored.{map-push, no-names}
 use Rattle.class_world.proofs.Changes.{fixed-grow, built_in-grow}
 use Rattle.class_world.proofs.Bound.{with_value-read, with_value-holds}
@@ -58,7 +58,7 @@ attr-there ks c d x r = at-changed (λ (k : Class PyStrInterned). record k { att
 
 -- as many classes as before
 pub classes-grow : (w : Held) (ks : HeldClasses) → Like w.classes ks → Grows w (record w { classes = ks })
-classes-grow w ks k = grows w (record w { classes = ks }) (omega arith) (omega arith) (λ m f h. h) (omega arith) (keep-itself w.nodes) k
+classes-grow w ks k = grows w (record w { classes = ks }) refl (omega arith) (omega arith) (λ m f h. h) (omega arith) (keep-itself w.nodes) k
 
 abbrev AreStanding : Held → HeldClasses → Type 0
 AreStanding w ks = (c : ℕ) → is_class ks c ≡ true → Holds w (Standing c (record { 0 = c }))
@@ -68,7 +68,7 @@ classes-sound w ks k h a s =
     let new = record w { classes = ks } in
     let more = classes-grow w ks k in
     let go = all-grow w new more in
-    record { forms = go _ s.forms; below = s.below; nodes = go _ s.nodes; classes = go _ h; vars = go _ s.vars; scopes = go _ s.scopes; fixed = fixed-grow w new s.fixed more; built_in = built_in-grow w new s.built_in more; own = λ b. more.still _ (s.own b); standing = λ d e. more.still _ (a d e); special = s.special }
+    record { forms = go _ s.forms; below = s.below; nodes = go _ s.nodes; classes = go _ h; vars = go _ s.vars; scopes = go _ s.scopes; fixed = fixed-grow w new s.fixed (grows-lasts w new more); built_in = built_in-grow w new s.built_in (grows-lasts w new more); own = λ b. more.still _ (s.own b); standing = λ d e. more.still _ (a d e); special = s.special }
 
 -- an attribute is set, or memory ran out and nothing changed
 module _ {A E : Type 0} (w : Held) (c : ℕ) (x : PyStrInterned) (r : PyObjectRef) (ks : HeldClasses) where
@@ -111,7 +111,7 @@ module _ (w : Held) (meta : PyTypeRef) (k : Class PyStrInterned) where
   pub made-grows : (c : PyTypeRef) → Grows w (class_made c)
   made-grows c =
       let n = length-append w.nodes (record { class = meta; dict = None; payload = payload.Class c } ∷ []) in
-      grows w (class_made c) (omega arith) (omega arith) (λ m f h. h) (omega arith) (keep-push w.nodes (record { class = meta; dict = None; payload = payload.Class c })) (like-push w.classes k)
+      grows w (class_made c) refl (omega arith) (omega arith) (λ m f h. h) (omega arith) (keep-push w.nodes (record { class = meta; dict = None; payload = payload.Class c })) (like-push w.classes k)
 
   pub node-made : (c : PyTypeRef) (r : PyObjectRef) → r.0 ≡ length w.nodes → Holds (class_made c) (IsNode r)
   unfolding Holds
@@ -149,7 +149,7 @@ module _ (w : Held) (meta : PyTypeRef) (k : Class PyStrInterned) where
         let new = class_made c in
         let more = made-grows c in
         let go = all-grow w new more in
-        let many = built_in-grow w new s.built_in more in
+        let many = built_in-grow w new s.built_in (grows-lasts w new more) in
         let node = node-made c (record { 0 = k.number }) i in
         let members = subst (λ xs. Holds new (AreNames xs)) (sym q) (no-names new) in
         let rest = all-append new (of_dict (has_flag (2 ^ 40) k)) (of_each of_binding k.attrs) (dict-made new (has_flag (2 ^ 40) k) many) (go _ a) in
@@ -160,7 +160,7 @@ module _ (w : Held) (meta : PyTypeRef) (k : Class PyStrInterned) where
           classes = each-push new of_class w.classes k (go _ s.classes) (node, (members, rest));
           vars = go _ s.vars;
           scopes = go _ s.scopes;
-          fixed = fixed-grow w new s.fixed more;
+          fixed = fixed-grow w new s.fixed (grows-lasts w new more);
           built_in = many;
           own = λ b. more.still _ (s.own b);
           standing = stands;

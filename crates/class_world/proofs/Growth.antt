@@ -12,7 +12,7 @@ use Rattle.py_node.specs.declared.payload.Node.{Node}
 use Rattle.py_node.specs.declared.payload.Payload.{Payload}
 use Rattle.py_node.specs.declared.payload.Form.{Form}
 use Rattle.class_world.specs.Held.{Held}
-use Rattle.class_world.specs.Sound.{Claim, IsNode, AreNodes, IsExpression, AreExpressions, IsName, AreNames, IsClass, IsOf, CanBeBase, Holding, Standing, KeysDiffer, HasOperand, operands_at, home_of, home_at, key_in, held_key, class_in, held_class, Holds, Grows}
+use Rattle.class_world.specs.Sound.{Claim, IsNode, AreNodes, IsExpression, AreExpressions, IsName, AreNames, IsClass, IsOf, CanBeBase, Holding, Standing, KeysDiffer, HasOperand, operands_at, home_of, home_at, key_in, held_key, class_in, held_class, Holds, Lasts, Grows}
 use Rattle.class_world.proofs.Claims.{get-pushed}
 use Rattle.class_world.proofs.Homes.{held_by-push}
 
@@ -115,31 +115,44 @@ grows-at old new x e s n p l (KeysDiffer rs) h = keys-keep old.nodes new.nodes p
 grows-at old new x e s n p l (HasOperand m i) h = operand-stays old.forms new.forms m i s h
 
 -- where no table is shorter
-pub grows : (old new : Held) → length old.names ≤ length new.names → length old.forms ≤ length new.forms → Stays old.forms new.forms → length old.nodes ≤ length new.nodes → Keep old.nodes new.nodes → Like old.classes new.classes → Grows old new
-grows old new x e s n p l = record { still = grows-at old new x e s n p l }
+lasts : (old new : Held) → length old.names ≤ length new.names → length old.forms ≤ length new.forms → Stays old.forms new.forms → length old.nodes ≤ length new.nodes → Keep old.nodes new.nodes → Like old.classes new.classes → Lasts old new
+lasts old new x e s n p l = record { still = grows-at old new x e s n p l }
+
+-- and the same bodies run
+pub grows : (old new : Held) → old.scopes ≡ new.scopes → length old.names ≤ length new.names → length old.forms ≤ length new.forms → Stays old.forms new.forms → length old.nodes ≤ length new.nodes → Keep old.nodes new.nodes → Like old.classes new.classes → Grows old new
+grows old new b x e s n p l = record { still = grows-at old new x e s n p l; bodies = ap length (sym b) }
+
+pub grows-lasts : (old new : Held) → Grows old new → Lasts old new
+grows-lasts old new g = record { still = g.still }
 
 pub grows-itself : (w : Held) → Grows w w
-grows-itself w = record { still = λ c h. h }
+grows-itself w = record { still = λ c h. h; bodies = refl }
 
 pub grows-on : (a b c : Held) → Grows a b → Grows b c → Grows a c
-grows-on a b c g h = record { still = λ k p. h.still k (g.still k p) }
+grows-on a b c g h = record { still = λ k p. h.still k (g.still k p); bodies = h.bodies ∙ g.bodies }
+
+pub lasts-on : (a b c : Held) → Lasts a b → Lasts b c → Lasts a c
+lasts-on a b c g h = record { still = λ k p. h.still k (g.still k p) }
 
 -- where the tables are the same
-pub same-grows : (old new : Held) → old.names ≡ new.names → old.forms ≡ new.forms → old.nodes ≡ new.nodes → old.classes ≡ new.classes → Grows old new
-same-grows old new x e n k =
+pub same-lasts : (old new : Held) → old.names ≡ new.names → old.forms ≡ new.forms → old.nodes ≡ new.nodes → old.classes ≡ new.classes → Lasts old new
+same-lasts old new x e n k =
     let a = ap length x in
     let b = ap length e in
     let d = ap length n in
-    grows old new (omega arith) (omega arith) (λ m f h. subst (λ fs. slice_get fs m ≡ Some f) e h) (omega arith) (subst (λ ns. Keep old.nodes ns) n (keep-itself old.nodes)) (subst (λ ks. Like old.classes ks) k (like-itself old.classes))
+    lasts old new (omega arith) (omega arith) (λ m f h. subst (λ fs. slice_get fs m ≡ Some f) e h) (omega arith) (subst (λ ns. Keep old.nodes ns) n (keep-itself old.nodes)) (subst (λ ks. Like old.classes ks) k (like-itself old.classes))
 
 pub grows-seen : (w now new : Held) → w ≡ now → Grows w new → Grows now new
 grows-seen w now new e g = subst (λ w. Grows w new) e g
 
+pub lasts-seen : (w now new : Held) → w ≡ now → Lasts w new → Lasts now new
+lasts-seen w now new e g = subst (λ w. Lasts w new) e g
+
 pub node-grows : (w : Held) (n : Node) → Grows w (record w { nodes = w.nodes ++ n ∷ [] })
-node-grows w n = let l = length-append w.nodes (n ∷ []) in grows w (record w { nodes = w.nodes ++ n ∷ [] }) (omega arith) (omega arith) (λ m f h. h) (omega arith) (keep-push w.nodes n) (like-itself w.classes)
+node-grows w n = let l = length-append w.nodes (n ∷ []) in grows w (record w { nodes = w.nodes ++ n ∷ [] }) refl (omega arith) (omega arith) (λ m f h. h) (omega arith) (keep-push w.nodes n) (like-itself w.classes)
 
 pub form-grows : (w : Held) (f : Form) → Grows w (record w { forms = w.forms ++ f ∷ [] })
-form-grows w f = let l = length-append w.forms (f ∷ []) in grows w (record w { forms = w.forms ++ f ∷ [] }) (omega arith) (omega arith) (λ m g h. get-pushed w.forms f m g h) (omega arith) (keep-itself w.nodes) (like-itself w.classes)
+form-grows w f = let l = length-append w.forms (f ∷ []) in grows w (record w { forms = w.forms ++ f ∷ [] }) refl (omega arith) (omega arith) (λ m g h. get-pushed w.forms f m g h) (omega arith) (keep-itself w.nodes) (like-itself w.classes)
 
 pub names-grow : (w : Held) (names : List (List ℕ)) → length w.names ≤ length names → Grows w (record w { names = names })
-names-grow w names l = grows w (record w { names = names }) l (omega arith) (λ m f h. h) (omega arith) (keep-itself w.nodes) (like-itself w.classes)
+names-grow w names l = grows w (record w { names = names }) refl l (omega arith) (λ m f h. h) (omega arith) (keep-itself w.nodes) (like-itself w.classes)

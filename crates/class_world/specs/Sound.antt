@@ -114,8 +114,13 @@ AllHold w [] = Unit {0}
 AllHold w (c ∷ cs) = Holds w c × AllHold w cs
 
 -- what held of a number holds still
+pub record Lasts (old new : Held) : Type 0 where
+  pub still : (c : Claim) → Holds old c → Holds new c
+
+-- the same, and as many bodies run
 pub record Grows (old new : Held) : Type 0 where
   pub still : (c : Claim) → Holds old c → Holds new c
+  pub bodies : length new.scopes ≡ length old.scopes
 
 -- what the parts of a world say
 

@@ -21,7 +21,7 @@ ghost use Rattle.py_node.specs.BuiltIns.{place_of};
 ghost use Rattle.class_world.specs.Fixed.{number_of_fixed};
 ghost use Rattle.class_world.specs.Held.{Held};
 ghost use Rattle.class_world.specs.Reading.{Reading, Reads, form_tree, datum, bindings, plain, IsReadable};
-ghost use Rattle.class_world.specs.Sound.{IsNode, IsClass, IsOf, CanBeBase, IsExpression, IsName, Holding, Holds, AllHold, Grows, home_of, of_option, of_dict_ref, of_payload, of_form, of_binding, of_each};
+ghost use Rattle.class_world.specs.Sound.{IsNode, IsClass, IsOf, CanBeBase, IsExpression, IsName, Holding, Holds, AllHold, Lasts, Grows, home_of, of_option, of_dict_ref, of_payload, of_form, of_binding, of_each};
 
 use crate::attributes_of_built_ins::add_own_attrs;
 use crate::definer::define;
@@ -416,7 +416,7 @@ impl World {
     pub fn end_bodies(&mut self, depth: usize)
         ensures ended { (t : Reading) → plain t self.new ≡ at_depth depth (plain t self.old) }
         ensures reads { (t : Reading) → Reads t self.new → Reads t self.old }
-        ensures grows { Grows self.old self.new }
+        ensures lasts { Lasts self.old self.new }
     {
         self.scopes.truncate(depth);
     }
@@ -465,7 +465,7 @@ impl World {
         ensures opened { OnOk result ((t : Reading) → plain t self.new ≡ with_scope (plain t self.old) (record { func = func; vars = bindings t vars }) (started_of start)) }
         ensures err { OnErr result (self.new ≡ self.old) }
         ensures reads { (t : Reading) → Reads t self.new → Reads t self.old }
-        ensures grows { Grows self.old self.new }
+        ensures lasts { Lasts self.old self.new }
     {
         self.scopes.reserve(1)?;
         self.calls.reserve(1)?;
@@ -478,7 +478,7 @@ impl World {
     pub fn close_scope(&mut self)
         ensures closed { (t : Reading) → plain t self.new ≡ without_scope (plain t self.old) }
         ensures reads { (t : Reading) → Reads t self.new → Reads t self.old }
-        ensures grows { Grows self.old self.new }
+        ensures lasts { Lasts self.old self.new }
     {
         let _ = self.scopes.pop();
     }

@@ -2,7 +2,7 @@ use Rattle.class_world.specs.contracts.world.World.{the_view}
 use Rattle.class_world.specs.Sound.{IsName, IsNode}
 use Rattle.class_world.proofs.Claims.{opened-one}
 use Rattle.class_world.proofs.Growth.{grows-seen}
-use Rattle.class_world.proofs.Bound.{bind-sound, bind-read, other-grows}
+use Rattle.class_world.proofs.Bound.{bind-sound, bind-read, bind-grows}
 use Rattle.class_world.proofs.world.World.bind.Goals as goal
 
 pub invariant_of-self : goal.invariant_of-self
@@ -18,4 +18,4 @@ returns-clause-bound c =
     bind-read (the_view c.self.inside) c.args.name c.args.value c.bind_in.new.vars c.bind_in.new.scopes.items c.args.self.now c.bind_in.result c.bind_in.ensures.vars c.bind_in.ensures.scopes c.self.view_is
 
 pub returns-clause-grows : goal.returns-clause-grows
-returns-clause-grows c = grows-seen (the_view c.self.inside) _ _ c.self.view_is (other-grows _ _ _ _)
+returns-clause-grows c = grows-seen (the_view c.self.inside) _ _ c.self.view_is (bind-grows (the_view c.self.inside) c.args.name c.args.value c.bind_in.new.vars c.bind_in.new.scopes.items c.bind_in.result c.bind_in.ensures.scopes c.bind_in.ensures.same_scopes)

@@ -7,8 +7,8 @@ use Rattle.class_world.specs.contracts.world.World.{the_view}
 use Rattle.class_world.specs.Reading.{Reading, plain, scope_of}
 use Rattle.class_world.specs.Sound.{of_scope}
 use Rattle.class_world.proofs.Claims.{each-take}
-use Rattle.class_world.proofs.Growth.{grows-seen}
-use Rattle.class_world.proofs.Bound.{other-sound, other-grows}
+use Rattle.class_world.proofs.Growth.{lasts-seen}
+use Rattle.class_world.proofs.Bound.{other-sound, other-lasts}
 use Rattle.class_world.proofs.world.World.end_bodies.Goals as goal
 
 pub invariant_of-self : goal.invariant_of-self
@@ -16,8 +16,8 @@ invariant_of-self c =
     let w = the_view c.self.inside in
     rw c.truncate.ensures.items (other-sound w w.vars _ w.calls c.self.invariant c.self.invariant.vars (each-take w of_scope w.scopes _ c.self.invariant.scopes))
 
-pub returns-clause-grows : goal.returns-clause-grows
-returns-clause-grows c = grows-seen (the_view c.self.inside) _ _ c.self.view_is (other-grows _ _ _ _)
+pub returns-clause-lasts : goal.returns-clause-lasts
+returns-clause-lasts c = lasts-seen (the_view c.self.inside) _ _ c.self.view_is (other-lasts _ _ _ _)
 
 -- the first scopes, as they are read
 first-read : (t : Reading) (w : Held) (n : ℕ) (ss : List Scope) → ss ≡ take n w.scopes → plain t (record w { scopes = ss }) ≡ at_depth n (plain t w)

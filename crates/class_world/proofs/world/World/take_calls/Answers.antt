@@ -1,3 +1,4 @@
+use Rattle.std.proofs.Common.{refl}
 use Rattle.class_world.specs.contracts.world.World.{the_view}
 use Rattle.class_world.proofs.Growth.{grows-seen}
 use Rattle.class_world.proofs.Bound.{other-sound, other-grows}
@@ -9,4 +10,4 @@ invariant_of-self c =
     other-sound w w.vars w.scopes _ c.self.invariant c.self.invariant.vars c.self.invariant.scopes
 
 pub returns-clause-grows : goal.returns-clause-grows
-returns-clause-grows c = grows-seen (the_view c.self.inside) _ _ c.self.view_is (other-grows _ _ _ _)
+returns-clause-grows c = grows-seen (the_view c.self.inside) _ _ c.self.view_is (other-grows _ _ _ _ refl)
