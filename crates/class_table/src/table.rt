@@ -3,7 +3,7 @@
 ghost use Rattle.std.specs.Prelude.{◌≡◌, ◌<◌, ◌≤◌, [], true, length, OnOk, OnErr, IfOk, ◌↔◌, IsTrue, Some, is_some, leb, option_map, slice_get};
 ghost use Rattle.py_node.specs.declared.raised.Cause.TheVariants.{EmptyBases, NotBaseType};
 ghost use Rattle.py_node.specs.Attributes.{is_same_name};
-ghost use Rattle.class_model.specs.Class.{class_at, is_class, lin, is_sub, is_heap, found, found_past, own_of, subclasses};
+ghost use Rattle.class_model.specs.Class.{class_at, is_class, lin, IsLeastLine, is_sub, is_heap, found, found_past, own_of, subclasses};
 ghost use Rattle.class_model.specs.Numbers.{limit, numbers_of};
 ghost use Rattle.class_model.specs.Layout.{base, solid};
 ghost use Rattle.class_model.specs.Sound.{AreSound};
@@ -254,10 +254,11 @@ impl ClassTable {
         stored_at(&self.classes, class).subclasses()
     }
 
-    /// The linearisation of a class.
+    /// The linearisation of a class: the least of its orders.
     pub fn mro(&self, class: PyTypeRef) -> &[PyTypeRef]
         requires { is_class self.now class.0 ≡ true }
-        ensures { lin self.now class.0 ≡ Some (numbers result.now) }
+        ensures line { lin self.now class.0 ≡ Some (numbers result.now) }
+        ensures least { IsLeastLine self.now class.0 (numbers result.now) }
     {
         stored_at(&self.classes, class).mro()
     }
