@@ -7,3 +7,4 @@ pub mod Changed
 pub mod Pushed
 pub mod AsKept
 pub mod Heaps
+pub mod StartParts

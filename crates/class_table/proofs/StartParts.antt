@@ -1,0 +1,161 @@
+-- The parts of a new machine's world: loops over the built-in classes and the special names.
+use Rattle.std.proofs.Common.{◌≡◌, ℕ, zero, suc, ◌+◌, ◌<◌, ◌≤◌, Bool, true, false, cond, List, [], ◌∷◌, ◌++◌, length, Option, Some, None, refl, sym, ap, ◌∙◌, subst, arith, get_or, take, map, true≢false}
+use Rattle.std.specs.Prelude.{◌&&◌, not, slice_get, ltb, eqb, nat_lt, is_some}
+use Rattle.std.specs.Str.{bytes_eq}
+use Rattle.std.proofs.lemmas.Bool.{ltb-true, eqb-true, eqb-false}
+use Rattle.std.proofs.lemmas.Slice.Eq.{bytes_eq-Decides}
+use Rattle.py_node.specs.declared.refs.PyTypeRef.{PyTypeRef}
+use Rattle.py_node.specs.declared.built_in.BuiltIn.{BuiltIn}
+use Rattle.py_node.specs.BuiltIns.{place_of, base_of, all_built_ins}
+use Rattle.py_node.specs.Slots.{special_names}
+use Rattle.py_node.specs.Texts.{AreDistinct}
+use Rattle.class_model.specs.Start.{bases_from, built_class}
+use Rattle.py_node.specs.declared.refs.PyStrInterned.{PyStrInterned}
+use Rattle.class_model.specs.Class.{Classes, class_at, is_class}
+use Rattle.class_model.specs.Numbers.{limit}
+use Rattle.class_table.specs.New.{one_base, IsBelow}
+
+module _ {A B : Type 0} (f : A → B) where
+  pub map-step : (xs : List A) (i : ℕ) (d : A) → i < length xs → map f (take (suc i) xs) ≡ map f (take i xs) ++ f (get_or xs i d) ∷ []
+  map-step [] i d h = absurd (omega arith)
+  map-step (x ∷ xs) zero d h = refl
+  map-step (x ∷ xs) (suc i) d h = ap (λ ys. f x ∷ ys) (map-step xs i d (omega arith))
+
+  pub map-end : (xs : List A) (i : ℕ) → length xs ≤ i → map f (take i xs) ≡ map f xs
+  map-end [] zero h = refl
+  map-end [] (suc i) h = refl
+  map-end (x ∷ xs) zero h = absurd (omega arith)
+  map-end (x ∷ xs) (suc i) h = ap (λ ys. f x ∷ ys) (map-end xs i (omega arith))
+
+  pub length-mapped : (xs : List A) (i : ℕ) → i ≤ length xs → length (map f (take i xs)) ≡ i
+  length-mapped xs zero h = refl
+  length-mapped [] (suc i) h = absurd (omega arith)
+  length-mapped (x ∷ xs) (suc i) h = ap suc (length-mapped xs i (omega arith))
+
+  -- what stands among the first ones stands below their number
+  pub mapped-early : (xs : List A) (i n : ℕ) (y : B) → slice_get (map f (take i xs)) n ≡ Some y → (n < i) × (slice_get (map f xs) n ≡ Some y)
+  mapped-early xs zero n y e = cc
+  mapped-early [] (suc i) n y e = cc
+  mapped-early (x ∷ xs) (suc i) zero y e = (omega arith, e)
+  mapped-early (x ∷ xs) (suc i) (suc n) y e = let h = mapped-early xs i n y e in (omega (arith, h.0), h.1)
+
+  pub mapped-at : (xs : List A) (i : ℕ) (d : A) → i < length xs → slice_get (map f xs) i ≡ Some (f (get_or xs i d))
+  mapped-at [] i d h = absurd (omega arith)
+  mapped-at (x ∷ xs) zero d h = refl
+  mapped-at (x ∷ xs) (suc i) d h = mapped-at xs i d (omega arith)
+
+  -- the next of different ones is new
+  pub next-new : (xs : List A) (i n : ℕ) (d : A) → i < length xs → ((n m : ℕ) (y : B) → slice_get (map f xs) n ≡ Some y → slice_get (map f xs) m ≡ Some y → n ≡ m) → slice_get (map f (take i xs)) n ≡ Some (f (get_or xs i d)) → ⊥
+  next-new xs i n d h apart e =
+      let early = mapped-early xs i n _ e in
+      let same : n ≡ i = apart n i _ early.1 (mapped-at xs i d h) in
+      omega (arith, early.0, same)
+
+pub split : (a b : Bool) → a && b ≡ true → (a ≡ true) × (b ≡ true)
+split true b h = (refl, h)
+split false b h = cc
+
+-- whether the text differs from each of the others
+abbrev differs : List ℕ → List (List ℕ) → Bool
+differs x [] = true
+differs x (y ∷ ys) = not (bytes_eq x y) && differs x ys
+
+abbrev all_differ : List (List ℕ) → Bool
+all_differ [] = true
+all_differ (x ∷ xs) = differs x xs && all_differ xs
+
+differs-none : (x : List ℕ) (xs : List (List ℕ)) → differs x xs ≡ true → (n : ℕ) → slice_get xs n ≡ Some x → ⊥
+differs-none x [] h n e = cc
+differs-none x (y ∷ ys) h zero e =
+    let same : x ≡ y = cc in
+    true≢false (sym (split (not (bytes_eq x y)) (differs x ys) h).0 ∙ ap not ((bytes_eq-Decides x y).1 same))
+differs-none x (y ∷ ys) h (suc n) e = differs-none x ys (split (not (bytes_eq x y)) (differs x ys) h).1 n e
+
+differ-distinct : (xs : List (List ℕ)) → all_differ xs ≡ true → AreDistinct xs
+differ-distinct [] h n m t a b = cc
+differ-distinct (x ∷ xs) h zero zero t a b = refl
+differ-distinct (x ∷ xs) h zero (suc m) t a b =
+    let same : t ≡ x = cc in
+    absurd (differs-none x xs (split (differs x xs) (all_differ xs) h).0 m (b ∙ ap Some same))
+differ-distinct (x ∷ xs) h (suc n) zero t a b =
+    let same : t ≡ x = cc in
+    absurd (differs-none x xs (split (differs x xs) (all_differ xs) h).0 n (a ∙ ap Some same))
+differ-distinct (x ∷ xs) h (suc n) (suc m) t a b = ap suc (differ-distinct xs (split (differs x xs) (all_differ xs) h).1 n m t a b)
+
+pub special-distinct : AreDistinct special_names
+unfolding special_names
+special-distinct = differ-distinct special_names refl
+
+-- whether a class's base has a place below the given one. Only the first class has none
+abbrev pub base_below : ℕ → Option ℕ → Bool
+base_below n None = eqb n 0
+base_below n (Some b) = ltb b n
+
+abbrev bases_below : ℕ → List BuiltIn → Bool
+bases_below n [] = true
+bases_below n (b ∷ bs) = base_below n (base_of b) && bases_below (suc n) bs
+
+bases-at : (n : ℕ) (bs : List BuiltIn) (i : ℕ) (d : BuiltIn) → bases_below n bs ≡ true → i < length bs → base_below (n + i) (base_of (get_or bs i d)) ≡ true
+bases-at n [] i d h l = absurd (omega arith)
+bases-at n (b ∷ bs) zero d h l = let z : n ≡ n + 0 = omega arith in subst (λ n. base_below n (base_of b) ≡ true) z (split (base_below n (base_of b)) (bases_below (suc n) bs) h).0
+bases-at n (b ∷ bs) (suc i) d h l =
+    let z : suc n + i ≡ n + suc i = omega arith in
+    subst (λ n. base_below n (base_of (get_or bs i d)) ≡ true) z (bases-at (suc n) bs i d (split (base_below n (base_of b)) (bases_below (suc n) bs) h).1 (omega arith))
+
+-- the base of a class that is to be made, by the bases that it has
+pub one-below : (t : Classes PyStrInterned) (n : ℕ) (o : Option PyTypeRef) (b : Option ℕ) → one_base o ≡ bases_from b → base_below n b ≡ true → ((c : ℕ) → c < n → is_class t c ≡ true) → IsBelow t n o
+one-below t n None None e h k = eqb-true n 0 h
+one-below t n None (Some b) e h k = cc
+one-below t n (Some c) None e h k = cc
+one-below t n (Some c) (Some b) e h k = let same : c.0 ≡ b = cc in let l = ltb-true b n h in k c.0 (omega (arith, same, l))
+
+pub built-below : (i : ℕ) (d : BuiltIn) → i < 23 → base_below i (base_of (get_or all_built_ins i d)) ≡ true
+unfolding all_built_ins base_of
+built-below i d h = let z : 0 + i ≡ i = omega arith in subst (λ n. base_below n (base_of (get_or all_built_ins i d)) ≡ true) z (bases-at 0 all_built_ins i d refl h)
+
+-- the built-in classes that were made so far: each has its place as its number
+places_at : ℕ → List BuiltIn → Bool
+places_at n [] = true
+places_at n (b ∷ bs) = eqb (place_of b) n && places_at (suc n) bs
+
+early-there : (n : ℕ) (bs : List BuiltIn) (i : ℕ) → places_at n bs ≡ true → i ≤ length bs → (c : ℕ) → n ≤ c → c < n + i → is_class (map (built_class {K = PyStrInterned}) (take i bs)) c ≡ true
+unfolding places_at
+early-there n bs zero h l c m k = absurd (omega arith)
+early-there n [] (suc i) h l c m k = absurd (omega arith)
+early-there n (b ∷ bs) (suc i) h l c m k = go (eqb (place_of b) c) refl (early-there (suc n) bs i (split (eqb (place_of b) n) (places_at (suc n) bs) h).1 (omega arith) c)
+  where
+    go : (v : Bool) → eqb (place_of b) c ≡ v → (suc n ≤ c → c < suc n + i → is_class (map (built_class {K = PyStrInterned}) (take i bs)) c ≡ true) → is_some (cond v (Some (built_class {K = PyStrInterned} b)) (class_at (map (built_class {K = PyStrInterned}) (take i bs)) c)) ≡ true
+    go true e more = refl
+    go false e more =
+        let both = split (eqb (place_of b) n) (places_at (suc n) bs) h in
+        let here = eqb-true (place_of b) n both.0 in
+        let away = eqb-false (place_of b) c e in
+        more (omega (arith, here, away, m)) (omega arith)
+
+early-limit : (n : ℕ) (bs : List BuiltIn) (i : ℕ) → places_at n bs ≡ true → i ≤ length bs → limit (map (built_class {K = PyStrInterned}) (take i bs)) ≤ n + i
+unfolding places_at
+early-limit n bs zero h l = omega arith
+early-limit n [] (suc i) h l = absurd (omega arith)
+early-limit n (b ∷ bs) (suc i) h l = go (nat_lt (place_of b) (limit (map (built_class {K = PyStrInterned}) (take i bs)))) (early-limit (suc n) bs i (split (eqb (place_of b) n) (places_at (suc n) bs) h).1 (omega arith))
+  where
+    go : (v : Bool) → limit (map (built_class {K = PyStrInterned}) (take i bs)) ≤ suc n + i → cond v (limit (map (built_class {K = PyStrInterned}) (take i bs))) (suc (place_of b)) ≤ n + suc i
+    go true r = omega arith
+    go false r = let here = eqb-true (place_of b) n (split (eqb (place_of b) n) (places_at (suc n) bs) h).0 in omega arith
+
+pub made-there : (i : ℕ) → i ≤ 23 → (c : ℕ) → c < i → is_class (map (built_class {K = PyStrInterned}) (take i all_built_ins)) c ≡ true
+unfolding all_built_ins place_of places_at
+made-there i l c k = early-there 0 all_built_ins i refl l c (omega arith) (omega arith)
+
+pub made-limit : (i : ℕ) → i ≤ 23 → limit (map (built_class {K = PyStrInterned}) (take i all_built_ins)) ≤ i
+unfolding all_built_ins place_of places_at
+made-limit i l = let r = early-limit 0 all_built_ins i refl l in omega arith
+
+place-from : (n : ℕ) (bs : List BuiltIn) (i : ℕ) (d : BuiltIn) → places_at n bs ≡ true → i < length bs → place_of (get_or bs i d) ≡ n + i
+unfolding places_at
+place-from n [] i d h l = absurd (omega arith)
+place-from n (b ∷ bs) zero d h l = let e = eqb-true (place_of b) n (split (eqb (place_of b) n) (places_at (suc n) bs) h).0 in omega arith
+place-from n (b ∷ bs) (suc i) d h l = let r = place-from (suc n) bs i d (split (eqb (place_of b) n) (places_at (suc n) bs) h).1 (omega arith) in omega arith
+
+pub made-place : (i : ℕ) (d : BuiltIn) → i < 23 → place_of (get_or all_built_ins i d) ≡ i
+unfolding all_built_ins place_of places_at
+made-place i d l = let r = place-from 0 all_built_ins i d refl l in omega arith
