@@ -1,8 +1,9 @@
 // The table of classes.
 
 ghost use Rattle.std.specs.Prelude.{◌≡◌, ◌<◌, ◌≤◌, [], true, length, OnOk, OnErr, IfOk, ◌↔◌, IsTrue, Some, is_some, leb, option_map, slice_get};
+ghost use Rattle.std.specs.List.{All};
 ghost use Rattle.py_node.specs.declared.raised.Cause.TheVariants.{EmptyBases, NotBaseType};
-ghost use Rattle.py_node.specs.Attributes.{is_same_name};
+ghost use Rattle.py_node.specs.Attributes.{is_same_name, AreNamesDistinct};
 ghost use Rattle.class_model.specs.Class.{class_at, is_class, lin, IsLeastLine, is_sub, is_heap, found, found_past, own_of, subclasses};
 ghost use Rattle.class_model.specs.Numbers.{limit, numbers_of};
 ghost use Rattle.class_model.specs.Layout.{base, solid, built_ins};
@@ -77,9 +78,10 @@ impl ClassTable {
     }
 
     /// The classes are sound: only the first has no base, none derives from a class that derives
-    /// from it, and each has an order.
+    /// from it, and each has an order. In each no own attribute's name stands twice.
     pub fn sound(&self)
-        ensures { AreSound self.now }
+        ensures sound { AreSound self.now }
+        ensures distinct { All (λ k. AreNamesDistinct k.attrs) self.now }
     {
         let _count = self.classes.len();
     }
