@@ -1,8 +1,9 @@
 -- All orders are among the arrangements, so that the least of them is found.
 use Rattle.std.proofs.Common.{◌≡◌, ℕ, zero, suc, ◌≤◌, Bool, true, false, cond, List, [], ◌∷◌, map, filter, length, Option, Some, None, inl, inr, refl, sym, ap, arith}
-use Rattle.class_model.specs.Order.{members_of, is_order, ranks, is_lexicographic, without, unique, arrangements, all_arrangements, lesser, least, least_order, Holds, Distinct, IsOrder}
+use Rattle.class_model.specs.Order.{members_of, is_order, ranks, is_lexicographic, without, unique, arrangements, all_arrangements, lesser, least, least_order, Holds, Distinct, IsOrder, IsLeastOrder}
 use Rattle.class_model.proofs.Held.{Holds-equal, Holds-flat_map, Holds-map, Holds-filter, from_filter, Holds-without, from_without, Holds-unique, from_unique, distinct-fewer}
 use Rattle.class_model.proofs.Tests.{Decides-order}
+use Rattle.class_model.proofs.Lexicographic.{least-none, least-first}
 
 arranged : (n : ℕ) (ms xs : List ℕ) → Distinct xs → ((y : ℕ) → Holds xs y → Holds ms y) → ((y : ℕ) → Holds ms y → Holds xs y) → length xs ≤ n → Holds (arrangements n ms) xs
 unfolding arrangements
@@ -29,14 +30,6 @@ order-tried c bases lines xs o =
     let to : (y : ℕ) → Holds xs y → Holds (unique ms) y = λ y h. Holds-unique ms y (o.members_only y h) in
     Holds-filter (is_order c bases lines) (all_arrangements ms) xs (arranged (length (unique ms)) (unique ms) xs o.distinct to (λ y h. o.all_members y (from_unique ms y h)) (distinct-fewer xs (unique ms) o.distinct to)) ((Decides-order c bases lines xs).1 o)
 
-least-none : (key : List ℕ → List ℕ) (all : List (List ℕ)) (x : List ℕ) → least key all ≡ None → Holds all x → ⊥
-least-none key [] x e h = h
-least-none key (a ∷ all) x e h = go (least key all) e
-  where
-    go : (o : Option (List ℕ)) → lesser key a o ≡ None → ⊥
-    go None e = cc
-    go (Some y) e = cc
-
 least-held : (key : List ℕ → List ℕ) (all : List (List ℕ)) (z : List ℕ) → least key all ≡ Some z → Holds all z
 least-held key [] z e = cc
 least-held key (a ∷ all) z e = go (least key all) (least-held key all) e
@@ -56,10 +49,18 @@ least_order-order c bases lines xs e =
     let all = all_arrangements (members_of c lines) in
     (Decides-order c bases lines xs).0 (from_filter (is_order c bases lines) all xs (least-held (ranks lines) (filter (is_order c bases lines) all) xs e)).1
 
+-- and of all orders it has the least list of ranks
+pub least_order-least : (c : ℕ) (bases : List ℕ) (lines : List (List ℕ)) (xs : List ℕ) → least_order c bases lines ≡ Some xs → IsLeastOrder c bases lines xs
+unfolding least_order tried
+least_order-least c bases lines xs e = record {
+  order = least_order-order c bases lines xs e;
+  least = λ ys o. least-first (ranks lines) (tried c bases lines) xs e ys (order-tried c bases lines ys o);
+}
+
 -- an order is found where there is one
 pub least_order-none : (c : ℕ) (bases : List ℕ) (lines : List (List ℕ)) (xs : List ℕ) → least_order c bases lines ≡ None → IsOrder c bases lines xs → ⊥
 unfolding least_order tried
-least_order-none c bases lines xs e o = least-none (ranks lines) (tried c bases lines) xs e (order-tried c bases lines xs o)
+least_order-none c bases lines xs e o = least-none (ranks lines) (tried c bases lines) e xs (order-tried c bases lines xs o)
 
 -- the one order is the least
 pub least_order-only : (c : ℕ) (bases : List ℕ) (lines : List (List ℕ)) (xs : List ℕ) → IsOrder c bases lines xs → ((ys : List ℕ) → IsOrder c bases lines ys → ys ≡ xs) → least_order c bases lines ≡ Some xs

@@ -1,5 +1,6 @@
 pub mod Held
 pub mod Tests
+pub mod Lexicographic
 pub mod Arranged
 pub mod OneBase
 pub mod Linear

@@ -1,9 +1,13 @@
--- The special names are seventy.
+-- The special names are seventy, and the built-in classes have the first numbers.
 use Rattle.std.proofs.Common.{◌≡◌, ℕ, ◌<◌, Bool, true, ◌&&◌, ltb, List, [], ◌∷◌, inl, inr, refl, subst}
 use Rattle.std.proofs.lemmas.Bool.{ltb-true, and_parts}
 use Rattle.py_node.specs.declared.entry.SlotId.{SlotId}
 use Rattle.py_node.specs.declared.entry.SlotId.TheVariants.{Add, RightAdd, InplaceAdd, Subtract, RightSubtract, InplaceSubtract, Multiply, RightMultiply, InplaceMultiply, Remainder, RightRemainder, InplaceRemainder, Divmod, RightDivmod, Power, RightPower, InplacePower, Lshift, RightLshift, InplaceLshift, Rshift, RightRshift, InplaceRshift, And, RightAnd, InplaceAnd, Xor, RightXor, InplaceXor, Or, RightOr, InplaceOr, FloorDivide, RightFloorDivide, InplaceFloorDivide, TrueDivide, RightTrueDivide, InplaceTrueDivide, MatrixMultiply, RightMatrixMultiply, InplaceMatrixMultiply, Int, Index, Float, Negative, Positive, Absolute, Invert, Boolean, SeqLength, SeqItem, SeqAssItem, SeqContains, Concat, Repeat, InplaceConcat, InplaceRepeat, MapLength, MapSubscript, MapAssSubscript, Hash, Call, Repr, Getattro, Setattro, Richcompare, Iter, Iternext, DescrGet, DescrSet, Init, New, Del}
+use Rattle.py_node.specs.declared.built_in.BuiltIn.{BuiltIn}
+use Rattle.py_node.specs.declared.built_in.BuiltIn.TheVariants.{Object}
+use Rattle.py_node.specs.BuiltIns.{place_of}
 use Rattle.py_node.specs.Slots.{names_of}
+use Rattle.class_model.specs.Layout.{built_ins}
 use Rattle.class_model.specs.Order.{Holds}
 
 are_low : List ℕ → Bool
@@ -94,3 +98,12 @@ are_low-each (m ∷ ns) n e (inr h) = are_low-each ns n (and_parts (ltb m 70) (a
 
 pub names-low : (s : SlotId) (n : ℕ) → Holds (names_of s) n → n < 70
 names-low s n h = are_low-each (names_of s) n (low s) h
+
+first_test : (b : BuiltIn) → ltb (place_of b) built_ins ≡ true
+unfolding place_of
+first_test Object = refl
+first_test _ = refl
+
+-- the built-in classes have the first numbers
+pub place-first : (b : BuiltIn) → place_of b < built_ins
+place-first b = ltb-true (place_of b) built_ins (first_test b)

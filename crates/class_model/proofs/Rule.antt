@@ -3,11 +3,11 @@ use Rattle.std.proofs.Common.{◌≡◌, ℕ, zero, suc, ◌<◌, true, List, []
 use Rattle.std.specs.Prelude.{is_some, option_map, option_and_then}
 use Rattle.std.proofs.lemmas.List.{length-map}
 use Rattle.class_model.specs.Order.{has, least_order, all_some, linear, Holds, Distinct, BeginsWith}
-use Rattle.class_model.specs.Class.{Class, Classes, class_at, is_class, bases_of, lin}
+use Rattle.class_model.specs.Class.{Class, Classes, class_at, is_class, bases_of, lin, IsLeastLine}
 use Rattle.class_model.specs.Numbers.{numbers_of, limit}
 use Rattle.class_model.proofs.Held.{Holds-flat_map, distinct-fewer}
 use Rattle.class_model.proofs.Tests.{Decides-has}
-use Rattle.class_model.proofs.Arranged.{least_order-order}
+use Rattle.class_model.proofs.Arranged.{least_order-order, least_order-least}
 use Rattle.class_model.proofs.Linear.{linear-made, linear-from, linear-zero, linear-grows, linear-order, all_some-at}
 use Rattle.class_model.proofs.Numbers.{at-held, below-limit}
 use Rattle.class_model.proofs.Depth.{linear-member, linear-known, linear-bases, linear-length, linear-inside}
@@ -24,6 +24,15 @@ linear-along f g (suc n) c xs e h =
 BeginsWith-holds : (c : ℕ) (line : List ℕ) → BeginsWith c line → Holds line c
 BeginsWith-holds c [] h = absurd h
 BeginsWith-holds c (x ∷ line) h = inl h
+
+all_some-map : {A : Type 0} (os : List (Option A)) (xs : List A) → all_some os ≡ Some xs → os ≡ map Some xs
+all_some-map [] xs e = let s : xs ≡ [] = cc in ap (map Some) (sym s)
+all_some-map (None ∷ os) xs e = cc
+all_some-map {A = A} (Some x ∷ os) xs e = go (all_some os) (all_some-map os) e
+  where
+    go : (o : Option (List A)) → ((ys : List A) → o ≡ Some ys → os ≡ map Some ys) → option_map (λ ys. x ∷ ys) o ≡ Some xs → Some x ∷ os ≡ map Some xs
+    go None more e = cc
+    go (Some ys) more e = let s : xs ≡ x ∷ ys = cc in ap (λ zs. Some x ∷ zs) (more ys refl) ∙ ap (map Some) (sym s)
 
 module _ {K : Type 0} where
   pub bases_of-get : (t : Classes K) (c : ℕ) (bs : List ℕ) → bases_of t c ≡ Some bs → (k : Class K) × (class_at t c ≡ Some k) × (k.bases ≡ bs)
@@ -82,6 +91,18 @@ module _ {K : Type 0} where
       go None e None f = refl
       go None e (Some ys) f = sym e ∙ lin-from t (suc (length t)) c ys f
       go (Some xs) e q f = sym (linear-grows (bases_of t) (bases_of t) (λ d bs p. p) (length t) (suc (length t)) (omega arith) c xs e) ∙ f
+
+  -- and in words
+  pub lin-least : (t : Classes K) (c : ℕ) (line : List ℕ) → lin t c ≡ Some line → IsLeastLine t c line
+  lin-least t c line e = of_class (bases_of t c) refl (sym (lin-rule t c) ∙ e)
+    where
+      of_bases : (bs : List ℕ) → bases_of t c ≡ Some bs → (o : Option (List (List ℕ))) → all_some (map (lin t) bs) ≡ o → option_and_then (least_order c bs) o ≡ Some line → IsLeastLine t c line
+      of_bases bs g None f h = cc
+      of_bases bs g (Some ls) f h = record { bases = bs; lines = ls; of_class = g; of_bases = all_some-map (map (lin t) bs) ls f; least = least_order-least c bs ls line h }
+
+      of_class : (o : Option (List ℕ)) → bases_of t c ≡ o → option_and_then (λ bs. option_and_then (least_order c bs) (all_some (map (lin t) bs))) o ≡ Some line → IsLeastLine t c line
+      of_class None g h = cc
+      of_class (Some bs) g h = of_bases bs g (all_some (map (lin t) bs)) refl h
 
   -- tables that give a class's whole line the same bases give it the same linearisation
   pub lin-along : (t u : Classes K) (c : ℕ) (line : List ℕ) → lin t c ≡ Some line → ((x : ℕ) → Holds line x → bases_of t x ≡ bases_of u x) → lin u c ≡ Some line

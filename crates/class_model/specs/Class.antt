@@ -1,11 +1,11 @@
 -- Classes, and how an attribute of one is found.
-use Rattle.std.specs.Prelude.{ℕ, Bool, false, cond, ◌==◌, eqb, List, [], ◌∷◌, map, length, Option, Some, None, is_some, option_map, option_and_then}
+use Rattle.std.specs.Prelude.{◌≡◌, ℕ, Bool, false, cond, ◌==◌, eqb, List, [], ◌∷◌, map, length, Option, Some, None, is_some, option_map, option_and_then}
 use Rattle.std.specs.Int.RustNames.{bit_and}
 use Rattle.py_node.specs.declared.refs.PyObjectRef.{PyObjectRef}
 use Rattle.py_node.specs.Attributes.{value_of}
 use Rattle.py_node.specs.BuiltIns.{heap_type}
 use Rattle.py_node.specs.Tree.{Text}
-use Rattle.class_model.specs.Order.{has, linear}
+use Rattle.class_model.specs.Order.{has, linear, IsLeastOrder}
 
 -- a class: its name, the number of the object that stands for it, its bases, its own attributes in order, the names of its members, and its flags. A class is known by its number, and so are its bases
 pub record Class (K : Type 0) : Type 0 where
@@ -42,6 +42,14 @@ bases_of t c = option_map (λ k. k.bases) (class_at t c)
 -- the linearisation of a class. There is none where a base is missing, where bases go round, or where no order exists
 abbrev pub lin : {K : Type 0} → Classes K → ℕ → Option (List ℕ)
 lin t c = linear (bases_of t) (length t) c
+
+-- the linearisation in words: of all orders that keep the class's bases and their linearisations, it has the least list of ranks
+pub record IsLeastLine {K : Type 0} (t : Classes K) (c : ℕ) (line : List ℕ) : Type 0 where
+  pub bases : List ℕ
+  pub lines : List (List ℕ)
+  pub of_class : bases_of t c ≡ Some bases
+  pub of_bases : map (lin t) bases ≡ map Some lines
+  pub least : IsLeastOrder c bases lines line
 
 -- whether a class is another one or has it along its linearisation
 abbrev pub is_along : ℕ → Option (List ℕ) → Bool

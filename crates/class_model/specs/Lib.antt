@@ -5,4 +5,5 @@ pub mod Layout
 pub mod Slot
 pub mod Change
 pub mod BuiltIn
+pub mod Start
 pub mod Sound

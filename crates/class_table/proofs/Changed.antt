@@ -8,6 +8,8 @@ use Rattle.py_node.specs.declared.refs.PyStrInterned.{PyStrInterned}
 use Rattle.py_node.specs.declared.refs.PyObjectRef.{PyObjectRef}
 use Rattle.py_node.specs.Attributes.{with_value, is_same_name}
 use Rattle.py_node.specs.Slots.{place_of}
+use Rattle.std.specs.List.{All}
+use Rattle.py_node.specs.Attributes.{AreNamesDistinct}
 use Rattle.class_model.specs.Order.{has}
 use Rattle.class_model.specs.Class.{Class, Classes, lin, subclasses}
 use Rattle.class_model.specs.Numbers.{numbers_of, ascend_from, is_ascending}
@@ -26,6 +28,7 @@ use Rattle.class_table.specs.Keys.{table_keys}
 use Rattle.class_table.specs.Kept.{Kept, class_of, plain}
 use Rattle.class_table.specs.Coherent.{HasLines, IsCoherent}
 use Rattle.class_table.specs.Patch.{IsNear, AreNear, IsRefreshed, settled, refreshed_one}
+use Rattle.class_table.proofs.Distinct.{all-set}
 use Rattle.class_table.proofs.Slots.{slot-at_place}
 use Rattle.class_table.proofs.Places.{get-set_cases}
 use Rattle.class_table.proofs.Refreshed.{there, entries-at, plain-refreshed, length-entries}
@@ -167,4 +170,5 @@ module _ (kept : List Kept) (ok : IsCoherent kept) (c : ℕ) (k : Kept) (within 
       solid = λ d x e. ap (λ t. solid t x.number) plain-final ∙ (all d x e).solid;
       subclasses = λ d x e. (all d x e).subclasses ∙ ap (λ t. subclasses t x.number) (sym plain-final);
       sound = subst AreSound (sym plain-final) (sound-attr is_same_name (plain kept) k.number n v ok.sound);
+      attrs = subst (λ t. All (λ k. AreNamesDistinct k.attrs) t) (sym plain-final) (all-set (plain kept) k.number n v ok.attrs);
     }

@@ -3,7 +3,9 @@ pub mod Places
 pub mod Found
 pub mod Along
 pub mod Refreshed
+pub mod Distinct
 pub mod Changed
 pub mod Pushed
 pub mod AsKept
 pub mod Heaps
+pub mod StartParts

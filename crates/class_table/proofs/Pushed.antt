@@ -5,6 +5,8 @@ use Rattle.std.proofs.lemmas.List.{length-set, length-append, map-append, append
 use Rattle.std.proofs.lemmas.Bool.{eq-eqb, ne_eqb, cases_lt}
 use Rattle.py_node.specs.declared.refs.PyStrInterned.{PyStrInterned}
 use Rattle.py_node.specs.declared.refs.PyTypeRef.{PyTypeRef}
+use Rattle.std.specs.List.{All}
+use Rattle.py_node.specs.Attributes.{AreNamesDistinct}
 use Rattle.class_model.specs.Order.{has, Holds}
 use Rattle.class_model.specs.Class.{Class, Classes, class_at, is_class, lin, subclasses}
 use Rattle.class_model.specs.Numbers.{is_ascending, limit}
@@ -25,6 +27,7 @@ use Rattle.class_table.specs.Coherent.{HasLines, IsCoherent}
 use Rattle.class_table.specs.Patch.{settled}
 use Rattle.class_table.specs.New.{IsBelow, one_base}
 use Rattle.class_table.specs.Made.{parent, line_of, solid_in, base_by, solid_by, IsAt, IsFresh, noted}
+use Rattle.class_table.proofs.Distinct.{all-added}
 use Rattle.class_table.proofs.Places.{get-set_cases, get-push_cases}
 use Rattle.class_table.proofs.Found.{number-get, number-within, ascends, class-here, here-class}
 use Rattle.class_table.proofs.Refreshed.{plain-set, there}
@@ -280,6 +283,7 @@ module _ (kept : List Kept) (ok : IsCoherent kept) (new : Class PyStrInterned) (
       solid = λ i x e. ap (λ t. solid t x.number) plain-added ∙ (now i x e).solid;
       subclasses = λ i x e. (now i x e).subclasses ∙ ap (λ t. subclasses t x.number) (sym plain-added);
       sound = subst AreSound (sym plain-added) (sound-given kept ok new room below root bases);
+      attrs = subst (λ t. All (λ k. AreNamesDistinct k.attrs) t) (sym plain-added) (all-added (plain kept) new ok.attrs fresh.attrs);
     }
 
 -- the same, step by step as the code goes

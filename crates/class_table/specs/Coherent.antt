@@ -1,5 +1,7 @@
 -- Everything that is kept is what its definition says, and the classes are sound.
 use Rattle.std.specs.Prelude.{◌≡◌, ℕ, true, List, Some, slice_get}
+use Rattle.std.specs.List.{All}
+use Rattle.py_node.specs.Attributes.{AreNamesDistinct}
 use Rattle.class_model.specs.Class.{lin, subclasses}
 use Rattle.class_model.specs.Numbers.{is_ascending}
 use Rattle.class_model.specs.Layout.{base, solid}
@@ -21,3 +23,5 @@ pub record IsCoherent (kept : List Kept) : Type 0 where
   pub solid : (i : ℕ) (k : Kept) → slice_get kept i ≡ Some k → solid (plain kept) k.number ≡ k.solid
   pub subclasses : (i : ℕ) (k : Kept) → slice_get kept i ≡ Some k → k.subclasses ≡ subclasses (plain kept) k.number
   pub sound : AreSound (plain kept)
+  -- in each class no own attribute's name stands twice
+  pub attrs : All (λ k. AreNamesDistinct k.attrs) (plain kept)

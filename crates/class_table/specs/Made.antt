@@ -2,6 +2,7 @@
 use Rattle.std.specs.Prelude.{◌≡◌, ℕ, cond, ◌||◌, not, nat_lt, List, [], ◌∷◌, ◌++◌, length, Option, Some, None, slice_get, slice_set, slice_index_or}
 use Rattle.py_node.specs.declared.refs.PyTypeRef.{PyTypeRef}
 use Rattle.py_node.specs.declared.refs.PyStrInterned.{PyStrInterned}
+use Rattle.py_node.specs.Attributes.{AreNamesDistinct}
 use Rattle.class_model.specs.Class.{Class}
 use Rattle.class_model.specs.Layout.{built_ins, is_empty}
 use Rattle.class_table.specs.Kept.{Kept, class_of, number_at}
@@ -38,6 +39,7 @@ solid_by n members inherited = cond (nat_lt n built_ins || not (is_empty members
 -- a class as it is made, before its slots are found
 pub record IsFresh (kept : List Kept) (c : Class PyStrInterned) (below : Option PyTypeRef) (at : Option ℕ) (k : Kept) : Type 0 where
   pub class : class_of k ≡ c
+  pub attrs : AreNamesDistinct c.attrs
   pub full : length k.slots ≡ 73
   pub mro : k.mro ≡ c.number ∷ line_of (parent kept at)
   pub base : k.base ≡ base_by below (solid_in (parent kept at))

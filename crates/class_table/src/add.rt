@@ -1,6 +1,7 @@
 // A class that is made.
 
 ghost use Rattle.std.specs.Prelude.{◌≡◌, ◌<◌, ◌≤◌, ◌++◌, ◌∷◌, [], length, OnOk, OnErr, IfOk, IfSome, true};
+ghost use Rattle.py_node.specs.Attributes.{AreNamesDistinct};
 ghost use Rattle.class_model.specs.Numbers.{is_ascending, limit};
 ghost use Rattle.class_model.specs.Change.{with_class};
 ghost use Rattle.class_table.specs.Kept.{Kept, plain};
@@ -12,6 +13,7 @@ ghost use Rattle.class_table.specs.Made.{parent, line_of, solid_in, base_by, sol
 use crate::place::place;
 use crate::refresh::settle;
 use crate::stored::{NewClass, SLOTS, Stored};
+use py_node::attributes::PyAttributes;
 use py_node::entry::SlotEntry;
 use py_node::memory::OutOfMemory;
 use py_node::refs::{PyStrInterned, PyTypeRef};
@@ -112,6 +114,13 @@ fn solid_of(
     }
 }
 
+// No name stands twice among some attributes. It does nothing, and is here for the proof.
+fn are_distinct(attrs: &PyAttributes)
+    ensures { AreNamesDistinct attrs.now }
+{
+    let _count = attrs.len();
+}
+
 // A class as it is made, before its slots are found.
 fn build(
     classes: &[Stored],
@@ -121,6 +130,7 @@ fn build(
 ) -> Result<Stored, OutOfMemory>
     ensures { IfOk result (λ k. IsFresh classes.now (class_of_new new) new.base base k) }
 {
+    are_distinct(&new.attrs);
     let slots = empty_slots(alloc)?;
     let bases = bases_of(alloc, new.base)?;
     let mro = line(classes, alloc, new.number, base)?;

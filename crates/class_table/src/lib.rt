@@ -12,6 +12,7 @@ pub mod put;
 pub mod read;
 pub mod refresh;
 pub mod special;
+pub mod start;
 pub mod stored;
 pub mod table;
 #[cfg(test)]

@@ -4,7 +4,9 @@ ghost use Rattle.std.specs.Prelude.{◌≡◌, Some};
 ghost use Rattle.py_node.specs.declared.entry.SlotEntry.TheVariants.{Native};
 ghost use Rattle.class_model.specs.BuiltIn.{natives_of, object_natives, type_natives, int_natives, function_natives, method_natives, native_function_natives, builtin_method_natives, method_descriptor_natives};
 
-use py_node::entry::{CallableNative, IntNative, NativeEntry, ObjectNative, SlotEntry, SlotId, TypeNative};
+use py_node::entry::{
+    CallableNative, IntNative, NativeEntry, ObjectNative, SlotEntry, SlotId, TypeNative,
+};
 use py_node::refs::PyTypeRef;
 
 fn native(native: NativeEntry) -> Option<SlotEntry>

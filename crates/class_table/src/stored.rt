@@ -18,15 +18,15 @@ use std::marker::Model;
 /// How many slots a class has.
 pub(crate) const SLOTS: usize = 73;
 
-/// A class that is to be made.
+// A class that is to be made.
 #[derive(Drop)]
-pub struct NewClass {
-    pub name: String,
-    pub number: PyTypeRef,
-    pub base: Option<PyTypeRef>,
-    pub attrs: PyAttributes,
-    pub members: Vec<PyStrInterned>,
-    pub flags: PyTypeFlags,
+pub(crate) struct NewClass {
+    pub(crate) name: String,
+    pub(crate) number: PyTypeRef,
+    pub(crate) base: Option<PyTypeRef>,
+    pub(crate) attrs: PyAttributes,
+    pub(crate) members: Vec<PyStrInterned>,
+    pub(crate) flags: PyTypeFlags,
 }
 
 /// A class, and what is kept of it.

@@ -1,14 +1,16 @@
 // The table of classes.
 
 ghost use Rattle.std.specs.Prelude.{◌≡◌, ◌<◌, ◌≤◌, [], true, length, OnOk, OnErr, IfOk, ◌↔◌, IsTrue, Some, is_some, leb, option_map, slice_get};
+ghost use Rattle.std.specs.List.{All};
 ghost use Rattle.py_node.specs.declared.raised.Cause.TheVariants.{EmptyBases, NotBaseType};
-ghost use Rattle.py_node.specs.Attributes.{is_same_name};
-ghost use Rattle.class_model.specs.Class.{class_at, is_class, lin, is_sub, is_heap, found, found_past, own_of, subclasses};
+ghost use Rattle.py_node.specs.Attributes.{is_same_name, AreNamesDistinct};
+ghost use Rattle.class_model.specs.Class.{class_at, is_class, lin, IsLeastLine, is_sub, is_heap, found, found_past, own_of, subclasses};
 ghost use Rattle.class_model.specs.Numbers.{limit, numbers_of};
-ghost use Rattle.class_model.specs.Layout.{base, solid};
+ghost use Rattle.class_model.specs.Layout.{base, solid, built_ins};
 ghost use Rattle.class_model.specs.Sound.{AreSound};
 ghost use Rattle.class_model.specs.Slot.{entry, slot as slot_read, candidates_of, is_heap_at};
 ghost use Rattle.class_model.specs.BuiltIn.{natives_of};
+ghost use Rattle.class_model.specs.Start.{built_in_classes};
 ghost use Rattle.class_model.specs.Change.{with_class, with_class_attr};
 ghost use Rattle.class_table.specs.Keys.{numbers, number_of, table_keys};
 ghost use Rattle.class_table.specs.Kept.{plain};
@@ -23,6 +25,7 @@ use crate::heap::{add_heap, set_heap};
 use crate::place::{find, number_in, stored_at, takes};
 use crate::put::put_in;
 use crate::read::{own_entry, read, value_along, value_past};
+use crate::start::{built_ins, new_class};
 use crate::stored::{NewClass, Stored};
 use py_node::attributes::PyAttributes;
 use py_node::entry::{SlotEntry, SlotId};
@@ -53,8 +56,20 @@ impl Model for ClassTable {
 }
 
 impl ClassTable {
-    /// A table with no classes.
-    pub fn empty(alloc: Global) -> ClassTable
+    /// A table of the built-in classes, which have no attributes yet.
+    pub fn new(alloc: Global) -> Result<ClassTable, OutOfMemory>
+        ensures { IfOk result (λ t. t ≡ built_in_classes) }
+    {
+        let mut table = ClassTable::empty(alloc);
+        for class in built_ins() {
+            let new = new_class(alloc, *class)?;
+            table.add_class(alloc, new)?;
+        }
+        Ok(table)
+    }
+
+    // A table with no classes.
+    pub(crate) fn empty(alloc: Global) -> ClassTable
         ensures { result ≡ [] }
     {
         ClassTable {
@@ -63,9 +78,10 @@ impl ClassTable {
     }
 
     /// The classes are sound: only the first has no base, none derives from a class that derives
-    /// from it, and each has an order.
+    /// from it, and each has an order. In each no own attribute's name stands twice.
     pub fn sound(&self)
-        ensures { AreSound self.now }
+        ensures sound { AreSound self.now }
+        ensures distinct { All (λ k. AreNamesDistinct k.attrs) self.now }
     {
         let _count = self.classes.len();
     }
@@ -100,8 +116,12 @@ impl ClassTable {
         takes(&self.classes, number)
     }
 
-    /// One more class, with one base or none. Where memory runs out, the table stays as it was.
-    pub fn add_class(&mut self, alloc: Global, new: NewClass) -> Result<PyTypeRef, OutOfMemory>
+    // One more class, with one base or none. Where memory runs out, the table stays as it was.
+    pub(crate) fn add_class(
+        &mut self,
+        alloc: Global,
+        new: NewClass,
+    ) -> Result<PyTypeRef, OutOfMemory>
         requires base { IsBelow self.old new.number.0 new.base }
         requires fresh { limit self.old ≤ new.number.0 }
         ensures number { IfOk result (λ c. c ≡ new.number) }
@@ -159,14 +179,16 @@ impl ClassTable {
         set_heap(&mut self.classes, class, name, value)
     }
 
-    /// Gives a class's own attribute a value, whatever the class is.
+    /// Gives a built-in class an own attribute, while a world is set up. What a script sets goes by
+    /// `set_attr`, which refuses a built-in class.
     pub fn put_attr(
         &mut self,
         class: PyTypeRef,
         name: PyStrInterned,
         value: PyObjectRef,
     ) -> Result<(), OutOfMemory>
-        requires { is_class self.old class.0 ≡ true }
+        requires there { is_class self.old class.0 ≡ true }
+        requires first { class.0 < built_ins }
         ensures set { OnOk result (self.new ≡ with_class_attr is_same_name self.old class.0 name value) }
         ensures err { OnErr result (self.new ≡ self.old) }
     {
@@ -254,10 +276,11 @@ impl ClassTable {
         stored_at(&self.classes, class).subclasses()
     }
 
-    /// The linearisation of a class.
+    /// The linearisation of a class: the least of its orders.
     pub fn mro(&self, class: PyTypeRef) -> &[PyTypeRef]
         requires { is_class self.now class.0 ≡ true }
-        ensures { lin self.now class.0 ≡ Some (numbers result.now) }
+        ensures line { lin self.now class.0 ≡ Some (numbers result.now) }
+        ensures least { IsLeastLine self.now class.0 (numbers result.now) }
     {
         stored_at(&self.classes, class).mro()
     }

@@ -12,7 +12,6 @@ pub mod Built
 pub mod Stored
 pub mod Shown
 pub mod Defined
-pub mod StartParts
 pub mod StartSound
 pub mod OwnAttrs
 pub mod ClassText

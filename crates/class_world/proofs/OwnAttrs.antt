@@ -5,7 +5,7 @@ use Rattle.plain_machine.specs.BuiltInAttrs.{BuiltInAttr}
 use Rattle.plain_machine.specs.Start.{with_attr, with_attrs}
 use Rattle.class_world.specs.declared.attributes_of_built_ins.OwnAttr.{OwnAttr}
 use Rattle.class_world.specs.BuiltInAttrs.{row_of}
-use Rattle.class_world.proofs.StartParts.{map-step, map-end}
+use Rattle.class_table.proofs.StartParts.{map-step, map-end}
 
 one-more : (w : PlainWorld) (more : List BuiltInAttr) (a : BuiltInAttr) → with_attrs w (more ++ a ∷ []) ≡ with_attr (with_attrs w more) a
 one-more w [] a = refl

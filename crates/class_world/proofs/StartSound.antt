@@ -10,14 +10,15 @@ use Rattle.py_node.specs.BuiltIns.{place_of, base_of, all_built_ins}
 use Rattle.class_model.specs.Order.{linear, least_order, arrangements, all_arrangements}
 use Rattle.py_node.specs.Slots.{special_names}
 use Rattle.class_model.specs.Class.{Class, class_at, is_class, has_flag, renamed}
-use Rattle.plain_machine.specs.Start.{built_class, class_node as plain_class_node, fixed_nodes as plain_fixed_nodes, bare}
+use Rattle.class_model.specs.Start.{built_class}
+use Rattle.plain_machine.specs.Start.{class_node as plain_class_node, fixed_nodes as plain_fixed_nodes, bare}
 use Rattle.plain_machine.specs.Known.{the_dict}
 use Rattle.class_world.specs.Held.{Held}
 use Rattle.class_world.specs.StartNodes.{class_node, fixed_nodes, start_nodes}
 use Rattle.class_world.specs.Reading.{Reading, node_of, spelled, plain}
 use Rattle.class_world.specs.Sound.{Standing, Holds, AllHold, Sound, of_node, of_dict, of_class, of_each}
 use Rattle.class_world.proofs.Claims.{each-append, all-append}
-use Rattle.class_world.proofs.StartParts.{split}
+use Rattle.class_table.proofs.StartParts.{split}
 
 -- whether each class has a place below the number
 abbrev places_below : ℕ → List BuiltIn → Bool

@@ -14,6 +14,7 @@ ghost use Rattle.py_node.specs.declared.built_in.BuiltIn.TheVariants.{Dict, Type
 ghost use Rattle.class_model.specs.Class.{class_at as class_numbered, found, found_past, own_of, is_sub, has_flag};
 ghost use Rattle.class_model.specs.Slot.{entry, slot as slot_read, candidates_of, is_heap_at};
 ghost use Rattle.class_model.specs.BuiltIn.{natives_of};
+ghost use Rattle.class_model.specs.Layout.{built_ins};
 ghost use Rattle.class_table.specs.Refused.{refusal, refused_attr};
 ghost use Rattle.class_table.specs.Turn.{list_of};
 ghost use Rattle.py_node.specs.BuiltIns.{heap_flags};
@@ -26,10 +27,11 @@ ghost use Rattle.class_world.specs.Sound.{IsNode, IsClass, IsOf, CanBeBase, IsEx
 use crate::attributes_of_built_ins::add_own_attrs;
 use crate::definer::define;
 use crate::scope::Scope;
-use crate::start::{built_in_classes, special_names, start_nodes};
+use crate::start::start_nodes;
 use crate::variables::{bind_in, value_in};
 use class_table::candidates::Candidates;
 use class_table::fault::ClassFault;
+use class_table::start::special_names;
 use class_table::table::ClassTable;
 use py_node::attributes::PyAttributes;
 use py_node::built_in::BuiltIn;
@@ -114,7 +116,7 @@ impl World {
     {
         let names = special_names(alloc)?;
         let nodes = start_nodes(alloc)?;
-        let classes = built_in_classes(alloc)?;
+        let classes = ClassTable::new(alloc)?;
         Ok(World {
             names,
             forms: Vec::new(alloc),
@@ -573,7 +575,7 @@ impl World {
         self.classes.set_attr(class, name, value)
     }
 
-    /// Gives a class's own attribute a value, whatever the class is.
+    /// Gives a built-in class an own attribute.
     pub(crate) fn put_class_attr(
         &mut self,
         class: PyTypeRef,
@@ -581,6 +583,7 @@ impl World {
         value: PyObjectRef,
     ) -> Result<(), OutOfMemory>
         requires class { Holds self.old (IsClass class.0) }
+        requires first { class.0 < built_ins }
         requires name { Holds self.old (IsName name) }
         requires value { Holds self.old (IsNode value) }
         ensures set { OnOk result ((t : Reading) → plain t self.new ≡ with_own_attr (plain t self.old) class.0 (t.text name.0) value) }

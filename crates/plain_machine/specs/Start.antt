@@ -3,21 +3,13 @@ use Rattle.std.specs.Prelude.{ℕ, pos, List, [], ◌∷◌, ◌++◌, Option, S
 use Rattle.py_node.specs.declared.built_in.BuiltIn.{BuiltIn}
 use Rattle.py_node.specs.declared.built_in.BuiltIn.TheVariants as built_in
 use Rattle.py_node.specs.declared.entry.NativeEntry.TheVariants.{Getter, Setter, NewWrapper}
-use Rattle.py_node.specs.BuiltIns.{place_of, name_of, base_of, flags_of, all_built_ins}
+use Rattle.py_node.specs.BuiltIns.{place_of, all_built_ins}
 use Rattle.py_node.specs.Tree.{Text}
-use Rattle.class_model.specs.Class.{Class}
+use Rattle.class_model.specs.Start.{built_in_classes}
 use Rattle.plain_machine.specs.Known.{the_type}
 use Rattle.plain_machine.specs.Plain.{Datum, AnObject, AClass, ANumber, ANativeFunction, AMethodDescriptor, AGetSet, no_members, Node, PlainWorld}
 use Rattle.plain_machine.specs.World.{ref, with_node, next_node, with_own_attr}
 use Rattle.plain_machine.specs.BuiltInAttrs.{Attr, New, Method, ClassMethod, ReadOnly, Settable, BuiltInAttr, built_in_attrs}
-
-abbrev pub bases_from : Option ℕ → List ℕ
-bases_from None = []
-bases_from (Some b) = b ∷ []
-
--- a built-in class. Its number is its place
-abbrev pub built_class : {K : Type 0} → BuiltIn → Class K
-built_class b = record { name = name_of b; number = place_of b; bases = bases_from (base_of b); attrs = []; members = []; flags = flags_of b }
 
 abbrev pub simple_node : ℕ → Datum → Node
 simple_node c d = record { class = c; dict = None; members = no_members; datum = d }
@@ -31,7 +23,7 @@ fixed_nodes = simple_node 2 AnObject ∷ simple_node 3 AnObject ∷ simple_node 
 
 -- the built-in classes without attributes, and the fixed objects
 abbrev pub bare : PlainWorld
-bare = record { nodes = map class_node all_built_ins ++ fixed_nodes; classes = map built_class all_built_ins; vars = []; scopes = []; calls = [] }
+bare = record { nodes = map class_node all_built_ins ++ fixed_nodes; classes = built_in_classes; vars = []; scopes = []; calls = [] }
 
 -- the class of the object that an own attribute holds
 abbrev pub attr_class : Attr → BuiltIn

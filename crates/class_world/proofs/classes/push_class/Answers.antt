@@ -4,8 +4,8 @@ use Rattle.class_world.proofs.ClassText.{class-written}
 use Rattle.class_world.proofs.classes.push_class.Goals as goal
 
 pub push_names-requires : goal.push_names-requires
-push_names-requires c = λ x h. lin-classes c.args.classes.now c.args.class.0 (numbers c.mro.result.now) x c.mro.ensures h
+push_names-requires c = λ x h. lin-classes c.args.classes.now c.args.class.0 (numbers c.mro.result.now) x c.mro.ensures.line h
 
 pub returns : goal.returns
 returns c =
-    class-written table_keys c.args.classes.now c.args.class.0 _ _ _ _ _ c.name-name.ensures c.mro.ensures c.in_ok-push_names.ensures c.in_ok-push_slots.ensures
+    class-written table_keys c.args.classes.now c.args.class.0 _ _ _ _ _ c.name-name.ensures c.mro.ensures.line c.in_ok-push_names.ensures c.in_ok-push_slots.ensures

@@ -5,9 +5,9 @@ use Rattle.class_world.proofs.Growth.{grows-seen}
 use Rattle.class_world.proofs.ClassChanges.{classes-grow, set-like, set-sound, set-read}
 use Rattle.class_world.proofs.world.World.put_class_attr.Goals as goal
 
-pub put_attr-requires : goal.put_attr-requires
+pub put_attr-requires-clause-there : goal.put_attr-requires-clause-there
 unfolding Holds
-put_attr-requires c = opened-one (the_view c.self.inside) c.args.self.now (IsClass c.args.class.0) c.self.view_is c.requires.class
+put_attr-requires-clause-there c = opened-one (the_view c.self.inside) c.args.self.now (IsClass c.args.class.0) c.self.view_is c.requires.class
 
 pub invariant_of-self : goal.invariant_of-self
 invariant_of-self c =

@@ -1,5 +1,5 @@
 use Rattle.std.proofs.Common.{◌≡◌, map, take}
-use Rattle.class_world.proofs.start.table_of.Given as goal
+use Rattle.class_table.proofs.start.table_of.Given as goal
 
 abbrev pub invariant-loop-text : goal.invariant-loop-text
 invariant-loop-text l = l.names ≡ map (λ s. s.now) (take l.text-index l.texts)

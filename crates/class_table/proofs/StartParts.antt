@@ -9,7 +9,7 @@ use Rattle.py_node.specs.declared.built_in.BuiltIn.{BuiltIn}
 use Rattle.py_node.specs.BuiltIns.{place_of, base_of, all_built_ins}
 use Rattle.py_node.specs.Slots.{special_names}
 use Rattle.py_node.specs.Texts.{AreDistinct}
-use Rattle.plain_machine.specs.Start.{bases_from, built_class}
+use Rattle.class_model.specs.Start.{bases_from, built_class}
 use Rattle.py_node.specs.declared.refs.PyStrInterned.{PyStrInterned}
 use Rattle.class_model.specs.Class.{Classes, class_at, is_class}
 use Rattle.class_model.specs.Numbers.{limit}
@@ -87,7 +87,7 @@ unfolding special_names
 special-distinct = differ-distinct special_names refl
 
 -- whether a class's base has a place below the given one. Only the first class has none
-abbrev base_below : ℕ → Option ℕ → Bool
+abbrev pub base_below : ℕ → Option ℕ → Bool
 base_below n None = eqb n 0
 base_below n (Some b) = ltb b n
 

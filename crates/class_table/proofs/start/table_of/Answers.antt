@@ -1,6 +1,6 @@
 use Rattle.std.proofs.Common.{add-one, []}
-use Rattle.class_world.proofs.StartParts.{map-step, map-end, next-new}
-use Rattle.class_world.proofs.start.table_of.Goals as goal
+use Rattle.class_table.proofs.StartParts.{map-step, map-end, next-new}
+use Rattle.class_table.proofs.start.table_of.Goals as goal
 
 pub loop-text-preserved : goal.loop-text-preserved
 loop-text-preserved c =

@@ -1,6 +1,6 @@
 use Rattle.py_node.specs.Slots.{special_names}
-use Rattle.class_world.proofs.StartParts.{special-distinct}
-use Rattle.class_world.proofs.start.special_names.Goals as goal
+use Rattle.class_table.proofs.StartParts.{special-distinct}
+use Rattle.class_table.proofs.start.special_names.Goals as goal
 
 pub table_of-requires : goal.table_of-requires
 unfolding special_names
