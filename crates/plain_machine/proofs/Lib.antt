@@ -5,3 +5,5 @@ pub mod Facts
 pub mod Lasting
 pub mod Pushed
 pub mod KeptNodes
+pub mod Bindings
+pub mod KeptVars
