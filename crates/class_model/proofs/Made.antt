@@ -1,14 +1,14 @@
 -- Classes stay sound where one more is made, whatever its bases, and those that were there keep their places.
-use Rattle.std.proofs.Common.{◌≡◌, ℕ, suc, ◌≤◌, Bool, true, false, cond, not, eqb, List, [], ◌∷◌, map, length, Option, Some, None, inl, inr, refl, sym, ap, subst, ◌∙◌, arith, length-append}
+use Rattle.std.proofs.Common.{◌≡◌, ℕ, suc, ◌<◌, ◌≤◌, Bool, true, false, cond, not, eqb, List, [], ◌∷◌, map, length, Option, Some, None, inl, inr, refl, sym, ap, subst, ◌∙◌, arith, length-append}
 use Rattle.std.specs.Prelude.{nat_lt, is_some, option_and_then}
 use Rattle.std.proofs.lemmas.Bool.{false_from_ne_true, ltb-true, and_parts}
 use Rattle.class_model.specs.Order.{has, Holds}
 use Rattle.class_model.specs.Class.{Class, Classes, class_at, is_class, bases_of, lin, is_sub, is_along}
-use Rattle.class_model.specs.Numbers.{limit}
+use Rattle.class_model.specs.Numbers.{numbers_of, past_all, limit}
 use Rattle.class_model.specs.Change.{with_class}
 use Rattle.class_model.specs.Layout.{is_empty, is_solid, derives_all, first_best, solid_within, solid, best_of, base, layout, member_count, is_place}
 use Rattle.class_model.specs.Sound.{AreSound}
-use Rattle.class_model.proofs.Numbers.{some-of, at-before, old-or-last, ascending-push}
+use Rattle.class_model.proofs.Numbers.{some-of, at-here, at-before, old-or-last, ascending-push}
 use Rattle.class_model.proofs.Tests.{Decides-has}
 use Rattle.class_model.proofs.Rule.{bases_of-get, lin-below, lin-classes}
 use Rattle.class_model.proofs.Changed.{bases_of-before, bases_of-last, lin-push}
@@ -41,6 +41,22 @@ module _ {K : Type 0} (u : Classes K) where
 
 has-no : (line : List ℕ) (c : ℕ) → (Holds line c → ⊥) → has line c ≡ false
 has-no line c h = false_from_ne_true (has line c) (λ e. h ((Decides-has line c).0 e))
+
+-- where each class's number is below one, this can be the next class's
+past_all-within : (xs : List ℕ) (n : ℕ) → ((x : ℕ) → Holds xs x → x < n) → past_all xs ≤ n
+past_all-within [] n h = omega arith
+past_all-within (x ∷ xs) n h =
+    let here = h x (inl refl) in
+    let rest = past_all-within xs n (λ y k. h y (inr k)) in
+    elim (nat_lt x (past_all xs)) as (λ b. cond b (past_all xs) (suc x) ≤ n) [ true ↦ rest | false ↦ omega arith ]
+
+held-there : {K : Type 0} (t : Classes K) (x : ℕ) → Holds (numbers_of t) x → is_class t x ≡ true
+held-there [] x h = absurd h
+held-there (j ∷ t) x (inl e) = ap is_some (at-here j t x e)
+held-there (j ∷ t) x (inr h) = elim (eqb j.number x) as (λ b. is_some (cond b (Some j) (class_at t x)) ≡ true) [ true ↦ refl | false ↦ held-there t x h ]
+
+pub limit-within : {K : Type 0} (t : Classes K) (n : ℕ) → ((c : ℕ) → is_class t c ≡ true → c < n) → limit t ≤ n
+limit-within t n h = past_all-within (numbers_of t) n (λ x k. h x (held-there t x k))
 
 -- sound classes, and one more whose number is new
 module _ {K : Type 0} (t : Classes K) (k : Class K) (ok : AreSound t) where
@@ -112,7 +128,7 @@ module _ {K : Type 0} (t : Classes K) (k : Class K) (ok : AreSound t) where
         ap (λ n. solid_within more n k.number) size ∙ ap (λ o. cond (is_solid more k.number) (Some k.number) (option_and_then (λ bs. option_and_then f (first_best more f bs bs)) o)) (bases_of-last t k fresh k.bases refl)
 
     -- with a best base it has a solid class
-    solid-made : is_some (base more k.number) ≡ true → is_some (solid more k.number) ≡ true
+    pub solid-made : is_some (base more k.number) ≡ true → is_some (solid more k.number) ≡ true
     solid-made best =
         let f = solid_within more (length t) in
         let r = some-of (base more k.number) best in

@@ -4,7 +4,6 @@ use Rattle.std.specs.Prelude.{nat_lt, slice_get, option_map}
 use Rattle.std.proofs.lemmas.Bool.{eqb-true, and_parts}
 use Rattle.std.proofs.lemmas.List.Elements.{All-nil}
 use Rattle.py_node.specs.declared.refs.PyObjectRef.{PyObjectRef}
-use Rattle.py_node.specs.declared.built_in.BuiltIn.{BuiltIn}
 use Rattle.py_node.specs.declared.built_in.BuiltIn.TheVariants.{Dict, TypeType, Int, Str}
 use Rattle.class_model.specs.Class.{class_at as class_numbered, is_class, is_along}
 use Rattle.class_model.specs.Layout.{layout, member_count, is_place}
@@ -189,7 +188,7 @@ datum-kept w r d a s =
       classes = a.holds.classes;
     })
 
-no-keys : (at : PyObjectRef → Option Key) → AreKeys at []
+pub no-keys : (at : PyObjectRef → Option Key) → AreKeys at []
 no-keys at = record { known = λ i r e. cc; apart = λ i j r s e f q. cc }
 
 -- a new object

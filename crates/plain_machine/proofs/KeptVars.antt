@@ -10,7 +10,7 @@ use Rattle.plain_machine.specs.Plain.{Bindings, Scope, PlainWorld}
 use Rattle.plain_machine.specs.World.{is_text, datum_at, bound, bound_last, with_binding}
 use Rattle.plain_machine.specs.Change.{Bind, apply}
 use Rattle.plain_machine.specs.Sound.{AreBound, AreApart, params_in, IsSoundScope, IsSound}
-use Rattle.plain_machine.proofs.Lasting.{Lasts, like-itself, sound_node-still, bound-still, scopes-still, attrs-still}
+use Rattle.plain_machine.proofs.Lasting.{Lasts, like-itself, sound_node-still, scopes-still, attrs-still}
 use Rattle.plain_machine.proofs.Bindings.{apart-set, values-set, known-set}
 
 module _ (w : PlainWorld) (x : Text) (r : PyObjectRef) (there : r.0 < length w.nodes) where

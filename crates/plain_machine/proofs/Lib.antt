@@ -7,3 +7,5 @@ pub mod Pushed
 pub mod KeptNodes
 pub mod Bindings
 pub mod KeptVars
+pub mod KeptClasses
+pub mod Kept

@@ -8,7 +8,7 @@ use Rattle.class_model.specs.Sound.{AreSound}
 use Rattle.plain_machine.specs.Plain.{Datum, AClass, Node, PlainWorld}
 use Rattle.plain_machine.specs.World.{ref, datum_at}
 use Rattle.plain_machine.specs.Sound.{AreBound, AreApart, IsSoundNode, IsSound}
-use Rattle.plain_machine.proofs.Lasting.{Like, Lasts, sound_node-still, standing-still, bound-still, scopes-still}
+use Rattle.plain_machine.proofs.Lasting.{Like, Lasts, sound_node-still, bound-still, scopes-still}
 
 module _ {A : Type 0} where
   pub get-end : (xs : List A) (y : A) → slice_get (xs ++ y ∷ []) (length xs) ≡ Some y
