@@ -9,3 +9,4 @@ pub mod Bindings
 pub mod KeptVars
 pub mod KeptClasses
 pub mod Kept
+pub mod NearestByLayout
