@@ -15,4 +15,6 @@ pub mod Solid
 pub mod Names
 pub mod Renamed
 pub mod Sound
+pub mod Kept
+pub mod Made
 mod Checks

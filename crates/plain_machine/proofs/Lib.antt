@@ -2,3 +2,11 @@ pub mod Follow
 pub mod NewMachine
 pub mod Changes
 pub mod Facts
+pub mod Lasting
+pub mod Pushed
+pub mod KeptNodes
+pub mod Bindings
+pub mod KeptVars
+pub mod KeptClasses
+pub mod Kept
+pub mod NearestByLayout

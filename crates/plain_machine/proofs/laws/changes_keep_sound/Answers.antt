@@ -1,0 +1,5 @@
+use Rattle.plain_machine.proofs.Kept.{keeps-sound}
+use Rattle.plain_machine.proofs.laws.changes_keep_sound.Goals as goal
+
+pub returns : goal.returns
+returns c = keeps-sound
