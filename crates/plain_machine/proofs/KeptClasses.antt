@@ -27,6 +27,7 @@ use Rattle.plain_machine.specs.World.{is_text, ref, datum_at}
 use Rattle.plain_machine.specs.Change.{MakeClass, SetOwn, SetBases, SetName, apply}
 use Rattle.plain_machine.specs.Conditions.{CanMakeClass, CanSetBases}
 use Rattle.plain_machine.specs.Sound.{holds_as, held_by, AreBound, AreApart, IsSoundNode, IsSound}
+use Rattle.plain_machine.proofs.NearestByLayout.{nearest-by_layout}
 use Rattle.plain_machine.proofs.Bindings.{apart-set, values-set, apart-without, values-without}
 use Rattle.plain_machine.proofs.Lasting.{Like, Lasts, standing-still, sound_node-still, bound-still, scopes-still, attrs-still}
 use Rattle.plain_machine.proofs.Pushed.{get-end, holder, pushed, push-lasts, push-kept}
@@ -94,7 +95,7 @@ bases-kept w c bs a s =
     let t = with_bases w.classes c bs in
     let l : Like w.classes t = record {
       there = λ x e. is_class-kept f (λ k. refl) w.classes c x ∙ e;
-      held = λ x b e. ap (λ o. option_map holds_as (option_and_then (slice_get all_built_ins) o)) (a.built_ins x) ∙ e;
+      held = λ x b e. ap (λ o. option_map holds_as (option_and_then (slice_get all_built_ins) o)) (nearest-by_layout (with_bases w.classes c bs) w.classes x x (a.layouts x)) ∙ e;
       places = λ x d i l e. is_place-agrees t w.classes x d i (a.layouts x) (member_count-kept f (λ k. refl) w.classes c (λ k. refl) d) ∙ e;
     } in
     classes-kept w t s l a.sound (λ x e. sym (is_class-kept f (λ k. refl) w.classes c x) ∙ e) (changed-each (HasAttrs w) f w.classes c (λ k h. h) s.attrs)

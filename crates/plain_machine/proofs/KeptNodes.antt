@@ -14,6 +14,7 @@ use Rattle.plain_machine.specs.Objects.{class_number}
 use Rattle.plain_machine.specs.Change.{with_place, with_object_changed, MakeNode, SetClass, SetMember, SetDict, SetDatum, apply}
 use Rattle.plain_machine.specs.Conditions.{CanMakeNode, CanSetMember, CanSetDict, CanSetDatum, CanSetClass}
 use Rattle.plain_machine.specs.Sound.{home, held_by, nodes_in, classes_in, keys_in, Key, key_of, AreKeys, params_in, IsSoundNode, IsSound}
+use Rattle.plain_machine.proofs.NearestByLayout.{held-by_layout}
 use Rattle.plain_machine.proofs.Lasting.{Lasting, lasting, Lasts, like-itself, lasts-on, stands, standing-still, nodes-still, classes-still, keys-still, sound_node-still, bound-still, scopes-still, attrs-still}
 use Rattle.plain_machine.proofs.Pushed.{get-end, get-pushed, holder, pushed, push-lasts, push-kept}
 
@@ -121,7 +122,7 @@ pub class-kept : (w : PlainWorld) (r : PyObjectRef) (c : ℕ) → CanSetClass w 
 class-kept w r c a s =
     changed-kept w (λ n. record n { class = c }) r s (λ x e. refl) (λ x e h. record {
       class = a.class;
-      like = sym (of-class w r x (held_by w.classes) (held_by w.classes c) e a.like) ∙ h.like;
+      like = sym (held-by_layout w.classes w.classes x.class c (of-class w r x (layout w.classes) (layout w.classes c) e a.layout)) ∙ h.like;
       dict = h.dict;
       members = λ d i o q. let m = h.members d i o q in (ap (λ l. is_along d l && nat_lt i (member_count (class_numbered w.classes d))) (sym (of-class w r x (layout w.classes) (layout w.classes c) e a.layout)) ∙ m.0, m.1);
       nodes = h.nodes;

@@ -1,5 +1,5 @@
 -- What is written for the classes that scripts made.
-use Rattle.std.specs.Prelude.{ℕ, zero, suc, cond, List, [], ◌∷◌, ◌++◌, codes, map, length, Option, Some, None, slice_get, option_map}
+use Rattle.std.specs.Prelude.{ℕ, cond, List, [], ◌∷◌, codes, map, Option, Some, None, option_map}
 use Rattle.std.specs.List.{flat_map}
 use Rattle.py_node.specs.declared.entry.SlotId.{SlotId}
 use Rattle.py_node.specs.declared.entry.SlotEntry.{SlotEntry}

@@ -1,20 +1,18 @@
 -- When a change may be made: under these conditions it keeps a sound world sound.
-use Rattle.std.specs.Prelude.{◌≡◌, ℕ, ◌<◌, true, false, is_some, List, [], Option, Some, None, length, map, option_map}
+use Rattle.std.specs.Prelude.{◌≡◌, ℕ, ◌<◌, true, false, is_some, List, Option, Some, None, length, option_map}
 use Rattle.std.specs.List.{All}
 use Rattle.py_node.specs.declared.refs.PyObjectRef.{PyObjectRef}
-use Rattle.py_node.specs.declared.built_in.BuiltIn.{BuiltIn}
 use Rattle.py_node.specs.declared.built_in.BuiltIn.TheVariants as built_in
 use Rattle.py_node.specs.Tree.{Text}
 use Rattle.class_model.specs.Class.{Class, class_at as class_numbered, is_class, lin}
 use Rattle.class_model.specs.Change.{with_class, with_bases}
-use Rattle.class_model.specs.Layout.{base, solid, layout, is_empty, is_place}
+use Rattle.class_model.specs.Layout.{base, layout, is_empty, is_place}
 use Rattle.class_model.specs.Slot.{is_heap_at}
 use Rattle.class_model.specs.Sound.{AreSound}
 use Rattle.plain_machine.specs.Known.{the_dict}
-use Rattle.plain_machine.specs.Objects.{nearest_built_in}
 use Rattle.plain_machine.specs.Plain.{Datum, PlainWorld}
 use Rattle.plain_machine.specs.Sound.{home, held_by, nodes_in, classes_in, keys_in, key_at, AreKeys, AreThere, AreBound, AreApart, params_in}
-use Rattle.plain_machine.specs.World.{ref, node_at, datum_at, class_at, has_dict}
+use Rattle.plain_machine.specs.World.{node_at, datum_at, class_at, has_dict}
 use Rattle.plain_machine.specs.Change.{Change, MakeNode, MakeClass, Bind, SetOwn, SetBases, SetName, SetClass, SetMember, SetDict, SetDatum}
 
 -- a node can hold this: it is no class, what it names is there, and the keys of a dict differ
@@ -44,18 +42,16 @@ pub record CanMakeClass (w : PlainWorld) (meta : ℕ) (k : Class Text) : Type 0 
   pub attrs : AreBound w k.attrs
   pub apart : AreApart k.attrs
 
--- the classes stay sound, and each keeps its layout and its nearest built-in class
+-- the classes stay sound, and each keeps its layout
 pub record CanSetBases (w : PlainWorld) (c : ℕ) (bs : List ℕ) : Type 0 where
   pub heap : is_heap_at (class_numbered w.classes c) ≡ true
   pub sound : AreSound (with_bases w.classes c bs)
   pub layouts : (d : ℕ) → layout (with_bases w.classes c bs) d ≡ layout w.classes d
-  pub built_ins : (d : ℕ) → nearest_built_in (with_bases w.classes c bs) d ≡ nearest_built_in w.classes d
 
--- another class whose objects have the same layout and hold the like
+-- another class whose objects have the same layout, and so hold the like
 pub record CanSetClass (w : PlainWorld) (r : PyObjectRef) (c : ℕ) : Type 0 where
   pub class : is_class w.classes c ≡ true
   pub layout : option_map (layout w.classes) (class_at w r) ≡ Some (layout w.classes c)
-  pub like : option_map (held_by w.classes) (class_at w r) ≡ Some (held_by w.classes c)
 
 -- a place of the object's class is set to an object that is there. Any can be emptied
 abbrev pub CanSetMember : PlainWorld → PyObjectRef → ℕ × ℕ → Option PyObjectRef → Type 0

@@ -1,5 +1,5 @@
 -- The text of an object, as replies show it.
-use Rattle.std.specs.Prelude.{ℕ, zero, suc, List, [], ◌∷◌, ◌++◌, codes, map, take, drop, Option, Some, None, slice_get, if◌then◌else◌, ◌==◌}
+use Rattle.std.specs.Prelude.{ℕ, zero, suc, List, [], ◌∷◌, ◌++◌, codes, map, take, drop, Option, Some, None, if◌then◌else◌, ◌==◌}
 use Rattle.std.specs.Fmt.{signed_decimal}
 use Rattle.py_node.specs.declared.refs.PyObjectRef.{PyObjectRef}
 use Rattle.py_node.specs.Tree.{Text}

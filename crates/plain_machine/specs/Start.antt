@@ -1,5 +1,5 @@
 -- The world of a new machine: a node for each built-in class, then None, NotImplemented, False and True, and then a node for each own attribute of a built-in class.
-use Rattle.std.specs.Prelude.{ℕ, pos, List, [], ◌∷◌, ◌++◌, Option, Some, None, map}
+use Rattle.std.specs.Prelude.{ℕ, pos, List, [], ◌∷◌, ◌++◌, Some, None, map}
 use Rattle.py_node.specs.declared.built_in.BuiltIn.{BuiltIn}
 use Rattle.py_node.specs.declared.built_in.BuiltIn.TheVariants as built_in
 use Rattle.py_node.specs.declared.entry.NativeEntry.TheVariants.{Getter, Setter, NewWrapper}

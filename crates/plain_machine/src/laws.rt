@@ -24,9 +24,8 @@ ghost use Rattle.plain_machine.specs.Sound.{IsSound};
 /// - a variable: its value is there;
 /// - an own attribute of a class, or the class's name: a script made the class, and a value that is set
 ///   is there;
-/// - the bases of a class: a script made it, the classes stay sound, and each class keeps its layout
-///   and its nearest built-in class;
-/// - the class of an object: the new one is there, has the same layout, and its objects hold the like;
+/// - the bases of a class: a script made it, the classes stay sound, and each class keeps its layout;
+/// - the class of an object: the new one is there and has the same layout;
 /// - a member: it stands in a place of the object's class, and its value is there. Any can be emptied;
 /// - the dict of an object: it had one, and the new one is a dict;
 /// - what an object holds: it is of the same kind as before, and no class, number or text. What it
