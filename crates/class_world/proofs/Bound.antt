@@ -2,7 +2,8 @@
 use Rattle.std.proofs.Common.{◌≡◌, ℕ, zero, suc, ◌-◌, Bool, true, false, cond, List, [], ◌∷◌, ◌++◌, length, Option, Some, None, Result, Ok, Err, OnOk, OnErr, refl, sym, ap, ◌∙◌, subst, arith, get_or, set, take, map, IfSome}
 use Rattle.py_node.specs.declared.refs.PyObjectRef.{PyObjectRef}
 use Rattle.py_node.specs.declared.refs.PyStrInterned.{PyStrInterned}
-use Rattle.py_node.specs.Attributes.{value_of, with_value, is_same_name}
+use Rattle.std.specs.List.{All}
+use Rattle.py_node.specs.Attributes.{value_of, with_value, is_same_name, AreNamesDistinct}
 use Rattle.py_node.specs.Replies.{Started}
 use Rattle.plain_machine.specs.World.{is_text, or_else_var, bound, bound_last, in_last, variable, with_binding, with_scope, without_scope}
 use Rattle.class_world.specs.declared.scope.Scope.{Scope}
@@ -13,6 +14,7 @@ use Rattle.class_world.specs.Bound.{last_value, value_in, bound_vars, bound_scop
 use Rattle.class_world.proofs.Claims.{all-last, all-append, all-first, all-rest}
 use Rattle.class_world.proofs.Growth.{same-lasts}
 use Rattle.class_world.proofs.Changes.{fixed-grow, built_in-grow}
+use Rattle.class_world.proofs.Apart.{vars-apart, scopes-apart, filled-with}
 
 abbrev Bound : Type 0
 Bound = List (PyStrInterned × PyObjectRef)
@@ -119,7 +121,7 @@ module _ (w : Held) where
 
   last-holds : (ss : List Scope) (x : PyStrInterned) → AllHold w (of_each of_scope ss) → IfSome (last_value ss x) (λ r. Holds w (IsNode r))
   last-holds [] x h = tt
-  last-holds (s ∷ []) x h = value-holds (λ k. is_same_name k x) s.vars (all-first w (of_scope s) [] h).1
+  last-holds (s ∷ []) x h = value-holds (λ k. is_same_name k x) s.vars (all-first w (of_scope s) [] h).1.1
   last-holds (s ∷ (u ∷ ss)) x h = last-holds (u ∷ ss) x (all-rest w (of_scope s) _ h)
 
   pub value_in-holds : (ss : List Scope) (vars : Bound) (x : PyStrInterned) → AllHold w (of_each of_scope ss) → AllHold w (of_each of_binding vars) → IfSome (value_in ss vars x) (λ r. Holds w (IsNode r))
@@ -137,7 +139,7 @@ module _ (w : Held) where
   bound_scopes-holds [] x r h n k = tt
   bound_scopes-holds (s ∷ []) x r h n k =
       let first = all-first w (of_scope s) [] h in
-      (first.0, all-append w (of_each of_binding (with_value is_same_name s.vars x r)) [] (with_value-holds s.vars x r first.1 n k) tt)
+      (first.0, (filled-with w s.func s.vars x r first.1.0, all-append w (of_each of_binding (with_value is_same_name s.vars x r)) [] (with_value-holds s.vars x r first.1.1 n k) tt))
   bound_scopes-holds (s ∷ (u ∷ ss)) x r h n k =
       all-append w (of_scope s) _ (all-first w (of_scope s) _ h) (bound_scopes-holds (u ∷ ss) x r (all-rest w (of_scope s) _ h) n k)
 
@@ -153,20 +155,22 @@ length-bound [] x r = refl
 length-bound (s ∷ []) x r = refl
 length-bound (s ∷ (u ∷ ss)) x r = ap suc (length-bound (u ∷ ss) x r)
 
-pub other-sound : (w : Held) (vars : Bound) (scopes : List Scope) (calls : List Started) → Sound w → AllHold w (of_each of_binding vars) → AllHold w (of_each of_scope scopes) → Sound (record w { vars = vars; scopes = scopes; calls = calls })
-other-sound w vars scopes calls s h k =
+pub other-sound : (w : Held) (vars : Bound) (scopes : List Scope) (calls : List Started) → Sound w → AllHold w (of_each of_binding vars) → AllHold w (of_each of_scope scopes) → AreNamesDistinct vars → All (λ (s : Scope). AreNamesDistinct s.vars) scopes → Sound (record w { vars = vars; scopes = scopes; calls = calls })
+other-sound w vars scopes calls s h k a b =
     let new = record w { vars = vars; scopes = scopes; calls = calls } in
     let more = other-lasts w vars scopes calls in
     let go = all-last w new more in
-    record { forms = go _ s.forms; below = s.below; nodes = go _ s.nodes; classes = go _ s.classes; vars = go _ h; scopes = go _ k; fixed = fixed-grow w new s.fixed more; built_in = built_in-grow w new s.built_in more; own = λ b. more.still _ (s.own b); standing = λ c e. more.still _ (s.standing c e); special = s.special }
+    record { forms = go _ s.forms; below = s.below; nodes = go _ s.nodes; classes = go _ s.classes; vars = go _ h; scopes = go _ k; fixed = fixed-grow w new s.fixed more; built_in = built_in-grow w new s.built_in more; own = λ b. more.still _ (s.own b); standing = λ c e. more.still _ (s.standing c e); itself = s.itself; apart = a; scopes_apart = b; special = s.special }
 
 -- a variable is bound, or memory ran out and nothing changed
 module _ {A E : Type 0} (w : Held) (x : PyStrInterned) (r : PyObjectRef) (vars : Bound) (scopes : List Scope) where
   pub bind-sound : (o : Result A E) → OnOk o (vars ≡ bound_vars w.scopes w.vars x r) → OnOk o (scopes ≡ bound_scopes w.scopes x r) → OnErr o (vars ≡ w.vars) → OnErr o (scopes ≡ w.scopes) → Sound w → Holds w (IsName x) → Holds w (IsNode r) → Sound (record w { vars = vars; scopes = scopes })
   bind-sound (Ok a) p q f g s n k =
       other-sound w vars scopes w.calls s (subst (λ vs. AllHold w (of_each of_binding vs)) (sym p) (bound_vars-holds w w.scopes w.vars x r s.vars n k)) (subst (λ ss. AllHold w (of_each of_scope ss)) (sym q) (bound_scopes-holds w w.scopes x r s.scopes n k))
+      (subst (λ vs. AreNamesDistinct vs) (sym p) (vars-apart w.scopes w.vars x r s.apart)) (subst (λ ss. All (λ (s : Scope). AreNamesDistinct s.vars) ss) (sym q) (scopes-apart w.scopes x r s.scopes_apart))
   bind-sound (Err e) p q f g s n k =
       other-sound w vars scopes w.calls s (subst (λ vs. AllHold w (of_each of_binding vs)) (sym f) s.vars) (subst (λ ss. AllHold w (of_each of_scope ss)) (sym g) s.scopes)
+      (subst (λ vs. AreNamesDistinct vs) (sym f) s.apart) (subst (λ ss. All (λ (s : Scope). AreNamesDistinct s.vars) ss) (sym g) s.scopes_apart)
 
   pub bind-grows : (o : Result A E) → OnOk o (scopes ≡ bound_scopes w.scopes x r) → OnErr o (scopes ≡ w.scopes) → Grows w (record w { vars = vars; scopes = scopes })
   bind-grows (Ok a) q g = other-grows w vars scopes w.calls (ap length q ∙ length-bound w.scopes x r)

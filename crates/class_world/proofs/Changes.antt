@@ -1,5 +1,5 @@
 -- Each change of a world keeps it sound.
-use Rattle.std.proofs.Common.{◌≡◌, true, ℕ, zero, suc, ◌+◌, ◌<◌, ◌≤◌, List, [], ◌∷◌, ◌++◌, length, Some, refl, subst, arith, get_or, map}
+use Rattle.std.proofs.Common.{◌≡◌, true, ℕ, zero, suc, ◌+◌, ◌<◌, ◌≤◌, List, [], ◌∷◌, ◌++◌, length, Some, None, refl, subst, arith, get_or, map}
 use Rattle.std.specs.Prelude.{slice_get}
 use Rattle.std.specs.List.{All}
 use Rattle.py_node.specs.declared.refs.PyStrInterned.{PyStrInterned}
@@ -10,7 +10,7 @@ use Rattle.py_node.specs.Replies.{Started}
 use Rattle.class_model.specs.Class.{is_class}
 use Rattle.class_world.specs.Held.{Held}
 use Rattle.class_world.specs.Tables.{IsBelow, AreBelow}
-use Rattle.class_world.specs.Sound.{IsNode, IsClass, Holds, AllHold, Lasts, of_node, of_form, Sound}
+use Rattle.class_world.specs.Sound.{IsNode, IsClass, class_in, held_class, Holds, AllHold, Lasts, of_node, of_form, Sound}
 use Rattle.class_world.proofs.Claims.{all-grow, each-push}
 use Rattle.class_world.proofs.Growth.{grows-lasts, node-grows, form-grows, names-grow}
 
@@ -71,21 +71,37 @@ pub built_in-grow : (w new : Held) → ((c : ℕ) → c < 23 → is_class w.clas
 unfolding Holds
 built_in-grow w new h g = λ c l. g.still (IsClass c) (h c l)
 
+-- each node that is a class has the class's number, counted from a number on
+abbrev pub AreItself : ℕ → List Node → Type 0
+AreItself k ns = (n c : ℕ) → held_class ns (record { 0 = n }) ≡ Some c → k + n ≡ c
+
+pub itself-push : (k : ℕ) (ns : List Node) (x : Node) → ((c : ℕ) → class_in x.payload ≡ Some c → k + length ns ≡ c) → AreItself k ns → AreItself k (ns ++ x ∷ [])
+itself-push k [] x h g zero c e = h c e
+itself-push k [] x h g (suc n) c e = cc
+itself-push k (y ∷ ns) x h g zero c e = g 0 c e
+itself-push k (y ∷ ns) x h g (suc n) c e =
+    let rest = itself-push (suc k) ns x (λ d q. let p = h d q in omega arith) (λ m d q. let p = g (suc m) d q in omega arith) n c e in
+    omega arith
+
+-- a node that is no class
+pub other-push : (ns : List Node) (x : Node) → class_in x.payload ≡ None → ((n c : ℕ) → held_class ns (record { 0 = n }) ≡ Some c → n ≡ c) → (n c : ℕ) → held_class (ns ++ x ∷ []) (record { 0 = n }) ≡ Some c → n ≡ c
+other-push ns x q g n c e = let p = itself-push 0 ns x (λ d r. cc) (λ m d r. let p = g m d r in omega arith) n c e in omega arith
+
 module _ (w : Held) (s : Sound w) where
-  pub node-sound : (n : Node) → AllHold w (of_node n) → Sound (record w { nodes = w.nodes ++ n ∷ [] })
-  node-sound n h =
+  pub node-sound : (n : Node) → class_in n.payload ≡ None → AllHold w (of_node n) → Sound (record w { nodes = w.nodes ++ n ∷ [] })
+  node-sound n q h =
       let new = record w { nodes = w.nodes ++ n ∷ [] } in
       let go = all-grow w new (node-grows w n) in
-      record { forms = go _ s.forms; below = s.below; nodes = each-push new of_node w.nodes n (go _ s.nodes) (go (of_node n) h); classes = go _ s.classes; vars = go _ s.vars; scopes = go _ s.scopes; fixed = fixed-grow w new s.fixed (grows-lasts w new (node-grows w n)); built_in = built_in-grow w new s.built_in (grows-lasts w new (node-grows w n)); own = λ b. (node-grows w n).still _ (s.own b); standing = λ c e. (node-grows w n).still _ (s.standing c e); special = s.special }
+      record { forms = go _ s.forms; below = s.below; nodes = each-push new of_node w.nodes n (go _ s.nodes) (go (of_node n) h); classes = go _ s.classes; vars = go _ s.vars; scopes = go _ s.scopes; fixed = fixed-grow w new s.fixed (grows-lasts w new (node-grows w n)); built_in = built_in-grow w new s.built_in (grows-lasts w new (node-grows w n)); own = λ b. (node-grows w n).still _ (s.own b); standing = λ c e. (node-grows w n).still _ (s.standing c e); itself = other-push w.nodes n q s.itself; apart = s.apart; scopes_apart = s.scopes_apart; special = s.special }
 
   pub form-sound : (f : Form) → AllHold w (of_form f) → Sound (record w { forms = w.forms ++ f ∷ [] })
   form-sound f h =
       let new = record w { forms = w.forms ++ f ∷ [] } in
       let go = all-grow w new (form-grows w f) in
-      record { forms = each-push new of_form w.forms f (go _ s.forms) (go (of_form f) h); below = below-push w.forms f s.below (form-below w f h); nodes = go _ s.nodes; classes = go _ s.classes; vars = go _ s.vars; scopes = go _ s.scopes; fixed = fixed-grow w new s.fixed (grows-lasts w new (form-grows w f)); built_in = built_in-grow w new s.built_in (grows-lasts w new (form-grows w f)); own = λ b. (form-grows w f).still _ (s.own b); standing = λ c e. (form-grows w f).still _ (s.standing c e); special = s.special }
+      record { forms = each-push new of_form w.forms f (go _ s.forms) (go (of_form f) h); below = below-push w.forms f s.below (form-below w f h); nodes = go _ s.nodes; classes = go _ s.classes; vars = go _ s.vars; scopes = go _ s.scopes; fixed = fixed-grow w new s.fixed (grows-lasts w new (form-grows w f)); built_in = built_in-grow w new s.built_in (grows-lasts w new (form-grows w f)); own = λ b. (form-grows w f).still _ (s.own b); standing = λ c e. (form-grows w f).still _ (s.standing c e); itself = s.itself; apart = s.apart; scopes_apart = s.scopes_apart; special = s.special }
 
   pub names-sound : (names : List (List ℕ)) → length w.names ≤ length names → ((n : ℕ) (x : List ℕ) → slice_get w.names n ≡ Some x → slice_get names n ≡ Some x) → Sound (record w { names = names })
   names-sound names l k =
       let new = record w { names = names } in
       let go = all-grow w new (names-grow w names l) in
-      record { forms = go _ s.forms; below = s.below; nodes = go _ s.nodes; classes = go _ s.classes; vars = go _ s.vars; scopes = go _ s.scopes; fixed = fixed-grow w new s.fixed (grows-lasts w new (names-grow w names l)); built_in = built_in-grow w new s.built_in (grows-lasts w new (names-grow w names l)); own = λ b. (names-grow w names l).still _ (s.own b); standing = λ c e. (names-grow w names l).still _ (s.standing c e); special = λ n x e. k n x (s.special n x e) }
+      record { forms = go _ s.forms; below = s.below; nodes = go _ s.nodes; classes = go _ s.classes; vars = go _ s.vars; scopes = go _ s.scopes; fixed = fixed-grow w new s.fixed (grows-lasts w new (names-grow w names l)); built_in = built_in-grow w new s.built_in (grows-lasts w new (names-grow w names l)); own = λ b. (names-grow w names l).still _ (s.own b); standing = λ c e. (names-grow w names l).still _ (s.standing c e); itself = s.itself; apart = s.apart; scopes_apart = s.scopes_apart; special = λ n x e. k n x (s.special n x e) }

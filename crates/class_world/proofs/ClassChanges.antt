@@ -1,5 +1,5 @@
 -- Classes that are changed or made.
-use Rattle.std.proofs.Common.{◌≡◌, ℕ, suc, ◌^◌, ◌<◌, ◌≤◌, Bool, true, false, cond, eqb, inl, inr, [], ◌∷◌, ◌++◌, length, Some, None, Result, Ok, Err, OnOk, OnErr, refl, sym, ap, ◌∙◌, subst, arith, length-append}
+use Rattle.std.proofs.Common.{◌≡◌, ℕ, zero, suc, ◌^◌, ◌<◌, ◌≤◌, Bool, true, false, cond, eqb, inl, inr, [], ◌∷◌, ◌++◌, length, Some, None, Result, Ok, Err, OnOk, OnErr, refl, sym, ap, ◌∙◌, subst, arith, length-append}
 use Rattle.std.specs.Prelude.{is_some, nat_lt, option_and_then}
 use Rattle.py_node.specs.declared.payload.Node.{Node}
 use Rattle.py_node.specs.declared.refs.PyObjectRef.{PyObjectRef}
@@ -25,7 +25,7 @@ use Rattle.plain_machine.specs.Sound.{held_by}
 use Rattle.class_world.proofs.Homes.{held_by-last, held_by-attr}
 use Rattle.class_world.proofs.Growth.{Like, like-itself, like-push, keep-itself, keep-push, grows, grows-lasts}
 use Rattle.class_world.proofs.Stored.{map-push, no-names}
-use Rattle.class_world.proofs.Changes.{fixed-grow, built_in-grow}
+use Rattle.class_world.proofs.Changes.{fixed-grow, built_in-grow, itself-push}
 use Rattle.class_world.proofs.Bound.{with_value-read, with_value-holds}
 
 abbrev HeldClasses : Type 0
@@ -68,7 +68,7 @@ classes-sound w ks k h a s =
     let new = record w { classes = ks } in
     let more = classes-grow w ks k in
     let go = all-grow w new more in
-    record { forms = go _ s.forms; below = s.below; nodes = go _ s.nodes; classes = go _ h; vars = go _ s.vars; scopes = go _ s.scopes; fixed = fixed-grow w new s.fixed (grows-lasts w new more); built_in = built_in-grow w new s.built_in (grows-lasts w new more); own = λ b. more.still _ (s.own b); standing = λ d e. more.still _ (a d e); special = s.special }
+    record { forms = go _ s.forms; below = s.below; nodes = go _ s.nodes; classes = go _ h; vars = go _ s.vars; scopes = go _ s.scopes; fixed = fixed-grow w new s.fixed (grows-lasts w new more); built_in = built_in-grow w new s.built_in (grows-lasts w new more); own = λ b. more.still _ (s.own b); standing = λ d e. more.still _ (a d e); itself = s.itself; apart = s.apart; scopes_apart = s.scopes_apart; special = s.special }
 
 -- an attribute is set, or memory ran out and nothing changed
 module _ {A E : Type 0} (w : Held) (c : ℕ) (x : PyStrInterned) (r : PyObjectRef) (ks : HeldClasses) where
@@ -144,6 +144,11 @@ module _ (w : Held) (meta : PyTypeRef) (k : Class PyStrInterned) where
     stands : (d : ℕ) → is_class (w.classes ++ k ∷ []) d ≡ true → Holds (class_made c) (Standing d (record { 0 = d }))
     stands d h = elim (old-or-last w.classes k d h) [ inl a ↦ (made-grows c).still _ (s.standing d a) | inr a ↦ subst (λ n. Holds (class_made c) (Standing n (record { 0 = n }))) (sym a) class-stands ]
 
+    itself : (n d : ℕ) → held_class (class_made c).nodes (record { 0 = n }) ≡ Some d → n ≡ d
+    itself n d q =
+        let at = itself-push 0 w.nodes (record { class = meta; dict = None; payload = payload.Class c }) (λ d p. let same : c.0 ≡ d = cc in omega arith) (λ m d p. let r = s.itself m d p in omega arith) n d q in
+        omega arith
+
     pub made-sound : k.members ≡ [] → Holds w (IsClass meta.0) → Holds w (IsOf meta.0 TypeType) → AllHold w (of_each of_binding k.attrs) → Sound (class_made c)
     made-sound q m p a =
         let new = class_made c in
@@ -164,6 +169,9 @@ module _ (w : Held) (meta : PyTypeRef) (k : Class PyStrInterned) where
           built_in = many;
           own = λ b. more.still _ (s.own b);
           standing = stands;
+          itself = itself;
+          apart = s.apart;
+          scopes_apart = s.scopes_apart;
           special = s.special;
         }
 

@@ -10,7 +10,7 @@ use Rattle.plain_machine.specs.Plain.{AFunction, Node}
 use Rattle.plain_machine.specs.Objects.{or_class, defined_by, with_datum_in, with_definer}
 use Rattle.class_world.specs.Held.{Held}
 use Rattle.class_world.specs.Reading.{Reading, spelled, datum, node_of, plain}
-use Rattle.class_world.specs.Sound.{Claim, IsClass, IsOf, Holds, AllHold, Grows, Sound, of_option, of_class_ref, of_dict_ref, of_payload, of_node, of_each}
+use Rattle.class_world.specs.Sound.{Claim, IsClass, IsOf, class_in, held_class, Holds, AllHold, Grows, Sound, of_option, of_class_ref, of_dict_ref, of_payload, of_node, of_each}
 use Rattle.class_world.specs.Defined.{or_class_ref, defined_payload, defined_node}
 use Rattle.class_world.proofs.Claims.{all-grow, all-append, all-first, all-rest, each-get, got}
 use Rattle.class_world.proofs.Growth.{Lasting, lasting, like-itself, grows, grows-lasts}
@@ -101,6 +101,14 @@ stays-set (z ∷ ns) zero n new e q (suc m) x k = (x, k, refl)
 stays-set (z ∷ ns) (suc i) n new e q zero x k = (x, k, refl)
 stays-set (z ∷ ns) (suc i) n new e q (suc m) x k = stays-set ns i n new e q m x k
 
+-- and stands for no other class
+class-set : (ns : List StoredNode) (i : ℕ) (n new : StoredNode) → n ≡ get_or ns i n → class_in new.payload ≡ class_in n.payload → (m d : ℕ) → held_class (slice_set ns i new) (record { 0 = m }) ≡ Some d → held_class ns (record { 0 = m }) ≡ Some d
+class-set [] i n new e q m d k = k
+class-set (z ∷ ns) zero n new e q zero d k = ap (λ (y : StoredNode). class_in y.payload) (sym e) ∙ sym q ∙ k
+class-set (z ∷ ns) zero n new e q (suc m) d k = k
+class-set (z ∷ ns) (suc i) n new e q zero d k = k
+class-set (z ∷ ns) (suc i) n new e q (suc m) d k = class-set ns i n new e q m d k
+
 module _ (w : Held) (c : PyTypeRef) (r : PyObjectRef) (n new : StoredNode) where
   abbrev defined : Held
   defined = record w { nodes = slice_set w.nodes r.0 new }
@@ -116,7 +124,8 @@ module _ (w : Held) (c : PyTypeRef) (r : PyObjectRef) (n new : StoredNode) where
       let go = all-grow w defined more in
       let here = each-get w of_node w.nodes r.0 n (got w.nodes r.0 n l e) s.nodes in
       let there = subst (λ m. AllHold w (of_node m)) (sym k) (node-holds w c n h here) in
-      record { forms = go _ s.forms; below = s.below; nodes = go _ (each-set w of_node w.nodes r.0 new s.nodes there); classes = go _ s.classes; vars = go _ s.vars; scopes = go _ s.scopes; fixed = fixed-grow w defined s.fixed (grows-lasts w defined more); built_in = built_in-grow w defined s.built_in (grows-lasts w defined more); own = λ b. more.still _ (s.own b); standing = λ d e. more.still _ (s.standing d e); special = s.special }
+      let same : class_in new.payload ≡ class_in n.payload = ap (λ (x : StoredNode). class_in x.payload) k ∙ ap (λ (l : Lasting). l.class) (lasting-stays c n.payload) in
+      record { forms = go _ s.forms; below = s.below; nodes = go _ (each-set w of_node w.nodes r.0 new s.nodes there); classes = go _ s.classes; vars = go _ s.vars; scopes = go _ s.scopes; fixed = fixed-grow w defined s.fixed (grows-lasts w defined more); built_in = built_in-grow w defined s.built_in (grows-lasts w defined more); own = λ b. more.still _ (s.own b); standing = λ d e. more.still _ (s.standing d e); itself = λ m d q. s.itself m d (class-set w.nodes r.0 n new e same m d q); apart = s.apart; scopes_apart = s.scopes_apart; special = s.special }
 
   pub define-read : (now : Held) → w ≡ now → r.0 < length w.nodes → n ≡ get_or w.nodes r.0 n → new ≡ defined_node c n → (t : Reading) → plain t defined ≡ with_definer (plain t now) c.0 r
   unfolding plain

@@ -12,7 +12,7 @@ use Rattle.py_node.specs.declared.payload.Node.{Node}
 use Rattle.py_node.specs.declared.payload.Payload.{Payload}
 use Rattle.py_node.specs.declared.payload.Form.{Form}
 use Rattle.class_world.specs.Held.{Held}
-use Rattle.class_world.specs.Sound.{Claim, IsNode, AreNodes, IsExpression, AreExpressions, IsName, AreNames, IsClass, IsOf, CanBeBase, Holding, Standing, KeysDiffer, HasOperand, operands_at, home_of, home_at, key_in, held_key, class_in, held_class, Holds, Lasts, Grows}
+use Rattle.class_world.specs.Sound.{Claim, IsNode, AreNodes, IsExpression, AreExpressions, IsName, AreNames, IsClass, IsOf, CanBeBase, Holding, Standing, KeysDiffer, HasOperand, HasParams, HasValues, params_in, held_params, AreFilled, operands_at, home_of, home_at, key_in, held_key, class_in, held_class, Holds, Lasts, Grows}
 use Rattle.class_world.proofs.Claims.{get-pushed}
 use Rattle.class_world.proofs.Homes.{held_by-push}
 
@@ -20,14 +20,15 @@ use Rattle.class_world.proofs.Homes.{held_by-push}
 abbrev Stays : List Form → List Form → Type 0
 Stays old new = (n : ℕ) (f : Form) → slice_get old n ≡ Some f → slice_get new n ≡ Some f
 
--- what a payload tells for ever: whose like its object is, the key that it is, and the class that it stands for
+-- what a payload tells for ever: whose like its object is, the key that it is, the class that it stands for, and its parameters
 pub record Lasting : Type 0 where
   pub home : BuiltIn
   pub key : Option Key
   pub class : Option ℕ
+  pub params : Option (List PyStrInterned)
 
 abbrev pub lasting : Payload → Lasting
-lasting p = record { home = home_of p; key = key_in p; class = class_in p }
+lasting p = record { home = home_of p; key = key_in p; class = class_in p; params = params_in p }
 
 -- each node tells what it told
 pub record Keep (old new : List Node) : Type 0 where
@@ -77,6 +78,16 @@ key-still old new g r = still-read (λ l. l.key) (option_and_then (λ (x : Node)
 class-still : (old new : List Node) → Keep old new → (r : PyObjectRef) (c : ℕ) → held_class old r ≡ Some c → held_class new r ≡ Some c
 class-still old new g r = still-read (λ l. l.class) (option_and_then (λ (x : Node). class_in x.payload)) refl (λ x. refl) old new g r.0
 
+params-still : (old new : List Node) → Keep old new → (r : PyObjectRef) (ps : List PyStrInterned) → held_params old r ≡ Some ps → held_params new r ≡ Some ps
+params-still old new g r = still-read (λ l. l.params) (option_and_then (λ (x : Node). params_in x.payload)) refl (λ x. refl) old new g r.0
+
+values-still : (old new : List Node) → Keep old new → (r : PyObjectRef) (vars : List (PyStrInterned × PyObjectRef)) → AreFilled vars (held_params old r) → AreFilled vars (held_params new r)
+values-still old new g r vars h = go (held_params old r) refl h
+  where
+    go : (o : Option (List PyStrInterned)) → held_params old r ≡ o → AreFilled vars o → AreFilled vars (held_params new r)
+    go None e h = absurd h
+    go (Some ps) e h = subst (AreFilled vars) (sym (params-still old new g r ps e)) h
+
 known-key : (o : Option Key) → is_some o ≡ true → (k : Key) × (o ≡ Some k)
 known-key None e = cc
 known-key (Some k) e = (k, refl)
@@ -113,6 +124,8 @@ grows-at old new x e s n p l (Holding r b) h = home-still old.nodes new.nodes p 
 grows-at old new x e s n p l (Standing c r) h = class-still old.nodes new.nodes p r c h
 grows-at old new x e s n p l (KeysDiffer rs) h = keys-keep old.nodes new.nodes p rs h
 grows-at old new x e s n p l (HasOperand m i) h = operand-stays old.forms new.forms m i s h
+grows-at old new x e s n p l (HasParams r ps) h = params-still old.nodes new.nodes p r ps h
+grows-at old new x e s n p l (HasValues r vars) h = values-still old.nodes new.nodes p r vars h
 
 -- where no table is shorter
 lasts : (old new : Held) → length old.names ≤ length new.names → length old.forms ≤ length new.forms → Stays old.forms new.forms → length old.nodes ≤ length new.nodes → Keep old.nodes new.nodes → Like old.classes new.classes → Lasts old new

@@ -3,6 +3,8 @@ pub mod Homes
 pub mod Growth
 pub mod Readable
 pub mod Changes
+pub mod Apart
+pub mod Added
 pub mod Bound
 pub mod Filled
 pub mod OfClasses

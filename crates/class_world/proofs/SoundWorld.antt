@@ -6,24 +6,27 @@ use Rattle.std.proofs.lemmas.List.{length-map}
 use Rattle.py_node.specs.declared.refs.PyObjectRef.{PyObjectRef}
 use Rattle.py_node.specs.declared.refs.PyStrInterned.{PyStrInterned}
 use Rattle.py_node.specs.declared.refs.PyTypeRef.{PyTypeRef}
-use Rattle.py_node.specs.declared.built_in.BuiltIn.TheVariants.{Dict, Str}
+use Rattle.py_node.specs.declared.built_in.BuiltIn.TheVariants.{Dict, Function, Str}
 use Rattle.py_node.specs.declared.payload.Node.{Node as StoredNode}
 use Rattle.py_node.specs.declared.payload.Payload.{Payload}
 use Rattle.py_node.specs.declared.payload.Payload.TheVariants as payload
+use Rattle.py_node.specs.Attributes.{value_of, AreNamesDistinct}
 use Rattle.py_node.specs.Tree.{Text}
 use Rattle.class_model.specs.Class.{Class, Classes, is_class, has_flag, rekeyed, renamed}
 use Rattle.class_model.specs.Sound.{AreSound}
 use Rattle.class_model.proofs.Sound.{sound-renamed}
 use Rattle.class_model.proofs.Renamed.{at-renamed, lin-renamed}
 use Rattle.plain_machine.specs.Plain.{AClass, Node}
-use Rattle.plain_machine.specs.World.{datum_at}
-use Rattle.plain_machine.specs.Sound.{home, optional_class, optional, nodes_in, classes_in, Key, key_of, key_at, keys_in, AreKeys, IsSoundNode, IsSound}
+use Rattle.plain_machine.specs.World.{is_text, datum_at}
+use Rattle.plain_machine.specs.Sound.{home, optional_class, optional, nodes_in, classes_in, Key, key_of, key_at, keys_in, AreKeys, AreApart, params_in as params_of, IsSoundNode, IsSoundScope, IsSound}
 use Rattle.class_world.specs.declared.scope.Scope.{Scope as HeldScope}
 use Rattle.class_world.specs.Held.{Held}
 use Rattle.class_world.specs.Reading.{Reading, bindings, datum, node_of, scope_of, spelled, plain}
-use Rattle.class_world.specs.Sound.{Holding, Standing, KeysDiffer, key_in, held_key, class_in, held_class, Holds, AllHold, Sound, home_of, home_at, of_option, of_class_ref, of_node_ref, of_dict_ref, of_payload, of_node, of_binding, of_scope, of_class, of_dict, of_each}
+use Rattle.class_world.specs.Sound.{Holding, Standing, KeysDiffer, key_in, held_key, class_in, held_class, params_in, held_params, has_value, AreFilled, Holds, AllHold, Sound, home_of, home_at, of_option, of_class_ref, of_node_ref, of_dict_ref, of_payload, of_node, of_binding, of_scope, of_class, of_dict, of_each}
 use Rattle.class_world.proofs.Claims.{all-first, all-rest, each-get}
 use Rattle.class_world.proofs.Homes.{by_line}
+use Rattle.class_world.proofs.Apart.{apart-read}
+use Rattle.class_world.proofs.Bound.{value-read}
 
 module _ {A : Type 0} (P : A → Type 0) where
   none : All P []
@@ -208,16 +211,68 @@ module _ (w : Held) (t : Reading) where
   bound-there [] h = none (λ b. b.1.0 < length w.nodes)
   bound-there (b ∷ bs) h = more (λ b. b.1.0 < length w.nodes) (spelled t b.0, b.1) (bindings t bs) h.1.0 (bound-there bs h.1.1)
 
-  scopes-there : (ss : List HeldScope) → AllHold w (of_each of_scope ss) → All (λ s. All (λ b. b.1.0 < length w.nodes) s.vars) (map (scope_of t) ss)
-  scopes-there [] h = none (λ s. All (λ b. b.1.0 < length w.nodes) s.vars)
-  scopes-there (s ∷ ss) h =
-      more (λ s. All (λ b. b.1.0 < length w.nodes) s.vars) (scope_of t s) (map (scope_of t) ss) (bound-there s.vars (all-first w (of_scope s) (of_each of_scope ss) h).1) (scopes-there ss (all-rest w (of_scope s) (of_each of_scope ss) h))
+  -- a function, by its parameters
+  function-home : (p : Payload) (vars : List (PyStrInterned × PyObjectRef)) → AreFilled vars (params_in p) → home_of p ≡ Function
+  function-home payload.Object vars h = absurd h
+  function-home (payload.Class c) vars h = absurd h
+  function-home (payload.Number z) vars h = absurd h
+  function-home (payload.Text s) vars h = absurd h
+  function-home (payload.Tuple rs) vars h = absurd h
+  function-home (payload.Dict es) vars h = absurd h
+  function-home (payload.Function f) vars h = refl
+  function-home (payload.Method m) vars h = absurd h
+  function-home (payload.NativeFunction f) vars h = absurd h
+  function-home (payload.BuiltinMethod m) vars h = absurd h
+  function-home (payload.MethodDescriptor m) vars h = absurd h
+  function-home (payload.GetSet g) vars h = absurd h
+  function-home (payload.ClassMethod r) vars h = absurd h
 
-  funcs-there : (ss : List HeldScope) → AllHold w (of_each of_scope ss) → All (λ s. s.func.0 < length w.nodes) (map (scope_of t) ss)
-  unfolding Holds
-  funcs-there [] h = none (λ s. s.func.0 < length w.nodes)
-  funcs-there (s ∷ ss) h =
-      more (λ s. s.func.0 < length w.nodes) (scope_of t s) (map (scope_of t) ss) (all-first w (of_scope s) (of_each of_scope ss) h).0 (funcs-there ss (all-rest w (of_scope s) (of_each of_scope ss) h))
+  function-there : (ns : List StoredNode) (n : ℕ) (vars : List (PyStrInterned × PyObjectRef)) → AreFilled vars (held_params ns (record { 0 = n })) → home_at ns n ≡ Some Function
+  function-there [] n vars h = absurd h
+  function-there (x ∷ ns) zero vars h = ap Some (function-home x.payload vars h)
+  function-there (x ∷ ns) (suc n) vars h = function-there ns n vars h
+
+  -- each parameter has a value by its text
+  filled-texts : (vars : List (PyStrInterned × PyObjectRef)) (ps : List PyStrInterned) → All (λ x. has_value vars x ≡ true) ps → All (λ x. is_some (value_of (λ y. is_text y x) (bindings t vars)) ≡ true) (map (spelled t) ps)
+  filled-texts vars [] h = none (λ x. is_some (value_of (λ y. is_text y x) (bindings t vars)) ≡ true)
+  filled-texts vars (x ∷ ps) h =
+      more (λ x. is_some (value_of (λ y. is_text y x) (bindings t vars)) ≡ true) (spelled t x) (map (spelled t) ps) (ap is_some (value-read t vars x) ∙ h 0 x (omega arith)) (filled-texts vars ps (λ i d l. h (suc i) d (omega arith)))
+
+  filled-in : (p : Payload) (vars : List (PyStrInterned × PyObjectRef)) → AreFilled vars (params_in p) → All (λ x. is_some (value_of (λ y. is_text y x) (bindings t vars)) ≡ true) (params_of (Some (datum t p)))
+  filled-in payload.Object vars h = absurd h
+  filled-in (payload.Class c) vars h = absurd h
+  filled-in (payload.Number z) vars h = absurd h
+  filled-in (payload.Text s) vars h = absurd h
+  filled-in (payload.Tuple rs) vars h = absurd h
+  filled-in (payload.Dict es) vars h = absurd h
+  filled-in (payload.Function f) vars h = filled-texts vars f.params.items h
+  filled-in (payload.Method m) vars h = absurd h
+  filled-in (payload.NativeFunction f) vars h = absurd h
+  filled-in (payload.BuiltinMethod m) vars h = absurd h
+  filled-in (payload.MethodDescriptor m) vars h = absurd h
+  filled-in (payload.GetSet g) vars h = absurd h
+  filled-in (payload.ClassMethod r) vars h = absurd h
+
+  filled-there : (ns : List StoredNode) (n : ℕ) (vars : List (PyStrInterned × PyObjectRef)) → AreFilled vars (held_params ns (record { 0 = n })) → All (λ x. is_some (value_of (λ y. is_text y x) (bindings t vars)) ≡ true) (params_of (option_map (λ (x : Node). x.datum) (slice_get (map (node_of t) ns) n)))
+  filled-there [] n vars h = absurd h
+  filled-there (x ∷ ns) zero vars h = filled-in x.payload vars h
+  filled-there (x ∷ ns) (suc n) vars h = filled-there ns n vars h
+
+  scope-is : (s : HeldScope) → AllHold w (of_scope s) → AreNamesDistinct s.vars → IsSoundScope (plain t w) (scope_of t s)
+  unfolding Holds plain
+  scope-is s h a = record {
+    func = home_at-read t w.nodes s.func.0 ∙ function-there w.nodes s.func.0 s.vars h.1.0;
+    params = filled-there w.nodes s.func.0 s.vars h.1.0;
+    vars = subst (λ n. All (λ b. b.1.0 < n) (bindings t s.vars)) (sym (length-map w.nodes (node_of t))) (bound-there s.vars h.1.1);
+    apart = apart-read t s.vars a;
+  }
+
+  scopes-are : (ss : List HeldScope) → AllHold w (of_each of_scope ss) → All (λ (s : HeldScope). AreNamesDistinct s.vars) ss → All (IsSoundScope (plain t w)) (map (scope_of t) ss)
+  scopes-are [] h a = none (IsSoundScope (plain t w))
+  scopes-are (s ∷ ss) h a =
+      more (IsSoundScope (plain t w)) (scope_of t s) (map (scope_of t) ss)
+      (scope-is s (all-first w (of_scope s) (of_each of_scope ss) h) (a 0 s (omega arith)))
+      (scopes-are ss (all-rest w (of_scope s) (of_each of_scope ss) h) (λ i d l. a (suc i) d (omega arith)))
 
   class-read : (p : Payload) (c : ℕ) → class_in p ≡ Some c → datum t p ≡ AClass c
   class-read payload.Object c e = cc
@@ -239,6 +294,30 @@ module _ (w : Held) (t : Reading) where
   stands-at (x ∷ ns) zero c e = ap Some (class-read x.payload c e)
   stands-at (x ∷ ns) (suc n) c e = stands-at ns n c e
 
+  class-back : (p : Payload) (c : ℕ) → Some (datum t p) ≡ Some (AClass c) → class_in p ≡ Some c
+  class-back payload.Object c e = cc
+  class-back (payload.Class d) c e = let same : d.0 ≡ c = cc in ap Some same
+  class-back (payload.Number z) c e = cc
+  class-back (payload.Text s) c e = cc
+  class-back (payload.Tuple rs) c e = cc
+  class-back (payload.Dict es) c e = cc
+  class-back (payload.Function f) c e = cc
+  class-back (payload.Method m) c e = cc
+  class-back (payload.NativeFunction f) c e = cc
+  class-back (payload.BuiltinMethod m) c e = cc
+  class-back (payload.MethodDescriptor m) c e = cc
+  class-back (payload.GetSet g) c e = cc
+  class-back (payload.ClassMethod r) c e = cc
+
+  held-back : (ns : List StoredNode) (n c : ℕ) → option_map (λ (x : Node). x.datum) (slice_get (map (node_of t) ns) n) ≡ Some (AClass c) → held_class ns (record { 0 = n }) ≡ Some c
+  held-back [] n c e = cc
+  held-back (x ∷ ns) zero c e = class-back x.payload c e
+  held-back (x ∷ ns) (suc n) c e = held-back ns n c e
+
+  class-itself : ((n c : ℕ) → held_class w.nodes (record { 0 = n }) ≡ Some c → n ≡ c) → (n c : ℕ) → datum_at (plain t w) (record { 0 = n }) ≡ Some (AClass c) → n ≡ c
+  unfolding plain
+  class-itself h n c e = h n c (held-back w.nodes n c e)
+
   there-read : (c : ℕ) → is_class (renamed (spelled t) w.classes) c ≡ is_class w.classes c
   there-read c = at-renamed (spelled t) is_some is_some refl (λ k. refl) w.classes c
 
@@ -250,11 +329,13 @@ module _ (w : Held) (t : Reading) where
   all-read : (cs : List ℕ) → All (λ c. is_class w.classes c ≡ true) cs → All (λ c. is_class (renamed (spelled t) w.classes) c ≡ true) cs
   all-read cs h = λ i d l. there-read (get_or cs i d) ∙ h i d l
 
-  attrs-there : (ks : Classes PyStrInterned) → AllHold w (of_each of_class ks) → All (λ k. All (λ a. a.1.0 < length w.nodes) k.attrs) (renamed (spelled t) ks)
-  attrs-there [] h = none (λ k. All (λ a. a.1.0 < length w.nodes) k.attrs)
-  attrs-there (k ∷ ks) h =
+  attrs-there : (n : ℕ) → length w.nodes ≡ n → (ks : Classes PyStrInterned) → AllHold w (of_each of_class ks) → All (λ k. AreNamesDistinct k.attrs) ks → All (λ k. All (λ a. a.1.0 < n) k.attrs × AreApart k.attrs) (renamed (spelled t) ks)
+  attrs-there n e [] h a = none (λ k. All (λ a. a.1.0 < n) k.attrs × AreApart k.attrs)
+  attrs-there n e (k ∷ ks) h a =
       let here = all-first w (of_class k) (of_each of_class ks) h in
-      more (λ k. All (λ a. a.1.0 < length w.nodes) k.attrs) (rekeyed (spelled t) k) (renamed (spelled t) ks) (bound-there k.attrs (all-rest w (of_dict (has_flag (2 ^ 40) k)) _ here.1.1)) (attrs-there ks (all-rest w (of_class k) (of_each of_class ks) h))
+      let bound = subst (λ n. All (λ a. a.1.0 < n) (bindings t k.attrs)) e (bound-there k.attrs (all-rest w (of_dict (has_flag (2 ^ 40) k)) _ here.1.1)) in
+      more (λ k. All (λ a. a.1.0 < n) k.attrs × AreApart k.attrs) (rekeyed (spelled t) k) (renamed (spelled t) ks) (bound, apart-read t k.attrs (a 0 k (omega arith)))
+      (attrs-there n e ks (all-rest w (of_class k) (of_each of_class ks) h) (λ i d l. a (suc i) d (omega arith)))
 
   dict-is : (x : StoredNode) (r : PyObjectRef) → AllHold w (of_option of_dict_ref x.dict) → x.dict ≡ Some r → option_map home (datum_at (plain t w) r) ≡ Some Dict
   unfolding Holds plain
@@ -269,15 +350,15 @@ module _ (w : Held) (t : Reading) where
         class = there-read x.class.0 ∙ h.0;
         like = ap by_line (lin-renamed (spelled t) w.classes x.class.0) ∙ h.1.0 ∙ ap Some (sym (home-read t x.payload));
         dict = λ r e. dict-is x r (all-first w dict (of_payload x.payload) h.1.1) e;
-        members = none _;
+        members = λ c i r e. cc;
         nodes = subst (λ n. Below n (nodes_in (datum t x.payload))) (sym (length-map w.nodes (node_of t))) (nodes-there x.payload held);
         keys = keys-there x.payload held;
         classes = all-read (classes_in (datum t x.payload)) (classes-there x.payload held);
       }
 
-  world-is : Sound w → AreSound w.classes → IsSound (plain t w)
+  world-is : Sound w → AreSound w.classes → All (λ k. AreNamesDistinct k.attrs) w.classes → IsSound (plain t w)
   unfolding plain
-  world-is s k =
+  world-is s k a =
       let size = sym (length-map w.nodes (node_of t)) in
       record {
         classes = sound-renamed (spelled t) w.classes k;
@@ -285,11 +366,12 @@ module _ (w : Held) (t : Reading) where
             let r = stored-at t w.nodes i n e in
             subst (λ n. IsSoundNode (plain t w) n) r.2 (node-is r.0 (each-get w of_node w.nodes i r.0 r.1 s.nodes));
         standing = class-stands s.standing;
-        attrs = subst (λ n. All (λ k. All (λ a. a.1.0 < n) k.attrs) (renamed (spelled t) w.classes)) size (attrs-there w.classes s.classes);
+        itself = class-itself s.itself;
+        attrs = attrs-there (length (map (node_of t) w.nodes)) size w.classes s.classes a;
         vars = subst (λ n. All (λ b. b.1.0 < n) (bindings t w.vars)) size (bound-there w.vars s.vars);
-        scopes = subst (λ n. All (λ s. All (λ b. b.1.0 < n) s.vars) (map (scope_of t) w.scopes)) size (scopes-there w.scopes s.scopes);
-        funcs = subst (λ n. All (λ s. s.func.0 < n) (map (scope_of t) w.scopes)) size (funcs-there w.scopes s.scopes);
+        apart = apart-read t w.vars s.apart;
+        scopes = scopes-are w.scopes s.scopes s.scopes_apart;
       }
 
-pub world-sound : (w now : Held) → w ≡ now → Sound w → AreSound w.classes → (t : Reading) → IsSound (plain t now)
-world-sound w now v s k t = subst (λ u. IsSound (plain t u)) v (world-is w t s k)
+pub world-sound : (w now : Held) → w ≡ now → Sound w → AreSound w.classes → All (λ k. AreNamesDistinct k.attrs) w.classes → (t : Reading) → IsSound (plain t now)
+world-sound w now v s k a t = subst (λ u. IsSound (plain t u)) v (world-is w t s k a)

@@ -1,6 +1,7 @@
 -- The world of a new machine is sound, and is the plain machine's.
 use Rattle.std.proofs.Common.{◌≡◌, ℕ, zero, suc, ◌+◌, ◌^◌, ◌<◌, ◌≤◌, Bool, true, false, cond, List, [], ◌∷◌, ◌++◌, length, Some, refl, ap, subst, arith, map}
 use Rattle.std.specs.Prelude.{◌&&◌, eqb, ltb, is_some}
+use Rattle.std.specs.List.{IsDistinct}
 use Rattle.std.proofs.lemmas.Bool.{eqb-true, eqb-false, ltb-true}
 use Rattle.py_node.specs.declared.refs.PyStrInterned.{PyStrInterned}
 use Rattle.py_node.specs.declared.built_in.BuiltIn.{BuiltIn}
@@ -16,7 +17,7 @@ use Rattle.plain_machine.specs.Known.{the_dict}
 use Rattle.class_world.specs.Held.{Held}
 use Rattle.class_world.specs.StartNodes.{class_node, fixed_nodes, start_nodes}
 use Rattle.class_world.specs.Reading.{Reading, node_of, spelled, plain}
-use Rattle.class_world.specs.Sound.{Standing, Holds, AllHold, Sound, of_node, of_dict, of_class, of_each}
+use Rattle.class_world.specs.Sound.{Standing, held_class, Holds, AllHold, Sound, of_node, of_dict, of_class, of_each}
 use Rattle.class_world.proofs.Claims.{each-append, all-append}
 use Rattle.class_table.proofs.StartParts.{split}
 
@@ -138,12 +139,28 @@ places-stand n (b ∷ bs) h c e = go (eqb (place_of b) c) refl e (places-stand (
     go true i e more = subst (λ m. Holds started (Standing m (record { 0 = m }))) (eqb-true (place_of b) c i) (started-stands b)
     go false i e more = more e
 
+-- each node that is a class has the class's number
+fixed-none : (n c : ℕ) → held_class fixed_nodes (record { 0 = n }) ≡ Some c → ⊥
+fixed-none zero c e = cc
+fixed-none (suc zero) c e = cc
+fixed-none (suc (suc zero)) c e = cc
+fixed-none (suc (suc (suc zero))) c e = cc
+fixed-none (suc (suc (suc (suc n)))) c e = cc
+
+classes-itself : (k : ℕ) (bs : List BuiltIn) → places_from k bs ≡ true → (n c : ℕ) → held_class (map class_node bs ++ fixed_nodes) (record { 0 = n }) ≡ Some c → k + n ≡ c
+classes-itself k [] h n c e = absurd (fixed-none n c e)
+classes-itself k (b ∷ bs) h zero c e =
+    let same : place_of b ≡ c = cc in
+    let here = eqb-true (place_of b) k (split (eqb (place_of b) k) (places_from (suc k) bs) h).0 in
+    omega arith
+classes-itself k (b ∷ bs) h (suc n) c e = let rest = classes-itself (suc k) bs (split (eqb (place_of b) k) (places_from (suc k) bs) h).1 n c e in omega arith
+
 started-there : (c : ℕ) → c < 23 → is_class started.classes c ≡ true
 unfolding all_built_ins place_of
 started-there c l = there-from 0 all_built_ins refl c (omega arith) (omega arith)
 
 pub started-sound : Sound started
-unfolding all_built_ins place_of Holds
+unfolding all_built_ins place_of Holds IsDistinct
 started-sound = record {
   forms = tt;
   below = λ n x e. cc;
@@ -154,7 +171,10 @@ started-sound = record {
   fixed = omega arith;
   built_in = started-there;
   own = started-own;
+  apart = tt;
+  scopes_apart = λ i d l. absurd (omega arith);
   standing = λ c e. places-stand 0 all_built_ins refl c e;
+  itself = λ n c e. let p = classes-itself 0 all_built_ins refl n c e in omega arith;
   special = λ n x e. e;
 }
 

@@ -9,3 +9,4 @@ pub mod Claims
 pub mod Rows
 pub mod StartNodes
 pub mod BuiltInAttrs
+pub mod Added

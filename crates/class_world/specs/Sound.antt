@@ -1,5 +1,5 @@
 -- What is said of numbers, and that all that a world says of them is so.
-use Rattle.std.specs.Prelude.{◌≡◌, ℕ, ◌<◌, ◌≤◌, ◌^◌, Bool, true, false, List, [], ◌∷◌, ◌++◌, Option, Some, None, length, map, slice_get, option_map, option_and_then, string_bytes}
+use Rattle.std.specs.Prelude.{◌≡◌, ℕ, ◌<◌, ◌≤◌, ◌^◌, Bool, true, false, List, [], ◌∷◌, ◌++◌, Option, Some, None, is_some, length, map, slice_get, option_map, option_and_then, string_bytes}
 use Rattle.std.specs.List.{All}
 use Rattle.py_node.specs.declared.refs.PyObjectRef.{PyObjectRef}
 use Rattle.py_node.specs.declared.refs.PyStrInterned.{PyStrInterned}
@@ -9,6 +9,7 @@ use Rattle.py_node.specs.declared.payload.Payload.{Payload}
 use Rattle.py_node.specs.declared.payload.Payload.TheVariants as payload
 use Rattle.py_node.specs.declared.payload.Form.{Form}
 use Rattle.py_node.specs.declared.payload.Form.TheVariants as form
+use Rattle.py_node.specs.Attributes.{value_of, is_same_name, AreNamesDistinct}
 use Rattle.py_node.specs.Slots.{special_names}
 use Rattle.py_node.specs.declared.built_in.BuiltIn.{BuiltIn}
 use Rattle.py_node.specs.declared.built_in.BuiltIn.TheVariants as built_in
@@ -42,6 +43,10 @@ pub data Claim : Type 0 where
   KeysDiffer : List PyObjectRef → Claim
   -- the expression has more operands than so many
   HasOperand : ℕ → ℕ → Claim
+  -- the object is a function with these parameters
+  HasParams : PyObjectRef → List PyStrInterned → Claim
+  -- the object is a function, and each of its parameters has a value among these
+  HasValues : PyObjectRef → List (PyStrInterned × PyObjectRef) → Claim
 
 -- the parts of an expression that are evaluated first, in order
 abbrev pub operands : Form → List ℕ
@@ -94,6 +99,22 @@ class_in _ = None
 abbrev pub held_class : List Node → PyObjectRef → Option ℕ
 held_class ns r = option_and_then (λ x. class_in x.payload) (slice_get ns r.0)
 
+-- the parameters of a function
+abbrev pub params_in : Payload → Option (List PyStrInterned)
+params_in (payload.Function f) = Some f.params.items
+params_in _ = None
+
+abbrev pub held_params : List Node → PyObjectRef → Option (List PyStrInterned)
+held_params ns r = option_and_then (λ x. params_in x.payload) (slice_get ns r.0)
+
+abbrev pub has_value : List (PyStrInterned × PyObjectRef) → PyStrInterned → Bool
+has_value vars x = is_some (value_of (λ y. is_same_name y x) vars)
+
+-- there are parameters, and each has a value
+abbrev pub AreFilled : List (PyStrInterned × PyObjectRef) → Option (List PyStrInterned) → Type 0
+AreFilled vars None = ⊥
+AreFilled vars (Some ps) = All (λ x. has_value vars x ≡ true) ps
+
 unfoldable pub Holds : Held → Claim → Type 0
 Holds w (IsNode r) = r.0 < length w.nodes
 Holds w (AreNodes rs) = All (λ r. r.0 < length w.nodes) rs
@@ -108,6 +129,8 @@ Holds w (Standing c r) = held_class w.nodes r ≡ Some c
 Holds w (CanBeBase c) = is_base_at (class_at w.classes c) ≡ true
 Holds w (KeysDiffer rs) = AreKeys (held_key w.nodes) rs
 Holds w (HasOperand e n) = n < length (operands_at (slice_get w.forms e))
+Holds w (HasParams r ps) = held_params w.nodes r ≡ Some ps
+Holds w (HasValues r vars) = AreFilled vars (held_params w.nodes r)
 
 abbrev pub AllHold : Held → List Claim → Type 0
 AllHold w [] = Unit {0}
@@ -174,8 +197,9 @@ abbrev pub of_each : {A : Type 0} → (A → List Claim) → List A → List Cla
 of_each of [] = []
 of_each of (x ∷ xs) = of x ++ of_each of xs
 
+-- a running body is that of a function, and has a value for each of its parameters
 abbrev pub of_scope : Scope → List Claim
-of_scope s = IsNode s.func ∷ of_each of_binding s.vars
+of_scope s = IsNode s.func ∷ HasValues s.func s.vars ∷ of_each of_binding s.vars
 
 -- the class of dicts is there for a class that gives its objects dicts
 abbrev pub of_dict : Bool → List Claim
@@ -193,8 +217,12 @@ pub record Sound (w : Held) : Type 0 where
   pub classes : AllHold w (of_each of_class w.classes)
   pub vars : AllHold w (of_each of_binding w.vars)
   pub scopes : AllHold w (of_each of_scope w.scopes)
-  -- the node of each class stands for it
+  -- no variable stands twice
+  pub apart : AreNamesDistinct w.vars
+  pub scopes_apart : All (λ s. AreNamesDistinct s.vars) w.scopes
+  -- the node of each class stands for it, and no other node does
   pub standing : (c : ℕ) → is_class w.classes c ≡ true → Holds w (Standing c (record { 0 = c }))
+  pub itself : (n c : ℕ) → held_class w.nodes (record { 0 = n }) ≡ Some c → n ≡ c
   -- the fixed nodes and the built-in classes are there
   pub fixed : 27 ≤ length w.nodes
   pub built_in : (c : ℕ) → c < 23 → is_class w.classes c ≡ true

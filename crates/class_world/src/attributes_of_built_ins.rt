@@ -1,6 +1,6 @@
 // The own attributes of the built-in classes, in the order in which a new machine gets them.
 
-ghost use Rattle.std.specs.Prelude.{◌≡◌, map, Some, IfOk, OnOk};
+ghost use Rattle.std.specs.Prelude.{◌≡◌, map, Some, None, IfOk, OnOk};
 ghost use Rattle.py_node.specs.BuiltIns.{place_of};
 ghost use Rattle.plain_machine.specs.BuiltInAttrs.{built_in_attrs};
 ghost use Rattle.plain_machine.specs.Plain.{AMethodDescriptor, AGetSet};
@@ -11,7 +11,7 @@ ghost use Rattle.class_world.specs.BuiltInAttrs.{plain_attr, row_of};
 ghost use Rattle.class_world.specs.Reading.{Reading, Reads, datum, plain};
 ghost use Rattle.py_node.specs.declared.built_in.BuiltIn.TheVariants as built_in;
 ghost use Rattle.plain_machine.specs.Sound.{holds_as};
-ghost use Rattle.class_world.specs.Sound.{IsName, IsNode, Holds, AllHold, Grows, home_of, of_payload};
+ghost use Rattle.class_world.specs.Sound.{IsName, IsNode, Holds, AllHold, Grows, home_of, class_in, of_payload};
 
 use crate::world::World;
 use Attr::{ClassMethod, Method, New, ReadOnly, Settable};
@@ -373,6 +373,7 @@ fn payload_of(world: &World, class: BuiltIn, name: PyStrInterned, attr: Attr) ->
     ensures reads { (t : Reading) → datum t result ≡ attr_datum (place_of class) (t.text name.0) (plain_attr attr) }
     ensures holds { AllHold world.now (of_payload result) }
     ensures home { home_of result ≡ holds_as (attr_class (plain_attr attr)) }
+    ensures other { class_in result ≡ None }
 {
     match attr {
         New => Payload::NativeFunction(NativeFunction {
@@ -407,6 +408,7 @@ fn descriptor(
     ensures reads { (t : Reading) → datum t result ≡ AMethodDescriptor (place_of class) (t.text name.0) entry flags.0 }
     ensures holds { AllHold world.now (of_payload result) }
     ensures home { home_of result ≡ built_in.MethodDescriptor }
+    ensures other { class_in result ≡ None }
 {
     Payload::MethodDescriptor(MethodDescriptor {
         class: world.built_in(class),
@@ -428,6 +430,7 @@ fn get_set(
     ensures reads { (t : Reading) → datum t result ≡ AGetSet (place_of class) (t.text name.0) (Some (Getter property)) setter }
     ensures holds { AllHold world.now (of_payload result) }
     ensures home { home_of result ≡ built_in.GetSetDescriptor }
+    ensures other { class_in result ≡ None }
 {
     Payload::GetSet(GetSet {
         class: world.built_in(class),

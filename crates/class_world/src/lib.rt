@@ -5,6 +5,7 @@ pub mod args;
 mod attributes_of_built_ins;
 pub mod classes;
 mod definer;
+mod nodes;
 pub mod objects;
 pub mod scope;
 pub mod show;

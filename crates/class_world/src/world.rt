@@ -1,11 +1,11 @@
 // The world, and what is read and changed there.
 
-ghost use Rattle.std.specs.Prelude.{◌≡◌, ◌^◌, ◌<◌, ℕ, List, map, length, Some, IfOk, OnOk, OnErr, IfSome, IsTrue, [], ◌∷◌, ◌++◌, slice_get, string_bytes, option_map};
+ghost use Rattle.std.specs.Prelude.{◌≡◌, ◌^◌, ◌<◌, ℕ, List, map, length, is_some, Some, None, IfOk, OnOk, OnErr, IfSome, IsTrue, [], ◌∷◌, ◌++◌, slice_get, string_bytes, option_map};
 ghost use Rattle.py_node.specs.Tree.{tree_of};
 ghost use Rattle.py_node.specs.Replies.{started_of};
 ghost use Rattle.py_node.specs.Slots.{special_names};
 ghost use Rattle.plain_machine.specs.Start.{bare, start};
-ghost use Rattle.plain_machine.specs.World.{ref, push_node, with_node, next_node, has_dict, at_depth, without_calls, class_at, datum_at, number_of, text_keys, slot_at, candidates_at, variable, with_binding, with_scope, without_scope, with_own_attr, with_new_class, is_text};
+ghost use Rattle.plain_machine.specs.World.{ref, with_node, next_node, has_dict, at_depth, without_calls, class_at, datum_at, number_of, text_keys, slot_at, candidates_at, variable, with_binding, with_scope, without_scope, with_own_attr, with_new_class, is_text};
 ghost use Rattle.plain_machine.specs.Known.{the_dict};
 ghost use Rattle.plain_machine.specs.Objects.{class_has_flag, with_definer};
 ghost use Rattle.plain_machine.specs.Sound.{holds_as, IsSound};
@@ -22,10 +22,12 @@ ghost use Rattle.py_node.specs.BuiltIns.{place_of};
 ghost use Rattle.class_world.specs.Fixed.{number_of_fixed};
 ghost use Rattle.class_world.specs.Held.{Held};
 ghost use Rattle.class_world.specs.Reading.{Reading, Reads, form_tree, datum, bindings, plain, IsReadable};
-ghost use Rattle.class_world.specs.Sound.{IsNode, IsClass, IsOf, CanBeBase, IsExpression, IsName, Holding, Holds, AllHold, Lasts, Grows, home_of, of_option, of_dict_ref, of_payload, of_form, of_binding, of_each};
+ghost use Rattle.class_world.specs.Sound.{IsNode, IsClass, IsOf, CanBeBase, IsExpression, IsName, Holding, HasParams, HasValues, Holds, AllHold, Lasts, Grows, home_of, class_in, params_in, of_option, of_node, of_payload, of_form, of_binding, of_each};
+ghost use Rattle.class_world.specs.Added.{IsEmptyDict};
 
 use crate::attributes_of_built_ins::add_own_attrs;
 use crate::definer::define;
+use crate::nodes::add_object;
 use crate::scope::Scope;
 use crate::start::start_nodes;
 use crate::variables::{bind_in, value_in};
@@ -208,6 +210,7 @@ impl World {
         requires { Holds self.now (IsNode node) }
         ensures reads { (t : Reading) → datum_at (plain t self.now) node ≡ Some (datum t result.now) }
         ensures holding { Holds self.now (Holding node (home_of result.now)) }
+        ensures params { IfSome (params_in result.now) (λ ps. Holds self.now (HasParams node ps)) }
         ensures holds { AllHold self.now (of_payload result.now) }
     {
         &self.nodes[node.0 as usize].payload
@@ -309,8 +312,8 @@ impl World {
         }
     }
 
-    /// Makes a node, after its dict where its class gives it one. It holds what the objects of its
-    /// class hold.
+    /// Makes a node that is no class, after its dict where its class gives it one. It holds what the
+    /// objects of its class hold. Where memory runs out, there is neither.
     pub fn make_node(
         &mut self,
         alloc: Global,
@@ -320,19 +323,34 @@ impl World {
         requires class { Holds self.old (IsClass class.0) }
         requires of { Holds self.old (IsOf class.0 (home_of payload)) }
         requires payload { AllHold self.old (of_payload payload) }
+        requires other { class_in payload ≡ None }
         ensures made { OnOk result ((t : Reading) → plain t self.new ≡ with_node (plain t self.old) class.0 (datum t payload)) }
         ensures number { IfOk result (λ r. (t : Reading) → r ≡ next_node (plain t self.old) class.0) }
+        ensures err { OnErr result (self.new ≡ self.old) }
         ensures reads { (t : Reading) → Reads t self.new → Reads t self.old }
         ensures grows { Grows self.old self.new }
         ensures node { IfOk result (λ r. Holds self.new (IsNode r)) }
         ensures holding { IfOk result (λ r. Holds self.new (Holding r (home_of payload))) }
     {
+        let dict = self.new_dict(alloc, class);
+        add_object(&mut self.nodes, dict, class, payload)
+    }
+
+    // A new dict, where a class gives its objects one.
+    fn new_dict(&self, alloc: Global, class: PyTypeRef) -> Option<Node>
+        requires { Holds self.now (IsClass class.0) }
+        ensures gives { (t : Reading) → has_dict (plain t self.now) class.0 ≡ is_some result }
+        ensures empty { IfSome result (λ d. IsEmptyDict d) }
+        ensures holds { AllHold self.now (of_option of_node result) }
+    {
         if self.gives_dict(class) {
-            let dicts = self.class_of_dicts();
-            let dict = self.push_node(dicts, None, Payload::Dict(Vec::new(alloc)))?;
-            self.push_node(class, Some(dict), payload)
+            Some(Node {
+                class: self.class_of_dicts(),
+                dict: None,
+                payload: Payload::Dict(Vec::new(alloc)),
+            })
         } else {
-            self.push_node(class, None, payload)
+            None
         }
     }
 
@@ -355,36 +373,10 @@ impl World {
         self.classes.flags(class).has_feature(PyTypeFlags::HAS_DICT)
     }
 
-    // One more node.
-    fn push_node(
-        &mut self,
-        class: PyTypeRef,
-        dict: Option<PyObjectRef>,
-        payload: Payload,
-    ) -> Result<PyObjectRef, OutOfMemory>
-        requires class { Holds self.old (IsClass class.0) }
-        requires of { Holds self.old (IsOf class.0 (home_of payload)) }
-        requires dict { AllHold self.old (of_option of_dict_ref dict) }
-        requires payload { AllHold self.old (of_payload payload) }
-        ensures made { OnOk result ((t : Reading) → plain t self.new ≡ push_node (plain t self.old) class.0 dict (datum t payload)) }
-        ensures number { IfOk result (λ r. (t : Reading) → r ≡ ref (length (plain t self.old).nodes)) }
-        ensures reads { (t : Reading) → Reads t self.new → Reads t self.old }
-        ensures grows { Grows self.old self.new }
-        ensures node { IfOk result (λ r. Holds self.new (IsNode r)) }
-        ensures holding { IfOk result (λ r. Holds self.new (Holding r (home_of payload))) }
-    {
-        let number = self.nodes.len();
-        self.nodes.push(Node {
-            class,
-            dict,
-            payload,
-        })?;
-        Ok(PyObjectRef(number as u64))
-    }
-
     /// The name of a text, which may be new.
     pub fn intern(&mut self, alloc: Global, text: &str) -> Result<PyStrInterned, OutOfMemory>
         ensures spelled { IfOk result (λ x. (t : Reading) → Reads t self.new → t.text x.0 ≡ text.now) }
+        ensures err { OnErr result (self.new ≡ self.old) }
         ensures same { (t : Reading) → plain t self.new ≡ plain t self.old }
         ensures reads { (t : Reading) → Reads t self.new → Reads t self.old }
         ensures grows { Grows self.old self.new }
@@ -397,6 +389,7 @@ impl World {
     pub(crate) fn add_form(&mut self, form: Form) -> Result<u64, OutOfMemory>
         requires { AllHold self.old (of_form form) }
         ensures added { IfOk result (λ n. (t : Reading) → Reads t self.new → t.tree n ≡ form_tree t.text t.tree form) }
+        ensures err { OnErr result (self.new ≡ self.old) }
         ensures same { (t : Reading) → plain t self.new ≡ plain t self.old }
         ensures reads { (t : Reading) → Reads t self.new → Reads t self.old }
         ensures grows { Grows self.old self.new }
@@ -454,8 +447,8 @@ impl World {
         bind_in(&mut self.scopes, &mut self.vars, name, value)
     }
 
-    /// A body begins: its scope, with its parameters, and the note of its start. Where memory runs
-    /// out, there is neither.
+    /// A body of a function begins: its scope, in which each parameter has a value, and the note of its
+    /// start. Where memory runs out, there is neither.
     pub fn open_scope(
         &mut self,
         func: PyObjectRef,
@@ -464,11 +457,13 @@ impl World {
     ) -> Result<(), OutOfMemory>
         requires func { Holds self.old (IsNode func) }
         requires vars { AllHold self.old (of_each of_binding vars) }
+        requires values { Holds self.old (HasValues func vars) }
         ensures opened { OnOk result ((t : Reading) → plain t self.new ≡ with_scope (plain t self.old) (record { func = func; vars = bindings t vars }) (started_of start)) }
         ensures err { OnErr result (self.new ≡ self.old) }
         ensures reads { (t : Reading) → Reads t self.new → Reads t self.old }
         ensures lasts { Lasts self.old self.new }
     {
+        let _count = vars.len();
         self.scopes.reserve(1)?;
         self.calls.reserve(1)?;
         self.scopes.push_reserved(Scope { func, vars });

@@ -1,3 +1,4 @@
+use Rattle.py_node.specs.Attributes.{AreNamesDistinct}
 use Rattle.std.proofs.Common.{◌≡◌, ℕ, List, map, take, ap, sym, ◌∙◌}
 use Rattle.std.proofs.lemmas.List.{take-map}
 use Rattle.plain_machine.specs.World.{at_depth}
@@ -8,13 +9,14 @@ use Rattle.class_world.specs.Reading.{Reading, plain, scope_of}
 use Rattle.class_world.specs.Sound.{of_scope}
 use Rattle.class_world.proofs.Claims.{each-take}
 use Rattle.class_world.proofs.Growth.{lasts-seen}
+use Rattle.class_world.proofs.Apart.{all-take}
 use Rattle.class_world.proofs.Bound.{other-sound, other-lasts}
 use Rattle.class_world.proofs.world.World.end_bodies.Goals as goal
 
 pub invariant_of-self : goal.invariant_of-self
 invariant_of-self c =
     let w = the_view c.self.inside in
-    rw c.truncate.ensures.items (other-sound w w.vars _ w.calls c.self.invariant c.self.invariant.vars (each-take w of_scope w.scopes _ c.self.invariant.scopes))
+    rw c.truncate.ensures.items (other-sound w w.vars _ w.calls c.self.invariant c.self.invariant.vars (each-take w of_scope w.scopes _ c.self.invariant.scopes) c.self.invariant.apart (all-take (λ (s : Scope). AreNamesDistinct s.vars) _ w.scopes c.self.invariant.scopes_apart))
 
 pub returns-clause-lasts : goal.returns-clause-lasts
 returns-clause-lasts c = lasts-seen (the_view c.self.inside) _ _ c.self.view_is (other-lasts _ _ _ _)

@@ -1,8 +1,39 @@
-use Rattle.std.proofs.Common.{arith}
-use Rattle.class_world.specs.Sound.{Holds}
-use Rattle.class_world.proofs.SoundWorld.{no-keys-differ}
+use Rattle.class_world.specs.contracts.world.World.{the_view}
+use Rattle.class_world.specs.Sound.{IsClass, IsOf, home_of, of_node, of_option, of_payload}
+use Rattle.class_world.proofs.Claims.{opened, opened-one}
+use Rattle.class_world.proofs.Growth.{grows-seen}
+use Rattle.class_world.proofs.Added.{added-sound, added-grows, added-read, added-number, added-there, added-holding}
 use Rattle.class_world.proofs.world.World.make_node.Goals as goal
 
-pub push_node-requires-clause-payload : goal.push_node-requires-clause-payload
-unfolding Holds
-push_node-requires-clause-payload c = rw c.new.ensures.items ((λ i d l. absurd (omega arith)), ((λ i d l. absurd (omega arith)), (no-keys-differ c.args.self.now, tt)))
+pub invariant_of-self : goal.invariant_of-self
+invariant_of-self c =
+    let w = the_view c.self.inside in
+    let now = c.args.self.now in
+    let e = c.add_object.ensures in
+    let dict = opened w now (of_option of_node c.new_dict-dict.result) c.self.view_is c.new_dict-dict.ensures.holds in
+    let class = opened-one w now (IsClass c.args.class.0) c.self.view_is c.requires.class in
+    let of = opened-one w now (IsOf c.args.class.0 (home_of c.args.payload)) c.self.view_is c.requires.of in
+    let held = opened w now (of_payload c.args.payload) c.self.view_is c.requires.payload in
+    added-sound w c.args.class c.args.payload c.new_dict-dict.result c.add_object.new.nodes.items c.add_object.result e.added e.err c.new_dict-dict.ensures.empty dict class of c.requires.other held c.self.invariant
+
+pub returns-clause-made : goal.returns-clause-made
+returns-clause-made c =
+    let e = c.add_object.ensures in
+    added-read (the_view c.self.inside) c.args.class c.args.payload c.new_dict-dict.result c.add_object.new.nodes.items c.args.self.now c.add_object.result c.self.view_is e.added c.new_dict-dict.ensures.empty c.new_dict-dict.ensures.gives
+
+pub returns-clause-number : goal.returns-clause-number
+returns-clause-number c =
+    added-number (the_view c.self.inside) c.args.class c.args.payload c.new_dict-dict.result c.add_object.new.nodes.items c.args.self.now c.add_object.result c.self.view_is c.add_object.ensures.number c.new_dict-dict.ensures.gives
+
+pub returns-clause-grows : goal.returns-clause-grows
+returns-clause-grows c =
+    let e = c.add_object.ensures in
+    grows-seen (the_view c.self.inside) _ _ c.self.view_is (added-grows (the_view c.self.inside) c.args.class c.args.payload c.new_dict-dict.result c.add_object.new.nodes.items c.add_object.result e.added e.err)
+
+pub returns-clause-node : goal.returns-clause-node
+returns-clause-node c =
+    added-there (the_view c.self.inside) c.args.class c.args.payload c.new_dict-dict.result c.add_object.new.nodes.items c.add_object.result c.add_object.ensures.added c.add_object.ensures.number
+
+pub returns-clause-holding : goal.returns-clause-holding
+returns-clause-holding c =
+    added-holding (the_view c.self.inside) c.args.class c.args.payload c.new_dict-dict.result c.add_object.new.nodes.items c.add_object.result c.add_object.ensures.added c.add_object.ensures.number

@@ -1,7 +1,8 @@
-use Rattle.std.proofs.Common.{◌≡◌, Some, ap, subst}
-use Rattle.std.specs.Prelude.{option_map}
+use Rattle.std.proofs.Common.{◌≡◌, Option, Some, None, IfSome, List, ap, ◌∙◌, subst}
+use Rattle.std.specs.Prelude.{option_map, option_and_then}
+use Rattle.py_node.specs.declared.refs.PyStrInterned.{PyStrInterned}
 use Rattle.class_world.specs.contracts.world.World.{the_view}
-use Rattle.class_world.specs.Sound.{Holds, IsNode, home_of, home_at, of_option, of_dict_ref, of_payload}
+use Rattle.class_world.specs.Sound.{Holds, IsNode, HasParams, home_of, home_at, held_params, params_in, of_option, of_dict_ref, of_payload}
 use Rattle.class_world.proofs.Claims.{got, opened-one, all-rest}
 use Rattle.class_world.proofs.Look.{node-read, node-holds}
 use Rattle.class_world.proofs.world.World.payload.Goals as goal
@@ -35,3 +36,16 @@ returns-clause-holding c =
     let here = opened-one w c.args.self.now (IsNode c.args.node) c.self.view_is c.requires in
     let e = got w.nodes c.args.node.0 c.index.result.now here c.index.ensures in
     subst (λ w. home_at w.nodes c.args.node.0 ≡ Some (home_of c.index.result.now.payload)) c.self.view_is (ap (option_map (λ n. home_of n.payload)) e)
+
+pub returns-clause-params : goal.returns-clause-params
+unfolding Holds
+returns-clause-params c =
+    let w = the_view c.self.inside in
+    let here = opened-one w c.args.self.now (IsNode c.args.node) c.self.view_is c.requires in
+    let e = got w.nodes c.args.node.0 c.index.result.now here c.index.ensures in
+    let read = subst (λ w. held_params w.nodes c.args.node ≡ params_in c.index.result.now.payload) c.self.view_is (ap (option_and_then (λ n. params_in n.payload)) e) in
+    go (params_in c.index.result.now.payload) read
+  where
+    go : (o : Option (List PyStrInterned)) → held_params c.args.self.now.nodes c.args.node ≡ o → IfSome o (λ ps. held_params c.args.self.now.nodes c.args.node ≡ Some ps)
+    go None e = tt
+    go (Some ps) e = e

@@ -7,7 +7,7 @@ use Rattle.class_world.proofs.world.World.take_calls.Goals as goal
 pub invariant_of-self : goal.invariant_of-self
 invariant_of-self c =
     let w = the_view c.self.inside in
-    other-sound w w.vars w.scopes _ c.self.invariant c.self.invariant.vars c.self.invariant.scopes
+    other-sound w w.vars w.scopes _ c.self.invariant c.self.invariant.vars c.self.invariant.scopes c.self.invariant.apart c.self.invariant.scopes_apart
 
 pub returns-clause-grows : goal.returns-clause-grows
 returns-clause-grows c = grows-seen (the_view c.self.inside) _ _ c.self.view_is (other-grows _ _ _ _ refl)

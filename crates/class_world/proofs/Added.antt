@@ -1,0 +1,165 @@
+-- Objects that are put into a world with their dicts.
+use Rattle.std.proofs.Common.{◌≡◌, ℕ, ◌+◌, cond, List, [], ◌∷◌, ◌++◌, length, map, Option, Some, None, Result, Ok, Err, IfOk, IfSome, OnOk, OnErr, refl, sym, ap, ◌∙◌, subst, arith, length-append}
+use Rattle.std.specs.Prelude.{is_some, option_map}
+use Rattle.std.proofs.lemmas.List.{length-map}
+use Rattle.py_node.specs.declared.refs.PyObjectRef.{PyObjectRef}
+use Rattle.py_node.specs.declared.refs.PyTypeRef.{PyTypeRef}
+use Rattle.py_node.specs.declared.built_in.BuiltIn.TheVariants.{Dict}
+use Rattle.py_node.specs.declared.payload.Node.{Node}
+use Rattle.py_node.specs.declared.payload.Payload.{Payload}
+use Rattle.py_node.specs.declared.payload.Payload.TheVariants as payload
+use Rattle.plain_machine.specs.Known.{the_dict}
+use Rattle.plain_machine.specs.Plain.{Datum, ADict, no_members, Node as PlainNode}
+use Rattle.plain_machine.specs.World.{ref, has_dict, push_node, with_node, next_node}
+use Rattle.class_world.specs.Held.{Held}
+use Rattle.class_world.specs.Added.{with_object, number_of_object, HasNoEntries, IsEmptyDict}
+use Rattle.class_world.specs.Reading.{Reading, datum, node_of, plain}
+use Rattle.class_world.specs.Sound.{IsNode, IsClass, IsOf, Holding, Holds, AllHold, Grows, Sound, home_of, home_at, class_in, of_node, of_option, of_payload}
+use Rattle.class_world.proofs.Claims.{all-grow, get-end}
+use Rattle.class_world.proofs.Growth.{grows-itself, grows-on, node-grows}
+use Rattle.class_world.proofs.Changes.{node-sound}
+use Rattle.class_world.proofs.Stored.{map-push}
+
+dict-home : (p : Payload) → HasNoEntries p → home_of p ≡ Dict
+dict-home payload.Object h = absurd h
+dict-home (payload.Class c) h = absurd h
+dict-home (payload.Number z) h = absurd h
+dict-home (payload.Text s) h = absurd h
+dict-home (payload.Tuple rs) h = absurd h
+dict-home (payload.Dict es) h = refl
+dict-home (payload.Function f) h = absurd h
+dict-home (payload.Method m) h = absurd h
+dict-home (payload.NativeFunction f) h = absurd h
+dict-home (payload.BuiltinMethod m) h = absurd h
+dict-home (payload.MethodDescriptor m) h = absurd h
+dict-home (payload.GetSet g) h = absurd h
+dict-home (payload.ClassMethod r) h = absurd h
+
+dict-other : (p : Payload) → HasNoEntries p → class_in p ≡ None
+dict-other payload.Object h = absurd h
+dict-other (payload.Class c) h = absurd h
+dict-other (payload.Number z) h = absurd h
+dict-other (payload.Text s) h = absurd h
+dict-other (payload.Tuple rs) h = absurd h
+dict-other (payload.Dict es) h = refl
+dict-other (payload.Function f) h = absurd h
+dict-other (payload.Method m) h = absurd h
+dict-other (payload.NativeFunction f) h = absurd h
+dict-other (payload.BuiltinMethod m) h = absurd h
+dict-other (payload.MethodDescriptor m) h = absurd h
+dict-other (payload.GetSet g) h = absurd h
+dict-other (payload.ClassMethod r) h = absurd h
+
+dict-datum : (t : Reading) (p : Payload) → HasNoEntries p → datum t p ≡ ADict []
+dict-datum t payload.Object h = absurd h
+dict-datum t (payload.Class c) h = absurd h
+dict-datum t (payload.Number z) h = absurd h
+dict-datum t (payload.Text s) h = absurd h
+dict-datum t (payload.Tuple rs) h = absurd h
+dict-datum t (payload.Dict es) h = ap ADict h
+dict-datum t (payload.Function f) h = absurd h
+dict-datum t (payload.Method m) h = absurd h
+dict-datum t (payload.NativeFunction f) h = absurd h
+dict-datum t (payload.BuiltinMethod m) h = absurd h
+dict-datum t (payload.MethodDescriptor m) h = absurd h
+dict-datum t (payload.GetSet g) h = absurd h
+dict-datum t (payload.ClassMethod r) h = absurd h
+
+dict-read : (t : Reading) (d : Node) → IsEmptyDict d → node_of t d ≡ record { class = the_dict; dict = None; members = no_members; datum = ADict [] }
+dict-read t d e = let class = e.0 in let dict = e.1 in let datum = dict-datum t d.payload e.2 in λ i. record { class = class i; dict = dict i; members = no_members; datum = datum i }
+
+module _ (w : Held) (c : PyTypeRef) (p : Payload) where
+  abbrev stored : Option PyObjectRef → Node
+  stored d = record { class = c; dict = d; payload = p }
+
+  abbrev after : Node → Held
+  after d = record w { nodes = w.nodes ++ d ∷ [] }
+
+  abbrev made : Option Node → Held
+  made o = record w { nodes = with_object w.nodes o c p }
+
+  object-grows : (o : Option Node) → Grows w (made o)
+  object-grows None = node-grows w (stored None)
+  object-grows (Some d) = grows-on w (after d) (made (Some d)) (node-grows w d) (node-grows (after d) (stored (Some (ref (length w.nodes)))))
+
+  -- the dict is one
+  dict-holding : (d : Node) → HasNoEntries d.payload → home_at (w.nodes ++ d ∷ []) (length w.nodes) ≡ Some Dict
+  dict-holding d e = ap (option_map (λ (x : Node). home_of x.payload)) (get-end w.nodes d) ∙ ap Some (dict-home d.payload e)
+
+  object-sound : (o : Option Node) → IfSome o IsEmptyDict → AllHold w (of_option of_node o) → Holds w (IsClass c.0) → Holds w (IsOf c.0 (home_of p)) → class_in p ≡ None → AllHold w (of_payload p) → Sound w → Sound (made o)
+  unfolding Holds
+  object-sound None e h class of q held s = node-sound w s (stored None) q (class, (of, held))
+  object-sound (Some d) e h class of q held s =
+      let more = node-grows w d in
+      let l = length-append w.nodes (d ∷ []) in
+      node-sound (after d) (node-sound w s d (dict-other d.payload e.2) h) (stored (Some (ref (length w.nodes)))) q
+      (more.still (IsClass c.0) class, (more.still (IsOf c.0 (home_of p)) of, (omega (arith, l), (dict-holding d e.2, all-grow w (after d) more (of_payload p) held))))
+
+  pub object-there : (o : Option Node) (r : PyObjectRef) → r ≡ number_of_object w.nodes o → Holds (made o) (IsNode r)
+  unfolding Holds
+  object-there None r e = let l = length-append w.nodes (stored None ∷ []) in let n : r.0 ≡ length w.nodes = ap (λ (r : PyObjectRef). r.0) e in omega (arith, l, n)
+  object-there (Some d) r e =
+      let l = length-append w.nodes (d ∷ []) in
+      let m = length-append (w.nodes ++ d ∷ []) (stored (Some (ref (length w.nodes))) ∷ []) in
+      let n : r.0 ≡ length w.nodes + 1 = ap (λ (r : PyObjectRef). r.0) e in
+      omega (arith, l, m, n)
+
+  pub object-holding : (o : Option Node) (r : PyObjectRef) → r ≡ number_of_object w.nodes o → Holds (made o) (Holding r (home_of p))
+  unfolding Holds
+  object-holding None r e = ap (λ (r : PyObjectRef). home_at (w.nodes ++ stored None ∷ []) r.0) e ∙ ap (option_map (λ (x : Node). home_of x.payload)) (get-end w.nodes (stored None))
+  object-holding (Some d) r e =
+      let new = stored (Some (ref (length w.nodes))) in
+      let l = length-append w.nodes (d ∷ []) in
+      let n : r.0 ≡ length (w.nodes ++ d ∷ []) = let k : r.0 ≡ length w.nodes + 1 = ap (λ (r : PyObjectRef). r.0) e in omega (arith, l, k) in
+      ap (home_at ((w.nodes ++ d ∷ []) ++ new ∷ [])) n ∙ ap (option_map (λ (x : Node). home_of x.payload)) (get-end (w.nodes ++ d ∷ []) new)
+
+  object-read : (t : Reading) (o : Option Node) → IfSome o IsEmptyDict → has_dict (plain t w) c.0 ≡ is_some o → plain t (made o) ≡ with_node (plain t w) c.0 (datum t p)
+  unfolding plain
+  object-read t None e h =
+      ap (λ (ns : List PlainNode). record (plain t w) { nodes = ns }) (map-push (node_of t) w.nodes (stored None))
+      ∙ sym (ap (λ b. cond b (push_node (push_node (plain t w) the_dict None (ADict [])) c.0 (Some (ref (length (plain t w).nodes))) (datum t p)) (push_node (plain t w) c.0 None (datum t p))) h)
+  object-read t (Some d) e h =
+      let new = stored (Some (ref (length w.nodes))) in
+      let a = map-push (node_of t) (w.nodes ++ d ∷ []) new in
+      let b = map-push (node_of t) w.nodes d in
+      let k = dict-read t d e in
+      let both : map (node_of t) ((w.nodes ++ d ∷ []) ++ new ∷ []) ≡ (map (node_of t) w.nodes ++ record { class = the_dict; dict = None; members = no_members; datum = ADict [] } ∷ []) ++ node_of t new ∷ [] = cc (a, b, k) in
+      ap (λ (ns : List PlainNode). record (plain t w) { nodes = ns }) both
+      ∙ ap (λ n. push_node (push_node (plain t w) the_dict None (ADict [])) c.0 (Some (ref n)) (datum t p)) (sym (length-map w.nodes (node_of t)))
+      ∙ sym (ap (λ b. cond b (push_node (push_node (plain t w) the_dict None (ADict [])) c.0 (Some (ref (length (plain t w).nodes))) (datum t p)) (push_node (plain t w) c.0 None (datum t p))) h)
+
+  object-number : (t : Reading) (o : Option Node) (r : PyObjectRef) → has_dict (plain t w) c.0 ≡ is_some o → r ≡ number_of_object w.nodes o → r ≡ next_node (plain t w) c.0
+  unfolding plain
+  object-number t None r h e =
+      e ∙ ap ref (sym (length-map w.nodes (node_of t))) ∙ sym (ap (λ b. ref (cond b (length (plain t w).nodes + 1) (length (plain t w).nodes))) h)
+  object-number t (Some d) r h e =
+      e ∙ ap (λ n. ref (n + 1)) (sym (length-map w.nodes (node_of t))) ∙ sym (ap (λ b. ref (cond b (length (plain t w).nodes + 1) (length (plain t w).nodes))) h)
+
+  -- an object is added, or memory ran out and nothing changed
+  module _ {E : Type 0} (o : Option Node) (ns : List Node) where
+    pub added-sound : (r : Result PyObjectRef E) → OnOk r (ns ≡ with_object w.nodes o c p) → OnErr r (ns ≡ w.nodes) → IfSome o IsEmptyDict → AllHold w (of_option of_node o) → Holds w (IsClass c.0) → Holds w (IsOf c.0 (home_of p)) → class_in p ≡ None → AllHold w (of_payload p) → Sound w → Sound (record w { nodes = ns })
+    added-sound (Ok a) q f e h class of k held s = subst (λ ns. Sound (record w { nodes = ns })) (sym q) (object-sound o e h class of k held s)
+    added-sound (Err a) q f e h class of k held s = subst (λ ns. Sound (record w { nodes = ns })) (sym f) s
+
+    pub added-grows : (r : Result PyObjectRef E) → OnOk r (ns ≡ with_object w.nodes o c p) → OnErr r (ns ≡ w.nodes) → Grows w (record w { nodes = ns })
+    added-grows (Ok a) q f = subst (λ ns. Grows w (record w { nodes = ns })) (sym q) (object-grows o)
+    added-grows (Err a) q f = subst (λ ns. Grows w (record w { nodes = ns })) (sym f) (grows-itself w)
+
+    pub added-read : (now : Held) (r : Result PyObjectRef E) → w ≡ now → OnOk r (ns ≡ with_object w.nodes o c p) → IfSome o IsEmptyDict → ((t : Reading) → has_dict (plain t now) c.0 ≡ is_some o) → OnOk r ((t : Reading) → plain t (record w { nodes = ns }) ≡ with_node (plain t now) c.0 (datum t p))
+    added-read now (Ok a) v q e h = λ t.
+        ap (λ (ns : List Node). plain t (record w { nodes = ns })) q
+        ∙ object-read t o e (ap (λ u. has_dict (plain t u) c.0) v ∙ h t)
+        ∙ ap (λ u. with_node (plain t u) c.0 (datum t p)) v
+    added-read now (Err a) v q e h = tt
+
+    pub added-number : (now : Held) (r : Result PyObjectRef E) → w ≡ now → IfOk r (λ n. n ≡ number_of_object w.nodes o) → ((t : Reading) → has_dict (plain t now) c.0 ≡ is_some o) → IfOk r (λ n. (t : Reading) → n ≡ next_node (plain t now) c.0)
+    added-number now (Ok n) v q h = λ t. object-number t o n (ap (λ u. has_dict (plain t u) c.0) v ∙ h t) q ∙ ap (λ u. next_node (plain t u) c.0) v
+    added-number now (Err a) v q h = tt
+
+    pub added-there : (r : Result PyObjectRef E) → OnOk r (ns ≡ with_object w.nodes o c p) → IfOk r (λ n. n ≡ number_of_object w.nodes o) → IfOk r (λ n. Holds (record w { nodes = ns }) (IsNode n))
+    added-there (Ok n) q e = subst (λ ns. Holds (record w { nodes = ns }) (IsNode n)) (sym q) (object-there o n e)
+    added-there (Err a) q e = tt
+
+    pub added-holding : (r : Result PyObjectRef E) → OnOk r (ns ≡ with_object w.nodes o c p) → IfOk r (λ n. n ≡ number_of_object w.nodes o) → IfOk r (λ n. Holds (record w { nodes = ns }) (Holding n (home_of p)))
+    added-holding (Ok n) q e = subst (λ ns. Holds (record w { nodes = ns }) (Holding n (home_of p))) (sym q) (object-holding o n e)
+    added-holding (Err a) q e = tt
