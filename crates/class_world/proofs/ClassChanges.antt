@@ -1,6 +1,6 @@
 -- Classes that are changed or made.
-use Rattle.std.proofs.Common.{◌≡◌, ℕ, zero, suc, ◌^◌, ◌<◌, ◌≤◌, Bool, true, false, cond, eqb, inl, inr, [], ◌∷◌, ◌++◌, length, Some, None, Result, Ok, Err, OnOk, OnErr, refl, sym, ap, ◌∙◌, subst, arith, length-append}
-use Rattle.std.specs.Prelude.{is_some, nat_lt, option_and_then}
+use Rattle.std.proofs.Common.{◌≡◌, ℕ, zero, suc, ◌^◌, ◌<◌, ◌≤◌, Bool, true, false, cond, eqb, inl, inr, List, [], ◌∷◌, ◌++◌, length, Some, None, Result, Ok, Err, OnOk, OnErr, refl, sym, ap, ◌∙◌, subst, arith, length-append}
+use Rattle.std.specs.Prelude.{is_some, nat_lt, slice_get, option_and_then}
 use Rattle.py_node.specs.declared.payload.Node.{Node}
 use Rattle.py_node.specs.declared.refs.PyObjectRef.{PyObjectRef}
 use Rattle.py_node.specs.declared.refs.PyStrInterned.{PyStrInterned}
@@ -12,11 +12,12 @@ use Rattle.class_model.specs.Class.{Class, Classes, is_class, has_flag, rekeyed,
 use Rattle.class_model.specs.Numbers.{limit}
 use Rattle.class_model.specs.Change.{with_class_attr}
 use Rattle.class_model.proofs.Numbers.{at-changed, at-last, old-or-last}
-use Rattle.class_table.specs.Refused.{is_base_at}
+use Rattle.class_table.specs.Refused.{is_base_at, AreThere}
+use Rattle.class_table.specs.Keys.{numbers}
 use Rattle.plain_machine.specs.World.{is_text, with_own_attr, with_new_class}
 use Rattle.class_world.specs.Held.{Held}
 use Rattle.class_world.specs.Reading.{Reading, spelled, node_of, plain}
-use Rattle.class_world.specs.Sound.{IsName, IsNode, IsClass, IsOf, Standing, AreNames, class_in, held_class, Holds, AllHold, Grows, Sound, of_binding, of_class, of_dict, of_node, of_each}
+use Rattle.class_world.specs.Sound.{IsName, IsNode, IsClass, IsOf, Standing, AreNames, class_in, held_class, Holds, AllHold, Grows, Sound, of_binding, of_class, of_class_ref, of_dict, of_node, of_each}
 use Rattle.class_world.proofs.Claims.{all-grow, all-append, all-first, all-rest, each-push, get-end}
 use Rattle.py_node.specs.declared.built_in.BuiltIn.{BuiltIn}
 use Rattle.py_node.specs.declared.built_in.BuiltIn.TheVariants.{TypeType}
@@ -24,7 +25,7 @@ use Rattle.plain_machine.specs.Known.{the_dict}
 use Rattle.plain_machine.specs.Sound.{held_by}
 use Rattle.class_world.proofs.Homes.{held_by-last, held_by-attr}
 use Rattle.class_world.proofs.Growth.{Like, like-itself, like-push, keep-itself, keep-push, grows, grows-lasts}
-use Rattle.class_world.proofs.Stored.{map-push, no-names}
+use Rattle.class_world.proofs.Stored.{map-push}
 use Rattle.class_world.proofs.Changes.{fixed-grow, built_in-grow, itself-push}
 use Rattle.class_world.proofs.Bound.{with_value-read, with_value-holds}
 
@@ -103,6 +104,16 @@ room w (k ∷ ks) h = go (nat_lt k.number (limit ks)) (room w ks (all-rest w (of
     go true l m = l
     go false l m = omega arith
 
+pub bases-there : (w : Held) (bs : List PyTypeRef) → AllHold w (of_each of_class_ref bs) → AreThere w.classes (numbers bs)
+unfolding Holds
+bases-there w [] h = tt
+bases-there w (b ∷ bs) h = (h.0, bases-there w bs h.1)
+
+pub one-base : (bs : List PyTypeRef) (b : PyTypeRef) → length bs ≤ 1 → slice_get bs 0 ≡ Some b → bs ≡ b ∷ []
+one-base [] b l e = cc
+one-base (c ∷ []) b l e = let same : c ≡ b = cc in ap (λ (c : PyTypeRef). c ∷ []) same
+one-base (c ∷ (d ∷ bs)) b l e = absurd (omega arith)
+
 -- a class with its node
 module _ (w : Held) (meta : PyTypeRef) (k : Class PyStrInterned) where
   abbrev class_made : PyTypeRef → Held
@@ -149,14 +160,14 @@ module _ (w : Held) (meta : PyTypeRef) (k : Class PyStrInterned) where
         let at = itself-push 0 w.nodes (record { class = meta; dict = None; payload = payload.Class c }) (λ d p. let same : c.0 ≡ d = cc in omega arith) (λ m d p. let r = s.itself m d p in omega arith) n d q in
         omega arith
 
-    pub made-sound : k.members ≡ [] → Holds w (IsClass meta.0) → Holds w (IsOf meta.0 TypeType) → AllHold w (of_each of_binding k.attrs) → Sound (class_made c)
+    pub made-sound : Holds w (AreNames k.members) → Holds w (IsClass meta.0) → Holds w (IsOf meta.0 TypeType) → AllHold w (of_each of_binding k.attrs) → Sound (class_made c)
     made-sound q m p a =
         let new = class_made c in
         let more = made-grows c in
         let go = all-grow w new more in
         let many = built_in-grow w new s.built_in (grows-lasts w new more) in
         let node = node-made c (record { 0 = k.number }) i in
-        let members = subst (λ xs. Holds new (AreNames xs)) (sym q) (no-names new) in
+        let members = more.still (AreNames k.members) q in
         let rest = all-append new (of_dict (has_flag (2 ^ 40) k)) (of_each of_binding k.attrs) (dict-made new (has_flag (2 ^ 40) k) many) (go _ a) in
         record {
           forms = go _ s.forms;

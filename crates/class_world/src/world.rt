@@ -5,19 +5,17 @@ ghost use Rattle.py_node.specs.Tree.{tree_of};
 ghost use Rattle.py_node.specs.Replies.{started_of};
 ghost use Rattle.py_node.specs.Slots.{special_names};
 ghost use Rattle.plain_machine.specs.Start.{bare, start};
-ghost use Rattle.plain_machine.specs.World.{ref, with_node, next_node, has_dict, at_depth, without_calls, class_at, datum_at, number_of, text_keys, slot_at, candidates_at, variable, with_binding, with_scope, without_scope, with_own_attr, with_new_class, is_text};
+ghost use Rattle.plain_machine.specs.World.{ref, with_node, next_node, has_dict, at_depth, without_calls, class_at, datum_at, number_of, text_keys, slot_at, candidates_at, variable, with_binding, with_scope, without_scope, is_text};
 ghost use Rattle.plain_machine.specs.Known.{the_dict};
-ghost use Rattle.plain_machine.specs.Objects.{class_has_flag, with_definer};
+ghost use Rattle.plain_machine.specs.Objects.{class_has_flag};
 ghost use Rattle.plain_machine.specs.Sound.{holds_as, IsSound};
 ghost use Rattle.py_node.specs.declared.built_in.BuiltIn.{BuiltIn};
 ghost use Rattle.py_node.specs.declared.built_in.BuiltIn.TheVariants.{Dict, TypeType};
 ghost use Rattle.class_model.specs.Class.{class_at as class_numbered, found, found_past, own_of, is_sub, has_flag};
 ghost use Rattle.class_model.specs.Slot.{entry, slot as slot_read, candidates_of, is_heap_at};
 ghost use Rattle.class_model.specs.BuiltIn.{natives_of};
-ghost use Rattle.class_model.specs.Layout.{built_ins};
-ghost use Rattle.class_table.specs.Refused.{refusal, refused_attr};
+ghost use Rattle.class_table.specs.Refused.{is_base_at};
 ghost use Rattle.class_table.specs.Turn.{list_of};
-ghost use Rattle.py_node.specs.BuiltIns.{heap_flags};
 ghost use Rattle.py_node.specs.BuiltIns.{place_of};
 ghost use Rattle.class_world.specs.Fixed.{number_of_fixed};
 ghost use Rattle.class_world.specs.Held.{Held};
@@ -26,13 +24,11 @@ ghost use Rattle.class_world.specs.Sound.{IsNode, IsClass, IsOf, CanBeBase, IsEx
 ghost use Rattle.class_world.specs.Added.{IsEmptyDict};
 
 use crate::attributes_of_built_ins::add_own_attrs;
-use crate::definer::define;
 use crate::nodes::add_object;
 use crate::scope::Scope;
 use crate::start::start_nodes;
 use crate::variables::{bind_in, value_in};
 use class_table::candidates::Candidates;
-use class_table::fault::ClassFault;
 use class_table::start::special_names;
 use class_table::table::ClassTable;
 use py_node::attributes::PyAttributes;
@@ -75,13 +71,13 @@ impl Fixed {
 /// running body, and the bodies that were started in this command.
 #[derive(Drop)]
 pub struct World {
-    names: Names,
-    forms: Vec<Form>,
-    nodes: Vec<Node>,
-    classes: ClassTable,
-    vars: PyAttributes,
-    scopes: Vec<Scope>,
-    calls: Vec<BodyCall>,
+    pub(crate) names: Names,
+    pub(crate) forms: Vec<Form>,
+    pub(crate) nodes: Vec<Node>,
+    pub(crate) classes: ClassTable,
+    pub(crate) vars: PyAttributes,
+    pub(crate) scopes: Vec<Scope>,
+    pub(crate) calls: Vec<BodyCall>,
 }
 
 impl Model for World {
@@ -527,6 +523,7 @@ impl World {
     pub fn can_be_base(&self, class: PyTypeRef) -> bool
         requires { Holds self.now (IsClass class.0) }
         ensures flag { (t : Reading) → class_has_flag (plain t self.now) (2 ^ 10) (Some class.0) ≡ result }
+        ensures held { is_base_at (class_numbered self.now.classes class.0) ≡ result }
         ensures can { IsTrue result → Holds self.now (CanBeBase class.0) }
     {
         self.classes.flags(class).has_feature(PyTypeFlags::BASETYPE)
@@ -550,106 +547,11 @@ impl World {
         PyObjectRef(class.0)
     }
 
-    /// Gives a class's own attribute a value. The class must be made by a script. Where it is refused or
-    /// memory runs out, the world stays as it was.
-    pub fn set_class_attr(
-        &mut self,
-        class: PyTypeRef,
-        name: PyStrInterned,
-        value: PyObjectRef,
-    ) -> Result<(), ClassFault>
-        requires class { Holds self.old (IsClass class.0) }
-        requires name { Holds self.old (IsName name) }
-        requires value { Holds self.old (IsNode value) }
-        ensures refused { (t : Reading) → refusal result ≡ refused_attr (plain t self.old).classes class.0 }
-        ensures set { OnOk result ((t : Reading) → plain t self.new ≡ with_own_attr (plain t self.old) class.0 (t.text name.0) value) }
-        ensures err { OnErr result (self.new ≡ self.old) }
-        ensures reads { (t : Reading) → Reads t self.new → Reads t self.old }
-        ensures grows { Grows self.old self.new }
-    {
-        self.classes.set_attr(class, name, value)
-    }
-
-    /// Gives a built-in class an own attribute.
-    pub(crate) fn put_class_attr(
-        &mut self,
-        class: PyTypeRef,
-        name: PyStrInterned,
-        value: PyObjectRef,
-    ) -> Result<(), OutOfMemory>
-        requires class { Holds self.old (IsClass class.0) }
-        requires first { class.0 < built_ins }
-        requires name { Holds self.old (IsName name) }
-        requires value { Holds self.old (IsNode value) }
-        ensures set { OnOk result ((t : Reading) → plain t self.new ≡ with_own_attr (plain t self.old) class.0 (t.text name.0) value) }
-        ensures err { OnErr result (self.new ≡ self.old) }
-        ensures reads { (t : Reading) → Reads t self.new → Reads t self.old }
-        ensures grows { Grows self.old self.new }
-    {
-        self.classes.put_attr(class, name, value)
-    }
-
-    /// Makes a class below another one, and the node that stands for it. Its objects hold what those
-    /// of its base do. Where memory runs out, there is neither.
-    pub fn make_class(
-        &mut self,
-        alloc: Global,
-        class_of_class: PyTypeRef,
-        name: &str,
-        base: PyTypeRef,
-        attrs: PyAttributes,
-    ) -> Result<(PyTypeRef, PyObjectRef), OutOfMemory>
-        requires meta { Holds self.old (IsClass class_of_class.0) }
-        requires meta_of { Holds self.old (IsOf class_of_class.0 TypeType) }
-        requires base { Holds self.old (IsClass base.0) }
-        requires can_be { Holds self.old (CanBeBase base.0) }
-        requires attrs { AllHold self.old (of_each of_binding attrs) }
-        ensures made { OnOk result ((t : Reading) → plain t self.new ≡ with_new_class (plain t self.old) class_of_class.0 (record { name = name.now; number = length (plain t self.old).nodes; bases = base.0 ∷ []; attrs = bindings t attrs; members = []; flags = heap_flags })) }
-        ensures numbers { IfOk result (λ r. (t : Reading) → (r.0.0 ≡ length (plain t self.old).nodes) × (r.1 ≡ ref (length (plain t self.old).nodes))) }
-        ensures err { OnErr result (self.new ≡ self.old) }
-        ensures reads { (t : Reading) → Reads t self.new → Reads t self.old }
-        ensures grows { Grows self.old self.new }
-        ensures class { IfOk result (λ r. Holds self.new (IsClass r.0.0)) }
-        ensures of { IfOk result (λ r. (b : BuiltIn) → Holds self.old (IsOf base.0 b) → Holds self.new (IsOf r.0.0 b)) }
-        ensures node { IfOk result (λ r. Holds self.new (IsNode r.1)) }
-    {
-        self.nodes.reserve(1)?;
-        let number = PyTypeRef(self.nodes.len() as u64);
-        let bases = vec![in alloc; base]?;
-        let members = Vec::new(alloc);
-        match self
-            .classes
-            .new_heap(alloc, number, name, bases, attrs, members)
-        {
-            // Of its base it is known that it can be one: nothing but memory can lack.
-            Err(_) => Err(OutOfMemory),
-            Ok(class) => {
-                self.nodes.push_reserved(Node {
-                    class: class_of_class,
-                    dict: None,
-                    payload: Payload::Class(class),
-                });
-                Ok((class, PyObjectRef(class.0)))
-            }
-        }
-    }
-
     /// The text of a name.
     pub fn spelling(&self, alloc: Global, name: PyStrInterned) -> Result<String, OutOfMemory>
         requires { Holds self.now (IsName name) }
         ensures { IfOk result (λ s. (t : Reading) → Reads t self.now → string_bytes s ≡ t.text name.0) }
     {
         Ok(String::from_str(alloc, self.names.text(name))?)
-    }
-
-    /// A function that no class defines yet is defined by this one. What is no function stays.
-    pub fn set_definer(&mut self, class: PyTypeRef, func: PyObjectRef)
-        requires class { Holds self.old (IsClass class.0) }
-        requires func { Holds self.old (IsNode func) }
-        ensures set { (t : Reading) → plain t self.new ≡ with_definer (plain t self.old) class.0 func }
-        ensures reads { (t : Reading) → Reads t self.new → Reads t self.old }
-        ensures grows { Grows self.old self.new }
-    {
-        define(&mut self.nodes[func.0 as usize], class);
     }
 }

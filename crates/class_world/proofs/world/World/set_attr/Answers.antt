@@ -5,7 +5,7 @@ use Rattle.class_world.proofs.Claims.{opened-one}
 use Rattle.class_world.proofs.Growth.{grows-seen}
 use Rattle.class_world.proofs.ClassChanges.{classes-grow, set-like, set-sound, set-read}
 use Rattle.class_world.proofs.OfClasses.{refused-seen}
-use Rattle.class_world.proofs.world.World.set_class_attr.Goals as goal
+use Rattle.class_world.proofs.world.World.set_attr.Goals as goal
 
 pub set_attr-requires : goal.set_attr-requires
 unfolding Holds

@@ -1,0 +1,7 @@
+use Rattle.std.proofs.Common.{sym, ◌∙◌}
+use Rattle.class_world.specs.contracts.world.World.{the_view}
+use Rattle.class_world.proofs.OfClasses.{there-seen}
+use Rattle.class_world.proofs.world.World.is_class.Goals as goal
+
+pub returns-clause-is : goal.returns-clause-is
+returns-clause-is c = λ t. there-seen (the_view c.self.inside) c.args.self.now c.self.view_is t c.args.class.0 ∙ sym c.has_class.ensures

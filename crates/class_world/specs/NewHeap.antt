@@ -1,0 +1,46 @@
+-- Classes that scripts make.
+use Rattle.std.specs.Option.{option_or}
+use Rattle.std.specs.Prelude.{ℕ, Bool, true, false, cond, codes, List, map, Option, Some, None}
+use Rattle.py_node.specs.declared.raised.Cause.{Cause}
+use Rattle.py_node.specs.declared.raised.Cause.TheVariants.{QualnameType}
+use Rattle.py_node.specs.declared.refs.PyObjectRef.{PyObjectRef}
+use Rattle.py_node.specs.declared.refs.PyStrInterned.{PyStrInterned}
+use Rattle.py_node.specs.declared.refs.PyTypeRef.{PyTypeRef}
+use Rattle.py_node.specs.Attributes.{value_of}
+use Rattle.py_node.specs.BuiltIns.{heap_flags}
+use Rattle.py_node.specs.Tree.{Text}
+use Rattle.class_model.specs.Class.{Class}
+use Rattle.class_table.specs.Keys.{numbers}
+use Rattle.class_table.specs.Refused.{refused_bases}
+use Rattle.plain_machine.specs.Plain.{Datum, AText, Bindings, PlainWorld}
+use Rattle.plain_machine.specs.World.{is_text, datum_at}
+use Rattle.class_world.specs.Reading.{Reading, spelled, bindings}
+
+-- whether an object holds a text
+abbrev pub holds_text : Option Datum → Bool
+holds_text (Some (AText x)) = true
+holds_text _ = false
+
+-- the qualified name that attributes give
+abbrev pub qualified : Bindings → Option PyObjectRef
+qualified attrs = value_of (λ y. is_text y (codes "__qualname__")) attrs
+
+-- why a class may not have a qualified name
+abbrev pub refused_name : PlainWorld → Option PyObjectRef → Option Cause
+refused_name w None = None
+refused_name w (Some r) = cond (holds_text (datum_at w r)) None (Some QualnameType)
+
+-- why a script may not make a class: it has no base, its first base may have no subclasses, or its qualified name is no text
+abbrev pub refused_heap : PlainWorld → List ℕ → Bindings → Option Cause
+refused_heap w bases attrs = option_or (refused_bases w.classes bases) (refused_name w (qualified attrs))
+
+-- the class that a script makes
+abbrev pub heap_class_of : Reading → Text → ℕ → List PyTypeRef → List (PyStrInterned × PyObjectRef) → List PyStrInterned → Class Text
+heap_class_of t name number bases attrs members = record {
+  name = name;
+  number = number;
+  bases = numbers bases;
+  attrs = bindings t attrs;
+  members = map (spelled t) members;
+  flags = heap_flags;
+}

@@ -1,0 +1,228 @@
+// Classes as scripts make and change them, and the functions that they define.
+
+ghost use Rattle.std.specs.Prelude.{◌≡◌, ◌<◌, ◌≤◌, length, Some, None, IfOk, IfNone, IfSome, OnOk, OnErr, slice_get};
+ghost use Rattle.py_node.specs.declared.built_in.BuiltIn.{BuiltIn};
+ghost use Rattle.py_node.specs.declared.built_in.BuiltIn.TheVariants.{TypeType};
+ghost use Rattle.class_model.specs.Layout.{built_ins};
+ghost use Rattle.class_table.specs.Keys.{numbers};
+ghost use Rattle.class_table.specs.Refused.{refusal, refused_attr, refused_bases};
+ghost use Rattle.plain_machine.specs.Objects.{with_definer};
+ghost use Rattle.plain_machine.specs.World.{ref, datum_at, with_new_class, with_own_attr};
+ghost use Rattle.class_world.specs.NewHeap.{holds_text, qualified, refused_name, refused_heap, heap_class_of};
+ghost use Rattle.class_world.specs.Reading.{Reading, Reads, bindings, plain};
+ghost use Rattle.class_world.specs.Sound.{IsNode, IsClass, IsOf, IsName, AreNames, Holds, AllHold, Grows, of_binding, of_class_ref, of_each};
+
+use crate::definer::define;
+use crate::world::World;
+use class_table::fault::ClassFault;
+use py_node::attributes::PyAttributes;
+use py_node::memory::OutOfMemory;
+use py_node::payload::{Node, Payload};
+use py_node::raised::Cause;
+use py_node::refs::{PyObjectRef, PyStrInterned, PyTypeRef};
+use std::alloc::Global;
+
+#[tactic(auto, unfolding(crate::specs::Reading::plain))]
+impl World {
+    /// Gives a class's own attribute a value. The class must be made by a script. Where it is refused or
+    /// memory runs out, the world stays as it was.
+    pub fn set_attr(
+        &mut self,
+        class: PyTypeRef,
+        name: PyStrInterned,
+        value: PyObjectRef,
+    ) -> Result<(), ClassFault>
+        requires class { Holds self.old (IsClass class.0) }
+        requires name { Holds self.old (IsName name) }
+        requires value { Holds self.old (IsNode value) }
+        ensures refused { (t : Reading) → refusal result ≡ refused_attr (plain t self.old).classes class.0 }
+        ensures set { OnOk result ((t : Reading) → plain t self.new ≡ with_own_attr (plain t self.old) class.0 (t.text name.0) value) }
+        ensures err { OnErr result (self.new ≡ self.old) }
+        ensures reads { (t : Reading) → Reads t self.new → Reads t self.old }
+        ensures grows { Grows self.old self.new }
+    {
+        self.classes.set_attr(class, name, value)
+    }
+
+    /// Gives a built-in class an own attribute.
+    pub(crate) fn put_class_attr(
+        &mut self,
+        class: PyTypeRef,
+        name: PyStrInterned,
+        value: PyObjectRef,
+    ) -> Result<(), OutOfMemory>
+        requires class { Holds self.old (IsClass class.0) }
+        requires first { class.0 < built_ins }
+        requires name { Holds self.old (IsName name) }
+        requires value { Holds self.old (IsNode value) }
+        ensures set { OnOk result ((t : Reading) → plain t self.new ≡ with_own_attr (plain t self.old) class.0 (t.text name.0) value) }
+        ensures err { OnErr result (self.new ≡ self.old) }
+        ensures reads { (t : Reading) → Reads t self.new → Reads t self.old }
+        ensures grows { Grows self.old self.new }
+    {
+        self.classes.put_attr(class, name, value)
+    }
+
+    /// A class that a script makes, and the node that stands for it: with the name, the bases, the
+    /// attributes and the members. Its objects hold what those of its base do. Where it is refused or
+    /// memory runs out, the world stays as it was.
+    pub fn new_heap(
+        &mut self,
+        alloc: Global,
+        name: &str,
+        bases: Vec<PyTypeRef>,
+        attrs: PyAttributes,
+        members: Vec<PyStrInterned>,
+        metaclass: PyTypeRef,
+    ) -> Result<PyTypeRef, ClassFault>
+        requires bases { AllHold self.old (of_each of_class_ref bases.items) }
+        requires one { length bases.items ≤ 1 }
+        requires attrs { AllHold self.old (of_each of_binding attrs) }
+        requires members { Holds self.old (AreNames members.items) }
+        requires metaclass { Holds self.old (IsClass metaclass.0) }
+        requires of_classes { Holds self.old (IsOf metaclass.0 TypeType) }
+        ensures made { OnOk result ((t : Reading) → plain t self.new ≡ with_new_class (plain t self.old) metaclass.0 (heap_class_of t name.now (length (plain t self.old).nodes) bases.items attrs members.items)) }
+        ensures number { IfOk result (λ c. (t : Reading) → c.0 ≡ length (plain t self.old).nodes) }
+        ensures refused { (t : Reading) → Reads t self.old → refusal result ≡ refused_heap (plain t self.old) (numbers bases.items) (bindings t attrs) }
+        ensures err { OnErr result (self.new ≡ self.old) }
+        ensures reads { (t : Reading) → Reads t self.new → Reads t self.old }
+        ensures grows { Grows self.old self.new }
+        ensures class { IfOk result (λ c. Holds self.new (IsClass c.0)) }
+        ensures of { IfOk result (λ c. (d : PyTypeRef) (b : BuiltIn) → slice_get bases.items 0 ≡ Some d → Holds self.old (IsOf d.0 b) → Holds self.new (IsOf c.0 b)) }
+        ensures node { IfOk result (λ c. Holds self.new (IsNode (ref c.0))) }
+    {
+        match self.heap_refusal(&bases, &attrs) {
+            Some(cause) => Err(ClassFault::Refused(cause)),
+            None => self.add_heap(alloc, name, bases, attrs, members, metaclass),
+        }
+    }
+
+    // Why a script may not make a class with these bases and attributes, if it may not.
+    fn heap_refusal(&self, bases: &[PyTypeRef], attrs: &PyAttributes) -> Option<Cause>
+        requires bases { AllHold self.now (of_each of_class_ref bases.now) }
+        requires attrs { AllHold self.now (of_each of_binding attrs.now) }
+        ensures why { (t : Reading) → Reads t self.now → refused_heap (plain t self.now) (numbers bases.now) (bindings t attrs.now) ≡ result }
+        ensures bases { IfNone result (refused_bases self.now.classes (numbers bases.now) ≡ None) }
+    {
+        match self.bases_refusal(bases) {
+            Some(cause) => Some(cause),
+            None => self.name_refusal(attrs),
+        }
+    }
+
+    // Why a class may not have these bases, if it may not.
+    fn bases_refusal(&self, bases: &[PyTypeRef]) -> Option<Cause>
+        requires { AllHold self.now (of_each of_class_ref bases.now) }
+        ensures { refused_bases self.now.classes (numbers bases.now) ≡ result }
+    {
+        match bases {
+            [] => Some(Cause::EmptyBases),
+            [base, ..] => {
+                if self.can_be_base(*base) {
+                    None
+                } else {
+                    Some(Cause::NotBaseType)
+                }
+            }
+        }
+    }
+
+    // Why a class may not have these attributes, if it may not: its qualified name is no text.
+    fn name_refusal(&self, attrs: &PyAttributes) -> Option<Cause>
+        requires { AllHold self.now (of_each of_binding attrs.now) }
+        ensures { (t : Reading) → Reads t self.now → refused_name (plain t self.now) (qualified (bindings t attrs.now)) ≡ result }
+    {
+        match self.qualified(attrs) {
+            None => None,
+            Some(value) => {
+                if self.holds_text(value) {
+                    None
+                } else {
+                    Some(Cause::QualnameType)
+                }
+            }
+        }
+    }
+
+    // The qualified name that attributes give. Where no text has that name, none of them does.
+    fn qualified(&self, attrs: &PyAttributes) -> Option<PyObjectRef>
+        requires { AllHold self.now (of_each of_binding attrs.now) }
+        ensures value { (t : Reading) → Reads t self.now → qualified (bindings t attrs.now) ≡ result }
+        ensures node { IfSome result (λ r. Holds self.now (IsNode r)) }
+    {
+        match self.names.interned_str("__qualname__") {
+            None => None,
+            Some(name) => attrs.get(name),
+        }
+    }
+
+    // Whether an object holds a text.
+    fn holds_text(&self, node: PyObjectRef) -> bool
+        requires { Holds self.now (IsNode node) }
+        ensures { (t : Reading) → holds_text (datum_at (plain t self.now) node) ≡ result }
+    {
+        match self.payload(node) {
+            Payload::Text(_) => true,
+            _ => false,
+        }
+    }
+
+    // A class that nothing forbids, and the node that stands for it.
+    fn add_heap(
+        &mut self,
+        alloc: Global,
+        name: &str,
+        bases: Vec<PyTypeRef>,
+        attrs: PyAttributes,
+        members: Vec<PyStrInterned>,
+        metaclass: PyTypeRef,
+    ) -> Result<PyTypeRef, ClassFault>
+        requires bases { AllHold self.old (of_each of_class_ref bases.items) }
+        requires one { length bases.items ≤ 1 }
+        requires allowed { refused_bases self.old.classes (numbers bases.items) ≡ None }
+        requires attrs { AllHold self.old (of_each of_binding attrs) }
+        requires members { Holds self.old (AreNames members.items) }
+        requires metaclass { Holds self.old (IsClass metaclass.0) }
+        requires of_classes { Holds self.old (IsOf metaclass.0 TypeType) }
+        ensures made { OnOk result ((t : Reading) → plain t self.new ≡ with_new_class (plain t self.old) metaclass.0 (heap_class_of t name.now (length (plain t self.old).nodes) bases.items attrs members.items)) }
+        ensures number { IfOk result (λ c. (t : Reading) → c.0 ≡ length (plain t self.old).nodes) }
+        ensures refused { refusal result ≡ None }
+        ensures err { OnErr result (self.new ≡ self.old) }
+        ensures reads { (t : Reading) → Reads t self.new → Reads t self.old }
+        ensures grows { Grows self.old self.new }
+        ensures class { IfOk result (λ c. Holds self.new (IsClass c.0)) }
+        ensures of { IfOk result (λ c. (d : PyTypeRef) (b : BuiltIn) → slice_get bases.items 0 ≡ Some d → Holds self.old (IsOf d.0 b) → Holds self.new (IsOf c.0 b)) }
+        ensures node { IfOk result (λ c. Holds self.new (IsNode (ref c.0))) }
+    {
+        match self.nodes.reserve(1) {
+            Ok(()) => (),
+            Err(_) => return Err(ClassFault::OutOfMemory),
+        }
+        let number = PyTypeRef(self.nodes.len() as u64);
+        match self
+            .classes
+            .new_heap(alloc, number, name, bases, attrs, members)
+        {
+            Err(fault) => Err(fault),
+            Ok(class) => {
+                self.nodes.push_reserved(Node {
+                    class: metaclass,
+                    dict: None,
+                    payload: Payload::Class(class),
+                });
+                Ok(class)
+            }
+        }
+    }
+
+    /// A function that no class defines yet is defined by this one. What is no function stays.
+    pub fn set_definer(&mut self, class: PyTypeRef, func: PyObjectRef)
+        requires class { Holds self.old (IsClass class.0) }
+        requires func { Holds self.old (IsNode func) }
+        ensures set { (t : Reading) → plain t self.new ≡ with_definer (plain t self.old) class.0 func }
+        ensures reads { (t : Reading) → Reads t self.new → Reads t self.old }
+        ensures grows { Grows self.old self.new }
+    {
+        define(&mut self.nodes[func.0 as usize], class);
+    }
+}
