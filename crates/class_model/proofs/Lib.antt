@@ -15,4 +15,5 @@ pub mod Solid
 pub mod Names
 pub mod Renamed
 pub mod Sound
+pub mod Failing
 mod Checks
