@@ -17,4 +17,5 @@ pub mod Renamed
 pub mod Sound
 pub mod Kept
 pub mod Made
+pub mod Failing
 mod Checks

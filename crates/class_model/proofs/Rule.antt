@@ -25,7 +25,7 @@ BeginsWith-holds : (c : ℕ) (line : List ℕ) → BeginsWith c line → Holds l
 BeginsWith-holds c [] h = absurd h
 BeginsWith-holds c (x ∷ line) h = inl h
 
-all_some-map : {A : Type 0} (os : List (Option A)) (xs : List A) → all_some os ≡ Some xs → os ≡ map Some xs
+pub all_some-map : {A : Type 0} (os : List (Option A)) (xs : List A) → all_some os ≡ Some xs → os ≡ map Some xs
 all_some-map [] xs e = let s : xs ≡ [] = cc in ap (map Some) (sym s)
 all_some-map (None ∷ os) xs e = cc
 all_some-map {A = A} (Some x ∷ os) xs e = go (all_some os) (all_some-map os) e

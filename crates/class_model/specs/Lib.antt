@@ -4,6 +4,7 @@ pub mod Numbers
 pub mod Layout
 pub mod Slot
 pub mod Change
+pub mod Failing
 pub mod BuiltIn
 pub mod Start
 pub mod Sound
