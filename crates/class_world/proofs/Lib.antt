@@ -1,6 +1,7 @@
 pub mod Claims
 pub mod Homes
 pub mod Growth
+pub mod Leaves
 pub mod Readable
 pub mod Changes
 pub mod Apart

@@ -1,5 +1,5 @@
 -- What tasks, answers and steps say of the world's numbers.
-use Rattle.std.specs.Prelude.{List, [], ◌∷◌, ◌++◌, Result, Ok, Err, IfOk}
+use Rattle.std.specs.Prelude.{◌≡◌, ℕ, ◌+◌, ◌-◌, List, length, [], ◌∷◌, ◌++◌, Result, Ok, Err, IfOk}
 use Rattle.py_node.specs.declared.memory.OutOfMemory.{OutOfMemory}
 use Rattle.py_node.specs.declared.raised.Raised.{Raised as Fault}
 use Rattle.py_node.specs.declared.task.Answer.{Answer}
@@ -24,7 +24,7 @@ use Rattle.py_node.specs.declared.task.Step.{Step}
 use Rattle.py_node.specs.declared.task.Step.TheVariants.{Ask, End}
 use Rattle.py_node.specs.declared.built_in.BuiltIn.TheVariants.{TypeType}
 use Rattle.class_world.specs.Held.{Held}
-use Rattle.class_world.specs.Sound.{AllHold, Grows, Claim, IsNode, AreNodes, IsName, IsClass, IsOf, IsExpression, of_binding, of_each, of_option, of_node_ref}
+use Rattle.class_world.specs.Sound.{AllHold, Lasts, Grows, Claim, IsNode, AreNodes, IsName, IsClass, IsOf, IsExpression, of_binding, of_each, of_option, of_node_ref}
 
 abbrev pub of_eval_task : EvalTask → List Claim
 of_eval_task (eval.Eval e) = IsExpression e ∷ []
@@ -94,3 +94,13 @@ of_step of_kept (End r) = of_ended r
 -- what a row leaves: what held of numbers holds still, and so does all that its step says
 abbrev pub Leaves : {K : Type 0} → (K → List Claim) → Held → Held → Result (Step K) OutOfMemory → Type 0
 Leaves of_kept old new result = Grows old new × IfOk result (λ step. AllHold new (of_step of_kept step))
+
+-- how many bodies a step leaves open, where this is said of what is kept
+abbrev pub left_open : {K : Type 0} → (K → ℕ) → Step K → ℕ
+left_open bodies (Ask asked kept) = bodies kept
+left_open bodies (End r) = 0
+
+-- what a row leaves that may begin and end bodies, and had so many open before: what held of numbers holds still, and so does all that its step says. Besides the bodies that others began, those run that the step leaves open
+abbrev pub LeavesOpen : {K : Type 0} → (K → List Claim) → (K → ℕ) → ℕ → Held → Held → Result (Step K) OutOfMemory → Type 0
+LeavesOpen of_kept bodies before old new result =
+    Lasts old new × IfOk result (λ step. AllHold new (of_step of_kept step) × (length new.scopes ≡ (length old.scopes - before) + left_open bodies step))

@@ -1,6 +1,6 @@
 // The world, and what is read and changed there.
 
-ghost use Rattle.std.specs.Prelude.{◌≡◌, ◌^◌, ◌<◌, ℕ, List, map, length, is_some, Some, None, IfOk, OnOk, OnErr, IfSome, IsTrue, [], ◌∷◌, ◌++◌, slice_get, string_bytes, option_map};
+ghost use Rattle.std.specs.Prelude.{◌≡◌, ◌^◌, ◌<◌, ◌-◌, ℕ, suc, List, map, length, take, is_some, Some, None, IfOk, OnOk, OnErr, IfSome, IsTrue, [], ◌∷◌, ◌++◌, slice_get, string_bytes, option_map};
 ghost use Rattle.py_node.specs.Tree.{tree_of};
 ghost use Rattle.py_node.specs.Replies.{started_of};
 ghost use Rattle.py_node.specs.Slots.{special_names};
@@ -398,7 +398,7 @@ impl World {
 
     /// How many bodies run.
     pub fn depth(&self) -> usize
-        ensures { (t : Reading) → length (plain t self.now).scopes ≡ result }
+        ensures { length self.now.scopes ≡ result }
     {
         self.scopes.len()
     }
@@ -406,6 +406,7 @@ impl World {
     /// All bodies but the first so many are over: their scopes are taken away.
     pub fn end_bodies(&mut self, depth: usize)
         ensures ended { (t : Reading) → plain t self.new ≡ at_depth depth (plain t self.old) }
+        ensures bodies { self.new.scopes ≡ take depth self.old.scopes }
         ensures reads { (t : Reading) → Reads t self.new → Reads t self.old }
         ensures lasts { Lasts self.old self.new }
     {
@@ -455,6 +456,7 @@ impl World {
         requires vars { AllHold self.old (of_each of_binding vars) }
         requires values { Holds self.old (HasValues func vars) }
         ensures opened { OnOk result ((t : Reading) → plain t self.new ≡ with_scope (plain t self.old) (record { func = func; vars = bindings t vars }) (started_of start)) }
+        ensures bodies { OnOk result (length self.new.scopes ≡ suc (length self.old.scopes)) }
         ensures err { OnErr result (self.new ≡ self.old) }
         ensures reads { (t : Reading) → Reads t self.new → Reads t self.old }
         ensures lasts { Lasts self.old self.new }
@@ -470,6 +472,7 @@ impl World {
     /// A body is over: its scope is taken away.
     pub fn close_scope(&mut self)
         ensures closed { (t : Reading) → plain t self.new ≡ without_scope (plain t self.old) }
+        ensures bodies { length self.new.scopes ≡ length self.old.scopes - 1 }
         ensures reads { (t : Reading) → Reads t self.new → Reads t self.old }
         ensures lasts { Lasts self.old self.new }
     {

@@ -9,7 +9,8 @@ use Rattle.py_node.specs.declared.refs.PyStrInterned.{PyStrInterned}
 use Rattle.py_node.specs.declared.memory.OutOfMemory.{OutOfMemory}
 use Rattle.py_node.specs.declared.raised.Raised.{Raised as Fault}
 use Rattle.py_node.specs.declared.task.Answer.{Answer}
-use Rattle.py_node.specs.declared.task.Answer.TheVariants.{Value, Done, Number, Objects}
+use Rattle.py_node.specs.declared.task.Answer.TheVariants.{Value, Done, Number, Truth, Maybe, Objects, Exhausted, Method, Start}
+use Rattle.py_node.specs.declared.task.PyMethod.TheVariants as method
 use Rattle.py_node.specs.declared.payload.Form.{Form}
 use Rattle.py_node.specs.declared.payload.Form.TheVariants as form
 use Rattle.py_node.specs.Tree.{Text, Tree, trees_of, list_of, entry_trees}
@@ -82,7 +83,13 @@ module _ (w : PlainWorld) where
   on-other (Ok (Value v)) go more o = absurd o
   on-other (Ok Done) go more o = refl
   on-other (Ok (Number z)) go more o = refl
+  on-other (Ok (Truth b)) go more o = refl
+  on-other (Ok (Maybe m)) go more o = refl
   on-other (Ok (Objects rs)) go more o = refl
+  on-other (Ok Exhausted) go more o = refl
+  on-other (Ok (Method (method.Function a f))) go more o = refl
+  on-other (Ok (Method (method.Attribute a))) go more o = refl
+  on-other (Ok (Start c)) go more o = refl
   on-other (Err x) go more o = refl
 
   -- an operand that is answered no object ends the expression so

@@ -1,5 +1,6 @@
 -- What the contracts of the rows of calls say.
-use Rattle.std.specs.Prelude.{List, [], ◌∷◌, Result}
+use Rattle.std.specs.Prelude.{◌≡◌, ℕ, List, [], ◌∷◌, Result, IfOk}
+use Rattle.py_node.specs.declared.memory.OutOfMemory.{OutOfMemory}
 use Rattle.py_node.specs.declared.raised.Raised.{Raised as Fault}
 use Rattle.py_node.specs.declared.task.Answer.{Answer}
 use Rattle.py_node.specs.declared.task.CallTask.{CallTask}
@@ -11,8 +12,9 @@ use Rattle.plain_machine.specs.Rows.{Pending, fresh, given}
 use Rattle.class_world.specs.declared.world.World.{World}
 use Rattle.class_world.specs.Reading.{Reading, bindings, call_job, ended_of}
 use Rattle.class_world.specs.Rows.{Goes, Follows}
-use Rattle.class_world.specs.Sound.{Claim, IsNode, IsClass}
-use Rattle.class_world.specs.Claims.{of_args}
+use Rattle.class_world.specs.Held.{Held}
+use Rattle.class_world.specs.Sound.{Claim, IsNode, IsClass, AllHold, Grows}
+use Rattle.class_world.specs.Claims.{of_args, of_step, left_open}
 use Rattle.proto_call.specs.declared.CallKept.{CallKept}
 use Rattle.proto_call.specs.declared.CallKept.TheVariants.{Pass, Scope, AfterNew, AfterInit, AfterSpecialInit}
 use Rattle.proto_call.specs.Say.{call_job_say}
@@ -32,6 +34,19 @@ of_call_kept Scope = []
 of_call_kept (AfterNew c args kw) = IsClass c.0 ∷ of_args args.items kw.items
 of_call_kept (AfterInit o) = IsNode o ∷ []
 of_call_kept AfterSpecialInit = []
+
+-- how many bodies are open in what is kept
+abbrev pub bodies_of : CallKept → ℕ
+bodies_of Scope = 1
+bodies_of _ = 0
+
+-- a step that opens no body: all that it says is so
+abbrev pub OpensNone : Held → Step CallKept → Type 0
+OpensNone w step = AllHold w (of_step of_call_kept step) × (left_open bodies_of step ≡ 0)
+
+-- what a row leaves that begins and ends no body
+abbrev pub LeavesNone : Held → Held → Result (Step CallKept) OutOfMemory → Type 0
+LeavesNone old new result = Grows old new × IfOk result (λ step. OpensNone new step)
 
 abbrev pub Begins : CallTask → World → World → Step CallKept → Type 0
 Begins task = Goes call_job_say call_stands (λ t. fresh (call_job t task))

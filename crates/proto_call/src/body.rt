@@ -6,14 +6,14 @@ ghost use Rattle.plain_machine.specs.Plain.{ATuple};
 ghost use Rattle.plain_machine.specs.World.{datum_at, is_text, with_node, next_node};
 ghost use Rattle.class_world.specs.Reading.{Reading, Reads, spelled, bindings, plain, datum};
 ghost use Rattle.class_world.specs.Sound.{AllHold, AreNames, AreNodes, Grows, Holds, IsName, IsNode, of_binding, of_each, of_node_ref, of_option};
-ghost use Rattle.class_world.specs.Claims.{of_args, Leaves};
+ghost use Rattle.class_world.specs.Claims.{of_args, LeavesOpen};
 ghost use Rattle.py_node.specs.Attributes.{with_value};
 ghost use Rattle.py_node.specs.declared.payload.Payload.TheVariants as payload;
 ghost use Rattle.py_node.specs.declared.task.CallTask.TheVariants as call;
 ghost use Rattle.proto_call.specs.Say.{but_last, last_of, left_over, value_text, shown, started};
 ghost use Rattle.plain_machine.specs.Known.{the_tuple};
 ghost use Rattle.plain_machine.specs.Args.{filled};
-ghost use Rattle.proto_call.specs.Rows.{Begins, of_call_kept};
+ghost use Rattle.proto_call.specs.Rows.{Begins, of_call_kept, bodies_of};
 ghost use Rattle.proto_call.specs.Bodies.{Enters, RunsAs, datum_of, of_function, opened_of, by_keywords_of, by_place_of};
 
 use crate::CallKept;
@@ -42,7 +42,7 @@ pub(crate) fn begin_body(
 ) -> Result<Step<CallKept>, OutOfMemory>
     requires { AllHold world.old (IsNode f ∷ of_args args.items kw.items) }
     ensures goes { IfOk result (λ step. Begins (call.Body f args kw) world.old world.new step) }
-    ensures safe { Leaves of_call_kept world.old world.new result }
+    ensures safe { LeavesOpen of_call_kept bodies_of 0 world.old world.new result }
 {
     match function_at(world, alloc, f)? {
         Some(function) => by_place(world, alloc, f, &function, &args, &kw),
@@ -96,7 +96,7 @@ fn by_place(
     requires function { AllHold world.old (of_function function.now) }
     requires args { AllHold world.old (of_args args.now kw.now) }
     ensures goes { IfOk result (λ step. Enters (by_place_of function.now f args.now kw.now) world.old world.new step) }
-    ensures safe { Leaves of_call_kept world.old world.new result }
+    ensures safe { LeavesOpen of_call_kept bodies_of 0 world.old world.new result }
 {
     if function.rest {
         let vars = with_rest(world, alloc, &function.params, args)?;
@@ -184,7 +184,7 @@ fn by_keywords(
     requires vars { AllHold world.old (of_each of_binding vars) }
     requires kw { AllHold world.old (of_each of_binding kw.now) }
     ensures goes { IfOk result (λ step. Enters (by_keywords_of function.now f vars kw.now) world.old world.new step) }
-    ensures safe { Leaves of_call_kept world.old world.new result }
+    ensures safe { LeavesOpen of_call_kept bodies_of 0 world.old world.new result }
 {
     let singles = single(&function.params, function.rest);
     match with_keywords(vars, singles, kw)? {
@@ -211,7 +211,7 @@ fn opened(
     requires function { AllHold world.old (of_function function.now) }
     requires vars { AllHold world.old (of_each of_binding vars) }
     ensures goes { IfOk result (λ step. Enters (opened_of function.now f vars) world.old world.new step) }
-    ensures safe { Leaves of_call_kept world.old world.new result }
+    ensures safe { LeavesOpen of_call_kept bodies_of 0 world.old world.new result }
 {
     let start = started(world, alloc, function, &vars)?;
     world.open_scope(f, vars, start)?;

@@ -5,10 +5,10 @@ ghost use Rattle.py_node.specs.declared.task.CallTask.TheVariants as call;
 ghost use Rattle.plain_machine.specs.Plain.{PlainWorld};
 ghost use Rattle.plain_machine.specs.World.{datum_at};
 ghost use Rattle.class_world.specs.Sound.{AllHold, Holds, IsNode, AreNodes, of_payload, of_option, of_node_ref};
-ghost use Rattle.class_world.specs.Claims.{of_args, of_task, Leaves};
+ghost use Rattle.class_world.specs.Claims.{of_args, of_task};
 ghost use Rattle.class_world.specs.Reading.{Reading, Reads, bindings, datum, plain, task_of};
 ghost use Rattle.proto_call.specs.Say.{call_native, call_by, with_self};
-ghost use Rattle.proto_call.specs.Rows.{Begins, Decides, of_call_kept};
+ghost use Rattle.proto_call.specs.Rows.{Begins, Decides, OpensNone, LeavesNone};
 
 use crate::CallKept;
 use crate::asked::{bound, refused, special};
@@ -32,7 +32,7 @@ pub(crate) fn begin_call(
 ) -> Result<Step<CallKept>, OutOfMemory>
     requires { AllHold world.old (IsNode f ∷ of_args args.items kw.items) }
     ensures goes { IfOk result (λ step. Begins (call.Call f args kw) world.old world.new step) }
-    ensures safe { Leaves of_call_kept world.old world.new result }
+    ensures safe { LeavesNone world.old world.new result }
 {
     let entry = world.slot(f, SlotId::Call);
     call_by(world, alloc, entry, f, args, kw)
@@ -49,7 +49,7 @@ fn call_by(
 ) -> Result<Step<CallKept>, OutOfMemory>
     requires { AllHold world.old (IsNode f ∷ of_args args.items kw.items) }
     ensures goes { IfOk result (λ step. Decides (call.Call f args kw) (λ t u. call_by u entry f args.items (bindings t kw.items)) world.old world.new step) }
-    ensures safe { Leaves of_call_kept world.old world.new result }
+    ensures safe { LeavesNone world.old world.new result }
 {
     match entry {
         Some(SlotEntry::Native(native)) => {

@@ -5,11 +5,11 @@ ghost use Rattle.py_node.specs.declared.task.CallTask.TheVariants as call;
 ghost use Rattle.plain_machine.specs.Plain.{ToCall, DoNew, DoInit, Ends};
 ghost use Rattle.plain_machine.specs.Row.{pass, value};
 ghost use Rattle.class_world.specs.Sound.{AllHold, Holds, Grows, IsNode, IsClass, of_option, of_node_ref};
-ghost use Rattle.class_world.specs.Claims.{of_args, of_step, of_task, Leaves};
+ghost use Rattle.class_world.specs.Claims.{of_args, of_task};
 ghost use Rattle.class_world.specs.Reading.{Reading, Reads, bindings, plain, task_of};
 ghost use Rattle.proto_call.specs.Say.{is_empty, initialised, new_by, new_found};
 ghost use Rattle.plain_machine.specs.Known.{the_type};
-ghost use Rattle.proto_call.specs.Rows.{Begins, Decides, Continues, Resumes, of_call_kept};
+ghost use Rattle.proto_call.specs.Rows.{Begins, Decides, Continues, Resumes, OpensNone, LeavesNone};
 
 use crate::CallKept;
 use crate::asked::{bound, refused};
@@ -33,7 +33,7 @@ pub(crate) fn begin_type_call(
 ) -> Result<Step<CallKept>, OutOfMemory>
     requires { AllHold world.now (IsClass class.0 ∷ of_args args.items kw.items) }
     ensures goes { IfOk result (λ step. Begins (call.TypeCall class args kw) world.now world.now step) }
-    ensures safe { IfOk result (λ step. AllHold world.now (of_step of_call_kept step)) }
+    ensures safe { IfOk result (λ step. OpensNone world.now step) }
 {
     let task = new_task(alloc, class, &args, &kw)?;
     Ok(Step::Ask(task, CallKept::AfterNew(class, args, kw)))
@@ -65,7 +65,7 @@ pub(crate) fn resume_type_call(
     requires kept { AllHold world.now (IsClass class.0 ∷ of_args args.items kw.items) }
     requires answer { Holds world.now (IsNode object) }
     ensures goes { Resumes (CallKept.AfterNew class args kw) (Ok (Answer.Value object)) world.now world.now result }
-    ensures safe { AllHold world.now (of_step of_call_kept result) }
+    ensures safe { OpensNone world.now result }
 {
     let is_type = is_type_alone(class, &kw);
     let is_instance = world.is_instance(object, class);
@@ -89,7 +89,7 @@ fn initialised(
     object: PyObjectRef,
 ) -> Step<CallKept>
     ensures goes { (w : World) → Continues (CallKept.AfterNew class args kw) (Ok (Answer.Value object)) (λ t u. cond is_answer (Ends u (value object)) (pass u (ToCall (DoInit object args.items (bindings t kw.items))))) w w result }
-    ensures safe { (w : World) → AllHold w (IsClass class.0 ∷ of_args args.items kw.items) → Holds w (IsNode object) → AllHold w (of_step of_call_kept result) }
+    ensures safe { (w : World) → AllHold w (IsClass class.0 ∷ of_args args.items kw.items) → Holds w (IsNode object) → OpensNone w result }
 {
     if is_answer {
         Step::End(Ok(Answer::Value(object)))
@@ -112,7 +112,7 @@ pub(crate) fn begin_new(
 ) -> Result<Step<CallKept>, OutOfMemory>
     requires { AllHold world.old (IsClass by.0 ∷ IsClass class.0 ∷ of_args args.items kw.items) }
     ensures goes { IfOk result (λ step. Begins (call.New by class args kw) world.old world.new step) }
-    ensures safe { Leaves of_call_kept world.old world.new result }
+    ensures safe { LeavesNone world.old world.new result }
 {
     let entry = world.class_slot(by, SlotId::New);
     new_by(world, alloc, entry, by, class, args, kw)
@@ -130,7 +130,7 @@ fn new_by(
 ) -> Result<Step<CallKept>, OutOfMemory>
     requires { AllHold world.old (IsClass class.0 ∷ of_args args.items kw.items) }
     ensures goes { IfOk result (λ step. Decides (call.New by class args kw) (λ t u. new_by u entry class.0 args.items (bindings t kw.items)) world.old world.new step) }
-    ensures safe { Leaves of_call_kept world.old world.new result }
+    ensures safe { LeavesNone world.old world.new result }
 {
     match entry {
         Some(SlotEntry::Native(native)) => {
@@ -159,7 +159,7 @@ fn new_found(
     requires args { AllHold world.now (IsClass class.0 ∷ of_args args.items kw.items) }
     requires method { AllHold world.now (of_option of_node_ref method) }
     ensures goes { IfOk result (λ step. Decides (call.New by class args kw) (λ t u. new_found u method class.0 args.items (bindings t kw.items)) world.now world.now step) }
-    ensures safe { IfOk result (λ step. AllHold world.now (of_step of_call_kept step)) }
+    ensures safe { IfOk result (λ step. OpensNone world.now step) }
 {
     match method {
         None => Ok(refused(Kind::AttributeError, Cause::NoSpecial)),

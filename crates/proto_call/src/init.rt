@@ -3,10 +3,10 @@
 ghost use Rattle.std.specs.Prelude.{◌≡◌, ◌∷◌, Ok, IfOk};
 ghost use Rattle.py_node.specs.declared.task.CallTask.TheVariants as call;
 ghost use Rattle.class_world.specs.Sound.{AllHold, Holds, IsNode};
-ghost use Rattle.class_world.specs.Claims.{of_args, of_step, Leaves};
+ghost use Rattle.class_world.specs.Claims.{of_args};
 ghost use Rattle.class_world.specs.Reading.{bindings};
 ghost use Rattle.proto_call.specs.Say.{init_by};
-ghost use Rattle.proto_call.specs.Rows.{Begins, Decides, Resumes, of_call_kept};
+ghost use Rattle.proto_call.specs.Rows.{Begins, Decides, Resumes, OpensNone, LeavesNone};
 
 use crate::CallKept;
 use crate::asked::{bound, refused, special};
@@ -29,7 +29,7 @@ pub(crate) fn begin_init(
 ) -> Result<Step<CallKept>, OutOfMemory>
     requires { AllHold world.old (IsNode object ∷ of_args args.items kw.items) }
     ensures goes { IfOk result (λ step. Begins (call.Init object args kw) world.old world.new step) }
-    ensures safe { Leaves of_call_kept world.old world.new result }
+    ensures safe { LeavesNone world.old world.new result }
 {
     let entry = world.slot(object, SlotId::Init);
     init_by(world, alloc, entry, object, args, kw)
@@ -46,7 +46,7 @@ fn init_by(
 ) -> Result<Step<CallKept>, OutOfMemory>
     requires { AllHold world.old (IsNode object ∷ of_args args.items kw.items) }
     ensures goes { IfOk result (λ step. Decides (call.Init object args kw) (λ t u. init_by u entry object args.items (bindings t kw.items)) world.old world.new step) }
-    ensures safe { Leaves of_call_kept world.old world.new result }
+    ensures safe { LeavesNone world.old world.new result }
 {
     match entry {
         Some(SlotEntry::Native(native)) => {
@@ -65,7 +65,7 @@ fn init_by(
 pub(crate) fn resume_init(world: &World, given: PyObjectRef) -> Step<CallKept>
     requires { Holds world.now (IsNode given) }
     ensures goes { Resumes CallKept.AfterSpecialInit (Ok (Answer.Value given)) world.now world.now result }
-    ensures safe { AllHold world.now (of_step of_call_kept result) }
+    ensures safe { OpensNone world.now result }
 {
     if given == world.fixed(Fixed::None) {
         Step::End(Ok(Answer::Value(given)))

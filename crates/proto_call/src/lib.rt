@@ -3,8 +3,8 @@
 
 ghost use Rattle.std.specs.Prelude.{IfOk};
 ghost use Rattle.class_world.specs.Sound.{AllHold};
-ghost use Rattle.class_world.specs.Claims.{of_call_task, of_ended, Leaves};
-ghost use Rattle.proto_call.specs.Rows.{Begins, Resumes, of_call_kept};
+ghost use Rattle.class_world.specs.Claims.{of_call_task, of_ended, LeavesOpen};
+ghost use Rattle.proto_call.specs.Rows.{Begins, Resumes, of_call_kept, bodies_of};
 
 use crate::body::begin_body;
 use crate::call::begin_call;
@@ -51,7 +51,7 @@ pub fn begin(
 ) -> Result<Step<CallKept>, OutOfMemory>
     requires { AllHold world.old (of_call_task task) }
     ensures goes { IfOk result (λ step. Begins task world.old world.new step) }
-    ensures safe { Leaves of_call_kept world.old world.new result }
+    ensures safe { LeavesOpen of_call_kept bodies_of 0 world.old world.new result }
 {
     match task {
         CallTask::Call(f, args, kw) => begin_call(world, alloc, f, args, kw),
@@ -73,7 +73,7 @@ pub fn resume(
     requires kept { AllHold world.old (of_call_kept kept) }
     requires answer { AllHold world.old (of_ended answer) }
     ensures goes { IfOk result (λ step. Resumes kept answer world.old world.new step) }
-    ensures safe { Leaves of_call_kept world.old world.new result }
+    ensures safe { LeavesOpen of_call_kept bodies_of (bodies_of kept) world.old world.new result }
 {
     match kept {
         CallKept::Pass => Ok(Step::End(answer)),

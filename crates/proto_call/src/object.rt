@@ -6,11 +6,11 @@ ghost use Rattle.plain_machine.specs.World.{is_text, datum_at};
 ghost use Rattle.class_model.specs.Class.{found};
 ghost use Rattle.py_node.specs.declared.built_in.BuiltIn.TheVariants.{Object};
 ghost use Rattle.class_world.specs.Sound.{AllHold, Holds, Grows, IsNode, IsClass, IsOf, AreNodes, of_option, of_node_ref, of_class_ref};
-ghost use Rattle.class_world.specs.Claims.{of_args, of_step, Leaves};
+ghost use Rattle.class_world.specs.Claims.{of_args};
 ghost use Rattle.class_world.specs.Reading.{Reading, Reads, bindings, datum, plain};
 ghost use Rattle.proto_call.specs.Say.{object_by, object_new, object_init, object_init_subclass, new_of_class, created, unless_abstract, is_abstract, has_items};
 ghost use Rattle.plain_machine.specs.Known.{the_object};
-ghost use Rattle.proto_call.specs.Rows.{Begins, Closes, of_call_kept};
+ghost use Rattle.proto_call.specs.Rows.{Begins, Closes, OpensNone, LeavesNone};
 
 use crate::CallKept;
 use crate::asked::refused;
@@ -34,7 +34,7 @@ pub(crate) fn begin_object(
 ) -> Result<Step<CallKept>, OutOfMemory>
     requires { AllHold world.old (of_args args.items kw.items) }
     ensures goes { IfOk result (λ step. Begins (call.Object native args kw) world.old world.new step) }
-    ensures safe { Leaves of_call_kept world.old world.new result }
+    ensures safe { LeavesNone world.old world.new result }
 {
     let step = object_by(world, alloc, native, &args, &kw)?;
     Ok(step)
@@ -50,7 +50,7 @@ fn object_by(
 ) -> Result<Step<CallKept>, OutOfMemory>
     requires { Holds world.old (AreNodes args.now) }
     ensures goes { IfOk result (λ step. Closes (λ t u. object_by u native args.now (bindings t kw.now)) world.old world.new step) }
-    ensures safe { Leaves of_call_kept world.old world.new result }
+    ensures safe { LeavesNone world.old world.new result }
 {
     match native {
         ObjectNative::New => object_new(world, alloc, args),
@@ -68,7 +68,7 @@ fn object_new(
 ) -> Result<Step<CallKept>, OutOfMemory>
     requires { Holds world.old (AreNodes args.now) }
     ensures goes { IfOk result (λ step. Closes (λ t u. object_new u args.now) world.old world.new step) }
-    ensures safe { Leaves of_call_kept world.old world.new result }
+    ensures safe { LeavesNone world.old world.new result }
 {
     match args {
         [] => Ok(refused(Kind::TypeError, Cause::ArgCount)),
@@ -88,7 +88,7 @@ fn new_of_class(
 ) -> Result<Step<CallKept>, OutOfMemory>
     requires { AllHold world.old (of_option of_class_ref class) }
     ensures goes { IfOk result (λ step. Closes (λ t u. new_of_class u (option_map (λ c. c.0) class)) world.old world.new step) }
-    ensures safe { Leaves of_call_kept world.old world.new result }
+    ensures safe { LeavesNone world.old world.new result }
 {
     match class {
         None => Ok(refused(Kind::TypeError, Cause::SelfType)),
@@ -111,7 +111,7 @@ fn created(
     requires class { Holds world.old (IsClass class.0) }
     requires near { option_map (λ c. c.0) built_in ≡ Some the_object → Holds world.old (IsOf class.0 Object) }
     ensures goes { IfOk result (λ step. Closes (λ t u. created u (option_map (λ c. c.0) built_in) class.0) world.old world.new step) }
-    ensures safe { Leaves of_call_kept world.old world.new result }
+    ensures safe { LeavesNone world.old world.new result }
 {
     match built_in {
         None => Ok(refused(Kind::TypeError, Cause::UnsafeNew)),
@@ -134,7 +134,7 @@ fn plain_object(
     requires class { Holds world.old (IsClass class.0) }
     requires of { Holds world.old (IsOf class.0 Object) }
     ensures goes { IfOk result (λ step. Closes (λ t u. unless_abstract u (is_abstract u (found is_text u.classes class.0 (codes "__abstractmethods__"))) class.0) world.old world.new step) }
-    ensures safe { Leaves of_call_kept world.old world.new result }
+    ensures safe { LeavesNone world.old world.new result }
 {
     let name = world.intern(alloc, "__abstractmethods__")?;
     let methods = world.class_attr(class, name);
@@ -174,7 +174,7 @@ fn unless_abstract(
     requires class { Holds world.old (IsClass class.0) }
     requires of { Holds world.old (IsOf class.0 Object) }
     ensures goes { IfOk result (λ step. Closes (λ t u. unless_abstract u is_abstract class.0) world.old world.new step) }
-    ensures safe { Leaves of_call_kept world.old world.new result }
+    ensures safe { LeavesNone world.old world.new result }
 {
     if is_abstract {
         return Ok(refused(Kind::TypeError, Cause::AbstractMethods));
@@ -186,7 +186,7 @@ fn unless_abstract(
 // The initialisation of a plain object: any arguments will do.
 fn object_init(world: &World, args: &[PyObjectRef]) -> Step<CallKept>
     ensures goes { Closes (λ t u. object_init u args.now) world.now world.now result }
-    ensures safe { AllHold world.now (of_step of_call_kept result) }
+    ensures safe { OpensNone world.now result }
 {
     match args {
         [] => refused(Kind::TypeError, Cause::ArgCount),
@@ -201,7 +201,7 @@ fn object_init_subclass(
     kw: &[(PyStrInterned, PyObjectRef)],
 ) -> Step<CallKept>
     ensures goes { Closes (λ t u. object_init_subclass u args.now (bindings t kw.now)) world.now world.now result }
-    ensures safe { AllHold world.now (of_step of_call_kept result) }
+    ensures safe { OpensNone world.now result }
 {
     match args {
         [_] => {

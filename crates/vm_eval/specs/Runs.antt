@@ -1,5 +1,5 @@
 -- What the machine's replies to commands are, in the terms of the plain run.
-use Rattle.std.specs.Prelude.{◌≡◌, ◌≤◌, ℕ, List, ◌∷◌, length, map}
+use Rattle.std.specs.Prelude.{◌≡◌, ℕ, List, ◌∷◌, map}
 use Rattle.py_node.specs.declared.expr.Command.{Command}
 use Rattle.py_node.specs.declared.reply.Reply.{Reply}
 use Rattle.py_node.specs.Tree.{Tree, tree_of}
@@ -18,10 +18,6 @@ before reply rest = record { world = rest.world; replies = reply ∷ rest.replie
 abbrev pub Replied : Tree → World → ℕ → World → PlainReply → Type 0
 Replied command old units new reply =
     (t : Reading) → Reads t new → Reads t old × ((go : PlainWorld → Run) → replied go (answer say (plain t old) (ToEval (DoEval command)) units 0) ≡ before reply (go (plain t new)))
-
--- no more bodies run than before
-abbrev pub NoDeeper : PlainWorld → PlainWorld → Type 0
-NoDeeper old new = length new.scopes ≤ length old.scopes
 
 abbrev pub trees_in : List Command → List Tree
 trees_in commands = map (λ c. tree_of c.expr) commands

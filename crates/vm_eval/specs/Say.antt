@@ -1,5 +1,5 @@
 -- The rows of all groups.
-use Rattle.std.specs.Prelude.{List, Result}
+use Rattle.std.specs.Prelude.{ℕ, List, Result}
 use Rattle.py_node.specs.declared.raised.Raised.{Raised as Fault}
 use Rattle.py_node.specs.declared.raised.Kind.TheVariants.{NotImplementedError}
 use Rattle.py_node.specs.declared.raised.Cause.TheVariants.{NotYet}
@@ -19,7 +19,7 @@ use Rattle.eval_forms.specs.Rows.{eval_stands, of_eval_kept}
 use Rattle.proto_attr.specs.Say.{attribute_say}
 use Rattle.proto_attr.specs.Rows.{attribute_stands, of_attribute_kept}
 use Rattle.proto_call.specs.Say.{call_job_say}
-use Rattle.proto_call.specs.Rows.{call_stands, of_call_kept}
+use Rattle.proto_call.specs.Rows.{call_stands, of_call_kept, bodies_of}
 use Rattle.class_make.specs.Say.{class_job_say}
 use Rattle.class_make.specs.Rows.{class_stands, of_class_kept}
 use Rattle.proto_ops.specs.Say.{operator_say}
@@ -64,3 +64,8 @@ of_kept (ForAttribute kept) = of_attribute_kept kept
 of_kept (ForCall kept) = of_call_kept kept
 of_kept (ForClass kept) = of_class_kept kept
 of_kept (ForOperator kept) = of_operator_kept kept
+
+-- how many bodies are open in what is kept: only a call opens one
+abbrev pub bodies_in : Kept → ℕ
+bodies_in (ForCall kept) = bodies_of kept
+bodies_in _ = 0

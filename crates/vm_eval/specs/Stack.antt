@@ -1,5 +1,5 @@
 -- What a stack of frames comes to, in the terms of `reach`.
-use Rattle.std.specs.Prelude.{◌≡◌, ℕ, zero, suc, ◌+◌, List, [], ◌∷◌, ◌++◌, length, map}
+use Rattle.std.specs.Prelude.{◌≡◌, ℕ, zero, suc, ◌+◌, ◌≤◌, List, [], ◌∷◌, ◌++◌, length, map, sum_by}
 use Rattle.py_node.specs.declared.task.Task.{Task}
 use Rattle.py_node.specs.declared.task.Step.{Step}
 use Rattle.py_node.specs.declared.task.Step.TheVariants.{Ask, End}
@@ -7,15 +7,16 @@ use Rattle.plain_machine.specs.Plain.{PlainWorld, PlainTask, Answered}
 use Rattle.plain_machine.specs.Answer.{Ending, Over, NoUnits, Outcome, Out, carry, asked, reach, answer}
 use Rattle.plain_machine.specs.Rows.{Pending}
 use Rattle.class_world.specs.declared.world.World.{World}
+use Rattle.class_world.specs.Held.{Held}
 use Rattle.class_world.specs.Reading.{Reading, Reads, plain, task_of, ended_of}
 use Rattle.class_world.specs.Sound.{Claim}
-use Rattle.class_world.specs.Claims.{of_step, of_ended}
+use Rattle.class_world.specs.Claims.{of_step, of_ended, left_open}
 use Rattle.vm_eval.specs.declared.stack.Kept.{Kept}
 use Rattle.vm_eval.specs.declared.stack.Turn.{Turn}
 use Rattle.vm_eval.specs.declared.stack.Turn.TheVariants.{On, Finished, OutOfUnits}
 use Rattle.vm_eval.specs.declared.stack.End.{End as CodeEnd}
 use Rattle.vm_eval.specs.declared.stack.End.TheVariants as code
-use Rattle.vm_eval.specs.Say.{say, stands, of_kept}
+use Rattle.vm_eval.specs.Say.{say, stands, of_kept, bodies_in}
 
 -- a row's outcome, from the outcome of what it asked
 abbrev pub finish : Pending PlainTask → ℕ → Outcome → Outcome
@@ -75,3 +76,18 @@ of_turn OutOfUnits = []
 abbrev pub of_end : CodeEnd → List Claim
 of_end (code.Over r) = of_ended r
 of_end code.NoUnits = []
+
+-- so many bodies run that the task did not begin, and besides them those that are open in the frames and in the step. Where the units are used up, all run still
+abbrev pub RunsAbove : ℕ → Held → List Kept → Turn → Type 0
+RunsAbove below w stack (On step) = length w.scopes ≡ below + (sum_by bodies_in stack + left_open bodies_in step)
+RunsAbove below w stack (Finished r) = length w.scopes ≡ below
+RunsAbove below w stack OutOfUnits = below ≤ length w.scopes
+
+-- as many bodies run as before
+abbrev pub AsDeep : Held → Held → Type 0
+AsDeep old new = length new.scopes ≡ length old.scopes
+
+-- the same, where a command ended by itself; where its units were used up, no body of before is over
+abbrev pub EndsDeep : Held → Held → CodeEnd → Type 0
+EndsDeep old new (code.Over r) = AsDeep old new
+EndsDeep old new code.NoUnits = length old.scopes ≤ length new.scopes

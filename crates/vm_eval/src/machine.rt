@@ -5,7 +5,7 @@ ghost use Rattle.plain_machine.specs.Start.{start};
 ghost use Rattle.class_world.specs.Reading.{Reading, Reads, plain, IsReadable};
 ghost use Rattle.plain_machine.specs.Sound.{IsSound};
 ghost use Rattle.class_world.specs.Sound.{Grows};
-ghost use Rattle.vm_eval.specs.Runs.{NoDeeper, Runs};
+ghost use Rattle.vm_eval.specs.Runs.{Runs};
 
 use crate::run::replies;
 use crate::stack::{DEPTH, Kept};

@@ -6,9 +6,9 @@ ghost use Rattle.py_node.specs.Replies.{reply_of, told_of, ToldValue};
 ghost use Rattle.plain_machine.specs.Show.{show as show_of};
 ghost use Rattle.plain_machine.specs.Answer.{answering};
 ghost use Rattle.class_world.specs.Reading.{Reading, plain};
-ghost use Rattle.class_world.specs.Sound.{AllHold, Grows, Holds, IsNode};
-ghost use Rattle.vm_eval.specs.Stack.{of_end, ending_of};
-ghost use Rattle.vm_eval.specs.Runs.{NoDeeper, Replied, Runs};
+ghost use Rattle.class_world.specs.Sound.{AllHold, Lasts, Holds, IsNode};
+ghost use Rattle.vm_eval.specs.Stack.{AsDeep, of_end, ending_of};
+ghost use Rattle.vm_eval.specs.Runs.{Replied, Runs};
 
 use crate::stack::{End, Kept, drive};
 use class_world::show::show;
@@ -30,8 +30,8 @@ pub(crate) fn replies(
     units: u64,
 ) -> Result<Vec<Reply>, OutOfMemory>
     ensures runs { IfOk result (λ replies. Runs commands.now world.old units world.new replies.items) }
-    ensures grows { Grows world.old world.new }
-    ensures rests { OnOk result ((t : Reading) → NoDeeper (plain t world.old) (plain t world.new)) }
+    ensures lasts { Lasts world.old world.new }
+    ensures bodies { OnOk result (AsDeep world.old world.new) }
     ensures idle { commands.now ≡ [] → IfErr result (λ _. ⊥) }
 {
     let mut replies = Vec::new(alloc);
@@ -59,8 +59,8 @@ fn reply(
     units: u64,
 ) -> Result<Reply, OutOfMemory>
     ensures replied { IfOk result (λ reply. Replied (tree_of command.now.expr) world.old units world.new (reply_of reply)) }
-    ensures grows { Grows world.old world.new }
-    ensures rests { OnOk result ((t : Reading) → NoDeeper (plain t world.old) (plain t world.new)) }
+    ensures lasts { Lasts world.old world.new }
+    ensures bodies { OnOk result (AsDeep world.old world.new) }
 {
     let number = add_expr(world, alloc, &command.expr)?;
     let end = drive(

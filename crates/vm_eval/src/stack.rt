@@ -1,17 +1,15 @@
 // The stack of frames: one turn at a time, until a task is answered or its units are used up.
 
-ghost use Rattle.std.specs.Prelude.{◌≡◌, ◌<◌, [], ◌∷◌, ◌++◌, IfOk, OnErr, OnOk};
-ghost use Rattle.class_world.specs.Sound.{AllHold, Grows, of_each};
-ghost use Rattle.class_world.specs.Reading.{Reading, plain};
-ghost use Rattle.vm_eval.specs.Runs.{NoDeeper};
-ghost use Rattle.class_world.specs.Claims.{of_task, of_ended, of_step, Leaves};
+ghost use Rattle.std.specs.Prelude.{◌≡◌, ◌<◌, ℕ, [], ◌∷◌, ◌++◌, IfOk, OnErr, OnOk};
+ghost use Rattle.class_world.specs.Sound.{AllHold, Lasts, of_each};
+ghost use Rattle.class_world.specs.Claims.{of_task, of_ended, of_step, left_open, LeavesOpen};
 ghost use Rattle.eval_forms.specs.Rows.{of_eval_kept};
 ghost use Rattle.proto_attr.specs.Rows.{of_attribute_kept};
-ghost use Rattle.proto_call.specs.Rows.{of_call_kept};
+ghost use Rattle.proto_call.specs.Rows.{of_call_kept, bodies_of};
 ghost use Rattle.class_make.specs.Rows.{of_class_kept};
 ghost use Rattle.proto_ops.specs.Rows.{of_operator_kept};
-ghost use Rattle.vm_eval.specs.Say.{Begins, Resumes, step_among, of_kept};
-ghost use Rattle.vm_eval.specs.Stack.{Answers, Reaches, Keeps, turns_left, of_turn, of_end};
+ghost use Rattle.vm_eval.specs.Say.{Begins, Resumes, step_among, of_kept, bodies_in};
+ghost use Rattle.vm_eval.specs.Stack.{Answers, Reaches, Keeps, RunsAbove, AsDeep, EndsDeep, turns_left, of_turn, of_end};
 
 use class_make::ClassKept;
 use class_world::world::World;
@@ -48,7 +46,7 @@ pub enum End {
 fn begin(world: &mut World, alloc: Global, task: Task) -> Result<Step<Kept>, OutOfMemory>
     requires { AllHold world.old (of_task task) }
     ensures goes { IfOk result (λ step. Begins task world.old world.new step) }
-    ensures safe { Leaves of_kept world.old world.new result }
+    ensures safe { LeavesOpen of_kept bodies_in 0 world.old world.new result }
 {
     match task {
         Task::Eval(task) => {
@@ -88,7 +86,7 @@ fn resume(
     requires kept { AllHold world.old (of_kept kept) }
     requires answer { AllHold world.old (of_ended answer) }
     ensures goes { IfOk result (λ step. Resumes kept answer world.old world.new step) }
-    ensures safe { Leaves of_kept world.old world.new result }
+    ensures safe { LeavesOpen of_kept bodies_in (bodies_in kept) world.old world.new result }
 {
     match kept {
         Kept::ForEval(kept) => {
@@ -118,6 +116,7 @@ fn resume(
 fn of_eval(step: Step<EvalKept>) -> Step<Kept>
     ensures step { result ≡ step_among Kept.ForEval step }
     ensures says { of_step of_kept result ≡ of_step of_eval_kept step }
+    ensures opens { left_open bodies_in result ≡ 0 }
 {
     match step {
         Step::Ask(task, kept) => Step::Ask(task, Kept::ForEval(kept)),
@@ -129,6 +128,7 @@ fn of_eval(step: Step<EvalKept>) -> Step<Kept>
 fn of_attribute(step: Step<AttributeKept>) -> Step<Kept>
     ensures step { result ≡ step_among Kept.ForAttribute step }
     ensures says { of_step of_kept result ≡ of_step of_attribute_kept step }
+    ensures opens { left_open bodies_in result ≡ 0 }
 {
     match step {
         Step::Ask(task, kept) => Step::Ask(task, Kept::ForAttribute(kept)),
@@ -140,6 +140,7 @@ fn of_attribute(step: Step<AttributeKept>) -> Step<Kept>
 fn of_call(step: Step<CallKept>) -> Step<Kept>
     ensures step { result ≡ step_among Kept.ForCall step }
     ensures says { of_step of_kept result ≡ of_step of_call_kept step }
+    ensures opens { left_open bodies_in result ≡ left_open bodies_of step }
 {
     match step {
         Step::Ask(task, kept) => Step::Ask(task, Kept::ForCall(kept)),
@@ -151,6 +152,7 @@ fn of_call(step: Step<CallKept>) -> Step<Kept>
 fn of_class(step: Step<ClassKept>) -> Step<Kept>
     ensures step { result ≡ step_among Kept.ForClass step }
     ensures says { of_step of_kept result ≡ of_step of_class_kept step }
+    ensures opens { left_open bodies_in result ≡ 0 }
 {
     match step {
         Step::Ask(task, kept) => Step::Ask(task, Kept::ForClass(kept)),
@@ -162,6 +164,7 @@ fn of_class(step: Step<ClassKept>) -> Step<Kept>
 fn of_operator(step: Step<OperatorKept>) -> Step<Kept>
     ensures step { result ≡ step_among Kept.ForOperator step }
     ensures says { of_step of_kept result ≡ of_step of_operator_kept step }
+    ensures opens { left_open bodies_in result ≡ 0 }
 {
     match step {
         Step::Ask(task, kept) => Step::Ask(task, Kept::ForOperator(kept)),
@@ -189,7 +192,8 @@ fn take_turn(
     requires step { AllHold world.old (of_step of_kept step) }
     ensures turned { IfOk result (λ turn. Keeps world.old stack.old.items left.old step world.new stack.new.items left.new turn) }
     ensures falls { IfOk result (λ turn. turns_left left.new stack.new.items turn < turns_left left.old stack.old.items (Turn.On step)) }
-    ensures grows { Grows world.old world.new }
+    ensures lasts { Lasts world.old world.new }
+    ensures bodies { IfOk result (λ turn. (n : ℕ) → RunsAbove n world.old stack.old.items (Turn.On step) → RunsAbove n world.new stack.new.items turn) }
     ensures stack { IfOk result (λ turn. AllHold world.new (of_each of_kept stack.new.items)) }
     ensures holds { IfOk result (λ turn. AllHold world.new (of_turn turn)) }
 {
@@ -228,7 +232,7 @@ fn push(stack: &mut Vec<Kept>, kept: Kept) -> Result<(), OutOfMemory>
     Ok(())
 }
 
-// How a task ends that may use so many units, on a stack that is empty. The bodies that it began are over.
+// How a task ends that may use so many units, on a stack that is empty. As many bodies run as before.
 pub(crate) fn drive(
     world: &mut World,
     alloc: Global,
@@ -238,14 +242,18 @@ pub(crate) fn drive(
 ) -> Result<End, OutOfMemory>
     requires { AllHold world.old (of_task task) }
     ensures answers { IfOk result (λ end. Answers task world.old units world.new end) }
-    ensures grows { Grows world.old world.new }
+    ensures lasts { Lasts world.old world.new }
     ensures holds { IfOk result (λ end. AllHold world.new (of_end end)) }
-    ensures rests { OnOk result ((t : Reading) → NoDeeper (plain t world.old) (plain t world.new)) }
+    ensures bodies { OnOk result (AsDeep world.old world.new) }
 {
     let depth = world.depth();
-    let end = take_turns(world, alloc, stack, task, units)?;
-    world.end_bodies(depth);
-    Ok(end)
+    match take_turns(world, alloc, stack, task, units)? {
+        End::Over(answer) => Ok(End::Over(answer)),
+        End::NoUnits => {
+            world.end_bodies(depth);
+            Ok(End::NoUnits)
+        }
+    }
 }
 
 // The turns of a task, on a stack that is empty.
@@ -258,8 +266,9 @@ fn take_turns(
 ) -> Result<End, OutOfMemory>
     requires { AllHold world.old (of_task task) }
     ensures reaches { IfOk result (λ end. Reaches task world.old units world.new end) }
-    ensures grows { Grows world.old world.new }
+    ensures lasts { Lasts world.old world.new }
     ensures holds { IfOk result (λ end. AllHold world.new (of_end end)) }
+    ensures bodies { IfOk result (λ end. EndsDeep world.old world.new end) }
 {
     stack.clear();
     let mut left = units;
