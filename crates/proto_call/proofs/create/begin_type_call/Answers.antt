@@ -1,4 +1,4 @@
-use Rattle.std.proofs.Common.{◌∷◌}
+use Rattle.std.proofs.Common.{◌∷◌, refl}
 use Rattle.class_world.specs.Sound.{IsClass}
 use Rattle.class_world.specs.Claims.{of_args, of_task}
 use Rattle.class_world.proofs.Claims.{all-append}
@@ -8,4 +8,4 @@ pub returns-clause-safe : goal.returns-clause-safe
 returns-clause-safe c =
     let w = c.args.world.now in
     let holds = rw (c.deref.ensures.value, c.deref-2.ensures.value) at c.in_ok-task.ensures.holds in
-    all-append w (of_task c.in_ok-task.task) (IsClass c.args.class.0 ∷ of_args c.args.args.items c.args.kw.items) (holds w c.requires) c.requires
+    (all-append w (of_task c.in_ok-task.task) (IsClass c.args.class.0 ∷ of_args c.args.args.items c.args.kw.items) (holds w c.requires) c.requires, refl)
