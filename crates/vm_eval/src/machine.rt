@@ -67,8 +67,9 @@ impl VirtualMachine {
     }
 
     /// Runs commands, each of which may use so many units. The replies are the plain machine's, and so
-    /// is the world after them, which is sound; however the commands end, no body is left running. Where memory cannot be had, this run and every later
-    /// one fails, and the world is sound all the same; no commands take no memory.
+    /// is the world after them, which is sound; however the commands end, no body is left running.
+    /// Where memory cannot be had, this run and every later one fails, and the world is sound all the
+    /// same; no commands take no memory.
     pub fn run(
         &mut self,
         alloc: Global,
@@ -100,7 +101,6 @@ impl VirtualMachine {
             Err(_) => {
                 self.world.end_bodies(0);
                 self.failed = true;
-                self.world.readable();
                 self.world.sound();
                 Err(RunFault::OutOfMemory)
             }

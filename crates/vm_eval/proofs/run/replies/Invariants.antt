@@ -2,9 +2,10 @@ use Rattle.std.proofs.Common.{◌≡◌, ◌++◌, map, drop}
 use Rattle.py_node.specs.Replies.{reply_of}
 use Rattle.plain_machine.specs.Answer.{plain_run}
 use Rattle.class_world.specs.Reading.{Reading, Reads, plain}
-use Rattle.class_world.specs.Sound.{Grows}
+use Rattle.class_world.specs.Sound.{Lasts}
 use Rattle.vm_eval.specs.Say.{say}
-use Rattle.vm_eval.specs.Runs.{NoDeeper, trees_in}
+use Rattle.vm_eval.specs.Stack.{AsDeep}
+use Rattle.vm_eval.specs.Runs.{trees_in}
 use Rattle.vm_eval.proofs.run.replies.Given as goal
 
 -- the replies so far, and those to what is left, are those to all
@@ -13,6 +14,6 @@ invariant-loop-command l = record {
   runs : (t : Reading) → Reads t l.world →
       let rest = plain_run say (plain t l.world) (trees_in (drop l.command-index l.commands)) l.units in
       Reads t l.fn.world × (plain_run say (plain t l.fn.world) (trees_in l.commands) l.units ≡ record { world = rest.world; replies = map reply_of l.replies.items ++ rest.replies });
-  grows : Grows l.fn.world l.world;
-  rests : (t : Reading) → NoDeeper (plain t l.fn.world) (plain t l.world);
+  lasts : Lasts l.fn.world l.world;
+  bodies : AsDeep l.fn.world l.world;
 }

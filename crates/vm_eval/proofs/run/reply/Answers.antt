@@ -1,4 +1,3 @@
-use Rattle.std.proofs.Common.{length, ap, arith}
 use Rattle.py_node.specs.Tree.{tree_of}
 use Rattle.vm_eval.proofs.Commands.{command-replied}
 use Rattle.vm_eval.proofs.run.reply.Goals as goal
@@ -7,10 +6,3 @@ pub returns-clause-replied : goal.returns-clause-replied
 returns-clause-replied c =
     let stored = c.in_ok-number.ensures in
     command-replied (tree_of c.args.command.now.expr) c.in_ok-number.number c.args.units c.args.world.now c.add_expr.new.world c.drive.new.world c.take_calls-calls.new.self c.in_ok-end.end _ _ stored.added stored.same stored.reads c.in_ok-end.ensures.answers c.in_ok-answer.ensures c.take_calls-calls.ensures.calls c.take_calls-calls.ensures.taken c.take_calls-calls.ensures.reads
-
-pub returns-clause-rests : goal.returns-clause-rests
-returns-clause-rests c = λ t.
-    let a = ap (λ w. length w.scopes) (c.take_calls-calls.ensures.taken t) in
-    let b = c.in_ok-end.ensures.rests t in
-    let d = ap (λ w. length w.scopes) (c.in_ok-number.ensures.same t) in
-    omega (arith, a, b, d)

@@ -2,7 +2,7 @@ use Rattle.std.proofs.Common.{◌≡◌, suc, ◌-◌, ◌∷◌, [], ◌++◌, 
 use Rattle.std.proofs.lemmas.Bool.{lt-ltb, le-ltb}
 use Rattle.py_node.specs.declared.task.Step.TheVariants.{Ask}
 use Rattle.class_world.specs.Claims.{of_task}
-use Rattle.class_world.proofs.Claims.{each-pop, each-push, all-grow, all-rest, all-first}
+use Rattle.class_world.proofs.Claims.{each-pop, each-push, all-last, all-rest, all-first}
 use Rattle.vm_eval.specs.Say.{of_kept}
 use Rattle.vm_eval.specs.Stack.{state}
 use Rattle.vm_eval.proofs.Turns.{state-resume, state-begin, state-limit, state-no_units, state-end, no-frames}
@@ -19,14 +19,14 @@ begin-requires c =
 
 pub returns-in_ok-next-in-Some-clause-stack : goal.returns-in_ok-next-in-Some-clause-stack
 returns-in_ok-next-in-Some-clause-stack c =
-    all-grow c.args.world.now _ c.in_ok-next-in-Some.ensures.safe.0 _ (each-pop c.args.world.now of_kept c.pop.new.self.items c.in-Some.kept (rw c.in-Some.ensures.items at c.requires.stack)).0
+    all-last c.args.world.now _ c.in_ok-next-in-Some.ensures.safe.0 _ (each-pop c.args.world.now of_kept c.pop.new.self.items c.in-Some.kept (rw c.in-Some.ensures.items at c.requires.stack)).0
 
 pub returns-in_ok-next-in-Ask-clause-stack : goal.returns-in_ok-next-in-Ask-clause-stack
 returns-in_ok-next-in-Ask-clause-stack c =
     let w = c.args.world.now in
     let h = rw c.in-Ask.is at c.requires.step in
     let all = each-push w of_kept c.args.stack.now.items c.in-Ask.kept c.requires.stack (all-rest w (of_task c.in-Ask.task) (of_kept c.in-Ask.kept) h) in
-    rw c.in_ok-push-in-Ask.ensures (all-grow w c.begin.new.world c.in_ok-next-in-Ask.ensures.safe.0 _ all)
+    rw c.in_ok-push-in-Ask.ensures (all-last w c.begin.new.world c.in_ok-next-in-Ask.ensures.safe.0 _ all)
 
 pub returns-else-len-lt-DEPTH-clause-stack : goal.returns-else-len-lt-DEPTH-clause-stack
 returns-else-len-lt-DEPTH-clause-stack c =
