@@ -1,5 +1,5 @@
 -- What the rows of attributes, special methods and descriptors say.
-use Rattle.std.specs.Prelude.{ℕ, zero, suc, Bool, cond, not, eqb, ◌&&◌, true, false, codes, List, [], ◌∷◌, Option, Some, None, is_some, slice_get}
+use Rattle.std.specs.Prelude.{ℕ, zero, suc, Bool, cond, not, eqb, ◌&&◌, false, codes, List, [], ◌∷◌, Option, Some, None, is_some}
 use Rattle.py_node.specs.declared.refs.PyObjectRef.{PyObjectRef}
 use Rattle.py_node.specs.declared.raised.Kind.TheVariants.{TypeError, AttributeError}
 use Rattle.py_node.specs.declared.raised.Cause.TheVariants.{ImmutableType, NeedsType, NoSpecial}

@@ -1,16 +1,14 @@
 // How a value that was found is bound.
 #![tactic(auto, unfolding(crate::specs::Say::attribute_say))]
 
-ghost use Rattle.std.specs.Prelude.{◌≡◌};
 ghost use Rattle.class_world.specs.Sound.{AllHold};
 ghost use Rattle.class_world.specs.Claims.{of_attribute_task, of_step};
 ghost use Rattle.py_node.specs.declared.task.AttributeTask.TheVariants as attribute;
-ghost use Rattle.proto_attr.specs.Say.{bind_by};
-ghost use Rattle.proto_attr.specs.Rows.{Begins, Starts, of_attribute_kept};
+ghost use Rattle.proto_attr.specs.Rows.{Begins, of_attribute_kept};
 
 use crate::AttributeKept;
 use class_world::world::World;
-use py_node::entry::{SlotEntry, SlotId};
+use py_node::entry::SlotId;
 use py_node::refs::PyObjectRef;
 use py_node::task::{Answer, AttributeTask, Step, Task};
 
@@ -25,23 +23,7 @@ pub(crate) fn bind(
     ensures goes { Begins (attribute.Bind m o class) world.now world.now result }
     ensures safe { AllHold world.now (of_step of_attribute_kept result) }
 {
-    let entry = world.slot(m, SlotId::DescrGet);
-    bind_by(world, entry, m, o, class)
-}
-
-// The same, by that entry.
-fn bind_by(
-    world: &World,
-    entry: Option<SlotEntry>,
-    m: PyObjectRef,
-    o: Option<PyObjectRef>,
-    class: PyObjectRef,
-) -> Step<AttributeKept>
-    requires { AllHold world.now (of_attribute_task (attribute.Bind m o class)) }
-    ensures goes { Starts (attribute.Bind m o class) (λ t w. bind_by w entry m o class) world.now world.now result }
-    ensures safe { AllHold world.now (of_step of_attribute_kept result) }
-{
-    match entry {
+    match world.slot(m, SlotId::DescrGet) {
         None => Step::End(Ok(Answer::Value(m))),
         Some(_) => {
             let task = AttributeTask::DescrGet(m, o, Some(class));

@@ -31,7 +31,7 @@ use std::alloc::Global;
 // How a row ends.
 type Ended = Result<Answer, Raised>;
 
-// A descriptor's value for an object and a class.
+// A descriptor's value for an object and a class, as its class's entry for that says.
 pub(crate) fn descr_get(
     world: &mut World,
     alloc: Global,
@@ -43,24 +43,7 @@ pub(crate) fn descr_get(
     ensures goes { IfOk result (λ step. Begins (attribute.DescrGet m o class) world.old world.new step) }
     ensures safe { Leaves of_attribute_kept world.old world.new result }
 {
-    let entry = world.slot(m, SlotId::DescrGet);
-    descr_get_by(world, alloc, entry, m, o, class)
-}
-
-// The same, by what the descriptor's class has for that.
-fn descr_get_by(
-    world: &mut World,
-    alloc: Global,
-    entry: Option<SlotEntry>,
-    m: PyObjectRef,
-    o: Option<PyObjectRef>,
-    class: Option<PyObjectRef>,
-) -> Result<Step<AttributeKept>, OutOfMemory>
-    requires { AllHold world.old (of_attribute_task (attribute.DescrGet m o class)) }
-    ensures goes { IfOk result (λ step. Starts (attribute.DescrGet m o class) (λ t w. descr_get_by w entry m o class) world.old world.new step) }
-    ensures safe { Leaves of_attribute_kept world.old world.new result }
-{
-    match entry {
+    match world.slot(m, SlotId::DescrGet) {
         None => Ok(Step::End(Ok(Answer::Value(m)))),
         Some(SlotEntry::Wrapper(_)) => get_by_method(world, alloc, m, o, class),
         Some(SlotEntry::Native(NativeEntry::OfCallable(CallableNative::GetFunction))) => {

@@ -11,8 +11,6 @@ mod binding;
 mod descriptor;
 mod setting;
 mod special;
-#[cfg(test)]
-mod tests;
 
 use class_world::world::World;
 use py_node::memory::OutOfMemory;

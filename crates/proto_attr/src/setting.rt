@@ -25,7 +25,7 @@ use py_node::refs::{PyObjectRef, PyStrInterned, PyTypeRef};
 use py_node::task::{Answer, AttributeTask, LaterTask, Step, Task};
 use std::alloc::Global;
 
-// An object's attribute is set.
+// An object's attribute is set, as its class's entry for that says.
 pub(crate) fn set_attr(
     world: &mut World,
     alloc: Global,
@@ -37,31 +37,19 @@ pub(crate) fn set_attr(
     ensures goes { IfOk result (λ step. Begins (attribute.SetAttr o name value) world.old world.new step) }
     ensures safe { Leaves of_attribute_kept world.old world.new result }
 {
-    let entry = world.slot(o, SlotId::Setattro);
-    set_by(world, alloc, entry, o, name, value)
-}
-
-// The same, by what the object's class has for that.
-fn set_by(
-    world: &mut World,
-    alloc: Global,
-    entry: Option<SlotEntry>,
-    o: PyObjectRef,
-    name: PyStrInterned,
-    value: PyObjectRef,
-) -> Result<Step<AttributeKept>, OutOfMemory>
-    requires { AllHold world.old (of_attribute_task (attribute.SetAttr o name value)) }
-    ensures goes { IfOk result (λ step. Starts (attribute.SetAttr o name value) (λ t w. set_by w entry o (spelled t name) value) world.old world.new step) }
-    ensures safe { Leaves of_attribute_kept world.old world.new result }
-{
-    match entry {
+    match world.slot(o, SlotId::Setattro) {
         Some(SlotEntry::Wrapper(_)) => set_by_method(world, alloc, o, name, value),
         Some(SlotEntry::Native(NativeEntry::OfObject(ObjectNative::SetAttr))) => {
             Ok(later(LaterTask::GenericSet))
         }
         Some(SlotEntry::Native(NativeEntry::OfType(TypeNative::SetAttr))) => {
-            let step = set_as_class(world, o, name, value);
-            Ok(step)
+            match world.class_number(o) {
+                None => Ok(later(LaterTask::GenericSet)),
+                Some(class) => {
+                    let task = AttributeTask::TypeSet(class, name, value);
+                    Ok(Step::Ask(Task::Attribute(task), AttributeKept::Pass))
+                }
+            }
         }
         _ => Ok(later(LaterTask::Native)),
     }
@@ -95,44 +83,8 @@ fn set_by_method(
     Ok(Step::Ask(Task::Attribute(task), AttributeKept::Pass))
 }
 
-// The attribute of an object that stands for a class, if it does.
-fn set_as_class(
-    world: &World,
-    o: PyObjectRef,
-    name: PyStrInterned,
-    value: PyObjectRef,
-) -> Step<AttributeKept>
-    requires { AllHold world.now (of_attribute_task (attribute.SetAttr o name value)) }
-    ensures goes { Starts (attribute.SetAttr o name value) (λ t w. set_by w (Some (SlotEntry.Native (NativeEntry.OfType TypeNative.SetAttr))) o (spelled t name) value) world.now world.now result }
-    ensures safe { AllHold world.now (of_step of_attribute_kept result) }
-{
-    let class = world.class_number(o);
-    set_in_class(world, class, o, name, value)
-}
-
-// The same, by that class.
-fn set_in_class(
-    world: &World,
-    class: Option<PyTypeRef>,
-    o: PyObjectRef,
-    name: PyStrInterned,
-    value: PyObjectRef,
-) -> Step<AttributeKept>
-    requires task { AllHold world.now (of_attribute_task (attribute.SetAttr o name value)) }
-    requires class { AllHold world.now (of_option of_class_ref class) }
-    ensures goes { Starts (attribute.SetAttr o name value) (λ t w. set_in_class w (number class) (spelled t name) value) world.now world.now result }
-    ensures safe { AllHold world.now (of_step of_attribute_kept result) }
-{
-    match class {
-        None => later(LaterTask::GenericSet),
-        Some(class) => {
-            let task = AttributeTask::TypeSet(class, name, value);
-            Step::Ask(Task::Attribute(task), AttributeKept::Pass)
-        }
-    }
-}
-
-// A class's attribute is set by what its metaclass has under the name, or else in the class itself.
+// A class's attribute is set by what its metaclass has under the name, or else in the class itself,
+// which must be made by a script.
 pub(crate) fn type_set(
     world: &mut World,
     class: PyTypeRef,
@@ -143,18 +95,19 @@ pub(crate) fn type_set(
     ensures goes { IfOk result (λ step. Begins (attribute.TypeSet class name value) world.old world.new step) }
     ensures safe { Leaves of_attribute_kept world.old world.new result }
 {
-    let by_descriptor = has_setter(world, class, name);
-    type_set_by(world, by_descriptor, class, name, value)
-}
-
-// Whether the value that a class's metaclass has under a name sets attributes.
-fn has_setter(world: &World, class: PyTypeRef, name: PyStrInterned) -> bool
-    requires { Holds world.now (IsClass class.0) }
-    ensures { (t : Reading) → Reads t world.now → sets (plain t world.now) (special_at (plain t world.now) (class_object (plain t world.now) class.0) (spelled t name)) ≡ result }
-{
     let object = world.class_object(class);
     let found = world.special(object, name);
-    sets(world, found)
+    if sets(world, found) {
+        return Ok(later(LaterTask::DescrSet));
+    }
+    match world.set_class_attr(class, name, value) {
+        Ok(()) => Ok(Step::End(Ok(Answer::Done))),
+        Err(ClassFault::Refused(cause)) => Ok(Step::End(Err(Raised {
+            kind: Kind::TypeError,
+            cause,
+        }))),
+        Err(ClassFault::OutOfMemory) => Err(OutOfMemory),
+    }
 }
 
 // Whether a value that was found is one that sets attributes.
@@ -165,30 +118,5 @@ fn sets(world: &World, found: Option<PyObjectRef>) -> bool
     match found {
         None => false,
         Some(value) => world.slot(value, SlotId::DescrSet).is_some(),
-    }
-}
-
-// A class's attribute is set, by what was read. The class must be made by a script.
-fn type_set_by(
-    world: &mut World,
-    by_descriptor: bool,
-    class: PyTypeRef,
-    name: PyStrInterned,
-    value: PyObjectRef,
-) -> Result<Step<AttributeKept>, OutOfMemory>
-    requires { AllHold world.old (of_attribute_task (attribute.TypeSet class name value)) }
-    ensures goes { IfOk result (λ step. Starts (attribute.TypeSet class name value) (λ t w. type_set_by w by_descriptor (is_heap_at (class_numbered w.classes class.0)) class.0 (spelled t name) value) world.old world.new step) }
-    ensures safe { Leaves of_attribute_kept world.old world.new result }
-{
-    if by_descriptor {
-        return Ok(later(LaterTask::DescrSet));
-    }
-    match world.set_class_attr(class, name, value) {
-        Ok(()) => Ok(Step::End(Ok(Answer::Done))),
-        Err(ClassFault::Refused(cause)) => Ok(Step::End(Err(Raised {
-            kind: Kind::TypeError,
-            cause,
-        }))),
-        Err(ClassFault::OutOfMemory) => Err(OutOfMemory),
     }
 }
