@@ -1,3 +1,4 @@
+pub mod Items
 pub mod Decide
 pub mod Filling
 pub mod Entered

@@ -22,7 +22,7 @@ use py_node::refs::PyObjectRef;
 use py_node::task::{Args, CallTask, Keywords, LaterTask, Step, Task};
 use std::alloc::Global;
 
-/// An object is called as its class's entry for calls says.
+/// An object is called as its class's entry for calls says: by a native, or by the special method.
 pub(crate) fn begin_call(
     world: &mut World,
     alloc: Global,
@@ -34,24 +34,7 @@ pub(crate) fn begin_call(
     ensures goes { IfOk result (λ step. Begins (call.Call f args kw) world.old world.new step) }
     ensures safe { LeavesNone world.old world.new result }
 {
-    let entry = world.slot(f, SlotId::Call);
-    call_by(world, alloc, entry, f, args, kw)
-}
-
-// An object is called by an entry: a native, or the special method.
-fn call_by(
-    world: &mut World,
-    alloc: Global,
-    entry: Option<SlotEntry>,
-    f: PyObjectRef,
-    args: Args,
-    kw: Keywords,
-) -> Result<Step<CallKept>, OutOfMemory>
-    requires { AllHold world.old (IsNode f ∷ of_args args.items kw.items) }
-    ensures goes { IfOk result (λ step. Decides (call.Call f args kw) (λ t u. call_by u entry f args.items (bindings t kw.items)) world.old world.new step) }
-    ensures safe { LeavesNone world.old world.new result }
-{
-    match entry {
+    match world.slot(f, SlotId::Call) {
         Some(SlotEntry::Native(native)) => {
             let task = native_call(world, alloc, native, f, args, kw)?;
             Ok(Step::Ask(task, CallKept::Pass))

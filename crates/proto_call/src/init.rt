@@ -4,9 +4,7 @@ ghost use Rattle.std.specs.Prelude.{◌≡◌, ◌∷◌, Ok, IfOk};
 ghost use Rattle.py_node.specs.declared.task.CallTask.TheVariants as call;
 ghost use Rattle.class_world.specs.Sound.{AllHold, Holds, IsNode};
 ghost use Rattle.class_world.specs.Claims.{of_args};
-ghost use Rattle.class_world.specs.Reading.{bindings};
-ghost use Rattle.proto_call.specs.Say.{init_by};
-ghost use Rattle.proto_call.specs.Rows.{Begins, Decides, Resumes, OpensNone, LeavesNone};
+ghost use Rattle.proto_call.specs.Rows.{Begins, Resumes, OpensNone, LeavesNone};
 
 use crate::CallKept;
 use crate::asked::{bound, refused, special};
@@ -19,7 +17,8 @@ use py_node::refs::PyObjectRef;
 use py_node::task::{Answer, Args, Keywords, Step};
 use std::alloc::Global;
 
-/// An object is initialised as its class's entry for that says.
+/// An object is initialised as its class's entry for that says, if there is one: by a native, or by the
+/// special method.
 pub(crate) fn begin_init(
     world: &mut World,
     alloc: Global,
@@ -31,24 +30,7 @@ pub(crate) fn begin_init(
     ensures goes { IfOk result (λ step. Begins (call.Init object args kw) world.old world.new step) }
     ensures safe { LeavesNone world.old world.new result }
 {
-    let entry = world.slot(object, SlotId::Init);
-    init_by(world, alloc, entry, object, args, kw)
-}
-
-// An object is initialised by an entry, if there is one: a native, or the special method.
-fn init_by(
-    world: &mut World,
-    alloc: Global,
-    entry: Option<SlotEntry>,
-    object: PyObjectRef,
-    args: Args,
-    kw: Keywords,
-) -> Result<Step<CallKept>, OutOfMemory>
-    requires { AllHold world.old (IsNode object ∷ of_args args.items kw.items) }
-    ensures goes { IfOk result (λ step. Decides (call.Init object args kw) (λ t u. init_by u entry object args.items (bindings t kw.items)) world.old world.new step) }
-    ensures safe { LeavesNone world.old world.new result }
-{
-    match entry {
+    match world.slot(object, SlotId::Init) {
         Some(SlotEntry::Native(native)) => {
             let args = bound(alloc, object, args)?;
             Ok(Step::Ask(native_task(native, args, kw), CallKept::Pass))

@@ -53,94 +53,47 @@ fn object_by(
     ensures safe { LeavesNone world.old world.new result }
 {
     match native {
-        ObjectNative::New => object_new(world, alloc, args),
+        ObjectNative::New => {
+            let name = world.intern(alloc, "__abstractmethods__")?;
+            object_new(world, alloc, name, args)
+        }
         ObjectNative::Init => Ok(object_init(world, args)),
         ObjectNative::InitSubclass => Ok(object_init_subclass(world, args, kw)),
         _ => Ok(refused(Kind::NotImplementedError, Cause::NotYet)),
     }
 }
 
-// A new object of the class that is the first argument.
+// A new object of the class that is the first argument: its objects must be plain ones, and it may leave
+// no method abstract.
+#[tactic(auto, using(crate::proofs::Items::item_holds), unfolding(crate::specs::Say::call_job_say, py_node::specs::BuiltIns::place_of))]
 fn object_new(
     world: &mut World,
     alloc: Global,
+    name: PyStrInterned,
     args: &[PyObjectRef],
 ) -> Result<Step<CallKept>, OutOfMemory>
-    requires { Holds world.old (AreNodes args.now) }
+    requires args { Holds world.old (AreNodes args.now) }
+    requires name { (t : Reading) → Reads t world.old → t.text name.0 ≡ codes "__abstractmethods__" }
     ensures goes { IfOk result (λ step. Closes (λ t u. object_new u args.now) world.old world.new step) }
     ensures safe { LeavesNone world.old world.new result }
 {
-    match args {
-        [] => Ok(refused(Kind::TypeError, Cause::ArgCount)),
-        [class, ..] => {
-            let class = world.class_number(*class);
-            let step = new_of_class(world, alloc, class)?;
-            Ok(step)
-        }
+    let [class, ..] = args else {
+        return Ok(refused(Kind::TypeError, Cause::ArgCount));
+    };
+    let Some(class) = world.class_number(*class) else {
+        return Ok(refused(Kind::TypeError, Cause::SelfType));
+    };
+    let Some(built_in) = world.nearest_built_in(class) else {
+        return Ok(refused(Kind::TypeError, Cause::UnsafeNew));
+    };
+    if built_in.0 != BuiltIn::Object.class().0 {
+        return Ok(refused(Kind::TypeError, Cause::UnsafeNew));
     }
-}
-
-// A new object of a class, if it is one.
-fn new_of_class(
-    world: &mut World,
-    alloc: Global,
-    class: Option<PyTypeRef>,
-) -> Result<Step<CallKept>, OutOfMemory>
-    requires { AllHold world.old (of_option of_class_ref class) }
-    ensures goes { IfOk result (λ step. Closes (λ t u. new_of_class u (option_map (λ c. c.0) class)) world.old world.new step) }
-    ensures safe { LeavesNone world.old world.new result }
-{
-    match class {
-        None => Ok(refused(Kind::TypeError, Cause::SelfType)),
-        Some(class) => {
-            let built_in = world.nearest_built_in(class);
-            let step = created(world, alloc, built_in, class)?;
-            Ok(step)
-        }
+    if is_abstract(world, world.class_attr(class, name)) {
+        return Ok(refused(Kind::TypeError, Cause::AbstractMethods));
     }
-}
-
-// A new object of a class whose nearest built-in class is this: it must be `object`.
-#[tactic(auto, unfolding(crate::specs::Say::call_job_say, py_node::specs::BuiltIns::place_of))]
-fn created(
-    world: &mut World,
-    alloc: Global,
-    built_in: Option<PyTypeRef>,
-    class: PyTypeRef,
-) -> Result<Step<CallKept>, OutOfMemory>
-    requires class { Holds world.old (IsClass class.0) }
-    requires near { option_map (λ c. c.0) built_in ≡ Some the_object → Holds world.old (IsOf class.0 Object) }
-    ensures goes { IfOk result (λ step. Closes (λ t u. created u (option_map (λ c. c.0) built_in) class.0) world.old world.new step) }
-    ensures safe { LeavesNone world.old world.new result }
-{
-    match built_in {
-        None => Ok(refused(Kind::TypeError, Cause::UnsafeNew)),
-        Some(built_in) => {
-            if built_in.0 != BuiltIn::Object.class().0 {
-                return Ok(refused(Kind::TypeError, Cause::UnsafeNew));
-            }
-            let step = plain_object(world, alloc, class)?;
-            Ok(step)
-        }
-    }
-}
-
-// A new object of a class that leaves no method abstract.
-fn plain_object(
-    world: &mut World,
-    alloc: Global,
-    class: PyTypeRef,
-) -> Result<Step<CallKept>, OutOfMemory>
-    requires class { Holds world.old (IsClass class.0) }
-    requires of { Holds world.old (IsOf class.0 Object) }
-    ensures goes { IfOk result (λ step. Closes (λ t u. unless_abstract u (is_abstract u (found is_text u.classes class.0 (codes "__abstractmethods__"))) class.0) world.old world.new step) }
-    ensures safe { LeavesNone world.old world.new result }
-{
-    let name = world.intern(alloc, "__abstractmethods__")?;
-    let methods = world.class_attr(class, name);
-    let is_abstract = is_abstract(world, methods);
-    let step = unless_abstract(world, alloc, is_abstract, class)?;
-    Ok(step)
+    let node = world.make_node(alloc, class, Payload::Object)?;
+    Ok(Step::End(Ok(Answer::Value(node))))
 }
 
 // Whether the methods that are said to be abstract are any.
@@ -162,25 +115,6 @@ fn has_items(payload: &Payload) -> bool
         Payload::Tuple(items) => !items.is_empty(),
         _ => false,
     }
-}
-
-// A new object of a class, unless it leaves methods abstract.
-fn unless_abstract(
-    world: &mut World,
-    alloc: Global,
-    is_abstract: bool,
-    class: PyTypeRef,
-) -> Result<Step<CallKept>, OutOfMemory>
-    requires class { Holds world.old (IsClass class.0) }
-    requires of { Holds world.old (IsOf class.0 Object) }
-    ensures goes { IfOk result (λ step. Closes (λ t u. unless_abstract u is_abstract class.0) world.old world.new step) }
-    ensures safe { LeavesNone world.old world.new result }
-{
-    if is_abstract {
-        return Ok(refused(Kind::TypeError, Cause::AbstractMethods));
-    }
-    let node = world.make_node(alloc, class, Payload::Object)?;
-    Ok(Step::End(Ok(Answer::Value(node))))
 }
 
 // The initialisation of a plain object: any arguments will do.
