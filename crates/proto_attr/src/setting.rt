@@ -100,7 +100,7 @@ pub(crate) fn type_set(
     if sets(world, found) {
         return Ok(later(LaterTask::DescrSet));
     }
-    match world.set_class_attr(class, name, value) {
+    match world.set_attr(class, name, value) {
         Ok(()) => Ok(Step::End(Ok(Answer::Done))),
         Err(ClassFault::Refused(cause)) => Ok(Step::End(Err(Raised {
             kind: Kind::TypeError,
