@@ -1,6 +1,8 @@
 -- How arguments fill parameters, as a reading has them.
-use Rattle.std.proofs.Common.{◌≡◌, ℕ, zero, suc, ◌-◌, ◌<◌, ◌≤◌, Bool, true, cond, not, ◌&&◌, ◌||◌, List, [], ◌∷◌, length, take, drop, min, get_or, map, Option, Some, None, is_some, is_none, refl, sym, ap, ◌∙◌, subst, arith}
-use Rattle.std.specs.List.{list_any, list_all}
+use Rattle.std.proofs.Common.{◌≡◌, ℕ, zero, suc, ◌-◌, ◌<◌, ◌≤◌, Bool, true, false, cond, not, ◌&&◌, ◌||◌, List, [], ◌∷◌, length, take, drop, min, get_or, map, Option, Some, None, is_some, is_none, IfSome, refl, sym, ap, ◌∙◌, subst, arith}
+use Rattle.std.specs.List.{All, list_any, list_all}
+use Rattle.std.specs.Prelude.{IsTrue}
+use Rattle.std.proofs.lemmas.Bool.{eq-eqb}
 use Rattle.std.proofs.lemmas.List.Elements.{All-take, All-drop}
 use Rattle.py_node.specs.declared.refs.PyObjectRef.{PyObjectRef}
 use Rattle.py_node.specs.declared.refs.PyStrInterned.{PyStrInterned}
@@ -10,9 +12,11 @@ use Rattle.plain_machine.specs.Plain.{Bindings}
 use Rattle.plain_machine.specs.World.{is_text}
 use Rattle.class_world.specs.Held.{Held}
 use Rattle.class_world.specs.Reading.{Reading, spelled, bindings}
-use Rattle.class_world.specs.Sound.{IsName, AreNames, IsNode, AreNodes, Holds, AllHold, of_binding, of_each}
+use Rattle.class_world.specs.Sound.{IsName, AreNames, IsNode, AreNodes, HasParams, HasValues, has_value, AreFilled, Holds, AllHold, of_binding, of_each}
+use Rattle.class_world.proofs.Apart.{all-cons, all-tail}
 use Rattle.class_world.proofs.Bound.{value-read, with_value-read}
-use Rattle.proto_call.specs.Say.{but_last, left_over, is_member, value_at, with_keywords, all_filled}
+use Rattle.proto_call.specs.Bodies.{last_in, LastFilled}
+use Rattle.proto_call.specs.Say.{but_last, single, left_over, is_member, value_at, with_keywords, all_filled}
 
 abbrev Names : Type 0
 Names = List PyStrInterned
@@ -93,3 +97,55 @@ pub binding-at : (w : Held) (bs : Bound) (n : ℕ) (b : PyStrInterned × PyObjec
 binding-at w [] n b h l e = absurd (omega arith)
 binding-at w (c ∷ bs) zero b h l e = subst (λ (b : PyStrInterned × PyObjectRef). Holds w (IsName b.0) × Holds w (IsNode b.1)) (sym e) (h.0, h.1.0)
 binding-at w (c ∷ bs) (suc n) b h l e = binding-at w bs n b h.1.1 (omega arith) e
+
+pub but_last-take : {A : Type 0} (xs : List A) (n : ℕ) → n ≡ length xs - 1 → take n xs ≡ but_last xs
+but_last-take [] zero e = refl
+but_last-take [] (suc n) e = refl
+but_last-take (x ∷ []) zero e = refl
+but_last-take (x ∷ []) (suc n) e = absurd (omega arith)
+but_last-take (x ∷ (y ∷ ys)) zero e = absurd (omega arith)
+but_last-take (x ∷ (y ∷ ys)) (suc n) e = ap (λ zs. x ∷ zs) (but_last-take (y ∷ ys) n (omega arith))
+
+pub last-in : (xs : Names) (n : ℕ) (x : PyStrInterned) → suc n ≡ length xs → x ≡ get_or xs n x → IfSome (last_in xs) (λ y. y ≡ x)
+last-in [] n x l e = tt
+last-in (y ∷ []) zero x l e = sym e
+last-in (y ∷ []) (suc n) x l e = absurd (omega arith)
+last-in (y ∷ (z ∷ xs)) zero x l e = absurd (omega arith)
+last-in (y ∷ (z ∷ xs)) (suc n) x l e = last-in (z ∷ xs) n x (omega arith) e
+
+-- a value that is given is there
+pub given-there : (vars : Bound) (x : PyStrInterned) (r : PyObjectRef) → has_value (with_value is_same_name vars x r) x ≡ true
+given-there [] x r = ap (λ b. is_some (cond b (Some r) None)) (eq-eqb x.0 x.0 refl)
+given-there (b ∷ vars) x r = go (is_same_name b.0 x) refl (given-there vars x r)
+  where
+    go : (q : Bool) → is_same_name b.0 x ≡ q → has_value (with_value is_same_name vars x r) x ≡ true → has_value (cond q ((b.0, r) ∷ vars) (b ∷ with_value is_same_name vars x r)) x ≡ true
+    go true e h = ap (λ q. is_some (cond q (Some r) (value_of (λ k. is_same_name k x) vars))) e
+    go false e h = ap (λ q. is_some (cond q (Some b.1) (value_of (λ k. is_same_name k x) (with_value is_same_name vars x r)))) e ∙ h
+
+pub last-given : (ps : Names) (vars : Bound) (x : PyStrInterned) (r : PyObjectRef) → IfSome (last_in ps) (λ y. y ≡ x) → LastFilled ps (with_value is_same_name vars x r)
+last-given ps vars x r h = go (last_in ps) h
+  where
+    go : (o : Option PyStrInterned) → IfSome o (λ y. y ≡ x) → IfSome o (λ y. has_value (with_value is_same_name vars x r) y ≡ true)
+    go None h = tt
+    go (Some y) h = subst (λ y. has_value (with_value is_same_name vars x r) y ≡ true) (sym h) (given-there vars x r)
+
+-- all have values where all but the last and the last have
+but-last-all : (vars : Bound) (ps : Names) → All (λ x. has_value vars x ≡ true) (but_last ps) → LastFilled ps vars → All (λ x. has_value vars x ≡ true) ps
+but-last-all vars [] h l = h
+but-last-all vars (x ∷ []) h l = all-cons (λ x. has_value vars x ≡ true) x [] l h
+but-last-all vars (x ∷ (y ∷ ys)) h l =
+    all-cons (λ x. has_value vars x ≡ true) x (y ∷ ys) (h 0 x (omega arith)) (but-last-all vars (y ∷ ys) (all-tail (λ x. has_value vars x ≡ true) x (but_last (y ∷ ys)) h) l)
+
+all-have : (vars : Bound) (ps : Names) (rest : Bool) → All (λ x. has_value vars x ≡ true) (single rest ps) → (IsTrue rest → LastFilled ps vars) → All (λ x. has_value vars x ≡ true) ps
+all-have vars ps true h l = but-last-all vars ps h (l refl)
+all-have vars ps false h l = h
+
+-- so each parameter of the function has a value
+pub values-there : (w : Held) (f : PyObjectRef) (vars more : Bound) (ps singles : Names) (rest : Bool) → Holds w (HasParams f ps) → singles ≡ single rest ps → All (λ x. has_value more x ≡ true) singles → (IsTrue rest → LastFilled ps vars) → ((x : PyStrInterned) → has_value vars x ≡ true → has_value more x ≡ true) → Holds w (HasValues f more)
+unfolding Holds
+values-there w f vars more ps singles rest p e h l keeps =
+    subst (AreFilled more) (sym p) (all-have more ps rest (subst (λ xs. All (λ x. has_value more x ≡ true) xs) e h) (λ r. kept (last_in ps) (l r)))
+  where
+    kept : (o : Option PyStrInterned) → IfSome o (λ x. has_value vars x ≡ true) → IfSome o (λ x. has_value more x ≡ true)
+    kept None h = tt
+    kept (Some x) h = keeps x h

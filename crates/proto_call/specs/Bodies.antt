@@ -1,5 +1,5 @@
 -- What the contracts of the row of a body say: its words, for a function of the code.
-use Rattle.std.specs.Prelude.{◌≡◌, List, Option, Some, None, map}
+use Rattle.std.specs.Prelude.{◌≡◌, true, List, [], ◌∷◌, Option, Some, None, IfSome, IsTrue, map}
 use Rattle.py_node.specs.declared.refs.PyObjectRef.{PyObjectRef}
 use Rattle.py_node.specs.declared.refs.PyStrInterned.{PyStrInterned}
 use Rattle.py_node.specs.declared.payload.Function.{Function}
@@ -10,7 +10,7 @@ use Rattle.plain_machine.specs.Rows.{fresh}
 use Rattle.class_world.specs.declared.world.World.{World}
 use Rattle.class_world.specs.Reading.{Reading, spelled, datum, bindings}
 use Rattle.class_world.specs.Rows.{Follows}
-use Rattle.class_world.specs.Sound.{Claim, of_payload}
+use Rattle.class_world.specs.Sound.{Claim, has_value, of_payload}
 use Rattle.proto_call.specs.declared.CallKept.{CallKept}
 use Rattle.proto_call.specs.Say.{call_job_say, opened, by_keywords, by_place, body_by}
 use Rattle.proto_call.specs.Rows.{call_stands}
@@ -27,6 +27,20 @@ datum_of t (Some g) = Some (datum t (payload.Function g))
 -- what is said of a function's numbers
 abbrev pub of_function : Function → List Claim
 of_function g = of_payload (payload.Function g)
+
+-- the last of some names, if there are any
+abbrev pub last_in : List PyStrInterned → Option PyStrInterned
+last_in [] = None
+last_in (x ∷ []) = Some x
+last_in (x ∷ (y ∷ ys)) = last_in (y ∷ ys)
+
+-- the last parameter has a value
+abbrev pub LastFilled : List PyStrInterned → List (PyStrInterned × PyObjectRef) → Type 0
+LastFilled params vars = IfSome (last_in params) (λ x. has_value vars x ≡ true)
+
+-- where the last parameter takes the rest, it has a value
+abbrev pub RestFilled : Function → List (PyStrInterned × PyObjectRef) → Type 0
+RestFilled g vars = IsTrue g.rest → LastFilled g.params.items vars
 
 -- the words of the row, for a function of the code
 

@@ -63,7 +63,7 @@ is_member [] x = false
 is_member (y ∷ ys) x = is_text y x || is_member ys x
 
 -- the parameters but the last
-abbrev pub but_last : List Text → List Text
+abbrev pub but_last : {A : Type 0} → List A → List A
 but_last [] = []
 but_last (x ∷ []) = []
 but_last (x ∷ (y ∷ ys)) = x ∷ but_last (y ∷ ys)
@@ -74,7 +74,7 @@ last_of (x ∷ []) = x
 last_of (x ∷ (y ∷ ys)) = last_of (y ∷ ys)
 
 -- the parameters that take one argument each: all, or all but the last where that takes the rest
-abbrev pub single : Bool → List Text → List Text
+abbrev pub single : {A : Type 0} → Bool → List A → List A
 single rest params = cond rest (but_last params) params
 
 -- the arguments past the parameters

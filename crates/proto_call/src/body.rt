@@ -1,11 +1,11 @@
 // The row of a body: arguments and keywords fill the parameters of its function, and its scope opens.
 
-ghost use Rattle.std.specs.Prelude.{◌≡◌, [], ◌∷◌, map, string_bytes, IfOk, OnOk};
+ghost use Rattle.std.specs.Prelude.{◌≡◌, [], ◌∷◌, map, string_bytes, IfOk, IfSome, OnOk};
 ghost use Rattle.py_node.specs.Replies.{started_of};
 ghost use Rattle.plain_machine.specs.Plain.{ATuple};
 ghost use Rattle.plain_machine.specs.World.{datum_at, is_text, with_node, next_node};
 ghost use Rattle.class_world.specs.Reading.{Reading, Reads, spelled, bindings, plain, datum};
-ghost use Rattle.class_world.specs.Sound.{AllHold, AreNames, AreNodes, Grows, Holds, IsName, IsNode, of_binding, of_each, of_node_ref, of_option};
+ghost use Rattle.class_world.specs.Sound.{AllHold, AreNames, AreNodes, Grows, HasParams, HasValues, Holds, IsName, IsNode, of_binding, of_each, of_node_ref, of_option};
 ghost use Rattle.class_world.specs.Claims.{of_args, LeavesOpen};
 ghost use Rattle.py_node.specs.Attributes.{with_value};
 ghost use Rattle.py_node.specs.declared.payload.Payload.TheVariants as payload;
@@ -14,7 +14,7 @@ ghost use Rattle.proto_call.specs.Say.{but_last, last_of, left_over, value_text,
 ghost use Rattle.plain_machine.specs.Known.{the_tuple};
 ghost use Rattle.plain_machine.specs.Args.{filled};
 ghost use Rattle.proto_call.specs.Rows.{Begins, of_call_kept, bodies_of};
-ghost use Rattle.proto_call.specs.Bodies.{Enters, RunsAs, datum_of, of_function, opened_of, by_keywords_of, by_place_of};
+ghost use Rattle.proto_call.specs.Bodies.{Enters, LastFilled, RestFilled, RunsAs, datum_of, last_in, of_function, opened_of, by_keywords_of, by_place_of};
 
 use crate::CallKept;
 use crate::asked::refused;
@@ -57,6 +57,7 @@ fn function_at(
     node: PyObjectRef,
 ) -> Result<Option<Function>, OutOfMemory>
     requires { Holds world.now (IsNode node) }
+    ensures params { IfOk result (λ o. IfSome o (λ g. Holds world.now (HasParams node g.params.items))) }
     ensures runs { IfOk result (λ o. (t : Reading) → RunsAs (datum_at (plain t world.now) node) (datum_of t o)) }
     ensures holds { IfOk result (λ o. AllHold world.now (of_option of_function o)) }
 {
@@ -69,6 +70,7 @@ fn function_at(
 // The same function again.
 fn copy_function(alloc: Global, function: &Function) -> Result<Function, OutOfMemory>
     ensures same { IfOk result (λ g. (t : Reading) → datum t (payload.Function g) ≡ datum t (payload.Function function.now)) }
+    ensures params { IfOk result (λ g. g.params.items ≡ function.now.params.items) }
     ensures claims { IfOk result (λ g. of_function g ≡ of_function function.now) }
 {
     let mut params = Vec::new(alloc);
@@ -92,6 +94,7 @@ fn by_place(
     args: &[PyObjectRef],
     kw: &[(PyStrInterned, PyObjectRef)],
 ) -> Result<Step<CallKept>, OutOfMemory>
+    requires params { Holds world.old (HasParams f function.now.params.items) }
     requires node { Holds world.old (IsNode f) }
     requires function { AllHold world.old (of_function function.now) }
     requires args { AllHold world.old (of_args args.now kw.now) }
@@ -121,6 +124,7 @@ fn with_rest(
     requires args { Holds world.old (AreNodes args.now) }
     ensures made { OnOk result ((t : Reading) → plain t world.new ≡ with_node (plain t world.old) the_tuple (ATuple (left_over (but_last (map (spelled t) params.now)) args.now))) }
     ensures vars { IfOk result (λ vars. (t : Reading) → Reads t world.new → bindings t vars ≡ with_value is_text (filled [] (but_last (map (spelled t) params.now)) args.now) (last_of (map (spelled t) params.now)) (next_node (plain t world.old) the_tuple)) }
+    ensures last { IfOk result (λ vars. LastFilled params.now vars) }
     ensures reads { (t : Reading) → Reads t world.new → Reads t world.old }
     ensures grows { Grows world.old world.new }
     ensures holds { IfOk result (λ vars. AllHold world.new (of_each of_binding vars)) }
@@ -141,6 +145,7 @@ fn last_name(
 ) -> Result<PyStrInterned, OutOfMemory>
     requires { Holds world.old (AreNames names.now) }
     ensures spelled { IfOk result (λ x. (t : Reading) → Reads t world.new → spelled t x ≡ last_of (map (spelled t) names.now)) }
+    ensures last { IfOk result (λ x. IfSome (last_in names.now) (λ y. y ≡ x)) }
     ensures same { (t : Reading) → plain t world.new ≡ plain t world.old }
     ensures reads { (t : Reading) → Reads t world.new → Reads t world.old }
     ensures grows { Grows world.old world.new }
@@ -179,6 +184,8 @@ fn by_keywords(
     vars: PyAttributes,
     kw: &[(PyStrInterned, PyObjectRef)],
 ) -> Result<Step<CallKept>, OutOfMemory>
+    requires params { Holds world.old (HasParams f function.now.params.items) }
+    requires rest { RestFilled function.now vars }
     requires node { Holds world.old (IsNode f) }
     requires function { AllHold world.old (of_function function.now) }
     requires vars { AllHold world.old (of_each of_binding vars) }
@@ -207,6 +214,7 @@ fn opened(
     function: &Function,
     vars: PyAttributes,
 ) -> Result<Step<CallKept>, OutOfMemory>
+    requires values { Holds world.old (HasValues f vars) }
     requires node { Holds world.old (IsNode f) }
     requires function { AllHold world.old (of_function function.now) }
     requires vars { AllHold world.old (of_each of_binding vars) }

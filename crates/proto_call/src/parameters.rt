@@ -1,9 +1,11 @@
 // How the arguments of a call fill the parameters of a function.
 
-ghost use Rattle.std.specs.Prelude.{◌≡◌, ◌&&◌, [], map, is_none, IfOk, IfSome, option_map};
+ghost use Rattle.std.specs.Prelude.{◌≡◌, ◌&&◌, true, [], map, is_none, IsTrue, IfOk, IfSome, option_map};
+ghost use Rattle.std.specs.List.{All};
+ghost use Rattle.py_node.specs.declared.refs.PyStrInterned.{PyStrInterned};
 ghost use Rattle.class_world.specs.Held.{Held};
 ghost use Rattle.class_world.specs.Reading.{Reading, spelled, bindings};
-ghost use Rattle.class_world.specs.Sound.{AllHold, AreNames, AreNodes, Holds, of_binding, of_each};
+ghost use Rattle.class_world.specs.Sound.{AllHold, AreNames, AreNodes, Holds, has_value, of_binding, of_each};
 ghost use Rattle.proto_call.specs.Say.{single, left_over, is_member, value_at, with_keywords, all_filled};
 
 use py_node::attributes::PyAttributes;
@@ -14,6 +16,7 @@ use std::alloc::Global;
 /// The parameters that take one argument each: all, or all but the last where that takes the rest.
 pub(crate) fn single(params: &[PyStrInterned], rest: bool) -> &[PyStrInterned]
     ensures names { (t : Reading) → map (spelled t) result.now ≡ single rest (map (spelled t) params.now) }
+    ensures held { result.now ≡ single rest params.now }
     ensures holds { (w : Held) → Holds w (AreNames params.now) → Holds w (AreNames result.now) }
 {
     match params {
@@ -52,6 +55,7 @@ pub(crate) fn with_keywords(
     keywords: &[(PyStrInterned, PyObjectRef)],
 ) -> Result<Option<PyAttributes>, OutOfMemory>
     ensures vars { IfOk result (λ o. (t : Reading) → option_map (bindings t) o ≡ with_keywords (map (spelled t) params.now) (bindings t vars) (bindings t keywords.now)) }
+    ensures keeps { IfOk result (λ o. IfSome o (λ more. (x : PyStrInterned) → has_value vars x ≡ true → has_value more x ≡ true)) }
     ensures holds { IfOk result (λ o. IfSome o (λ more. (w : Held) → AllHold w (of_each of_binding vars) → AllHold w (of_each of_binding keywords.now) → AllHold w (of_each of_binding more))) }
 {
     for (name, value) in keywords {
@@ -65,7 +69,8 @@ pub(crate) fn with_keywords(
 
 /// Whether each parameter has a value.
 pub(crate) fn all_filled(vars: &PyAttributes, params: &[PyStrInterned]) -> bool
-    ensures { (t : Reading) → all_filled (bindings t vars.now) (map (spelled t) params.now) ≡ result }
+    ensures filled { (t : Reading) → all_filled (bindings t vars.now) (map (spelled t) params.now) ≡ result }
+    ensures all { IsTrue result → All (λ x. has_value vars.now x ≡ true) params.now }
 {
     params.iter().all(|param| vars.contains(*param))
 }

@@ -3,7 +3,7 @@ use Rattle.class_world.specs.Reading.{spelled}
 use Rattle.py_node.specs.declared.refs.PyStrInterned.{PyStrInterned}
 use Rattle.proto_call.proofs.Entered.{last-read}
 use Rattle.class_world.proofs.Filled.{name-at}
-use Rattle.proto_call.proofs.Filling.{same-at}
+use Rattle.proto_call.proofs.Filling.{last-in, same-at}
 use Rattle.proto_call.proofs.body.last_name.Goals as goal
 
 pub returns-in-len1-up-clause-spelled : goal.returns-in-len1-up-clause-spelled
@@ -19,3 +19,10 @@ returns-in-len1-up-clause-holds c =
     let n = length xs - 1 in
     let x : PyStrInterned = get_or xs n (record { 0 = 0 }) in
     name-at c.args.world.now xs n x c.requires (omega (arith, c.in-len1-up.len_at_least)) (same-at xs n (record { 0 = 0 }) x (omega (arith, c.in-len1-up.len_at_least)))
+
+pub returns-in-len1-up-clause-last : goal.returns-in-len1-up-clause-last
+returns-in-len1-up-clause-last c =
+    let xs = c.args.names.now in
+    let n = length xs - 1 in
+    let x : PyStrInterned = get_or xs n (record { 0 = 0 }) in
+    last-in xs n x (omega (arith, c.in-len1-up.len_at_least)) (same-at xs n (record { 0 = 0 }) x (omega (arith, c.in-len1-up.len_at_least)))

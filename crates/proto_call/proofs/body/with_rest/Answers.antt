@@ -5,6 +5,7 @@ use Rattle.class_world.specs.Sound.{AreNames, AreNodes, IsName}
 use Rattle.class_world.proofs.Bound.{with_value-read, with_value-holds}
 use Rattle.plain_machine.specs.Known.{the_tuple}
 use Rattle.plain_machine.specs.Args.{filled}
+use Rattle.proto_call.proofs.Filling.{last-given}
 use Rattle.proto_call.proofs.body.with_rest.Goals as goal
 
 pub returns-clause-vars : goal.returns-clause-vars
@@ -22,3 +23,6 @@ returns-clause-holds c =
     let names = c.single-singles.ensures.holds w (then (AreNames c.args.params.now) (first (AreNames c.args.params.now) c.requires.params)) in
     let nodes = then (AreNodes c.args.args.now) (first (AreNodes c.args.args.now) c.requires.args) in
     rw c.in_ok-insert.ensures.ok (with_value-holds w c.in_ok-vars.vars c.in_ok-last.last c.in_ok-tuple.tuple (c.in_ok-vars.ensures.holds w names nodes) (then (IsName c.in_ok-last.last) c.in_ok-last.ensures.holds) c.in_ok-tuple.ensures.node)
+
+pub returns-clause-last : goal.returns-clause-last
+returns-clause-last c = rw c.in_ok-insert.ensures.ok (last-given c.args.params.now c.in_ok-vars.vars c.in_ok-last.last c.in_ok-tuple.tuple c.in_ok-last.ensures.last)

@@ -1,12 +1,18 @@
-use Rattle.std.proofs.Common.{is_some, rules, tests, sym, ◌∙◌}
+use Rattle.std.proofs.Common.{rules, tests, sym, ◌∙◌}
 use Rattle.std.proofs.lemmas.Iterator.{YieldsList-from_slice}
 use Rattle.std.proofs.lemmas.Iterator.Search.{all_from_yields_List}
-use Rattle.py_node.specs.Attributes.{value_of, is_same_name}
 use Rattle.py_node.specs.declared.refs.PyStrInterned.{PyStrInterned}
+use Rattle.class_world.specs.Sound.{has_value}
+use Rattle.std.proofs.lemmas.List.Sums.{AllPass-from_list_all}
 use Rattle.proto_call.proofs.Filling.{all_filled-read}
 use Rattle.proto_call.proofs.parameters.all_filled.Goals as goal
 
-pub returns : goal.returns
-returns c = λ t.
-    let all = all_from_yields_List (λ (x : PyStrInterned). is_some (value_of (λ k. is_same_name k x) c.args.vars.now)) _ _ c.all.result c.all.ensures.ran (YieldsList-from_slice c.args.params.now cc) (λ x b q k. search (rules, tests)) in
+pub returns-clause-filled : goal.returns-clause-filled
+returns-clause-filled c = λ t.
+    let all = all_from_yields_List (λ (x : PyStrInterned). has_value c.args.vars.now x) _ _ c.all.result c.all.ensures.ran (YieldsList-from_slice c.args.params.now cc) (λ x b q k. search (rules, tests)) in
     all_filled-read t c.args.vars.now c.args.params.now ∙ sym all
+
+pub returns-clause-all : goal.returns-clause-all
+returns-clause-all c = λ h.
+    let all = all_from_yields_List (λ (x : PyStrInterned). has_value c.args.vars.now x) _ _ c.all.result c.all.ensures.ran (YieldsList-from_slice c.args.params.now cc) (λ x b q k. search (rules, tests)) in
+    AllPass-from_list_all (λ (x : PyStrInterned). has_value c.args.vars.now x) c.args.params.now (sym all ∙ h)

@@ -2,6 +2,7 @@ use Rattle.std.proofs.Common.{map, get_or, sym, ◌∙◌, add-one}
 use Rattle.py_node.specs.declared.refs.PyObjectRef.{PyObjectRef}
 use Rattle.py_node.specs.declared.refs.PyStrInterned.{PyStrInterned}
 use Rattle.class_world.specs.Reading.{spelled}
+use Rattle.class_world.proofs.Apart.{value-with}
 use Rattle.class_world.proofs.Bound.{with_value-holds}
 use Rattle.proto_call.proofs.Filling.{keyword-next, binding-at, same-at}
 use Rattle.proto_call.proofs.parameters.with_keywords.Goals as goal
@@ -16,6 +17,7 @@ loop-name-preserved c =
     let ok = c.in_ok-insert.ensures.ok in
     record {
       vars = λ t. rw (add-one, ok) (sym (keyword-next t (map (spelled t) c.args.params.now) l.vars kw n k c.loop-name-test.true here (c.is_open.ensures t ∙ c.if-not-is_open.false)) ∙ l.invariant.vars t);
+      keeps = λ x h. rw ok (value-with l.vars k.0 k.1 x (l.invariant.keeps x h));
       holds = λ w h g.
           let b = binding-at w kw n k g c.loop-name-test.true here in
           rw ok (with_value-holds w l.vars k.0 k.1 (l.invariant.holds w h g) b.0 b.1);

@@ -1,12 +1,14 @@
-use Rattle.std.proofs.Common.{◌≡◌, map, drop}
+use Rattle.std.proofs.Common.{◌≡◌, true, map, drop}
+use Rattle.py_node.specs.declared.refs.PyStrInterned.{PyStrInterned}
 use Rattle.class_world.specs.Held.{Held}
 use Rattle.class_world.specs.Reading.{Reading, spelled, bindings}
-use Rattle.class_world.specs.Sound.{AllHold, of_binding, of_each}
+use Rattle.class_world.specs.Sound.{AllHold, has_value, of_binding, of_each}
 use Rattle.proto_call.specs.Say.{with_keywords}
 use Rattle.proto_call.proofs.parameters.with_keywords.Given as goal
 
 abbrev pub invariant-loop-name : goal.invariant-loop-name
 invariant-loop-name l = record {
   vars : (t : Reading) → with_keywords (map (spelled t) l.params) (bindings t l.vars) (bindings t (drop l.name-index l.keywords)) ≡ with_keywords (map (spelled t) l.params) (bindings t l.fn.vars) (bindings t l.keywords);
+  keeps : (x : PyStrInterned) → has_value l.fn.vars x ≡ true → has_value l.vars x ≡ true;
   holds : (w : Held) → AllHold w (of_each of_binding l.fn.vars) → AllHold w (of_each of_binding l.keywords) → AllHold w (of_each of_binding l.vars);
 }
