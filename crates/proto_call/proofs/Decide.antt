@@ -1,7 +1,8 @@
 -- What was read stands in what is decided.
-use Rattle.std.proofs.Common.{◌≡◌, ℕ, zero, suc, ◌<◌, List, ◌∷◌, length, get_or, sym, subst, arith}
+use Rattle.std.proofs.Common.{◌≡◌, ℕ, zero, suc, ◌<◌, List, ◌∷◌, length, get_or, Result, Ok, Err, IfOk, sym, subst, arith}
 use Rattle.py_node.specs.declared.refs.PyObjectRef.{PyObjectRef}
 use Rattle.py_node.specs.declared.task.Step.{Step}
+use Rattle.py_node.specs.declared.memory.OutOfMemory.{OutOfMemory}
 use Rattle.plain_machine.specs.Plain.{PlainWorld, CallJob, Said}
 use Rattle.plain_machine.specs.Rows.{Pending}
 use Rattle.class_world.specs.declared.world.World.{World}
@@ -11,7 +12,7 @@ use Rattle.class_world.specs.Rows.{Steps, Follows}
 use Rattle.class_world.specs.Sound.{IsNode, AreNodes, Holds}
 use Rattle.proto_call.specs.declared.CallKept.{CallKept}
 use Rattle.proto_call.specs.Say.{call_job_say}
-use Rattle.proto_call.specs.Rows.{call_stands}
+use Rattle.proto_call.specs.Rows.{call_stands, Closes}
 
 -- a decision by the value that was read is one by what the plain world has
 pub by-read : {A : Type 0} (p : Reading → Pending CallJob) (F : Reading → PlainWorld → A → Said) (read : Reading → PlainWorld → A) (value : A) (old new : World) (step : Step CallKept) → ((t : Reading) → Reads t old → read t (plain t old) ≡ value) → Follows call_job_say call_stands p (λ t u. F t u value) old new step → Follows call_job_say call_stands p (λ t u. F t u (read t u)) old new step
@@ -24,6 +25,11 @@ pub from-same : (p : Reading → Pending CallJob) (F : Reading → PlainWorld �
 from-same p F old mid new step same reads f = λ t q.
     let h = f t q in
     (reads t h.0, subst (λ u. Steps call_job_say (call_stands t) t (p t).task (p t).told (F t u) step new) (same t) h.1)
+
+-- and so for a row that ends so, or finds no memory
+pub closes-after : (F : Reading → PlainWorld → Said) (old mid new : World) (r : Result (Step CallKept) OutOfMemory) → ((t : Reading) → Reads t mid → Reads t old) → ((t : Reading) → plain t mid ≡ plain t old) → IfOk r (λ step. Closes F mid new step) → IfOk r (λ step. Closes F old new step)
+closes-after F old mid new (Ok step) reads same h = λ p. from-same p F old mid new step same reads (h p)
+closes-after F old mid new (Err e) reads same h = tt
 
 pub first-node : (w : Held) (r : PyObjectRef) (rs : List PyObjectRef) → Holds w (IsNode r) → Holds w (AreNodes rs) → Holds w (AreNodes (r ∷ rs))
 unfolding Holds
