@@ -1,10 +1,11 @@
 -- The steps of the making of a class.
 use Rattle.std.proofs.Common.{◌≡◌, ℕ, zero, suc, ◌<◌, Bool, true, false, cond, List, [], ◌∷◌, ◌++◌, length, take, get_or, Option, Some, None, Result, Ok, Err, IfOk, refl, sym, ap, ◌∙◌, subst, arith, map, filter, not, codes}
-use Rattle.std.specs.Prelude.{slice_get}
+use Rattle.std.specs.Prelude.{is_some, slice_get}
 use Rattle.py_node.specs.declared.memory.OutOfMemory.{OutOfMemory}
 use Rattle.py_node.specs.declared.raised.Raised.{Raised as Fault}
 use Rattle.py_node.specs.declared.raised.Kind.TheVariants.{NotImplementedError}
-use Rattle.py_node.specs.declared.raised.Cause.TheVariants.{NotYet}
+use Rattle.py_node.specs.declared.raised.Cause.TheVariants.{NotBaseType, NotYet, QualnameType}
+use Rattle.py_node.specs.declared.raised.Cause.{Cause}
 use Rattle.py_node.specs.declared.refs.PyObjectRef.{PyObjectRef}
 use Rattle.py_node.specs.declared.refs.PyStrInterned.{PyStrInterned}
 use Rattle.py_node.specs.declared.refs.PyTypeRef.{PyTypeRef}
@@ -13,20 +14,25 @@ use Rattle.py_node.specs.Attributes.{value_of, is_same_name}
 use Rattle.py_node.specs.BuiltIns.{heap_flags}
 use Rattle.py_node.specs.Tree.{Text}
 use Rattle.class_model.specs.Class.{found_past}
-use Rattle.plain_machine.specs.Plain.{PlainWorld, Bindings, DoMakeClass, Said, Ends}
+use Rattle.plain_machine.specs.Plain.{Datum, AText, PlainWorld, Bindings, DoMakeClass, Said, Ends}
 use Rattle.plain_machine.specs.Row.{fault}
-use Rattle.plain_machine.specs.World.{ref, is_text, with_new_class}
+use Rattle.plain_machine.specs.World.{ref, is_text, datum_at, with_new_class}
 use Rattle.plain_machine.specs.Objects.{with_definers}
 use Rattle.class_world.specs.Held.{Held}
 use Rattle.class_world.specs.declared.world.World.{World}
 use Rattle.class_world.specs.Reading.{Reading, Reads, bindings, plain}
 use Rattle.class_world.specs.Rows.{Steps}
-use Rattle.class_world.specs.Sound.{IsNode, AreNodes, Holds, AllHold, Grows, of_binding, of_each}
+use Rattle.class_world.specs.NewHeap.{holds_text, qualified, refused_name, refused_heap}
+use Rattle.class_world.proofs.OfClasses.{bases-seen}
+use Rattle.class_table.specs.Keys.{numbers}
+use Rattle.class_table.specs.Refused.{refused_bases}
+use Rattle.std.specs.Option.{option_or}
+use Rattle.class_world.specs.Sound.{CanBeBase, IsNode, AreNodes, Holds, AllHold, Grows, of_binding, of_each}
 use Rattle.class_world.specs.Claims.{Leaves}
 use Rattle.class_world.proofs.Claims.{no-nodes}
 use Rattle.class_world.proofs.Growth.{grows-on}
 use Rattle.class_make.specs.declared.ClassKept.{ClassKept}
-use Rattle.class_make.specs.Say.{class_job_say, has_name, hook, is_text_at, made, made_unless, new_class, refusal, refusal_by, some_has, told_of, values_of}
+use Rattle.class_make.specs.Say.{class_job_say, has_name, hook, is_text_at, made, made_unless, new_class, refusal, refusal_by, some_has, text_of, told_of, values_of}
 use Rattle.class_make.specs.Rows.{Bound, Makes, class_stands, of_class_kept}
 use Rattle.class_make.proofs.Spaces.{has-read}
 
@@ -109,6 +115,29 @@ refusal-read t u v bs x o a b r e f g h k l =
     let value : value_of (λ y. is_text y (codes "__qualname__")) (bindings t bs) ≡ o = has-read t bs x (codes "__qualname__") g ∙ sym h in
     let named : is_text_at u (value_of (λ y. is_text y (codes "__qualname__")) (bindings t bs)) ≡ b = (λ i. is_text_at (sym e i) (value i)) ∙ k in
     (λ i. refusal_by (f i) (named i)) ∙ sym l
+
+-- a class that is not refused has a qualified name that is allowed
+pub named-allowed : (u : PlainWorld) (bs : Bindings) → refusal (u, bs) ≡ None → refused_name u (qualified bs) ≡ None
+unfolding refusal
+named-allowed u bs e = by-name (has_name bs (codes "__slots__")) (value_of (λ y. is_text y (codes "__qualname__")) bs) e
+  where
+    by-datum : (d : Option Datum) → refusal_by false (is_some (text_of d)) ≡ None → cond (holds_text d) None (Some QualnameType) ≡ None
+    by-datum (Some (AText x)) e = refl
+    by-datum None e = cc
+    by-datum (Some d) e = cc
+
+    by-name : (slots : Bool) (o : Option PyObjectRef) → refusal_by slots (is_text_at u o) ≡ None → refused_name u o ≡ None
+    by-name true o e = cc
+    by-name false None e = refl
+    by-name false (Some r) e = by-datum (datum_at u r) e
+
+-- and where its base can be one, the world doesn't refuse it
+pub never-refused : (w : World) (t : Reading) (b : PyTypeRef) (bases : List PyTypeRef) (bs : Bindings) (cause : Cause) → Some cause ≡ refused_heap (plain t w) (numbers bases) bs → bases ≡ b ∷ [] → Holds w (CanBeBase b.0) → refused_name (plain t w) (qualified bs) ≡ None → ⊥
+unfolding Holds
+never-refused w t b bases bs cause e one can named =
+    let allowed : refused_bases (plain t w).classes (numbers bases) ≡ None = bases-seen w w refl t (numbers bases) ∙ ap (λ bs. refused_bases w.classes (numbers bs)) one ∙ ap (λ q. cond q None (Some NotBaseType)) can in
+    let none : Some cause ≡ None = e ∙ ap (λ o. option_or o (refused_name (plain t w) (qualified bs))) allowed ∙ named in
+    cc
 
 pub made-read : (u v : PlainWorld) (meta : ℕ) (name : Text) (base : ℕ) (bs : Bindings) (o : Option Fault) → v ≡ u → refusal (u, bs) ≡ o → made_unless o meta name base (v, bs) ≡ made meta name base (u, bs)
 unfolding made

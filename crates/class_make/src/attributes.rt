@@ -1,10 +1,10 @@
 // The attributes of a class to be, and what its creation adds to them.
 
-ghost use Rattle.std.specs.Prelude.{◌≡◌, ◌&&◌, not, is_some, IfOk, IfSome};
+ghost use Rattle.std.specs.Prelude.{◌≡◌, None, ◌&&◌, not, is_some, IfOk, IfSome};
 ghost use Rattle.py_node.specs.Attributes.{value_of, is_same_name};
 ghost use Rattle.plain_machine.specs.World.{class_at};
 ghost use Rattle.class_world.specs.Reading.{Reading, Reads, bindings, datum, plain};
-ghost use Rattle.class_world.specs.Sound.{IsNode, IsName, IsClass, IsOf, home_of, Holds, AllHold, Grows, of_binding, of_each, of_payload};
+ghost use Rattle.class_world.specs.Sound.{IsNode, IsName, IsClass, IsOf, home_of, class_in, Holds, AllHold, Grows, of_binding, of_each, of_payload};
 ghost use Rattle.class_make.specs.Say.{has_name, is_class, put, give, wrap_value, wrap, qualify, unhash, give_dict, completed};
 ghost use Rattle.plain_machine.specs.Known.{the_function};
 ghost use Rattle.class_make.specs.Rows.{Becomes};
@@ -195,6 +195,7 @@ fn give(
     requires class { Holds world.old (IsClass class.0) }
     requires of { Holds world.old (IsOf class.0 (home_of payload)) }
     requires payload { AllHold world.old (of_payload payload) }
+    requires other { class_in payload ≡ None }
     requires attrs { AllHold world.old (of_each of_binding attrs) }
     ensures becomes { IfOk result (λ a. Becomes (λ t s. give s (t.text name.0) class.0 (datum t payload)) world.old attrs world.new a) }
     ensures holds { IfOk result (λ a. AllHold world.new (of_each of_binding a)) }
@@ -222,6 +223,7 @@ fn put(
     requires class { Holds world.old (IsClass class.0) }
     requires of { Holds world.old (IsOf class.0 (home_of payload)) }
     requires payload { AllHold world.old (of_payload payload) }
+    requires other { class_in payload ≡ None }
     requires attrs { AllHold world.old (of_each of_binding attrs) }
     ensures becomes { IfOk result (λ a. Becomes (λ t s. put s (t.text name.0) class.0 (datum t payload)) world.old attrs world.new a) }
     ensures holds { IfOk result (λ a. AllHold world.new (of_each of_binding a)) }

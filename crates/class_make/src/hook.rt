@@ -1,20 +1,22 @@
 // A class that is made, and how it is told of.
 
-ghost use Rattle.std.specs.Prelude.{◌≡◌, filter, not, string_bytes, Ok, IfOk, IfSome};
+ghost use Rattle.std.specs.Prelude.{◌≡◌, filter, length, not, string_bytes, None, Ok, IfOk, IfSome, OnOk};
 ghost use Rattle.py_node.specs.declared.task.Answer.TheVariants as answer;
 ghost use Rattle.py_node.specs.Attributes.{is_same_name};
 ghost use Rattle.plain_machine.specs.Objects.{with_definers, wrapped_function};
 ghost use Rattle.plain_machine.specs.World.{datum_at};
 ghost use Rattle.py_node.specs.declared.built_in.BuiltIn.TheVariants.{TypeType};
 ghost use Rattle.class_world.specs.Claims.{of_ended, of_step, Leaves};
+ghost use Rattle.class_world.specs.NewHeap.{qualified, refused_name};
 ghost use Rattle.class_world.specs.Reading.{Reading, Reads, bindings, plain};
 ghost use Rattle.class_world.specs.Sound.{IsNode, AreNodes, IsClass, IsOf, CanBeBase, Holds, AllHold, Grows, of_binding, of_each};
-ghost use Rattle.class_make.specs.Say.{is_text_at, some_has, values_of, hook, told_of, refusal, refusal_by, made, made_unless};
+ghost use Rattle.class_make.specs.Say.{is_text_at, some_has, values_of, hook, told_of, new_class, refusal, refusal_by, made, made_unless};
 ghost use Rattle.class_make.specs.Rows.{Makes, Resumes, of_class_kept};
 
 use crate::ClassKept;
 use crate::attributes::has_name;
 use crate::namespace::text_at;
+use class_table::fault::ClassFault;
 use class_world::world::World;
 use py_node::attributes::PyAttributes;
 use py_node::memory::OutOfMemory;
@@ -110,7 +112,7 @@ fn is_text_at(world: &World, alloc: Global, node: Option<PyObjectRef>) -> Result
 fn made_unless(
     world: &mut World,
     alloc: Global,
-    refusal: Option<Raised>,
+    why: Option<Raised>,
     plan: Plan,
     kw: Keywords,
 ) -> Result<Step<ClassKept>, OutOfMemory>
@@ -119,11 +121,12 @@ fn made_unless(
     requires base { Holds world.old (IsClass plan.base.0) }
     requires can { Holds world.old (CanBeBase plan.base.0) }
     requires attrs { AllHold world.old (of_each of_binding plan.attrs) }
+    requires refusal { (t : Reading) → Reads t world.old → refusal (plain t world.old, bindings t plan.attrs) ≡ why }
     requires kw { AllHold world.old (of_each of_binding kw.items) }
-    ensures goes { IfOk result (λ step. Makes kw.items (λ t u. made_unless refusal plan.meta.0 (string_bytes plan.name) plan.base.0 (u, bindings t plan.attrs)) world.old world.new step) }
+    ensures goes { IfOk result (λ step. Makes kw.items (λ t u. made_unless why plan.meta.0 (string_bytes plan.name) plan.base.0 (u, bindings t plan.attrs)) world.old world.new step) }
     ensures safe { Leaves of_class_kept world.old world.new result }
 {
-    match refusal {
+    match why {
         Some(raised) => Ok(Step::End(Err(raised))),
         None => {
             let Plan {
@@ -133,10 +136,41 @@ fn made_unless(
                 attrs,
             } = plan;
             let values = values_of(alloc, &attrs)?;
-            let (class, node) = world.make_class(alloc, meta, name.as_str(), base, attrs)?;
+            let class = new_class(world, alloc, meta, name.as_str(), base, attrs)?;
+            let node = world.class_node(class);
             define_all(world, class, &values);
             told_of(world, alloc, class, node, &values, kw)
         }
+    }
+}
+
+// A new class, which the world cannot refuse: its base can be one, and its qualified name is a text.
+fn new_class(
+    world: &mut World,
+    alloc: Global,
+    meta: PyTypeRef,
+    name: &str,
+    base: PyTypeRef,
+    attrs: PyAttributes,
+) -> Result<PyTypeRef, OutOfMemory>
+    requires meta { Holds world.old (IsClass meta.0) }
+    requires meta_of { Holds world.old (IsOf meta.0 TypeType) }
+    requires base { Holds world.old (IsClass base.0) }
+    requires can { Holds world.old (CanBeBase base.0) }
+    requires attrs { AllHold world.old (of_each of_binding attrs) }
+    requires named { (t : Reading) → Reads t world.old → refused_name (plain t world.old) (qualified (bindings t attrs)) ≡ None }
+    ensures made { OnOk result ((t : Reading) → plain t world.new ≡ new_class (plain t world.old) meta.0 name.now base.0 (bindings t attrs)) }
+    ensures number { IfOk result (λ c. (t : Reading) → c.0 ≡ length (plain t world.old).nodes) }
+    ensures reads { (t : Reading) → Reads t world.new → Reads t world.old }
+    ensures grows { Grows world.old world.new }
+    ensures class { IfOk result (λ c. Holds world.new (IsClass c.0)) }
+{
+    world.readable();
+    let bases = vec![in alloc; base]?;
+    match world.new_heap(alloc, name, bases, attrs, Vec::new(alloc), meta) {
+        Ok(class) => Ok(class),
+        Err(ClassFault::OutOfMemory) => Err(OutOfMemory),
+        Err(ClassFault::Refused(_)) => unreachable!(),
     }
 }
 
