@@ -1,8 +1,35 @@
 -- What callers see of a machine.
-use Rattle.std.specs.Prelude.{Bool}
+use Rattle.std.specs.Prelude.{◌≡◌, ℕ, Bool, List, Result, Ok, Err, OnOk, OnErr, IsTrue, length}
+use Rattle.py_node.specs.declared.memory.OutOfMemory.{OutOfMemory}
+use Rattle.py_node.specs.declared.refs.PyObjectRef.{PyObjectRef}
+use Rattle.py_node.specs.declared.refs.PyStrInterned.{PyStrInterned}
+use Rattle.py_node.specs.declared.refs.PyTypeRef.{PyTypeRef}
+use Rattle.py_node.specs.Tree.{Text}
+use Rattle.class_table.specs.declared.fault.ClassFault.{ClassFault}
+use Rattle.class_table.specs.declared.fault.ClassFault.TheVariants as class_fault
+use Rattle.plain_machine.specs.World.{with_new_class}
 use Rattle.class_world.specs.Held.{Held}
+use Rattle.class_world.specs.NewHeap.{heap_class_of}
+use Rattle.class_world.specs.Reading.{Reading, plain}
 
--- its world, and whether it has failed
+-- its world, whether it has failed, and for how many frames it has room
 pub record State : Type 0 where
   pub world : Held
   pub failed : Bool
+  pub frames : ℕ
+
+-- want of memory sets the mark, and nothing else does
+abbrev pub MarkedBy : {T : Type 0} → State → State → Result T OutOfMemory → Type 0
+MarkedBy old new (Ok x) = new.failed ≡ old.failed
+MarkedBy old new (Err e) = IsTrue new.failed
+
+-- the same, where a rule may also refuse
+abbrev pub MarkedAs : {T : Type 0} → State → State → Result T ClassFault → Type 0
+MarkedAs old new (Ok x) = new.failed ≡ old.failed
+MarkedAs old new (Err (class_fault.Refused cause)) = new.failed ≡ old.failed
+MarkedAs old new (Err class_fault.OutOfMemory) = IsTrue new.failed
+
+-- the world has one more class, of a script
+abbrev pub MadeHeap : Reading → Held → Held → ℕ → Text → List PyTypeRef → List (PyStrInterned × PyObjectRef) → List PyStrInterned → Type 0
+MadeHeap t old new metaclass name bases attrs members =
+    plain t new ≡ with_new_class (plain t old) metaclass (heap_class_of t name (length (plain t old).nodes) bases attrs members)

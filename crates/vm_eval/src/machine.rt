@@ -1,6 +1,6 @@
 // The virtual machine: a world, and whether a run of it found no memory.
 
-ghost use Rattle.std.specs.Prelude.{◌≡◌, [], IfErr, IfOk, OnOk, OnErr, Err, IsTrue, false, true};
+ghost use Rattle.std.specs.Prelude.{◌≡◌, ◌≤◌, [], IfErr, IfOk, OnOk, OnErr, Err, IsTrue, false, true};
 ghost use Rattle.plain_machine.specs.Start.{start};
 ghost use Rattle.class_world.specs.Reading.{Reading, Reads, plain, IsReadable};
 ghost use Rattle.plain_machine.specs.Sound.{IsSound};
@@ -23,31 +23,38 @@ pub enum RunFault {
     Failed,
 }
 
+impl From<OutOfMemory> for RunFault {
+    fn from(_: OutOfMemory) -> RunFault {
+        RunFault::OutOfMemory
+    }
+}
+
 /// The machine that runs commands.
 #[derive(Drop)]
 pub struct VirtualMachine {
-    world: World,
+    pub(crate) world: World,
     stack: Vec<Kept>,
-    failed: bool,
+    pub(crate) failed: bool,
 }
 
 impl Model for VirtualMachine {
-    ghost use Rattle.std.specs.Prelude.{◌≡◌, []};
+    ghost use Rattle.std.specs.Prelude.{◌≡◌, [], vec_capacity};
     ghost use Rattle.vm_eval.specs.State.{State};
 
     ghost Value = { State };
 
-    ghost view = { λ a. record { world = a.world; failed = a.failed } };
+    ghost view = { λ a. record { world = a.world; failed = a.failed; frames = vec_capacity a.stack } };
 
     // No body runs.
     ghost invariant = { λ a. a.world.scopes ≡ [] };
 }
 
 impl VirtualMachine {
-    /// A new machine, with the built-in classes and no variables. Its frames are reserved.
+    /// A new machine, with the built-in classes and no variables. Room for 1,000 frames is reserved.
     pub fn new(alloc: Global) -> Result<VirtualMachine, OutOfMemory>
         ensures start { IfOk result (λ vm. (t : Reading) → Reads t vm.world → plain t vm.world ≡ start) }
         ensures clear { IfOk result (λ vm. vm.failed ≡ false) }
+        ensures frames { IfOk result (λ vm. 1000 ≤ vm.frames) }
     {
         let world = World::new(alloc)?;
         let stack = Vec::with_capacity(alloc, DEPTH)?;
