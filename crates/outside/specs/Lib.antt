@@ -1,4 +1,5 @@
 pub mod Count
 pub mod Memory
+pub mod Plan
 pub mod Source
 pub mod Words

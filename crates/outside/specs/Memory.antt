@@ -18,6 +18,10 @@ source_plan source = source.plan
 abbrev pub quiet_left : QuietSource → List ℕ
 quiet_left source = drop source.place source.bytes.items
 
+-- the most bytes that it gives in a call
+abbrev pub source_chunk : MemorySource → ℕ
+source_chunk source = source.chunk
+
 -- the bytes that it has taken
 abbrev pub sink_bytes : MemorySink → List ℕ
 sink_bytes sink = sink.bytes.items
@@ -25,6 +29,14 @@ sink_bytes sink = sink.bytes.items
 -- the calls that are to fail, and have failed
 abbrev pub sink_plan : MemorySink → Plan
 sink_plan sink = sink.plan
+
+-- the most bytes that it takes in a call
+abbrev pub sink_chunk : MemorySink → ℕ
+sink_chunk sink = sink.chunk
+
+-- how many more it takes without asking for memory
+abbrev pub sink_room : MemorySink → ℕ
+sink_room sink = vec_capacity sink.bytes - vec_len sink.bytes
 
 -- the bytes that it has taken
 abbrev pub quiet_bytes : QuietSink → List ℕ
