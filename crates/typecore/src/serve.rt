@@ -63,6 +63,17 @@ pub fn serve<S: Source, K: Sink>(
         → ForSome (S.left source.old) (λ bytes. (commands : List Tree) → script_of bytes ≡ Ok commands → length bytes ≤ 2 ^ 24
         → (Rose (S.faults source.old) (S.faults source.new) → ⊥) → (Rose (K.faults sink.old) (K.faults sink.new) → ⊥)
         → IsDoneOrPoor result) }
+    // The same known before the call: a source that never fails, and a sink that is sure of the whole text.
+    ensures ahead { (units : ℕ) → units_in (map string_bytes words.now) ≡ Some units
+        → ForSome (S.left source.old) (λ bytes. (commands : List Tree) → script_of bytes ≡ Ok commands → length bytes ≤ 2 ^ 24
+        → S.quiet source.old → length (run_text commands units) ≤ K.sure sink.old → IsDoneOrPoor result) }
+    // A source that never fails, a text that the sink is sure of, and counts that never fall.
+    ensures quiet { S.quiet source.old → result ≡ Status.ReadFault → ⊥ }
+    ensures sure { (units : ℕ) → units_in (map string_bytes words.now) ≡ Some units
+        → ForSome (S.left source.old) (λ bytes. (text : List ℕ) → IsTextOf bytes units text → length text ≤ K.sure sink.old
+        → result ≡ Status.WriteFault → ⊥) }
+    ensures later { S.faults source.old ≤ S.faults source.new }
+    ensures later_sink { K.faults sink.old ≤ K.faults sink.new }
 {
     match units_of(words) {
         None => Status::Usage,
@@ -89,6 +100,9 @@ fn answer<K: Sink>(alloc: Global, bytes: &[u8], units: u64, sink: &mut K) -> Sta
     ensures nothing { (result ≡ Status.Done → ⊥) → (result ≡ Status.WriteFault → ⊥) → K.taken sink.new ≡ K.taken sink.old }
     ensures complete { (commands : List Tree) → script_of bytes.now ≡ Ok commands
         → (Rose (K.faults sink.old) (K.faults sink.new) → ⊥) → IsDoneOrPoor result }
+    ensures sure { (text : List ℕ) → IsTextOf bytes.now units text → length text ≤ K.sure sink.old
+        → result ≡ Status.WriteFault → ⊥ }
+    ensures later { K.faults sink.old ≤ K.faults sink.new }
 {
     match text_of(alloc, bytes, units) {
         Err(ScriptFault::Script(error)) => Status::Script(error),
