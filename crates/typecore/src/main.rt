@@ -1,14 +1,9 @@
 // The program: it reads a script from standard input, runs it and writes the replies.
 #![tactic(auto)]
 
-mod serve;
-mod status;
-#[cfg(test)]
-mod tests;
-
 use outside::standard::{StdSink, StdSource};
-use serve::serve;
-use status::Status;
+use serve::status::Status;
+use serve::top::serve;
 use std::process::ExitCode;
 use std::{env, io};
 

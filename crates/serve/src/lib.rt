@@ -1,0 +1,7 @@
+// The one top call, from words and bytes to bytes, and how it ends.
+#![tactic(auto)]
+
+pub mod status;
+#[cfg(test)]
+mod tests;
+pub mod top;

@@ -1,0 +1,142 @@
+// The one top call: words, a source and a sink.
+
+ghost use Rattle.std.specs.Prelude.{◌≡◌, ◌<◌, ◌≤◌, ◌+◌, ◌^◌, [], ◌++◌, ℕ, List, length, take, drop, map, string_bytes, Some, None, IfOk, Ok, Err};
+ghost use Rattle.std.specs.Option.{ForSome};
+ghost use Rattle.outside.specs.Count.{Rose};
+ghost use Rattle.outside.specs.Words.{units_in};
+ghost use Rattle.script_text.specs.Script.{script_of};
+ghost use Rattle.script_text.specs.declared.read.ScriptError.{ScriptError as Refusal};
+ghost use Rattle.py_node.specs.Tree.{Tree};
+ghost use Rattle.serve.specs.Headline.{IsTextOf, run_text};
+ghost use Rattle.serve.specs.Status.{HasReadAll, IsDoneOrPoor};
+ghost use Rattle.vm_eval.specs.Runs.{trees_in};
+
+use crate::status::Status;
+use class_world::classes::push_classes;
+use outside::read_all::{ReadEnd, read_all};
+use outside::sink::Sink;
+use outside::source::Source;
+use outside::words::units_of;
+use outside::write_all::write_all;
+use py_node::expr::Command;
+use py_node::memory::OutOfMemory;
+use reply_text::write::write_replies;
+use script_text::read::{ScriptFault, read_script};
+use std::alloc::Global;
+use vm_eval::machine::VirtualMachine;
+
+/// Reads a script to the source's end, runs each command of it with the units that the words give, and
+/// writes the replies and the classes that it made to the sink. Nothing is written before all was read and run.
+pub fn serve<S: Source, K: Sink>(
+    alloc: Global,
+    words: &[String],
+    source: &mut S,
+    sink: &mut K,
+) -> Status
+    // What is written is the text of the plain machine's run, and nothing else.
+    ensures done { result ≡ Status.Done → (units : ℕ) × (units_in (map string_bytes words.now) ≡ Some units)
+        × ForSome (S.left source.old) (λ bytes. (length bytes ≤ 2 ^ 24) × (text : List ℕ) × IsTextOf bytes units text
+        × ForSome (K.taken sink.old) (λ old. K.taken sink.new ≡ Some (old ++ text))) }
+    // What has a script's answer, or failed in writing it, has read all; whatever comes, at most one byte
+    // past the limit is read, and for words that are none nothing.
+    ensures read { HasReadAll result → ForSome (S.left source.old) (λ _. S.left source.new ≡ Some []) }
+    ensures at_most { ForSome (S.left source.old) (λ bytes. (n : ℕ) × (n ≤ 2 ^ 24 + 1) × (S.left source.new ≡ Some (drop n bytes))) }
+    ensures unread { result ≡ Status.Usage → source.new ≡ source.old }
+    // Usage comes exactly where the words are none that the program knows.
+    ensures usage { result ≡ Status.Usage → units_in (map string_bytes words.now) ≡ None }
+    ensures only_usage { units_in (map string_bytes words.now) ≡ None → result ≡ Status.Usage }
+    // A word of a script comes only where the bytes, which are few enough, give it.
+    ensures script { (e : Refusal) → result ≡ Status.Script e → ForSome (S.left source.old) (λ bytes. (length bytes ≤ 2 ^ 24) × (script_of bytes ≡ Err e)) }
+    ensures read_fault { result ≡ Status.ReadFault → Rose (S.faults source.old) (S.faults source.new) }
+    ensures too_large { result ≡ Status.TooLarge → ForSome (S.left source.old) (λ bytes. 2 ^ 24 < length bytes) }
+    ensures fits { ForSome (S.left source.old) (λ bytes. length bytes ≤ 2 ^ 24 → result ≡ Status.TooLarge → ⊥) }
+    ensures write_fault { result ≡ Status.WriteFault → Rose (K.faults sink.old) (K.faults sink.new) }
+    // What was taken before a fault is a front of the text.
+    ensures front { result ≡ Status.WriteFault → (units : ℕ) × (units_in (map string_bytes words.now) ≡ Some units)
+        × ForSome (S.left source.old) (λ bytes. (length bytes ≤ 2 ^ 24) × (text : List ℕ) × IsTextOf bytes units text
+        × ForSome (K.taken sink.old) (λ old. (n : ℕ) × (n < length text) × (K.taken sink.new ≡ Some (old ++ take n text)))) }
+    // With any other end nothing is written.
+    ensures nothing { (result ≡ Status.Done → ⊥) → (result ≡ Status.WriteFault → ⊥) → K.taken sink.new ≡ K.taken sink.old }
+    // Words that are known, bytes that spell a script and are few enough, and no failure: then all is
+    // written, or memory could not be had.
+    ensures complete { (units : ℕ) → units_in (map string_bytes words.now) ≡ Some units
+        → ForSome (S.left source.old) (λ bytes. (commands : List Tree) → script_of bytes ≡ Ok commands → length bytes ≤ 2 ^ 24
+        → (Rose (S.faults source.old) (S.faults source.new) → ⊥) → (Rose (K.faults sink.old) (K.faults sink.new) → ⊥)
+        → IsDoneOrPoor result) }
+    // The same known before the call: a source that never fails, and a sink that is sure of the whole text.
+    ensures ahead { (units : ℕ) → units_in (map string_bytes words.now) ≡ Some units
+        → ForSome (S.left source.old) (λ bytes. (commands : List Tree) → script_of bytes ≡ Ok commands → length bytes ≤ 2 ^ 24
+        → S.quiet source.old → length (run_text commands units) ≤ K.sure sink.old → IsDoneOrPoor result) }
+    // A source that never fails, a text that the sink is sure of, and counts that never fall.
+    ensures quiet { S.quiet source.old → result ≡ Status.ReadFault → ⊥ }
+    ensures sure { (units : ℕ) → units_in (map string_bytes words.now) ≡ Some units
+        → ForSome (S.left source.old) (λ bytes. (text : List ℕ) → IsTextOf bytes units text → length text ≤ K.sure sink.old
+        → result ≡ Status.WriteFault → ⊥) }
+    ensures later { S.faults source.old ≤ S.faults source.new }
+    ensures later_sink { K.faults sink.old ≤ K.faults sink.new }
+{
+    match units_of(words) {
+        None => Status::Usage,
+        Some(units) => match read_all(alloc, source) {
+            Err(ReadEnd::Fault) => Status::ReadFault,
+            Err(ReadEnd::TooLarge) => Status::TooLarge,
+            Err(ReadEnd::OutOfMemory) => Status::OutOfMemory,
+            Ok(bytes) => answer(alloc, &bytes, units, sink),
+        },
+    }
+}
+
+// Runs the script that bytes spell, and writes the text of the run.
+fn answer<K: Sink>(alloc: Global, bytes: &[u8], units: u64, sink: &mut K) -> Status
+    ensures done { result ≡ Status.Done → (text : List ℕ) × IsTextOf bytes.now units text
+        × ForSome (K.taken sink.old) (λ old. K.taken sink.new ≡ Some (old ++ text)) }
+    ensures usage { result ≡ Status.Usage → ⊥ }
+    ensures script { (e : Refusal) → result ≡ Status.Script e → script_of bytes.now ≡ Err e }
+    ensures read_fault { result ≡ Status.ReadFault → ⊥ }
+    ensures too_large { result ≡ Status.TooLarge → ⊥ }
+    ensures write_fault { result ≡ Status.WriteFault → Rose (K.faults sink.old) (K.faults sink.new) }
+    ensures front { result ≡ Status.WriteFault → (text : List ℕ) × IsTextOf bytes.now units text
+        × ForSome (K.taken sink.old) (λ old. (n : ℕ) × (n < length text) × (K.taken sink.new ≡ Some (old ++ take n text))) }
+    ensures nothing { (result ≡ Status.Done → ⊥) → (result ≡ Status.WriteFault → ⊥) → K.taken sink.new ≡ K.taken sink.old }
+    ensures complete { (commands : List Tree) → script_of bytes.now ≡ Ok commands
+        → (Rose (K.faults sink.old) (K.faults sink.new) → ⊥) → IsDoneOrPoor result }
+    ensures sure { (text : List ℕ) → IsTextOf bytes.now units text → length text ≤ K.sure sink.old
+        → result ≡ Status.WriteFault → ⊥ }
+    ensures later { K.faults sink.old ≤ K.faults sink.new }
+{
+    match text_of(alloc, bytes, units) {
+        Err(ScriptFault::Script(error)) => Status::Script(error),
+        Err(ScriptFault::OutOfMemory(_)) => Status::OutOfMemory,
+        Ok(text) => match write_all(sink, &text) {
+            Ok(()) => Status::Done,
+            Err(_) => Status::WriteFault,
+        },
+    }
+}
+
+// The text of the run of the script that bytes spell.
+fn text_of(alloc: Global, bytes: &[u8], units: u64) -> Result<Vec<u8>, ScriptFault>
+    ensures text { IfOk result (λ v. IsTextOf bytes.now units v.items) }
+    ensures script { (e : Refusal) → result ≡ Err (ScriptFault.Script e) → script_of bytes.now ≡ Err e }
+{
+    let commands = read_script(alloc, bytes)?;
+    match run_text(alloc, &commands, units) {
+        Ok(text) => Ok(text),
+        Err(error) => Err(ScriptFault::OutOfMemory(error)),
+    }
+}
+
+// The text of the replies to commands, and of the classes that they made.
+fn run_text(alloc: Global, commands: &[Command], units: u64) -> Result<Vec<u8>, OutOfMemory>
+    ensures { IfOk result (λ v. v.items ≡ run_text (trees_in commands.now) units) }
+{
+    let mut vm = VirtualMachine::new(alloc)?;
+    match vm.run(alloc, commands, units) {
+        Ok(replies) => {
+            let mut text = write_replies(alloc, &replies)?;
+            push_classes(&mut text, vm.world())?;
+            Ok(text)
+        }
+        Err(_) => Err(OutOfMemory),
+    }
+}

@@ -1,0 +1,47 @@
+// Runs the worked scripts: each line of the file `index` is a call of the program, over a source and a sink in memory
+// that move a byte at a time. Writes of each its name, the word for how it ended, and the text that the sink has taken.
+// The files are looked for where it runs, or in the folder that its first word names.
+#![tactic(auto)]
+
+ghost use Rattle.std.specs.Prelude.{◌<◌};
+
+mod index;
+
+use index::{Case, case_of};
+use outside::memory::{MemorySink, MemorySource};
+use outside::standard::StdSink;
+use outside::write_all::write_all;
+use serve::top::serve;
+use std::alloc::{AllocError, Global};
+use std::process::ExitCode;
+use std::{env, fs, io};
+
+fn main(rt: HostRuntime) -> io::Result<ExitCode> {
+    let folder = env::args(&rt)?.nth(1).unwrap_or(String::from_str(rt.alloc(), ".")?);
+    let index = fs::read_to_string(&rt, path(rt.alloc(), &folder, "index")?)?;
+    let mut sink = StdSink::new(io::writer(&rt));
+    for line in index.as_str().lines() {
+        if let Some(case) = case_of(rt.alloc(), line)? {
+            let script = fs::read(&rt, path(rt.alloc(), &folder, case.script.as_str())?)?;
+            if write_all(&mut sink, &told(rt.alloc(), &case, script)?).is_err() {
+                return Ok(ExitCode::from(1));
+            }
+        }
+    }
+    Ok(ExitCode::from(0))
+}
+
+fn path(alloc: Global, folder: &String, name: &str) -> Result<String, AllocError> {
+    format!(in alloc; "{folder}/{name}")
+}
+
+// What is written of a call.
+fn told(alloc: Global, case: &Case, script: Vec<u8>) -> Result<Vec<u8>, AllocError> {
+    let mut source = MemorySource::new(script, 1, case.failing_reads.as_slice().to_vec(alloc)?);
+    let mut sink = MemorySink::new(alloc, 1, case.failing_writes.as_slice().to_vec(alloc)?);
+    let status = serve(alloc, &case.words, &mut source, &mut sink);
+    let word = status.word().unwrap_or("Done");
+    let mut text = format!(in alloc; "## {}\n{word}\n", case.name)?.into_bytes();
+    text.extend_from_slice(sink.bytes())?;
+    Ok(text)
+}
