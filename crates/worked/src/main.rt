@@ -17,12 +17,17 @@ use std::process::ExitCode;
 use std::{env, fs, io};
 
 fn main(rt: HostRuntime) -> io::Result<ExitCode> {
-    let folder = env::args(&rt)?.nth(1).unwrap_or(String::from_str(rt.alloc(), ".")?);
-    let index = fs::read_to_string(&rt, path(rt.alloc(), &folder, "index")?)?;
+    let folder = env::args(&rt)?
+        .nth(1)
+        .unwrap_or(String::from_str(rt.alloc(), ".")?);
+    let index = fs::read_to_string(&rt, path(rt.alloc(), folder.as_str(), "index")?)?;
     let mut sink = StdSink::new(io::writer(&rt));
     for line in index.as_str().lines() {
         if let Some(case) = case_of(rt.alloc(), line)? {
-            let script = fs::read(&rt, path(rt.alloc(), &folder, case.script.as_str())?)?;
+            let script = fs::read(
+                &rt,
+                path(rt.alloc(), folder.as_str(), case.script.as_str())?,
+            )?;
             if write_all(&mut sink, &told(rt.alloc(), &case, script)?).is_err() {
                 return Ok(ExitCode::from(1));
             }
@@ -31,7 +36,7 @@ fn main(rt: HostRuntime) -> io::Result<ExitCode> {
     Ok(ExitCode::from(0))
 }
 
-fn path(alloc: Global, folder: &String, name: &str) -> Result<String, AllocError> {
+fn path(alloc: Global, folder: &str, name: &str) -> Result<String, AllocError> {
     format!(in alloc; "{folder}/{name}")
 }
 
