@@ -1,6 +1,4 @@
 // Calls whose scripts are no files of the worked ones: every front of a script, and a script of the greatest length.
-ghost use Rattle.std.specs.Prelude.{◌<◌};
-
 use crate::status::Status;
 use crate::top::serve;
 use outside::memory::{MemorySink, MemorySource};

@@ -3,8 +3,6 @@
 // The files are looked for where it runs, or in the folder that its first word names.
 #![tactic(auto)]
 
-ghost use Rattle.std.specs.Prelude.{◌<◌};
-
 mod index;
 
 use index::{Case, case_of};
