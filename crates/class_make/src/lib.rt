@@ -10,8 +10,6 @@ mod attributes;
 mod hook;
 mod make;
 mod namespace;
-#[cfg(test)]
-mod tests;
 mod type_new;
 
 use crate::hook::{bound, called};

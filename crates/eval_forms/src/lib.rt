@@ -11,8 +11,6 @@ ghost use Rattle.py_node.specs.Tree.{TConst, literal_of};
 ghost use Rattle.eval_forms.specs.Rows.{Begins, Resumes, Continues, ContinuesTree, Closes, Takes, IsOwn, HasValues, IsOther, of_eval_kept};
 
 mod class_form;
-#[cfg(test)]
-mod tests;
 
 use class_form::class_step;
 use class_world::args::{copy_args, two_of};

@@ -25,8 +25,6 @@ mod create;
 mod init;
 mod object;
 mod parameters;
-#[cfg(test)]
-mod tests;
 
 /// What a row of a call keeps while it waits for an answer.
 #[derive(Drop)]

@@ -5,5 +5,3 @@ pub mod calls;
 pub mod machine;
 mod run;
 mod stack;
-#[cfg(test)]
-mod tests;

@@ -1,5 +1,0 @@
-use Rattle.class_world.proofs.Claims.{no-nodes}
-use Rattle.proto_call.proofs.tests.no_args.Goals as goal
-
-pub returns : goal.returns
-returns c = λ w. rw c.new.ensures.items (no-nodes w)
