@@ -11,8 +11,6 @@ mod numbers;
 pub mod objects;
 pub mod scope;
 pub mod show;
-#[cfg(test)]
-mod show_tests;
 mod start;
 pub mod store;
 #[cfg(test)]
