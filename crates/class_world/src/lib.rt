@@ -9,6 +9,7 @@ mod heap;
 mod nodes;
 mod numbers;
 pub mod objects;
+mod of_classes;
 pub mod scope;
 pub mod show;
 mod start;
