@@ -1,26 +1,20 @@
 // The world, and what is read and changed there.
 
-ghost use Rattle.std.specs.Prelude.{◌≡◌, ◌^◌, ◌<◌, ◌-◌, ℕ, suc, List, map, length, take, is_some, Some, None, IfOk, OnOk, OnErr, IfSome, IsTrue, [], ◌∷◌, ◌++◌, slice_get, string_bytes, option_map};
-ghost use Rattle.py_node.specs.Tree.{tree_of};
+ghost use Rattle.std.specs.Prelude.{◌≡◌, ◌<◌, ◌-◌, ℕ, suc, List, map, length, take, is_some, Some, None, IfOk, OnOk, OnErr, IfSome, IsTrue, slice_get, string_bytes};
 ghost use Rattle.py_node.specs.Replies.{started_of};
 ghost use Rattle.py_node.specs.Slots.{special_names};
 ghost use Rattle.plain_machine.specs.Start.{bare, start};
-ghost use Rattle.plain_machine.specs.World.{ref, with_node, next_node, has_dict, at_depth, without_calls, class_at, datum_at, number_of, text_keys, slot_at, candidates_at, variable, with_binding, with_scope, without_scope, is_text};
+ghost use Rattle.plain_machine.specs.World.{with_node, next_node, has_dict, at_depth, without_calls, class_at, datum_at, number_of, variable, with_binding, with_scope, without_scope};
 ghost use Rattle.plain_machine.specs.Known.{the_dict};
-ghost use Rattle.plain_machine.specs.Objects.{class_has_flag};
 ghost use Rattle.plain_machine.specs.Sound.{holds_as, IsSound};
 ghost use Rattle.py_node.specs.declared.built_in.BuiltIn.{BuiltIn};
 ghost use Rattle.py_node.specs.declared.built_in.BuiltIn.TheVariants.{Dict, TypeType};
-ghost use Rattle.class_model.specs.Class.{class_at as class_numbered, found, found_past, own_of, is_sub, has_flag};
-ghost use Rattle.class_model.specs.Slot.{entry, slot as slot_read, candidates_of, is_heap_at};
-ghost use Rattle.class_model.specs.BuiltIn.{natives_of};
-ghost use Rattle.class_table.specs.Refused.{is_base_at};
-ghost use Rattle.class_table.specs.Turn.{list_of};
+ghost use Rattle.class_model.specs.Class.{found};
 ghost use Rattle.py_node.specs.BuiltIns.{place_of};
 ghost use Rattle.class_world.specs.Fixed.{number_of_fixed};
 ghost use Rattle.class_world.specs.Held.{Held};
 ghost use Rattle.class_world.specs.Reading.{Reading, Reads, form_tree, datum, bindings, plain, IsReadable};
-ghost use Rattle.class_world.specs.Sound.{IsNode, IsClass, IsOf, CanBeBase, IsExpression, IsName, Holding, HasParams, HasValues, Holds, AllHold, Lasts, Grows, home_of, class_in, params_in, of_option, of_node, of_payload, of_form, of_binding, of_each};
+ghost use Rattle.class_world.specs.Sound.{IsNode, IsClass, IsOf, IsExpression, IsName, Holding, HasParams, HasValues, Holds, AllHold, Lasts, Grows, home_of, class_in, params_in, of_option, of_node, of_payload, of_form, of_binding, of_each};
 ghost use Rattle.class_world.specs.Added.{IsEmptyDict};
 
 use crate::attributes_of_built_ins::add_own_attrs;
@@ -28,12 +22,10 @@ use crate::nodes::add_object;
 use crate::scope::Scope;
 use crate::start::start_nodes;
 use crate::variables::{bind_in, value_in};
-use class_table::candidates::Candidates;
 use class_table::start::special_names;
 use class_table::table::ClassTable;
 use py_node::attributes::PyAttributes;
 use py_node::built_in::BuiltIn;
-use py_node::entry::{SlotEntry, SlotId};
 use py_node::flags::PyTypeFlags;
 use py_node::memory::OutOfMemory;
 use py_node::names::Names;
