@@ -1,5 +1,5 @@
 -- Objects that are put into a world with their dicts.
-use Rattle.std.proofs.Common.{◌≡◌, ℕ, ◌+◌, cond, List, [], ◌∷◌, ◌++◌, length, map, Option, Some, None, Result, Ok, Err, IfOk, IfSome, OnOk, OnErr, refl, sym, ap, ◌∙◌, subst, arith, length-append}
+use Rattle.std.proofs.Common.{◌≡◌, ◌+◌, cond, List, [], ◌∷◌, ◌++◌, length, map, Option, Some, None, Result, Ok, Err, IfOk, IfSome, OnOk, OnErr, refl, sym, ap, ◌∙◌, subst, arith, length-append}
 use Rattle.std.specs.Prelude.{is_some, option_map}
 use Rattle.std.proofs.lemmas.List.{length-map}
 use Rattle.py_node.specs.declared.refs.PyObjectRef.{PyObjectRef}
@@ -9,7 +9,7 @@ use Rattle.py_node.specs.declared.payload.Node.{Node}
 use Rattle.py_node.specs.declared.payload.Payload.{Payload}
 use Rattle.py_node.specs.declared.payload.Payload.TheVariants as payload
 use Rattle.plain_machine.specs.Known.{the_dict}
-use Rattle.plain_machine.specs.Plain.{Datum, ADict, no_members, Node as PlainNode}
+use Rattle.plain_machine.specs.Plain.{ADict, no_members, Node as PlainNode}
 use Rattle.plain_machine.specs.World.{ref, has_dict, push_node, with_node, next_node}
 use Rattle.class_world.specs.Held.{Held}
 use Rattle.class_world.specs.Added.{with_object, number_of_object, HasNoEntries, IsEmptyDict}

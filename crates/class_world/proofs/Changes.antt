@@ -6,7 +6,6 @@ use Rattle.py_node.specs.declared.refs.PyStrInterned.{PyStrInterned}
 use Rattle.py_node.specs.declared.payload.Node.{Node}
 use Rattle.py_node.specs.declared.payload.Form.{Form}
 use Rattle.py_node.specs.declared.payload.Form.TheVariants as form
-use Rattle.py_node.specs.Replies.{Started}
 use Rattle.class_model.specs.Class.{is_class}
 use Rattle.class_world.specs.Held.{Held}
 use Rattle.class_world.specs.Tables.{IsBelow, AreBelow}

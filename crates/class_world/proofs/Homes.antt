@@ -1,5 +1,5 @@
 -- What the objects of a class hold, after one more class and after an attribute was set.
-use Rattle.std.proofs.Common.{◌≡◌, ℕ, ◌≤◌, le-ltb, false, cond, List, [], ◌∷◌, length, Option, Some, None, Bool, refl, ap, ◌∙◌}
+use Rattle.std.proofs.Common.{◌≡◌, ℕ, ◌≤◌, le-ltb, false, cond, List, [], ◌∷◌, Option, Some, None, Bool, refl, ap, ◌∙◌}
 use Rattle.std.specs.Prelude.{nat_lt, slice_get, option_map, option_and_then}
 use Rattle.py_node.specs.declared.built_in.BuiltIn.{BuiltIn}
 use Rattle.py_node.specs.declared.refs.PyObjectRef.{PyObjectRef}

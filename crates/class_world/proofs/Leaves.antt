@@ -1,5 +1,5 @@
 -- What rows leave: what is said of numbers, and the bodies that are open.
-use Rattle.std.proofs.Common.{◌≡◌, ℕ, List, length, map, sym, subst, arith}
+use Rattle.std.proofs.Common.{◌≡◌, ℕ, List, length, sym, subst, arith}
 use Rattle.std.specs.Prelude.{Ok}
 use Rattle.std.proofs.lemmas.List.{length-map}
 use Rattle.py_node.specs.declared.task.Step.{Step}

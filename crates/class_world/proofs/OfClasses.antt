@@ -1,5 +1,5 @@
 -- Classes, as a reading has them, and what holds of their attributes.
-use Rattle.std.proofs.Common.{◌≡◌, ℕ, ◌<◌, ◌^◌, Bool, true, false, cond, eqb, length, List, [], ◌∷◌, Option, Some, None, refl, sym, ap, ◌∙◌, subst, arith, get_or, IfSome}
+use Rattle.std.proofs.Common.{◌≡◌, ℕ, ◌<◌, ◌^◌, Bool, true, false, cond, eqb, length, List, [], ◌∷◌, Option, Some, None, refl, ap, subst, arith, get_or, IfSome}
 use Rattle.py_node.specs.declared.raised.Cause.TheVariants.{ImmutableType, NotBaseType}
 use Rattle.class_table.specs.Refused.{is_base_at, refused_attr, refused_bases}
 use Rattle.std.specs.Prelude.{◌==◌, is_some, slice_get, option_map, option_and_then}

@@ -1,6 +1,6 @@
 -- The names of classes as a reading has them, and the texts of containers.
 use Rattle.std.proofs.Common.{◌≡◌, ℕ, zero, suc, ◌<◌, ◌≤◌, List, [], ◌∷◌, ◌++◌, length, Some, refl, sym, ap, ◌∙◌, subst, arith, get_or, take, take_all, drop, map, String, string_bytes}
-use Rattle.std.specs.Prelude.{slice_get, option_map}
+use Rattle.std.specs.Prelude.{option_map}
 use Rattle.std.specs.List.{flat_map, join_by}
 use Rattle.std.specs.declared.alloc.Global.{Global}
 use Rattle.py_node.specs.declared.refs.PyObjectRef.{PyObjectRef}

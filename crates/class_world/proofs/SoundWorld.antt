@@ -11,8 +11,7 @@ use Rattle.py_node.specs.declared.payload.Node.{Node as StoredNode}
 use Rattle.py_node.specs.declared.payload.Payload.{Payload}
 use Rattle.py_node.specs.declared.payload.Payload.TheVariants as payload
 use Rattle.py_node.specs.Attributes.{value_of, AreNamesDistinct}
-use Rattle.py_node.specs.Tree.{Text}
-use Rattle.class_model.specs.Class.{Class, Classes, is_class, has_flag, rekeyed, renamed}
+use Rattle.class_model.specs.Class.{Classes, is_class, has_flag, rekeyed, renamed}
 use Rattle.class_model.specs.Sound.{AreSound}
 use Rattle.class_model.proofs.Sound.{sound-renamed}
 use Rattle.class_model.proofs.Renamed.{at-renamed, lin-renamed}

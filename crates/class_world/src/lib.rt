@@ -9,10 +9,9 @@ mod heap;
 mod nodes;
 mod numbers;
 pub mod objects;
+mod of_classes;
 pub mod scope;
 pub mod show;
-#[cfg(test)]
-mod show_tests;
 mod start;
 pub mod store;
 #[cfg(test)]

@@ -1,6 +1,6 @@
 // The table of nodes: objects that are added.
 
-ghost use Rattle.std.specs.Prelude.{◌≡◌, ◌<◌, ◌+◌, ◌∷◌, [], ◌++◌, length, vec_len, vec_capacity, IfOk, OnOk, OnErr};
+ghost use Rattle.std.specs.Prelude.{◌≡◌, ◌<◌, ◌∷◌, [], ◌++◌, length, vec_len, vec_capacity, IfOk, OnOk, OnErr};
 ghost use Rattle.plain_machine.specs.World.{ref};
 ghost use Rattle.class_world.specs.Added.{with_object, number_of_object};
 

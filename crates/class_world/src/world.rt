@@ -1,26 +1,20 @@
 // The world, and what is read and changed there.
 
-ghost use Rattle.std.specs.Prelude.{◌≡◌, ◌^◌, ◌<◌, ◌-◌, ℕ, suc, List, map, length, take, is_some, Some, None, IfOk, OnOk, OnErr, IfSome, IsTrue, [], ◌∷◌, ◌++◌, slice_get, string_bytes, option_map};
-ghost use Rattle.py_node.specs.Tree.{tree_of};
+ghost use Rattle.std.specs.Prelude.{◌≡◌, ◌<◌, ◌-◌, ℕ, suc, List, map, length, take, is_some, Some, None, IfOk, OnOk, OnErr, IfSome, IsTrue, slice_get, string_bytes};
 ghost use Rattle.py_node.specs.Replies.{started_of};
 ghost use Rattle.py_node.specs.Slots.{special_names};
 ghost use Rattle.plain_machine.specs.Start.{bare, start};
-ghost use Rattle.plain_machine.specs.World.{ref, with_node, next_node, has_dict, at_depth, without_calls, class_at, datum_at, number_of, text_keys, slot_at, candidates_at, variable, with_binding, with_scope, without_scope, is_text};
+ghost use Rattle.plain_machine.specs.World.{with_node, next_node, has_dict, at_depth, without_calls, class_at, datum_at, number_of, variable, with_binding, with_scope, without_scope};
 ghost use Rattle.plain_machine.specs.Known.{the_dict};
-ghost use Rattle.plain_machine.specs.Objects.{class_has_flag};
 ghost use Rattle.plain_machine.specs.Sound.{holds_as, IsSound};
 ghost use Rattle.py_node.specs.declared.built_in.BuiltIn.{BuiltIn};
 ghost use Rattle.py_node.specs.declared.built_in.BuiltIn.TheVariants.{Dict, TypeType};
-ghost use Rattle.class_model.specs.Class.{class_at as class_numbered, found, found_past, own_of, is_sub, has_flag};
-ghost use Rattle.class_model.specs.Slot.{entry, slot as slot_read, candidates_of, is_heap_at};
-ghost use Rattle.class_model.specs.BuiltIn.{natives_of};
-ghost use Rattle.class_table.specs.Refused.{is_base_at};
-ghost use Rattle.class_table.specs.Turn.{list_of};
+ghost use Rattle.class_model.specs.Class.{found};
 ghost use Rattle.py_node.specs.BuiltIns.{place_of};
 ghost use Rattle.class_world.specs.Fixed.{number_of_fixed};
 ghost use Rattle.class_world.specs.Held.{Held};
 ghost use Rattle.class_world.specs.Reading.{Reading, Reads, form_tree, datum, bindings, plain, IsReadable};
-ghost use Rattle.class_world.specs.Sound.{IsNode, IsClass, IsOf, CanBeBase, IsExpression, IsName, Holding, HasParams, HasValues, Holds, AllHold, Lasts, Grows, home_of, class_in, params_in, of_option, of_node, of_payload, of_form, of_binding, of_each};
+ghost use Rattle.class_world.specs.Sound.{IsNode, IsClass, IsOf, IsExpression, IsName, Holding, HasParams, HasValues, Holds, AllHold, Lasts, Grows, home_of, class_in, params_in, of_option, of_node, of_payload, of_form, of_binding, of_each};
 ghost use Rattle.class_world.specs.Added.{IsEmptyDict};
 
 use crate::attributes_of_built_ins::add_own_attrs;
@@ -28,12 +22,10 @@ use crate::nodes::add_object;
 use crate::scope::Scope;
 use crate::start::start_nodes;
 use crate::variables::{bind_in, value_in};
-use class_table::candidates::Candidates;
 use class_table::start::special_names;
 use class_table::table::ClassTable;
 use py_node::attributes::PyAttributes;
 use py_node::built_in::BuiltIn;
-use py_node::entry::{SlotEntry, SlotId};
 use py_node::flags::PyTypeFlags;
 use py_node::memory::OutOfMemory;
 use py_node::names::Names;
@@ -232,71 +224,6 @@ impl World {
         self.nodes[node.0 as usize].class
     }
 
-    /// The name of a class.
-    pub fn class_name(&self, class: PyTypeRef) -> &str
-        requires { Holds self.now (IsClass class.0) }
-        ensures { (t : Reading) → option_map (λ k. k.name) (class_numbered (plain t self.now).classes class.0) ≡ Some result.now }
-    {
-        self.classes.name(class)
-    }
-
-    /// A slot as it is read for an object's class.
-    pub fn slot(&self, node: PyObjectRef, slot: SlotId) -> Option<SlotEntry>
-        requires { Holds self.now (IsNode node) }
-        ensures { (t : Reading) → Reads t self.now → slot_at (plain t self.now) node slot ≡ result }
-    {
-        let class = self.class_of(node);
-        self.class_slot(class, slot)
-    }
-
-    /// A slot as it is read for a class.
-    pub fn class_slot(&self, class: PyTypeRef, slot: SlotId) -> Option<SlotEntry>
-        requires { Holds self.now (IsClass class.0) }
-        ensures { (t : Reading) → Reads t self.now → slot_read text_keys natives_of (plain t self.now).classes class.0 slot ≡ result }
-    {
-        self.classes.slot(class, slot)
-    }
-
-    /// What a class itself has in a slot.
-    pub fn own_slot(&self, class: PyTypeRef, slot: SlotId) -> Option<SlotEntry>
-        requires { Holds self.now (IsClass class.0) }
-        ensures { (t : Reading) → Reads t self.now → entry text_keys natives_of (plain t self.now).classes class.0 slot ≡ result }
-    {
-        self.classes.own_slot(class, slot)
-    }
-
-    /// The candidates of an operator, for two objects.
-    pub fn candidates(
-        &self,
-        left: SlotId,
-        right: SlotId,
-        a: PyObjectRef,
-        b: PyObjectRef,
-    ) -> Candidates
-        requires a { Holds self.now (IsNode a) }
-        requires b { Holds self.now (IsNode b) }
-        ensures { (t : Reading) → Reads t self.now → candidates_at (plain t self.now) left right (class_at (plain t self.now) a) (class_at (plain t self.now) b) ≡ list_of result }
-    {
-        let class_a = self.class_of(a);
-        let class_b = self.class_of(b);
-        self.class_candidates(left, right, class_a, class_b)
-    }
-
-    // The candidates of an operator, for two classes.
-    fn class_candidates(
-        &self,
-        left: SlotId,
-        right: SlotId,
-        a: PyTypeRef,
-        b: PyTypeRef,
-    ) -> Candidates
-        requires a { Holds self.now (IsClass a.0) }
-        requires b { Holds self.now (IsClass b.0) }
-        ensures { (t : Reading) → Reads t self.now → candidates_of text_keys natives_of (plain t self.now).classes left right a.0 b.0 ≡ list_of result }
-    {
-        self.classes.candidates(left, right, a, b)
-    }
-
     /// The number that a node holds, if it holds one.
     pub fn number(&self, node: PyObjectRef) -> Option<i128>
         requires { Holds self.now (IsNode node) }
@@ -477,77 +404,6 @@ impl World {
         ensures lasts { Lasts self.old self.new }
     {
         let _ = self.scopes.pop();
-    }
-
-    /// The value of a name, in the first class along a class's linearisation that has it.
-    pub fn class_attr(&self, class: PyTypeRef, name: PyStrInterned) -> Option<PyObjectRef>
-        requires { Holds self.now (IsClass class.0) }
-        ensures found { (t : Reading) → Reads t self.now → found is_text (plain t self.now).classes class.0 (t.text name.0) ≡ result }
-        ensures node { IfSome result (λ r. Holds self.now (IsNode r)) }
-    {
-        self.classes.get_attr(class, name)
-    }
-
-    /// The same past the class itself.
-    pub fn class_attr_past(&self, class: PyTypeRef, name: PyStrInterned) -> Option<PyObjectRef>
-        requires { Holds self.now (IsClass class.0) }
-        ensures found { (t : Reading) → Reads t self.now → found_past is_text (plain t self.now).classes class.0 (t.text name.0) ≡ result }
-        ensures node { IfSome result (λ r. Holds self.now (IsNode r)) }
-    {
-        self.classes.get_super_attr(class, name)
-    }
-
-    /// A class's own value of a name.
-    pub fn own_attr(&self, class: PyTypeRef, name: PyStrInterned) -> Option<PyObjectRef>
-        requires { Holds self.now (IsClass class.0) }
-        ensures found { (t : Reading) → Reads t self.now → own_of (λ y. is_text y (t.text name.0)) (class_numbered (plain t self.now).classes class.0) ≡ result }
-        ensures node { IfSome result (λ r. Holds self.now (IsNode r)) }
-    {
-        self.classes.get_direct_attr(class, name)
-    }
-
-    /// Whether a class is another one or has it along its linearisation.
-    pub fn is_sub(&self, class: PyTypeRef, other: PyTypeRef) -> bool
-        requires { Holds self.now (IsClass class.0) }
-        ensures { (t : Reading) → is_sub (plain t self.now).classes class.0 other.0 ≡ result }
-    {
-        self.classes.fast_issubclass(class, other)
-    }
-
-    /// Whether a class was made by a script.
-    pub fn class_is_heap(&self, class: PyTypeRef) -> bool
-        requires { Holds self.now (IsClass class.0) }
-        ensures { (t : Reading) → is_heap_at (class_numbered (plain t self.now).classes class.0) ≡ result }
-    {
-        self.classes.is_heap(class)
-    }
-
-    /// Whether a class may have subclasses.
-    pub fn can_be_base(&self, class: PyTypeRef) -> bool
-        requires { Holds self.now (IsClass class.0) }
-        ensures flag { (t : Reading) → class_has_flag (plain t self.now) (2 ^ 10) (Some class.0) ≡ result }
-        ensures held { is_base_at (class_numbered self.now.classes class.0) ≡ result }
-        ensures can { IsTrue result → Holds self.now (CanBeBase class.0) }
-    {
-        self.classes.flags(class).has_feature(PyTypeFlags::BASETYPE)
-    }
-
-    /// Whether a class has a flag.
-    pub fn class_flag(&self, class: PyTypeRef, flag: PyTypeFlags) -> bool
-        requires { Holds self.now (IsClass class.0) }
-        ensures { (t : Reading) → option_map (λ k. has_flag flag.0 k) (class_numbered (plain t self.now).classes class.0) ≡ Some result }
-    {
-        self.classes.flags(class).has_feature(flag)
-    }
-
-    /// The object that stands for a class: it has the class's number.
-    pub fn class_node(&self, class: PyTypeRef) -> PyObjectRef
-        requires { Holds self.now (IsClass class.0) }
-        ensures reads { result ≡ ref class.0 }
-        ensures node { Holds self.now (IsNode result) }
-    {
-        let _classes = &self.classes;
-        PyObjectRef(class.0)
     }
 
     /// The text of a name.

@@ -1,6 +1,6 @@
 // How the arguments of a call fill the parameters of a function.
 
-ghost use Rattle.std.specs.Prelude.{◌≡◌, ◌&&◌, true, [], map, is_none, IsTrue, IfOk, IfSome, option_map};
+ghost use Rattle.std.specs.Prelude.{◌≡◌, ◌&&◌, true, map, is_none, IsTrue, IfOk, IfSome, option_map};
 ghost use Rattle.std.specs.List.{All};
 ghost use Rattle.py_node.specs.declared.refs.PyStrInterned.{PyStrInterned};
 ghost use Rattle.class_world.specs.Held.{Held};
@@ -11,7 +11,6 @@ ghost use Rattle.proto_call.specs.Say.{single, left_over, is_member, value_at, w
 use py_node::attributes::PyAttributes;
 use py_node::memory::OutOfMemory;
 use py_node::refs::{PyObjectRef, PyStrInterned};
-use std::alloc::Global;
 
 /// The parameters that take one argument each: all, or all but the last where that takes the rest.
 pub(crate) fn single(params: &[PyStrInterned], rest: bool) -> &[PyStrInterned]

@@ -1,6 +1,5 @@
-use Rattle.std.proofs.Common.{◌≤◌, length, ap, ◌∙◌, ◌++◌, take_all, List, ℕ, arith}
+use Rattle.std.proofs.Common.{ap, ◌∙◌, ◌++◌, List, ℕ, arith}
 use Rattle.std.specs.List.{flat_map}
-use Rattle.std.proofs.lemmas.List.{length-map}
 use Rattle.class_model.specs.Numbers.{numbers_of}
 use Rattle.class_table.specs.Keys.{table_keys}
 use Rattle.reply_text.proofs.Members.{written_more}
