@@ -10,7 +10,6 @@ ghost use Rattle.proto_ops.specs.Say.{total, left_slot, right_slot, is_not_imple
 ghost use Rattle.plain_machine.specs.Args.{two_of};
 ghost use Rattle.proto_ops.specs.Rows.{Begins, Resumes, Sums, Enters, AsksSpecial, AreBoth, joining, entered, of_operator_kept};
 
-
 use class_table::candidates::Candidates;
 use class_world::args::{native_task, two_of};
 use class_world::world::{Fixed, World};
