@@ -50,9 +50,11 @@ impl Model for VirtualMachine {
 }
 
 impl VirtualMachine {
-    /// A new machine, with the built-in classes and no variables. Room for 1,000 frames is reserved.
+    /// A new machine, with the built-in classes, no variables and no running body. Room for 1,000 frames is
+    /// reserved.
     pub fn new(alloc: Global) -> Result<VirtualMachine, OutOfMemory>
         ensures start { IfOk result (λ vm. (t : Reading) → Reads t vm.world → plain t vm.world ≡ start) }
+        ensures rests { IfOk result (λ vm. (t : Reading) → (plain t vm.world).scopes ≡ []) }
         ensures clear { IfOk result (λ vm. vm.failed ≡ false) }
         ensures frames { IfOk result (λ vm. 1000 ≤ vm.frames) }
     {

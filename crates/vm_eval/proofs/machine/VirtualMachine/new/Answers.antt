@@ -2,7 +2,7 @@ use Rattle.std.proofs.Common.{◌≡◌, [], refl, ap, ◌∙◌}
 use Rattle.py_node.specs.BuiltIns.{all_built_ins, place_of, flags_of}
 use Rattle.plain_machine.specs.Start.{start}
 use Rattle.plain_machine.specs.BuiltInAttrs.{object_attrs, type_attrs, other_attrs, built_in_attrs}
-use Rattle.vm_eval.proofs.Rests.{none-held}
+use Rattle.vm_eval.proofs.Rests.{none-held, none-read}
 use Rattle.vm_eval.proofs.machine.VirtualMachine.new.Goals as goal
 
 start-clear : start.scopes ≡ []
@@ -13,3 +13,9 @@ pub invariant_of-result : goal.invariant_of-result
 invariant_of-result c =
     let r = c.readable.ensures in
     none-held r.0 c.in_ok-world.world (ap (λ w. w.scopes) (c.in_ok-world.ensures.start r.0 r.1) ∙ start-clear)
+
+pub returns-clause-rests : goal.returns-clause-rests
+returns-clause-rests c =
+    let r = c.readable.ensures in
+    let none = none-held r.0 c.in_ok-world.world (ap (λ w. w.scopes) (c.in_ok-world.ensures.start r.0 r.1) ∙ start-clear) in
+    λ t. none-read t c.in_ok-world.world none
