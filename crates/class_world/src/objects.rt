@@ -98,7 +98,7 @@ impl World {
         }
     }
 
-    /// The built-in class whose objects a class's objects are: the nearest one along best bases.
+    /// The built-in class whose objects a class's objects are: the nearest one along the linearisation.
     pub fn nearest_built_in(&self, class: PyTypeRef) -> Option<PyTypeRef>
         requires { Holds self.now (IsClass class.0) }
         ensures nearest { (t : Reading) → nearest_built_in (plain t self.now).classes class.0 ≡ option_map (λ c. c.0) result }

@@ -10,6 +10,33 @@ pub enum PyNumberBinaryOp {
     Add,
 }
 
+/// An operator of one number.
+#[derive(Clone, Copy, PartialEq, Eq, Debug)]
+pub enum PyNumberUnaryOp {
+    Negative,
+    Positive,
+    Absolute,
+    Invert,
+}
+
+/// A comparison.
+#[derive(Clone, Copy, PartialEq, Eq, Debug)]
+pub enum PyComparisonOp {
+    Lt,
+    Gt,
+    Ne,
+    Eq,
+    Le,
+    Ge,
+}
+
+/// What an attribute is given: a value, or that it is taken out.
+#[derive(Clone, Copy, PartialEq, Eq, Debug)]
+pub enum PySetterValue {
+    Assign(PyObjectRef),
+    Delete,
+}
+
 /// A method that was loaded to be called at once: a function with the object that goes before its
 /// arguments, or what the attribute gave.
 #[derive(Clone, Copy, PartialEq, Eq, Debug)]
