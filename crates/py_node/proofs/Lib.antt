@@ -1,3 +1,6 @@
 pub mod Copies
 pub mod Entries
 pub mod Texts
+pub mod KnownNames
+pub mod SlotTables
+pub mod Operators

@@ -6,3 +6,5 @@ pub mod BuiltIns
 pub mod Replies
 pub mod Attributes
 pub mod Texts
+pub mod Known
+pub mod Operators

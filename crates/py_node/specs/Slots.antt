@@ -1,323 +1,47 @@
--- The slots, in their order, with their special names.
-use Rattle.std.specs.Prelude.{ℕ, List, [], ◌∷◌, codes}
+-- The slots: their places, printed names and special names, and how they are read.
+use Rattle.std.specs.Prelude.{ℕ, Bool, List, [], map, slice_index_or}
+use denote.Enum.Bare.{sameb}
+use denote.Enum.Declared.{tag_of}
+use Rattle.py_node.specs.contracts.entry.SlotId.{the_type}
 use Rattle.py_node.specs.declared.entry.SlotId.{SlotId}
-use Rattle.py_node.specs.declared.entry.SlotId.TheVariants.{Add, RightAdd, InplaceAdd, Subtract, RightSubtract, InplaceSubtract, Multiply, RightMultiply, InplaceMultiply, Remainder, RightRemainder, InplaceRemainder, Divmod, RightDivmod, Power, RightPower, InplacePower, Lshift, RightLshift, InplaceLshift, Rshift, RightRshift, InplaceRshift, And, RightAnd, InplaceAnd, Xor, RightXor, InplaceXor, Or, RightOr, InplaceOr, FloorDivide, RightFloorDivide, InplaceFloorDivide, TrueDivide, RightTrueDivide, InplaceTrueDivide, MatrixMultiply, RightMatrixMultiply, InplaceMatrixMultiply, Int, Index, Float, Negative, Positive, Absolute, Invert, Boolean, SeqLength, SeqItem, SeqAssItem, SeqContains, Concat, Repeat, InplaceConcat, InplaceRepeat, MapLength, MapSubscript, MapAssSubscript, Hash, Call, Repr, Getattro, Setattro, Richcompare, Iter, Iternext, DescrGet, DescrSet, Init, New, Del}
+use Rattle.py_node.specs.declared.known.Known.{Known}
+use Rattle.py_node.specs.declared.slots.Sort.{Sort}
+use Rattle.py_node.specs.declared.slots.Sort.TheVariants.{Nearest}
+use Rattle.py_node.specs.declared.slots.TheConstants.{SLOTS, SPECIAL}
+use Rattle.py_node.specs.Tree.{Text}
 
--- where a slot stands among all
+-- all slots, in the order in which they are printed
+unfoldable pub all_slots : List SlotId
+all_slots = map (λ r. r.0) SLOTS
+
+-- their printed names
+unfoldable pub slot_texts : List Text
+slot_texts = map (λ r. r.1.now) SLOTS
+
+-- how they are read
+unfoldable pub slot_sorts : List Sort
+slot_sorts = map (λ r. r.2) SLOTS
+
+-- the special names of each
+unfoldable pub slot_names : List (List Known)
+slot_names = map (λ r. r.1.now) SPECIAL
+
+-- the place of a slot in the order
 unfoldable pub place_of : SlotId → ℕ
-place_of Add = 0
-place_of RightAdd = 1
-place_of InplaceAdd = 2
-place_of Subtract = 3
-place_of RightSubtract = 4
-place_of InplaceSubtract = 5
-place_of Multiply = 6
-place_of RightMultiply = 7
-place_of InplaceMultiply = 8
-place_of Remainder = 9
-place_of RightRemainder = 10
-place_of InplaceRemainder = 11
-place_of Divmod = 12
-place_of RightDivmod = 13
-place_of Power = 14
-place_of RightPower = 15
-place_of InplacePower = 16
-place_of Lshift = 17
-place_of RightLshift = 18
-place_of InplaceLshift = 19
-place_of Rshift = 20
-place_of RightRshift = 21
-place_of InplaceRshift = 22
-place_of And = 23
-place_of RightAnd = 24
-place_of InplaceAnd = 25
-place_of Xor = 26
-place_of RightXor = 27
-place_of InplaceXor = 28
-place_of Or = 29
-place_of RightOr = 30
-place_of InplaceOr = 31
-place_of FloorDivide = 32
-place_of RightFloorDivide = 33
-place_of InplaceFloorDivide = 34
-place_of TrueDivide = 35
-place_of RightTrueDivide = 36
-place_of InplaceTrueDivide = 37
-place_of MatrixMultiply = 38
-place_of RightMatrixMultiply = 39
-place_of InplaceMatrixMultiply = 40
-place_of Int = 41
-place_of Index = 42
-place_of Float = 43
-place_of Negative = 44
-place_of Positive = 45
-place_of Absolute = 46
-place_of Invert = 47
-place_of Boolean = 48
-place_of SeqLength = 49
-place_of SeqItem = 50
-place_of SeqAssItem = 51
-place_of SeqContains = 52
-place_of Concat = 53
-place_of Repeat = 54
-place_of InplaceConcat = 55
-place_of InplaceRepeat = 56
-place_of MapLength = 57
-place_of MapSubscript = 58
-place_of MapAssSubscript = 59
-place_of Hash = 60
-place_of Call = 61
-place_of Repr = 62
-place_of Getattro = 63
-place_of Setattro = 64
-place_of Richcompare = 65
-place_of Iter = 66
-place_of Iternext = 67
-place_of DescrGet = 68
-place_of DescrSet = 69
-place_of Init = 70
-place_of New = 71
-place_of Del = 72
+place_of = tag_of the_type
+
+abbrev pub is_slot : SlotId → SlotId → Bool
+is_slot = sameb the_type
 
 -- the name under which a slot is printed
-unfoldable pub printed_name : SlotId → List ℕ
-printed_name Add = codes "add"
-printed_name RightAdd = codes "right_add"
-printed_name InplaceAdd = codes "inplace_add"
-printed_name Subtract = codes "subtract"
-printed_name RightSubtract = codes "right_subtract"
-printed_name InplaceSubtract = codes "inplace_subtract"
-printed_name Multiply = codes "multiply"
-printed_name RightMultiply = codes "right_multiply"
-printed_name InplaceMultiply = codes "inplace_multiply"
-printed_name Remainder = codes "remainder"
-printed_name RightRemainder = codes "right_remainder"
-printed_name InplaceRemainder = codes "inplace_remainder"
-printed_name Divmod = codes "divmod"
-printed_name RightDivmod = codes "right_divmod"
-printed_name Power = codes "power"
-printed_name RightPower = codes "right_power"
-printed_name InplacePower = codes "inplace_power"
-printed_name Lshift = codes "lshift"
-printed_name RightLshift = codes "right_lshift"
-printed_name InplaceLshift = codes "inplace_lshift"
-printed_name Rshift = codes "rshift"
-printed_name RightRshift = codes "right_rshift"
-printed_name InplaceRshift = codes "inplace_rshift"
-printed_name And = codes "and"
-printed_name RightAnd = codes "right_and"
-printed_name InplaceAnd = codes "inplace_and"
-printed_name Xor = codes "xor"
-printed_name RightXor = codes "right_xor"
-printed_name InplaceXor = codes "inplace_xor"
-printed_name Or = codes "or"
-printed_name RightOr = codes "right_or"
-printed_name InplaceOr = codes "inplace_or"
-printed_name FloorDivide = codes "floor_divide"
-printed_name RightFloorDivide = codes "right_floor_divide"
-printed_name InplaceFloorDivide = codes "inplace_floor_divide"
-printed_name TrueDivide = codes "true_divide"
-printed_name RightTrueDivide = codes "right_true_divide"
-printed_name InplaceTrueDivide = codes "inplace_true_divide"
-printed_name MatrixMultiply = codes "matrix_multiply"
-printed_name RightMatrixMultiply = codes "right_matrix_multiply"
-printed_name InplaceMatrixMultiply = codes "inplace_matrix_multiply"
-printed_name Int = codes "int"
-printed_name Index = codes "index"
-printed_name Float = codes "float"
-printed_name Negative = codes "negative"
-printed_name Positive = codes "positive"
-printed_name Absolute = codes "absolute"
-printed_name Invert = codes "invert"
-printed_name Boolean = codes "boolean"
-printed_name SeqLength = codes "seq_length"
-printed_name SeqItem = codes "seq_item"
-printed_name SeqAssItem = codes "seq_ass_item"
-printed_name SeqContains = codes "seq_contains"
-printed_name Concat = codes "concat"
-printed_name Repeat = codes "repeat"
-printed_name InplaceConcat = codes "inplace_concat"
-printed_name InplaceRepeat = codes "inplace_repeat"
-printed_name MapLength = codes "map_length"
-printed_name MapSubscript = codes "map_subscript"
-printed_name MapAssSubscript = codes "map_ass_subscript"
-printed_name Hash = codes "hash"
-printed_name Call = codes "call"
-printed_name Repr = codes "repr"
-printed_name Getattro = codes "getattro"
-printed_name Setattro = codes "setattro"
-printed_name Richcompare = codes "richcompare"
-printed_name Iter = codes "iter"
-printed_name Iternext = codes "iternext"
-printed_name DescrGet = codes "descr_get"
-printed_name DescrSet = codes "descr_set"
-printed_name Init = codes "init"
-printed_name New = codes "new"
-printed_name Del = codes "del"
+unfoldable pub printed_name : SlotId → Text
+printed_name s = slice_index_or slot_texts (place_of s) []
 
--- all slots, in order
-unfoldable pub all_slots : List SlotId
-all_slots = Add ∷ RightAdd ∷ InplaceAdd ∷ Subtract ∷ RightSubtract ∷ InplaceSubtract ∷ Multiply ∷ RightMultiply ∷ InplaceMultiply ∷ Remainder ∷ RightRemainder ∷ InplaceRemainder ∷ Divmod ∷ RightDivmod ∷ Power ∷ RightPower ∷ InplacePower ∷ Lshift ∷ RightLshift ∷ InplaceLshift ∷ Rshift ∷ RightRshift ∷ InplaceRshift ∷ And ∷ RightAnd ∷ InplaceAnd ∷ Xor ∷ RightXor ∷ InplaceXor ∷ Or ∷ RightOr ∷ InplaceOr ∷ FloorDivide ∷ RightFloorDivide ∷ InplaceFloorDivide ∷ TrueDivide ∷ RightTrueDivide ∷ InplaceTrueDivide ∷ MatrixMultiply ∷ RightMatrixMultiply ∷ InplaceMatrixMultiply ∷ Int ∷ Index ∷ Float ∷ Negative ∷ Positive ∷ Absolute ∷ Invert ∷ Boolean ∷ SeqLength ∷ SeqItem ∷ SeqAssItem ∷ SeqContains ∷ Concat ∷ Repeat ∷ InplaceConcat ∷ InplaceRepeat ∷ MapLength ∷ MapSubscript ∷ MapAssSubscript ∷ Hash ∷ Call ∷ Repr ∷ Getattro ∷ Setattro ∷ Richcompare ∷ Iter ∷ Iternext ∷ DescrGet ∷ DescrSet ∷ Init ∷ New ∷ Del ∷ []
+-- the special names that fill a slot of a heap class
+unfoldable pub names_of : SlotId → List Known
+names_of s = slice_index_or slot_names (place_of s) []
 
--- the special names, in order. A name's place is its number
-unfoldable pub special_names : List (List ℕ)
-special_names = codes "__add__" ∷ codes "__radd__" ∷ codes "__iadd__" ∷ codes "__sub__" ∷ codes "__rsub__" ∷ codes "__isub__" ∷ codes "__mul__" ∷ codes "__rmul__" ∷ codes "__imul__" ∷ codes "__mod__" ∷ codes "__rmod__" ∷ codes "__imod__" ∷ codes "__divmod__" ∷ codes "__rdivmod__" ∷ codes "__pow__" ∷ codes "__rpow__" ∷ codes "__ipow__" ∷ codes "__lshift__" ∷ codes "__rlshift__" ∷ codes "__ilshift__" ∷ codes "__rshift__" ∷ codes "__rrshift__" ∷ codes "__irshift__" ∷ codes "__and__" ∷ codes "__rand__" ∷ codes "__iand__" ∷ codes "__xor__" ∷ codes "__rxor__" ∷ codes "__ixor__" ∷ codes "__or__" ∷ codes "__ror__" ∷ codes "__ior__" ∷ codes "__floordiv__" ∷ codes "__rfloordiv__" ∷ codes "__ifloordiv__" ∷ codes "__truediv__" ∷ codes "__rtruediv__" ∷ codes "__itruediv__" ∷ codes "__matmul__" ∷ codes "__rmatmul__" ∷ codes "__imatmul__" ∷ codes "__int__" ∷ codes "__index__" ∷ codes "__float__" ∷ codes "__len__" ∷ codes "__getitem__" ∷ codes "__setitem__" ∷ codes "__delitem__" ∷ codes "__contains__" ∷ codes "__hash__" ∷ codes "__call__" ∷ codes "__repr__" ∷ codes "__getattr__" ∷ codes "__getattribute__" ∷ codes "__setattr__" ∷ codes "__delattr__" ∷ codes "__eq__" ∷ codes "__ne__" ∷ codes "__lt__" ∷ codes "__le__" ∷ codes "__ge__" ∷ codes "__gt__" ∷ codes "__iter__" ∷ codes "__next__" ∷ codes "__get__" ∷ codes "__set__" ∷ codes "__delete__" ∷ codes "__init__" ∷ codes "__new__" ∷ codes "__del__" ∷ []
-
--- the places of the special names that fill a slot of a heap class
-unfoldable pub names_of : SlotId → List ℕ
-names_of Add = 0 ∷ []
-names_of RightAdd = 1 ∷ []
-names_of InplaceAdd = 2 ∷ []
-names_of Subtract = 3 ∷ []
-names_of RightSubtract = 4 ∷ []
-names_of InplaceSubtract = 5 ∷ []
-names_of Multiply = 6 ∷ []
-names_of RightMultiply = 7 ∷ []
-names_of InplaceMultiply = 8 ∷ []
-names_of Remainder = 9 ∷ []
-names_of RightRemainder = 10 ∷ []
-names_of InplaceRemainder = 11 ∷ []
-names_of Divmod = 12 ∷ []
-names_of RightDivmod = 13 ∷ []
-names_of Power = 14 ∷ []
-names_of RightPower = 15 ∷ []
-names_of InplacePower = 16 ∷ []
-names_of Lshift = 17 ∷ []
-names_of RightLshift = 18 ∷ []
-names_of InplaceLshift = 19 ∷ []
-names_of Rshift = 20 ∷ []
-names_of RightRshift = 21 ∷ []
-names_of InplaceRshift = 22 ∷ []
-names_of And = 23 ∷ []
-names_of RightAnd = 24 ∷ []
-names_of InplaceAnd = 25 ∷ []
-names_of Xor = 26 ∷ []
-names_of RightXor = 27 ∷ []
-names_of InplaceXor = 28 ∷ []
-names_of Or = 29 ∷ []
-names_of RightOr = 30 ∷ []
-names_of InplaceOr = 31 ∷ []
-names_of FloorDivide = 32 ∷ []
-names_of RightFloorDivide = 33 ∷ []
-names_of InplaceFloorDivide = 34 ∷ []
-names_of TrueDivide = 35 ∷ []
-names_of RightTrueDivide = 36 ∷ []
-names_of InplaceTrueDivide = 37 ∷ []
-names_of MatrixMultiply = 38 ∷ []
-names_of RightMatrixMultiply = 39 ∷ []
-names_of InplaceMatrixMultiply = 40 ∷ []
-names_of Int = 41 ∷ []
-names_of Index = 42 ∷ []
-names_of Float = 43 ∷ []
-names_of Negative = []
-names_of Positive = []
-names_of Absolute = []
-names_of Invert = []
-names_of Boolean = []
-names_of SeqLength = 44 ∷ []
-names_of SeqItem = 45 ∷ []
-names_of SeqAssItem = 46 ∷ 47 ∷ []
-names_of SeqContains = 48 ∷ []
-names_of Concat = []
-names_of Repeat = []
-names_of InplaceConcat = []
-names_of InplaceRepeat = []
-names_of MapLength = 44 ∷ []
-names_of MapSubscript = 45 ∷ []
-names_of MapAssSubscript = 46 ∷ 47 ∷ []
-names_of Hash = 49 ∷ []
-names_of Call = 50 ∷ []
-names_of Repr = 51 ∷ []
-names_of Getattro = 52 ∷ 53 ∷ []
-names_of Setattro = 54 ∷ 55 ∷ []
-names_of Richcompare = 56 ∷ 57 ∷ 58 ∷ 59 ∷ 60 ∷ 61 ∷ []
-names_of Iter = 62 ∷ []
-names_of Iternext = 63 ∷ []
-names_of DescrGet = 64 ∷ []
-names_of DescrSet = 65 ∷ 66 ∷ []
-names_of Init = 67 ∷ []
-names_of New = 68 ∷ []
-names_of Del = 69 ∷ []
-
--- how a slot is read along a linearisation
-pub data Sort : Type 0 where
-  ByItself : Sort
-  BySequence : Sort
-  ByMapping : Sort
-  Nearest : Sort
-
--- number slots and `repr` are a class's own; an entry of the sequence or mapping table is that of the nearest class with such a table; each other slot that of the nearest class which has it
+-- number slots and `repr` are a class's own; an entry of the sequence or mapping table is that of the nearest class with such a
+-- table; each other slot that of the nearest class which has it
 unfoldable pub sort_of : SlotId → Sort
-sort_of Add = ByItself
-sort_of RightAdd = ByItself
-sort_of InplaceAdd = ByItself
-sort_of Subtract = ByItself
-sort_of RightSubtract = ByItself
-sort_of InplaceSubtract = ByItself
-sort_of Multiply = ByItself
-sort_of RightMultiply = ByItself
-sort_of InplaceMultiply = ByItself
-sort_of Remainder = ByItself
-sort_of RightRemainder = ByItself
-sort_of InplaceRemainder = ByItself
-sort_of Divmod = ByItself
-sort_of RightDivmod = ByItself
-sort_of Power = ByItself
-sort_of RightPower = ByItself
-sort_of InplacePower = ByItself
-sort_of Lshift = ByItself
-sort_of RightLshift = ByItself
-sort_of InplaceLshift = ByItself
-sort_of Rshift = ByItself
-sort_of RightRshift = ByItself
-sort_of InplaceRshift = ByItself
-sort_of And = ByItself
-sort_of RightAnd = ByItself
-sort_of InplaceAnd = ByItself
-sort_of Xor = ByItself
-sort_of RightXor = ByItself
-sort_of InplaceXor = ByItself
-sort_of Or = ByItself
-sort_of RightOr = ByItself
-sort_of InplaceOr = ByItself
-sort_of FloorDivide = ByItself
-sort_of RightFloorDivide = ByItself
-sort_of InplaceFloorDivide = ByItself
-sort_of TrueDivide = ByItself
-sort_of RightTrueDivide = ByItself
-sort_of InplaceTrueDivide = ByItself
-sort_of MatrixMultiply = ByItself
-sort_of RightMatrixMultiply = ByItself
-sort_of InplaceMatrixMultiply = ByItself
-sort_of Int = ByItself
-sort_of Index = ByItself
-sort_of Float = ByItself
-sort_of Negative = ByItself
-sort_of Positive = ByItself
-sort_of Absolute = ByItself
-sort_of Invert = ByItself
-sort_of Boolean = ByItself
-sort_of SeqLength = BySequence
-sort_of SeqItem = BySequence
-sort_of SeqAssItem = BySequence
-sort_of SeqContains = BySequence
-sort_of Concat = BySequence
-sort_of Repeat = BySequence
-sort_of InplaceConcat = BySequence
-sort_of InplaceRepeat = BySequence
-sort_of MapLength = ByMapping
-sort_of MapSubscript = ByMapping
-sort_of MapAssSubscript = ByMapping
-sort_of Hash = Nearest
-sort_of Call = Nearest
-sort_of Repr = ByItself
-sort_of Getattro = Nearest
-sort_of Setattro = Nearest
-sort_of Richcompare = Nearest
-sort_of Iter = Nearest
-sort_of Iternext = Nearest
-sort_of DescrGet = Nearest
-sort_of DescrSet = Nearest
-sort_of Init = Nearest
-sort_of New = Nearest
-sort_of Del = Nearest
+sort_of s = slice_index_or slot_sorts (place_of s) Nearest

@@ -7,12 +7,15 @@ pub mod clone;
 pub mod entry;
 pub mod expr;
 pub mod flags;
+pub mod known;
 pub mod memory;
 pub mod names;
+pub mod operator;
 pub mod payload;
 pub mod raised;
 pub mod refs;
 pub mod reply;
+pub mod slots;
 pub mod task;
 #[cfg(test)]
 mod tests;

@@ -8,6 +8,18 @@ use crate::refs::{PyObjectRef, PyStrInterned, PyTypeRef};
 #[derive(Clone, Copy, PartialEq, Eq, Debug)]
 pub enum PyNumberBinaryOp {
     Add,
+    Subtract,
+    Multiply,
+    Remainder,
+    Divmod,
+    Lshift,
+    Rshift,
+    And,
+    Xor,
+    Or,
+    FloorDivide,
+    TrueDivide,
+    MatrixMultiply,
 }
 
 /// An operator of one number.

@@ -1,0 +1,275 @@
+//! The slots: their printed names, how they are read, and the special names that fill them.
+
+ghost use Rattle.std.specs.Prelude.{◌≡◌, ◌<◌, Some, map, length, slice_get};
+ghost use Rattle.py_node.specs.Slots.{all_slots, slot_texts, slot_sorts, slot_names, place_of, printed_name, sort_of, names_of};
+
+use crate::entry::SlotId;
+use crate::known::Known;
+
+/// How a slot is read along a linearisation.
+#[derive(Clone, Copy, PartialEq, Eq, Debug)]
+pub enum Sort {
+    /// From the class itself.
+    ByItself,
+    /// From the nearest class that has any slot of a sequence.
+    BySequence,
+    /// From the nearest class that has any slot of a mapping.
+    ByMapping,
+    /// From the nearest class that has it.
+    Nearest,
+}
+
+/// The slots in order, each with its printed name and how it is read.
+pub const SLOTS: [(SlotId, &str, Sort); 73] = [
+    (SlotId::Add, "add", Sort::ByItself),
+    (SlotId::RightAdd, "right_add", Sort::ByItself),
+    (SlotId::InplaceAdd, "inplace_add", Sort::ByItself),
+    (SlotId::Subtract, "subtract", Sort::ByItself),
+    (SlotId::RightSubtract, "right_subtract", Sort::ByItself),
+    (SlotId::InplaceSubtract, "inplace_subtract", Sort::ByItself),
+    (SlotId::Multiply, "multiply", Sort::ByItself),
+    (SlotId::RightMultiply, "right_multiply", Sort::ByItself),
+    (SlotId::InplaceMultiply, "inplace_multiply", Sort::ByItself),
+    (SlotId::Remainder, "remainder", Sort::ByItself),
+    (SlotId::RightRemainder, "right_remainder", Sort::ByItself),
+    (
+        SlotId::InplaceRemainder,
+        "inplace_remainder",
+        Sort::ByItself,
+    ),
+    (SlotId::Divmod, "divmod", Sort::ByItself),
+    (SlotId::RightDivmod, "right_divmod", Sort::ByItself),
+    (SlotId::Power, "power", Sort::ByItself),
+    (SlotId::RightPower, "right_power", Sort::ByItself),
+    (SlotId::InplacePower, "inplace_power", Sort::ByItself),
+    (SlotId::Lshift, "lshift", Sort::ByItself),
+    (SlotId::RightLshift, "right_lshift", Sort::ByItself),
+    (SlotId::InplaceLshift, "inplace_lshift", Sort::ByItself),
+    (SlotId::Rshift, "rshift", Sort::ByItself),
+    (SlotId::RightRshift, "right_rshift", Sort::ByItself),
+    (SlotId::InplaceRshift, "inplace_rshift", Sort::ByItself),
+    (SlotId::And, "and", Sort::ByItself),
+    (SlotId::RightAnd, "right_and", Sort::ByItself),
+    (SlotId::InplaceAnd, "inplace_and", Sort::ByItself),
+    (SlotId::Xor, "xor", Sort::ByItself),
+    (SlotId::RightXor, "right_xor", Sort::ByItself),
+    (SlotId::InplaceXor, "inplace_xor", Sort::ByItself),
+    (SlotId::Or, "or", Sort::ByItself),
+    (SlotId::RightOr, "right_or", Sort::ByItself),
+    (SlotId::InplaceOr, "inplace_or", Sort::ByItself),
+    (SlotId::FloorDivide, "floor_divide", Sort::ByItself),
+    (
+        SlotId::RightFloorDivide,
+        "right_floor_divide",
+        Sort::ByItself,
+    ),
+    (
+        SlotId::InplaceFloorDivide,
+        "inplace_floor_divide",
+        Sort::ByItself,
+    ),
+    (SlotId::TrueDivide, "true_divide", Sort::ByItself),
+    (SlotId::RightTrueDivide, "right_true_divide", Sort::ByItself),
+    (
+        SlotId::InplaceTrueDivide,
+        "inplace_true_divide",
+        Sort::ByItself,
+    ),
+    (SlotId::MatrixMultiply, "matrix_multiply", Sort::ByItself),
+    (
+        SlotId::RightMatrixMultiply,
+        "right_matrix_multiply",
+        Sort::ByItself,
+    ),
+    (
+        SlotId::InplaceMatrixMultiply,
+        "inplace_matrix_multiply",
+        Sort::ByItself,
+    ),
+    (SlotId::Int, "int", Sort::ByItself),
+    (SlotId::Index, "index", Sort::ByItself),
+    (SlotId::Float, "float", Sort::ByItself),
+    (SlotId::Negative, "negative", Sort::ByItself),
+    (SlotId::Positive, "positive", Sort::ByItself),
+    (SlotId::Absolute, "absolute", Sort::ByItself),
+    (SlotId::Invert, "invert", Sort::ByItself),
+    (SlotId::Boolean, "boolean", Sort::ByItself),
+    (SlotId::SeqLength, "seq_length", Sort::BySequence),
+    (SlotId::SeqItem, "seq_item", Sort::BySequence),
+    (SlotId::SeqAssItem, "seq_ass_item", Sort::BySequence),
+    (SlotId::SeqContains, "seq_contains", Sort::BySequence),
+    (SlotId::Concat, "concat", Sort::BySequence),
+    (SlotId::Repeat, "repeat", Sort::BySequence),
+    (SlotId::InplaceConcat, "inplace_concat", Sort::BySequence),
+    (SlotId::InplaceRepeat, "inplace_repeat", Sort::BySequence),
+    (SlotId::MapLength, "map_length", Sort::ByMapping),
+    (SlotId::MapSubscript, "map_subscript", Sort::ByMapping),
+    (
+        SlotId::MapAssSubscript,
+        "map_ass_subscript",
+        Sort::ByMapping,
+    ),
+    (SlotId::Hash, "hash", Sort::Nearest),
+    (SlotId::Call, "call", Sort::Nearest),
+    (SlotId::Repr, "repr", Sort::ByItself),
+    (SlotId::Getattro, "getattro", Sort::Nearest),
+    (SlotId::Setattro, "setattro", Sort::Nearest),
+    (SlotId::Richcompare, "richcompare", Sort::Nearest),
+    (SlotId::Iter, "iter", Sort::Nearest),
+    (SlotId::Iternext, "iternext", Sort::Nearest),
+    (SlotId::DescrGet, "descr_get", Sort::Nearest),
+    (SlotId::DescrSet, "descr_set", Sort::Nearest),
+    (SlotId::Init, "init", Sort::Nearest),
+    (SlotId::New, "new", Sort::Nearest),
+    (SlotId::Del, "del", Sort::Nearest),
+];
+
+/// The slots in order, each with the special names that fill it in a class that a script makes.
+pub const SPECIAL: [(SlotId, &[Known]); 73] = [
+    (SlotId::Add, &[Known::Add]),
+    (SlotId::RightAdd, &[Known::RightAdd]),
+    (SlotId::InplaceAdd, &[Known::InplaceAdd]),
+    (SlotId::Subtract, &[Known::Sub]),
+    (SlotId::RightSubtract, &[Known::RightSub]),
+    (SlotId::InplaceSubtract, &[Known::InplaceSub]),
+    (SlotId::Multiply, &[Known::Mul]),
+    (SlotId::RightMultiply, &[Known::RightMul]),
+    (SlotId::InplaceMultiply, &[Known::InplaceMul]),
+    (SlotId::Remainder, &[Known::Mod]),
+    (SlotId::RightRemainder, &[Known::RightMod]),
+    (SlotId::InplaceRemainder, &[Known::InplaceMod]),
+    (SlotId::Divmod, &[Known::Divmod]),
+    (SlotId::RightDivmod, &[Known::RightDivmod]),
+    (SlotId::Power, &[Known::Pow]),
+    (SlotId::RightPower, &[Known::RightPow]),
+    (SlotId::InplacePower, &[Known::InplacePow]),
+    (SlotId::Lshift, &[Known::Lshift]),
+    (SlotId::RightLshift, &[Known::RightLshift]),
+    (SlotId::InplaceLshift, &[Known::InplaceLshift]),
+    (SlotId::Rshift, &[Known::Rshift]),
+    (SlotId::RightRshift, &[Known::RightRshift]),
+    (SlotId::InplaceRshift, &[Known::InplaceRshift]),
+    (SlotId::And, &[Known::And]),
+    (SlotId::RightAnd, &[Known::RightAnd]),
+    (SlotId::InplaceAnd, &[Known::InplaceAnd]),
+    (SlotId::Xor, &[Known::Xor]),
+    (SlotId::RightXor, &[Known::RightXor]),
+    (SlotId::InplaceXor, &[Known::InplaceXor]),
+    (SlotId::Or, &[Known::Or]),
+    (SlotId::RightOr, &[Known::RightOr]),
+    (SlotId::InplaceOr, &[Known::InplaceOr]),
+    (SlotId::FloorDivide, &[Known::Floordiv]),
+    (SlotId::RightFloorDivide, &[Known::RightFloordiv]),
+    (SlotId::InplaceFloorDivide, &[Known::InplaceFloordiv]),
+    (SlotId::TrueDivide, &[Known::Truediv]),
+    (SlotId::RightTrueDivide, &[Known::RightTruediv]),
+    (SlotId::InplaceTrueDivide, &[Known::InplaceTruediv]),
+    (SlotId::MatrixMultiply, &[Known::Matmul]),
+    (SlotId::RightMatrixMultiply, &[Known::RightMatmul]),
+    (SlotId::InplaceMatrixMultiply, &[Known::InplaceMatmul]),
+    (SlotId::Int, &[Known::Int]),
+    (SlotId::Index, &[Known::Index]),
+    (SlotId::Float, &[Known::Float]),
+    (SlotId::Negative, &[]),
+    (SlotId::Positive, &[]),
+    (SlotId::Absolute, &[]),
+    (SlotId::Invert, &[]),
+    (SlotId::Boolean, &[]),
+    (SlotId::SeqLength, &[Known::Len]),
+    (SlotId::SeqItem, &[Known::GetItem]),
+    (SlotId::SeqAssItem, &[Known::SetItem, Known::DelItem]),
+    (SlotId::SeqContains, &[Known::Contains]),
+    (SlotId::Concat, &[]),
+    (SlotId::Repeat, &[]),
+    (SlotId::InplaceConcat, &[]),
+    (SlotId::InplaceRepeat, &[]),
+    (SlotId::MapLength, &[Known::Len]),
+    (SlotId::MapSubscript, &[Known::GetItem]),
+    (SlotId::MapAssSubscript, &[Known::SetItem, Known::DelItem]),
+    (SlotId::Hash, &[Known::Hash]),
+    (SlotId::Call, &[Known::Call]),
+    (SlotId::Repr, &[Known::Repr]),
+    (SlotId::Getattro, &[Known::GetAttr, Known::GetAttribute]),
+    (SlotId::Setattro, &[Known::SetAttr, Known::DelAttr]),
+    (
+        SlotId::Richcompare,
+        &[
+            Known::Eq,
+            Known::Ne,
+            Known::Lt,
+            Known::Le,
+            Known::Ge,
+            Known::Gt,
+        ],
+    ),
+    (SlotId::Iter, &[Known::Iter]),
+    (SlotId::Iternext, &[Known::Next]),
+    (SlotId::DescrGet, &[Known::Get]),
+    (SlotId::DescrSet, &[Known::Set, Known::Delete]),
+    (SlotId::Init, &[Known::Init]),
+    (SlotId::New, &[Known::New]),
+    (SlotId::Del, &[Known::Del]),
+];
+
+/// All slots in order, each with its printed name and how it is read.
+#[tactic(auto, unfolding(crate::specs::Slots::all_slots, crate::specs::Slots::slot_texts, crate::specs::Slots::slot_sorts))]
+pub fn slots() -> &'static [(SlotId, &'static str, Sort)]
+    ensures slots { map (λ r. r.0) result.now ≡ all_slots }
+    ensures texts { map (λ r. r.1.now) result.now ≡ slot_texts }
+    ensures sorts { map (λ r. r.2) result.now ≡ slot_sorts }
+    ensures count { length result.now ≡ 73 }
+{
+    &SLOTS
+}
+
+// All slots in order, each with its special names.
+#[tactic(auto, unfolding(crate::specs::Slots::slot_names))]
+fn special() -> &'static [(SlotId, &'static [Known])]
+    ensures names { map (λ r. r.1.now) result.now ≡ slot_names }
+    ensures count { length result.now ≡ 73 }
+{
+    &SPECIAL
+}
+
+impl SlotId {
+    /// The slot at a place.
+    pub fn at(place: usize) -> SlotId
+        requires { place < 73 }
+        ensures { slice_get all_slots place ≡ Some result }
+    {
+        slots()[place].0
+    }
+
+    /// The slot's place in the order.
+    #[tactic(auto, using(crate::proofs::SlotTables::below), unfolding(crate::specs::Slots::place_of))]
+    pub fn place(self) -> usize
+        ensures value { result ≡ place_of self }
+        ensures within { result < 73 }
+    {
+        self as usize
+    }
+
+    /// The slot's name, as it is printed.
+    #[tactic(auto, unfolding(crate::specs::Slots::printed_name))]
+    pub fn name(self) -> &'static str
+        ensures { result.now ≡ printed_name self }
+    {
+        slots()[self.place()].1
+    }
+
+    /// How the slot is read.
+    #[tactic(auto, unfolding(crate::specs::Slots::sort_of))]
+    pub fn sort(self) -> Sort
+        ensures { result ≡ sort_of self }
+    {
+        slots()[self.place()].2
+    }
+
+    /// The special names that fill the slot in a class that a script makes.
+    #[tactic(auto, unfolding(crate::specs::Slots::names_of))]
+    pub fn special_names(self) -> &'static [Known]
+        ensures { result.now ≡ names_of self }
+    {
+        special()[self.place()].1
+    }
+}
