@@ -4,10 +4,12 @@ use Rattle.std.specs.Prelude.{option_and_then}
 use Rattle.py_node.specs.declared.entry.SlotId.{SlotId}
 use Rattle.py_node.specs.declared.entry.SlotId.TheVariants.{New}
 use Rattle.py_node.specs.declared.entry.SlotEntry.{SlotEntry}
-use Rattle.py_node.specs.Slots.{Sort, ByItself, BySequence, ByMapping, Nearest, all_slots, sort_of}
+use Rattle.py_node.specs.declared.slots.Sort.{Sort}
+use Rattle.py_node.specs.declared.slots.Sort.TheVariants.{ByItself, BySequence, ByMapping, Nearest}
+use Rattle.py_node.specs.Slots.{is_slot, all_slots, sort_of}
 use Rattle.class_model.specs.Order.{Holds}
 use Rattle.class_model.specs.Class.{Classes, class_at, lin, own_of, first_along, along}
-use Rattle.class_model.specs.Slot.{Keys, Natives, is_name_of, is_slot, wrapped, heap_entry, is_heap_at, given_entry, is_by_itself, entry, has_table, first_with, read_along}
+use Rattle.class_model.specs.Slot.{Keys, Natives, is_name_of, wrapped, heap_entry, is_heap_at, given_entry, is_by_itself, entry, has_table, first_with, read_along}
 
 pub bind-agrees : {A B : Type 0} (f g : A → Option B) (o p : Option A) → o ≡ p → ((x : A) → o ≡ Some x → f x ≡ g x) → option_and_then f o ≡ option_and_then g p
 bind-agrees {A = A} {B = B} f g o p e h = go o h ∙ ap (option_and_then g) e

@@ -1,18 +1,18 @@
 -- Other keys change nothing.
-use Rattle.std.proofs.Common.{◌≡◌, ℕ, ◌<◌, Bool, true, false, cond, not, ◌&&◌, ◌||◌, eqb, List, [], ◌∷◌, ◌++◌, map, length, Option, Some, None, inl, inr, refl, ap, ◌∙◌}
+use Rattle.std.proofs.Common.{◌≡◌, ℕ, Bool, true, false, cond, not, ◌&&◌, ◌||◌, eqb, List, [], ◌∷◌, ◌++◌, map, length, Option, Some, None, refl, ap, ◌∙◌}
 use Rattle.std.specs.Prelude.{nat_lt, option_map, option_and_then}
 use Rattle.std.proofs.lemmas.List.{length-map}
 use Rattle.py_node.specs.declared.refs.PyObjectRef.{PyObjectRef}
 use Rattle.py_node.specs.declared.entry.SlotId.{SlotId}
 use Rattle.py_node.specs.declared.entry.SlotEntry.{SlotEntry}
+use Rattle.py_node.specs.declared.known.Known.{Known}
 use Rattle.py_node.specs.Attributes.{value_of}
 use Rattle.py_node.specs.Slots.{names_of, all_slots, sort_of}
-use Rattle.class_model.specs.Order.{has, linear, Holds}
+use Rattle.class_model.specs.Order.{has, linear}
 use Rattle.class_model.specs.Class.{Class, Classes, class_at, bases_of, lin, is_along, is_sub, own_of, along, found_by, found, past_first, found_past, subclasses, rekeyed, renamed}
 use Rattle.class_model.specs.Numbers.{numbers_of}
 use Rattle.class_model.specs.Layout.{built_ins, is_empty, has_members, is_solid, solid_within, solid, base, layout_along, layout, member_count, is_place}
 use Rattle.class_model.specs.Slot.{Keys, Natives, is_one_of, is_name_of, is_heap_at, entry, entries, read_along, slot, without_same, in_turn, candidates_of}
-use Rattle.class_model.proofs.Names.{names-low}
 use Rattle.class_model.proofs.Linear.{linear-same}
 use Rattle.class_model.proofs.Agreed.{bind-agrees, first_along-agrees, entry-agrees}
 use Rattle.class_model.proofs.Solid.{solid_within-same, base-agrees}
@@ -71,16 +71,16 @@ module _ {K L : Type 0} (f : K → L) where
   is_heap_at-renamed : (t : Classes K) (c : ℕ) → is_heap_at (class_at (renamed f t) c) ≡ is_heap_at (class_at t c)
   is_heap_at-renamed t c = at-renamed is_heap_at is_heap_at refl (λ k. refl) t c
 
-  module _ (keys : Keys K) (others : Keys L) (agree : (a b : K) → others.same (f a) (f b) ≡ keys.same a b) (special : (k : ℕ) → k < 70 → others.special k ≡ f (keys.special k)) where
-    is_one_of-renamed : (ns : List ℕ) (k : K) → ((n : ℕ) → Holds ns n → n < 70) → is_one_of others.same (map others.special ns) (f k) ≡ is_one_of keys.same (map keys.special ns) k
-    is_one_of-renamed [] k low = refl
-    is_one_of-renamed (n ∷ ns) k low =
-        let a : others.same (f k) (others.special n) ≡ keys.same k (keys.special n) = ap (others.same (f k)) (special n (low n (inl refl))) ∙ agree k (keys.special n) in
-        let r = is_one_of-renamed ns k (λ m h. low m (inr h)) in
+  module _ (keys : Keys K) (others : Keys L) (agree : (a b : K) → others.same (f a) (f b) ≡ keys.same a b) (special : (k : Known) → others.special k ≡ f (keys.special k)) where
+    is_one_of-renamed : (ns : List Known) (k : K) → is_one_of others.same (map others.special ns) (f k) ≡ is_one_of keys.same (map keys.special ns) k
+    is_one_of-renamed [] k = refl
+    is_one_of-renamed (n ∷ ns) k =
+        let a : others.same (f k) (others.special n) ≡ keys.same k (keys.special n) = ap (others.same (f k)) (special n) ∙ agree k (keys.special n) in
+        let r = is_one_of-renamed ns k in
         ap (λ b. b || is_one_of others.same (map others.special ns) (f k)) a ∙ ap (λ b. keys.same k (keys.special n) || b) r
 
     pub is_name_of-renamed : (s : SlotId) (k : K) → is_name_of others s (f k) ≡ is_name_of keys s k
-    is_name_of-renamed s k = is_one_of-renamed (names_of s) k (names-low s)
+    is_name_of-renamed s k = is_one_of-renamed (names_of s) k
 
     pub entry-renamed : (natives : Natives) (t : Classes K) (c : ℕ) (s : SlotId) → entry others natives (renamed f t) c s ≡ entry keys natives t c s
     entry-renamed natives t c s =

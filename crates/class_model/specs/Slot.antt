@@ -5,14 +5,19 @@ use Rattle.py_node.specs.declared.entry.SlotId.{SlotId}
 use Rattle.py_node.specs.declared.entry.SlotId.TheVariants.{Hash, New}
 use Rattle.py_node.specs.declared.entry.SlotEntry.{SlotEntry}
 use Rattle.py_node.specs.declared.entry.SlotEntry.TheVariants.{Wrapper, Unhashable}
-use Rattle.py_node.specs.Slots.{Sort, ByItself, BySequence, ByMapping, Nearest, place_of, names_of, all_slots, sort_of}
+use denote.Enum.Bare.{sameb}
+use Rattle.py_node.specs.contracts.slots.Sort.{the_type as sort_type}
+use Rattle.py_node.specs.declared.known.Known.{Known}
+use Rattle.py_node.specs.declared.slots.Sort.{Sort}
+use Rattle.py_node.specs.declared.slots.Sort.TheVariants.{ByItself, BySequence, ByMapping, Nearest}
+use Rattle.py_node.specs.Slots.{is_slot, names_of, all_slots, sort_of}
 use Rattle.py_node.specs.Natives.{is_same_entry}
 use Rattle.class_model.specs.Class.{Class, Classes, class_at, is_heap, lin, is_sub, own_of, first_along, along}
 
--- how classes name their attributes: whether two keys are one, and the key of each special name by its place
+-- how classes name their attributes: whether two keys are one, and the key of each name that every world knows
 pub record Keys (K : Type 0) : Type 0 where
   pub same : K → K → Bool
-  pub special : ℕ → K
+  pub special : Known → K
 
 -- what stands in the slots of each built-in class, by its number: a native, or that its objects have no hash
 abbrev pub Natives : Type 0
@@ -25,9 +30,6 @@ is_one_of same (n ∷ ns) k = same k n || is_one_of same ns k
 -- whether a key is a special name of the slot
 abbrev pub is_name_of : {K : Type 0} → Keys K → SlotId → K → Bool
 is_name_of keys s k = is_one_of keys.same (map keys.special (names_of s)) k
-
-abbrev pub is_slot : SlotId → SlotId → Bool
-is_slot s u = eqb (place_of s) (place_of u)
 
 -- None, as an object
 abbrev pub is_none : PyObjectRef → Bool
@@ -52,11 +54,12 @@ abbrev pub given_entry : {K : Type 0} → Keys K → Natives → Classes K → S
 given_entry keys natives t s c =
     cond (is_heap_at (class_at t c)) (option_and_then (λ line. heap_entry keys t c line s) (lin t c)) (natives c s)
 
+-- whether two slots are read alike
+abbrev pub is_sort : Sort → Sort → Bool
+is_sort = sameb sort_type
+
 abbrev pub is_by_itself : Sort → Bool
-is_by_itself ByItself = true
-is_by_itself BySequence = false
-is_by_itself ByMapping = false
-is_by_itself Nearest = false
+is_by_itself sort = is_sort sort ByItself
 
 -- the own entry of a slot. Where a built-in or static class lacks a number slot or `repr`, it is that of the nearest class along its linearisation
 abbrev pub entry : {K : Type 0} → Keys K → Natives → Classes K → ℕ → SlotId → Option SlotEntry
@@ -69,14 +72,7 @@ entry keys natives t c s =
 abbrev pub entries : {K : Type 0} → Keys K → Natives → Classes K → ℕ → List (Option SlotEntry)
 entries keys natives t c = map (entry keys natives t c) all_slots
 
--- slots that stand in one table with another
-abbrev pub is_sort : Sort → Sort → Bool
-is_sort ByItself ByItself = true
-is_sort BySequence BySequence = true
-is_sort ByMapping ByMapping = true
-is_sort Nearest Nearest = true
-is_sort _ _ = false
-
+-- whether a class has any slot of a table
 abbrev pub has_table : (SlotId → Option SlotEntry) → Sort → List SlotId → Bool
 has_table own sort [] = false
 has_table own sort (s ∷ ss) = (is_sort (sort_of s) sort && is_some (own s)) || has_table own sort ss

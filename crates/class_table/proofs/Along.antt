@@ -11,10 +11,12 @@ use Rattle.py_node.specs.declared.entry.SlotId.TheVariants.{Hash}
 use Rattle.py_node.specs.declared.entry.SlotEntry.{SlotEntry}
 use Rattle.py_node.specs.declared.entry.SlotEntry.TheVariants.{Unhashable, Wrapper}
 use Rattle.py_node.specs.Attributes.{value_of, is_same_name}
-use Rattle.py_node.specs.Slots.{names_of, sort_of}
+use Rattle.py_node.specs.declared.known.Known.{Known}
+use Rattle.py_node.specs.declared.known.Known.TheVariants as known
+use Rattle.py_node.specs.Slots.{is_slot, names_of, sort_of}
 use Rattle.class_model.specs.Order.{Holds}
 use Rattle.class_model.specs.Class.{Class, Classes, class_at, is_heap, lin, own_of, or_else, first_along, along}
-use Rattle.class_model.specs.Slot.{is_slot, is_none, is_one_of, is_name_of, wrapped, heap_entry, is_heap_at, given_entry, is_by_itself, entry}
+use Rattle.class_model.specs.Slot.{is_none, is_one_of, is_name_of, wrapped, heap_entry, is_heap_at, given_entry, is_by_itself, entry}
 use Rattle.class_model.specs.BuiltIn.{natives_of}
 use Rattle.class_table.specs.Keys.{numbers, table_keys}
 use Rattle.class_table.specs.Kept.{Kept, plain}
@@ -66,33 +68,33 @@ value_of-found ns n v (a ∷ attrs) e = found-step ns n v a attrs (is_same_name 
 wrapped-alike : (s : SlotId) (v w : PyObjectRef) → is_slot s Hash ≡ false → wrapped s (Some v) ≡ wrapped s (Some w)
 wrapped-alike s v w e = ap (λ b. Some (cond (b && is_none v) Unhashable (Wrapper s))) e ∙ ap (λ b. Some (cond (b && is_none w) Unhashable (Wrapper s))) (sym e)
 
-pub wrapped-end : (s : SlotId) (ks : List ℕ) (i : ℕ) (attrs : List (PyStrInterned × PyObjectRef)) → length ks ≤ i → wrapped s (value_of (is_one_of is_same_name (map table_keys.special (drop i ks))) attrs) ≡ None
-wrapped-end s ks i attrs l = ap (λ (ys : List ℕ). wrapped s (value_of (is_one_of is_same_name (map table_keys.special ys)) attrs)) (drop_of_length-le ks l) ∙ ap (wrapped s) (value_of-no attrs)
+pub wrapped-end : (s : SlotId) (ks : List Known) (i : ℕ) (attrs : List (PyStrInterned × PyObjectRef)) → length ks ≤ i → wrapped s (value_of (is_one_of is_same_name (map table_keys.special (drop i ks))) attrs) ≡ None
+wrapped-end s ks i attrs l = ap (λ (ys : List Known). wrapped s (value_of (is_one_of is_same_name (map table_keys.special ys)) attrs)) (drop_of_length-le ks l) ∙ ap (wrapped s) (value_of-no attrs)
 
-found-case : (s : SlotId) (ks : List ℕ) (i k : ℕ) (attrs : List (PyStrInterned × PyObjectRef)) (v : PyObjectRef) → ks ≡ names_of s → i < length ks → k ≡ get_or ks i 0 → value_of (λ j. is_same_name j (record { 0 = k })) attrs ≡ Some v → (b : Bool) → is_slot s Hash ≡ b → wrapped s (value_of (is_one_of is_same_name (map table_keys.special (k ∷ drop (i + 1) ks))) attrs) ≡ wrapped s (Some v)
-found-case s ks i k attrs v e l at is true h =
-    let one : ks ≡ 49 ∷ [] = e ∙ names-hash s h in
+found-case : (s : SlotId) (ks : List Known) (i : ℕ) (k d : Known) (attrs : List (PyStrInterned × PyObjectRef)) (v : PyObjectRef) → ks ≡ names_of s → i < length ks → k ≡ get_or ks i d → value_of (λ j. is_same_name j (table_keys.special k)) attrs ≡ Some v → (b : Bool) → is_slot s Hash ≡ b → wrapped s (value_of (is_one_of is_same_name (map table_keys.special (k ∷ drop (i + 1) ks))) attrs) ≡ wrapped s (Some v)
+found-case s ks i k d attrs v e l at is true h =
+    let one : ks ≡ known.Hash ∷ [] = e ∙ names-hash s h in
     let rest : drop (i + 1) ks ≡ [] = let n : length ks ≡ 1 = ap length one in drop_of_length-le ks {i = i + 1} (omega arith) in
-    ap (λ (ys : List ℕ). wrapped s (value_of (is_one_of is_same_name (map table_keys.special (k ∷ ys))) attrs)) rest
-    ∙ ap (wrapped s) (value_of-only (record { 0 = k }) attrs ∙ is)
-found-case s ks i k attrs v e l at is false h =
-    let r = value_of-found (map table_keys.special (drop (i + 1) ks)) (record { 0 = k }) v attrs is in
+    ap (λ (ys : List Known). wrapped s (value_of (is_one_of is_same_name (map table_keys.special (k ∷ ys))) attrs)) rest
+    ∙ ap (wrapped s) (value_of-only (table_keys.special k) attrs ∙ is)
+found-case s ks i k d attrs v e l at is false h =
+    let r = value_of-found (map table_keys.special (drop (i + 1) ks)) (table_keys.special k) v attrs is in
     ap (wrapped s) r.1 ∙ wrapped-alike s r.0 v h
 
 -- a name that is there gives the slot
-pub wrapped-found : (s : SlotId) (ks : List ℕ) (i k : ℕ) (attrs : List (PyStrInterned × PyObjectRef)) (v : PyObjectRef) → ks ≡ names_of s → i < length ks → k ≡ get_or ks i 0 → value_of (λ j. is_same_name j (record { 0 = k })) attrs ≡ Some v → wrapped s (value_of (is_one_of is_same_name (map table_keys.special (drop i ks))) attrs) ≡ wrapped s (Some v)
-wrapped-found s ks i k attrs v e l at is =
-    ap (λ (ys : List ℕ). wrapped s (value_of (is_one_of is_same_name (map table_keys.special ys)) attrs)) (drop_more ks i 0 l ∙ ap (λ n. n ∷ drop (i + 1) ks) (sym at))
-    ∙ found-case s ks i k attrs v e l at is (is_slot s Hash) refl
+pub wrapped-found : (s : SlotId) (ks : List Known) (i : ℕ) (k d : Known) (attrs : List (PyStrInterned × PyObjectRef)) (v : PyObjectRef) → ks ≡ names_of s → i < length ks → k ≡ get_or ks i d → value_of (λ j. is_same_name j (table_keys.special k)) attrs ≡ Some v → wrapped s (value_of (is_one_of is_same_name (map table_keys.special (drop i ks))) attrs) ≡ wrapped s (Some v)
+wrapped-found s ks i k d attrs v e l at is =
+    ap (λ (ys : List Known). wrapped s (value_of (is_one_of is_same_name (map table_keys.special ys)) attrs)) (drop_more ks i d l ∙ ap (λ n. n ∷ drop (i + 1) ks) (sym at))
+    ∙ found-case s ks i k d attrs v e l at is (is_slot s Hash) refl
 
 -- a name that is not there may be left out
-pub wrapped-first : (s : SlotId) (ks : List ℕ) (k : ℕ) (attrs : List (PyStrInterned × PyObjectRef)) → value_of (λ j. is_same_name j (record { 0 = k })) attrs ≡ None → wrapped s (value_of (is_one_of is_same_name (map table_keys.special (k ∷ ks))) attrs) ≡ wrapped s (value_of (is_one_of is_same_name (map table_keys.special ks)) attrs)
-wrapped-first s ks k attrs e = ap (wrapped s) (value_of-first (map table_keys.special ks) (record { 0 = k }) attrs e)
+pub wrapped-first : (s : SlotId) (ks : List Known) (k : Known) (attrs : List (PyStrInterned × PyObjectRef)) → value_of (λ j. is_same_name j (table_keys.special k)) attrs ≡ None → wrapped s (value_of (is_one_of is_same_name (map table_keys.special (k ∷ ks))) attrs) ≡ wrapped s (value_of (is_one_of is_same_name (map table_keys.special ks)) attrs)
+wrapped-first s ks k attrs e = ap (wrapped s) (value_of-first (map table_keys.special ks) (table_keys.special k) attrs e)
 
-pub wrapped-next : (s : SlotId) (ks : List ℕ) (i k : ℕ) (attrs : List (PyStrInterned × PyObjectRef)) → i < length ks → k ≡ get_or ks i 0 → value_of (λ j. is_same_name j (record { 0 = k })) attrs ≡ None → wrapped s (value_of (is_one_of is_same_name (map table_keys.special (drop (i + 1) ks))) attrs) ≡ wrapped s (value_of (is_one_of is_same_name (map table_keys.special (drop i ks))) attrs)
-wrapped-next s ks i k attrs l at is =
+pub wrapped-next : (s : SlotId) (ks : List Known) (i : ℕ) (k d : Known) (attrs : List (PyStrInterned × PyObjectRef)) → i < length ks → k ≡ get_or ks i d → value_of (λ j. is_same_name j (table_keys.special k)) attrs ≡ None → wrapped s (value_of (is_one_of is_same_name (map table_keys.special (drop (i + 1) ks))) attrs) ≡ wrapped s (value_of (is_one_of is_same_name (map table_keys.special (drop i ks))) attrs)
+wrapped-next s ks i k d attrs l at is =
     sym (
-    ap (λ (ys : List ℕ). wrapped s (value_of (is_one_of is_same_name (map table_keys.special ys)) attrs)) (drop_more ks i 0 l ∙ ap (λ n. n ∷ drop (i + 1) ks) (sym at))
+    ap (λ (ys : List Known). wrapped s (value_of (is_one_of is_same_name (map table_keys.special ys)) attrs)) (drop_more ks i d l ∙ ap (λ n. n ∷ drop (i + 1) ks) (sym at))
     ∙ wrapped-first s (drop (i + 1) ks) k attrs is
     )
 
@@ -130,3 +132,13 @@ pub held-at : (line : List PyTypeRef) (i : ℕ) (d : PyTypeRef) → i < length l
 held-at [] i d l = absurd (omega arith)
 held-at (c ∷ line) zero d l = inl refl
 held-at (c ∷ line) (suc i) d l = inr (held-at line i d (omega arith))
+
+-- a class that gives the slot nothing may be left out
+pub wrapped-along-next : (s : SlotId) (kept : List Kept) (line : List PyTypeRef) (i : ℕ) (d : PyTypeRef) → i < length line → wrapped s (own_of (is_name_of table_keys s) (class_at (plain kept) (get_or line i d).0)) ≡ None → wrapped s (along (is_name_of table_keys s) (plain kept) (numbers (drop (i + 1) line))) ≡ wrapped s (along (is_name_of table_keys s) (plain kept) (numbers (drop i line)))
+wrapped-along-next s kept line i d l is =
+    let rest = along (is_name_of table_keys s) (plain kept) (numbers (drop (i + 1) line)) in
+    sym (
+    ap (wrapped s) (first_along-at (λ c. own_of (is_name_of table_keys s) (class_at (plain kept) c)) line i d l)
+    ∙ wrapped_or_else s (own_of (is_name_of table_keys s) (class_at (plain kept) (get_or line i d).0)) rest
+    ∙ ap (λ o. or_else o (wrapped s rest)) is
+    )

@@ -13,7 +13,7 @@ use Rattle.class_model.proofs.Rule.{lin-classes}
 use Rattle.class_table.specs.Keys.{table_keys}
 use Rattle.class_table.specs.Kept.{Kept, IsHere, plain}
 use Rattle.class_table.specs.Coherent.{IsCoherent}
-use Rattle.class_table.proofs.Slots.{slot-at_place}
+use Rattle.py_node.proofs.SlotTables.{slot-at_place}
 use Rattle.class_table.proofs.Refreshed.{entries-at}
 
 module _ (kept : List Kept) (ok : IsCoherent kept) (c : ℕ) (k : Kept) (here : IsHere kept c k) where

@@ -29,7 +29,7 @@ use Rattle.class_table.specs.Kept.{Kept, class_of, plain}
 use Rattle.class_table.specs.Coherent.{HasLines, IsCoherent}
 use Rattle.class_table.specs.Patch.{IsNear, AreNear, IsRefreshed, settled, refreshed_one}
 use Rattle.class_table.proofs.Distinct.{all-set}
-use Rattle.class_table.proofs.Slots.{slot-at_place}
+use Rattle.py_node.proofs.SlotTables.{slot-at_place}
 use Rattle.class_table.proofs.Places.{get-set_cases}
 use Rattle.class_table.proofs.Refreshed.{there, entries-at, plain-refreshed, length-entries}
 

@@ -1,4 +1,4 @@
--- The parts of a new machine's world: loops over the built-in classes and the special names.
+-- The parts of a new machine's world: loops over the built-in classes and the names that are known.
 use Rattle.std.proofs.Common.{◌≡◌, ℕ, zero, suc, ◌+◌, ◌<◌, ◌≤◌, Bool, true, false, cond, List, [], ◌∷◌, ◌++◌, length, Option, Some, None, refl, sym, ap, ◌∙◌, subst, arith, get_or, take, map, true≢false}
 use Rattle.std.specs.Prelude.{◌&&◌, not, slice_get, ltb, eqb, nat_lt, is_some}
 use Rattle.std.specs.Str.{bytes_eq}
@@ -7,7 +7,7 @@ use Rattle.std.proofs.lemmas.Slice.Eq.{bytes_eq-Decides}
 use Rattle.py_node.specs.declared.refs.PyTypeRef.{PyTypeRef}
 use Rattle.py_node.specs.declared.built_in.BuiltIn.{BuiltIn}
 use Rattle.py_node.specs.BuiltIns.{place_of, base_of, all_built_ins}
-use Rattle.py_node.specs.Slots.{special_names}
+use Rattle.py_node.specs.Known.{known_texts}
 use Rattle.py_node.specs.Texts.{AreDistinct}
 use Rattle.class_model.specs.Start.{bases_from, built_class}
 use Rattle.py_node.specs.declared.refs.PyStrInterned.{PyStrInterned}
@@ -82,9 +82,9 @@ differ-distinct (x ∷ xs) h (suc n) zero t a b =
     absurd (differs-none x xs (split (differs x xs) (all_differ xs) h).0 n (a ∙ ap Some same))
 differ-distinct (x ∷ xs) h (suc n) (suc m) t a b = ap suc (differ-distinct xs (split (differs x xs) (all_differ xs) h).1 n m t a b)
 
-pub special-distinct : AreDistinct special_names
-unfolding special_names
-special-distinct = differ-distinct special_names refl
+pub known-distinct : AreDistinct known_texts
+unfolding known_texts
+known-distinct = differ-distinct known_texts refl
 
 -- whether a class's base has a place below the given one. Only the first class has none
 abbrev pub base_below : ℕ → Option ℕ → Bool

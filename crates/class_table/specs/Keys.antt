@@ -3,11 +3,12 @@ use Rattle.std.specs.Prelude.{ℕ, List, map, Option, option_map}
 use Rattle.py_node.specs.declared.refs.PyStrInterned.{PyStrInterned}
 use Rattle.py_node.specs.declared.refs.PyTypeRef.{PyTypeRef}
 use Rattle.py_node.specs.Attributes.{is_same_name}
+use Rattle.py_node.specs.Known.{number_of as number_of_name}
 use Rattle.class_model.specs.Slot.{Keys}
 
--- the special names have the first numbers
+-- the names that are known have the first numbers
 abbrev pub table_keys : Keys PyStrInterned
-table_keys = record { same = is_same_name; special = λ k. record { 0 = k } }
+table_keys = record { same = is_same_name; special = λ x. record { 0 = number_of_name x } }
 
 -- the numbers of some classes
 abbrev pub numbers : List PyTypeRef → List ℕ

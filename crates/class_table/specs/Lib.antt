@@ -2,7 +2,6 @@ pub mod Keys
 pub mod Kept
 pub mod Coherent
 pub mod Patch
-pub mod Read
 pub mod New
 pub mod Made
 pub mod Refused

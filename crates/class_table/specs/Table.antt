@@ -2,7 +2,8 @@
 use Rattle.std.specs.Prelude.{Bool, false, cond, ◌||◌, is_some, List, [], ◌∷◌, Option}
 use Rattle.py_node.specs.declared.entry.SlotEntry.{SlotEntry}
 use Rattle.py_node.specs.declared.entry.SlotId.{SlotId}
-use Rattle.py_node.specs.Slots.{Sort, BySequence, ByMapping}
+use Rattle.py_node.specs.declared.slots.Sort.{Sort}
+use Rattle.py_node.specs.declared.slots.Sort.TheVariants.{BySequence, ByMapping}
 
 abbrev pub table_sort : Bool → Sort
 table_sort mapping = cond mapping ByMapping BySequence

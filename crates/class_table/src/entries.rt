@@ -3,9 +3,8 @@
 ghost use Rattle.std.specs.Prelude.{◌≡◌, ◌<◌, ◌&&◌, true, not, Some, length, slice_index_or};
 ghost use Rattle.py_node.specs.Attributes.{value_of, is_same_name};
 ghost use Rattle.py_node.specs.Slots.{sort_of};
-ghost use Rattle.py_node.specs.declared.entry.SlotId.TheVariants.{Hash, New};
 ghost use Rattle.class_model.specs.Class.{class_at, is_heap, own_of, along, first_along};
-ghost use Rattle.class_model.specs.Slot.{is_slot, is_none, is_name_of, wrapped, heap_entry, given_entry, is_by_itself, entry};
+ghost use Rattle.class_model.specs.Slot.{is_none, is_name_of, wrapped, heap_entry, given_entry, is_by_itself, entry};
 ghost use Rattle.class_model.specs.Numbers.{is_ascending};
 ghost use Rattle.class_model.specs.BuiltIn.{natives_of};
 ghost use Rattle.class_table.specs.Kept.{Kept, class_of, plain};
@@ -14,25 +13,11 @@ ghost use Rattle.class_table.specs.Coherent.{HasLines};
 
 use crate::natives::built_in_entry;
 use crate::place::{find_near, likely};
-use crate::special::{Reading, read_as, special_names};
 use crate::stored::Stored;
 use py_node::attributes::PyAttributes;
 use py_node::entry::{SlotEntry, SlotId};
-use py_node::refs::{PyObjectRef, PyStrInterned, PyTypeRef};
-
-#[tactic(auto, unfolding(py_node::specs::Slots::place_of))]
-fn is_hash(slot: SlotId) -> bool
-    ensures { result ≡ is_slot slot Hash }
-{
-    slot.place() == SlotId::Hash.place()
-}
-
-#[tactic(auto, unfolding(py_node::specs::Slots::place_of))]
-fn is_new(slot: SlotId) -> bool
-    ensures { result ≡ is_slot slot New }
-{
-    slot.place() == SlotId::New.place()
-}
+use py_node::refs::{PyObjectRef, PyTypeRef};
+use py_node::slots::Sort;
 
 // Whether an object is None.
 fn is_none(value: PyObjectRef) -> bool
@@ -45,7 +30,7 @@ fn is_none(value: PyObjectRef) -> bool
 fn wrapper(slot: SlotId, value: PyObjectRef) -> SlotEntry
     ensures { Some result ≡ wrapped slot (Some value) }
 {
-    if is_hash(slot) && is_none(value) {
+    if slot == SlotId::Hash && is_none(value) {
         SlotEntry::Unhashable
     } else {
         SlotEntry::Wrapper(slot)
@@ -56,8 +41,8 @@ fn wrapper(slot: SlotId, value: PyObjectRef) -> SlotEntry
 fn own_wrapper(attrs: &PyAttributes, slot: SlotId) -> Option<SlotEntry>
     ensures { result ≡ wrapped slot (value_of (is_name_of table_keys slot) attrs.now) }
 {
-    for name in special_names(slot) {
-        if let Some(value) = attrs.get(PyStrInterned(*name)) {
+    for name in slot.special_names() {
+        if let Some(value) = attrs.get(name.interned()) {
             return Some(wrapper(slot, value));
         }
     }
@@ -105,7 +90,7 @@ fn heap_entry(
     requires { is_ascending (plain classes.now) ≡ true }
     ensures { result ≡ heap_entry table_keys (plain classes.now) class.0 (numbers line.now) slot }
 {
-    if is_new(slot) {
+    if slot == SlotId::New {
         wrapper_at(classes, likely(near, 0), class, slot)
     } else {
         wrapper_along(classes, near, line, slot)
@@ -157,12 +142,7 @@ fn is_inherited(stored: &Stored, slot: SlotId) -> bool
 fn is_own(slot: SlotId) -> bool
     ensures { result ≡ is_by_itself (sort_of slot) }
 {
-    match read_as(slot) {
-        Reading::Own => true,
-        Reading::Sequence => false,
-        Reading::Mapping => false,
-        Reading::OfNearest => false,
-    }
+    slot.sort() == Sort::ByItself
 }
 
 // What the class at a place itself has in a slot.

@@ -12,7 +12,6 @@ pub mod place;
 pub mod put;
 pub mod read;
 pub mod refresh;
-pub mod special;
 pub mod start;
 pub mod stored;
 pub mod table;

@@ -4,7 +4,7 @@ ghost use Rattle.std.specs.Prelude.{◌≡◌, ℕ, true, Option};
 ghost use Rattle.py_node.specs.declared.entry.SlotEntry.{SlotEntry as Entry};
 ghost use Rattle.py_node.specs.declared.entry.SlotId.{SlotId as Slot};
 ghost use Rattle.py_node.specs.Attributes.{is_same_name};
-ghost use Rattle.py_node.specs.Slots.{all_slots, sort_of, ByMapping, BySequence};
+ghost use Rattle.py_node.specs.Slots.{all_slots, sort_of};
 ghost use Rattle.class_model.specs.Order.{Holds};
 ghost use Rattle.class_model.specs.Class.{class_at, is_class, own_of, along, first_along, past_first};
 ghost use Rattle.class_model.specs.Slot.{entry, slot as slot_read, has_table, first_with, read_along};
@@ -16,10 +16,10 @@ ghost use Rattle.class_table.specs.Coherent.{IsCoherent};
 ghost use Rattle.class_table.specs.Table.{table_sort, any_filled};
 
 use crate::place::{find_near, likely, stored_at};
-use crate::special::{Reading, read_as};
 use crate::stored::Stored;
 use py_node::entry::{SlotEntry, SlotId};
 use py_node::refs::{PyObjectRef, PyStrInterned, PyTypeRef};
+use py_node::slots::Sort;
 
 // A class's own value, where there is such a class.
 pub(crate) fn own_at(
@@ -101,7 +101,7 @@ fn nearest(classes: &[Stored], line: &[PyTypeRef], slot: SlotId) -> Option<SlotE
 }
 
 // The slots of sequences, or of mappings.
-#[tactic(auto, unfolding(py_node::specs::Slots::all_slots, py_node::specs::Slots::sort_of))]
+#[tactic(auto, unfolding(py_node::specs::Slots::all_slots, py_node::specs::Slots::slot_sorts, py_node::specs::Slots::place_of, py_node::specs::Slots::sort_of))]
 fn slots_in(mapping: bool) -> &'static [SlotId]
     ensures { (own : Slot → Option Entry) → any_filled own result.now ≡ has_table own (table_sort mapping) all_slots }
 {
@@ -179,11 +179,11 @@ fn read_along(
     requires inside { (x : ℕ) → Holds (numbers line.now) x → is_class (plain classes.now) x ≡ true }
     ensures { result ≡ read_along (entry table_keys natives_of (plain classes.now)) (sort_of slot) class.0 (numbers line.now) slot }
 {
-    match read_as(slot) {
-        Reading::Own => own_entry(classes, class, slot),
-        Reading::Sequence => of_table(classes, line, false, slot),
-        Reading::Mapping => of_table(classes, line, true, slot),
-        Reading::OfNearest => nearest(classes, line, slot),
+    match slot.sort() {
+        Sort::ByItself => own_entry(classes, class, slot),
+        Sort::BySequence => of_table(classes, line, false, slot),
+        Sort::ByMapping => of_table(classes, line, true, slot),
+        Sort::Nearest => nearest(classes, line, slot),
     }
 }
 

@@ -1,7 +1,7 @@
 // Slots that are found anew after an attribute was set.
 
-ghost use Rattle.std.specs.Prelude.{◌≡◌, ◌<◌, Some, length, slice_get, slice_set, slice_index_or};
-ghost use Rattle.py_node.specs.Slots.{place_of, all_slots};
+ghost use Rattle.std.specs.Prelude.{◌≡◌, ◌<◌, length, slice_set, slice_index_or};
+ghost use Rattle.py_node.specs.Slots.{place_of};
 ghost use Rattle.class_model.specs.Slot.{is_name_of, entry};
 ghost use Rattle.class_model.specs.BuiltIn.{natives_of};
 ghost use Rattle.class_table.specs.Kept.{Kept, plain};
@@ -10,7 +10,6 @@ ghost use Rattle.class_table.specs.Coherent.{HasLines};
 ghost use Rattle.class_table.specs.Patch.{IsNear, AreNear, IsRefreshed, settled};
 
 use crate::entries::entry;
-use crate::special::special_names;
 use crate::stored::{SLOTS, Stored};
 use py_node::entry::SlotId;
 use py_node::refs::{PyStrInterned, PyTypeRef};
@@ -19,21 +18,12 @@ use py_node::refs::{PyStrInterned, PyTypeRef};
 fn is_name_of(slot: SlotId, name: PyStrInterned) -> bool
     ensures { result ≡ is_name_of table_keys slot name }
 {
-    for other in special_names(slot) {
-        if *other == name.0 {
+    for other in slot.special_names() {
+        if other.number() == name.0 {
             return true;
         }
     }
     false
-}
-
-// The slot at a place.
-#[tactic(auto, unfolding(py_node::specs::Slots::all_slots))]
-fn slot_at(place: usize) -> SlotId
-    requires { place < 73 }
-    ensures { slice_get all_slots place ≡ Some result }
-{
-    SlotId::ALL[place]
 }
 
 // Finds one slot of a class anew.
@@ -54,7 +44,7 @@ fn patch(classes: &mut [Stored], at: usize, name: PyStrInterned)
     ensures { (d : Kept) → classes.new ≡ slice_set classes.old at (settled (plain classes.old) (slice_index_or classes.old at d)) }
 {
     for place in 0..SLOTS {
-        let slot = slot_at(place);
+        let slot = SlotId::at(place);
         if is_name_of(slot, name) {
             patch_slot(classes, at, slot);
         }
@@ -69,7 +59,7 @@ pub(crate) fn settle(classes: &mut [Stored], at: usize)
     ensures { (d : Kept) → classes.new ≡ slice_set classes.old at (settled (plain classes.old) (slice_index_or classes.old at d)) }
 {
     for place in 0..SLOTS {
-        patch_slot(classes, at, slot_at(place));
+        patch_slot(classes, at, SlotId::at(place));
     }
 }
 

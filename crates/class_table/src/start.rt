@@ -1,9 +1,8 @@
-// What a table of classes begins with: the special names, whose numbers its slots are read by, and the
-// built-in classes.
+//! What a world begins with: the names that it knows, by whose numbers slots are read, and the built-in classes.
 
 ghost use Rattle.std.specs.Prelude.{◌≡◌, map, IfOk};
 ghost use Rattle.py_node.specs.BuiltIns.{all_built_ins};
-ghost use Rattle.py_node.specs.Slots.{special_names as the_special_names};
+ghost use Rattle.py_node.specs.Known.{known_texts};
 ghost use Rattle.py_node.specs.Texts.{AreDistinct};
 ghost use Rattle.class_model.specs.Start.{built_class};
 ghost use Rattle.class_table.specs.New.{class_of_new};
@@ -11,6 +10,7 @@ ghost use Rattle.class_table.specs.New.{class_of_new};
 use crate::stored::NewClass;
 use py_node::attributes::PyAttributes;
 use py_node::built_in::BuiltIn;
+use py_node::known::{Known, all_known};
 use py_node::memory::OutOfMemory;
 use py_node::names::Names;
 use std::alloc::Global;
@@ -42,97 +42,21 @@ const BUILT_INS: [BuiltIn; 23] = [
     BuiltIn::Slice,
 ];
 
-// The special names, in the order of their numbers.
-const SPECIAL_NAMES: [&str; 70] = [
-    "__add__",
-    "__radd__",
-    "__iadd__",
-    "__sub__",
-    "__rsub__",
-    "__isub__",
-    "__mul__",
-    "__rmul__",
-    "__imul__",
-    "__mod__",
-    "__rmod__",
-    "__imod__",
-    "__divmod__",
-    "__rdivmod__",
-    "__pow__",
-    "__rpow__",
-    "__ipow__",
-    "__lshift__",
-    "__rlshift__",
-    "__ilshift__",
-    "__rshift__",
-    "__rrshift__",
-    "__irshift__",
-    "__and__",
-    "__rand__",
-    "__iand__",
-    "__xor__",
-    "__rxor__",
-    "__ixor__",
-    "__or__",
-    "__ror__",
-    "__ior__",
-    "__floordiv__",
-    "__rfloordiv__",
-    "__ifloordiv__",
-    "__truediv__",
-    "__rtruediv__",
-    "__itruediv__",
-    "__matmul__",
-    "__rmatmul__",
-    "__imatmul__",
-    "__int__",
-    "__index__",
-    "__float__",
-    "__len__",
-    "__getitem__",
-    "__setitem__",
-    "__delitem__",
-    "__contains__",
-    "__hash__",
-    "__call__",
-    "__repr__",
-    "__getattr__",
-    "__getattribute__",
-    "__setattr__",
-    "__delattr__",
-    "__eq__",
-    "__ne__",
-    "__lt__",
-    "__le__",
-    "__ge__",
-    "__gt__",
-    "__iter__",
-    "__next__",
-    "__get__",
-    "__set__",
-    "__delete__",
-    "__init__",
-    "__new__",
-    "__del__",
-];
-
-/// The table of names that begins with a table of classes: the special names, so that each has the number
-/// by which slots are read.
-pub fn special_names(alloc: Global) -> Result<Names, OutOfMemory>
-    ensures { IfOk result (λ n. n ≡ the_special_names) }
+/// The table of names of a new world: those that every world knows, so that each has its number.
+pub fn known_names(alloc: Global) -> Result<Names, OutOfMemory>
+    ensures { IfOk result (λ n. n ≡ known_texts) }
 {
-    let texts: [&str; 70] = SPECIAL_NAMES;
-    table_of(alloc, texts.as_slice())
+    table_of(alloc, all_known())
 }
 
-// A table of texts, no two of which are alike.
-fn table_of(alloc: Global, texts: &[&str]) -> Result<Names, OutOfMemory>
-    requires { AreDistinct (map (λ s. s.now) texts.now) }
-    ensures { IfOk result (λ n. n ≡ map (λ s. s.now) texts.now) }
+// A table of names, no two of whose texts are alike.
+fn table_of(alloc: Global, rows: &[(Known, &str)]) -> Result<Names, OutOfMemory>
+    requires { AreDistinct (map (λ r. r.1.now) rows.now) }
+    ensures { IfOk result (λ n. n ≡ map (λ r. r.1.now) rows.now) }
 {
     let mut names = Names::new(alloc);
-    for text in texts {
-        names.intern(alloc, text)?;
+    for row in rows {
+        names.intern(alloc, row.1)?;
     }
     Ok(names)
 }

@@ -35,8 +35,8 @@ use py_node::refs::{PyObjectRef, PyStrInterned, PyTypeRef};
 use std::alloc::Global;
 use std::marker::Model;
 
-/// Classes, in the order of their numbers. The names of their attributes are numbers too: those of the
-/// special names, by which slots are read, are as in `special_names`.
+/// Classes, in the order of their numbers. The names of their attributes are numbers too: those that are
+/// known, by which slots are read, have the numbers of `known_names`.
 #[derive(Drop)]
 pub struct ClassTable {
     classes: Vec<Stored>,

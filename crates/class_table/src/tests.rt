@@ -1,5 +1,5 @@
 use crate::fault::ClassFault;
-use crate::start::special_names;
+use crate::start::known_names;
 use crate::table::ClassTable;
 use py_node::attributes::PyAttributes;
 use py_node::entry::{SlotEntry, SlotId};
@@ -56,7 +56,7 @@ fn numbers_have_gaps(rt: HostRuntime) -> Result<(), Fail> {
 #[test]
 fn child_follows_its_base(rt: HostRuntime) -> Result<(), Fail> {
     let alloc = rt.alloc();
-    let mut names = special_names(alloc)?;
+    let mut names = known_names(alloc)?;
     let add = names.intern(alloc, "__add__")?;
     let mut table = ClassTable::new(alloc)?;
     let first = PyTypeRef(100);

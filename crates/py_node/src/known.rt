@@ -3,6 +3,8 @@
 ghost use Rattle.std.specs.Prelude.{◌≡◌, ◌<◌, map, length};
 ghost use Rattle.py_node.specs.Known.{known_texts, known_text, number_of};
 
+use crate::refs::PyStrInterned;
+
 /// A name that every world knows. Its place here is its number in each table of names. The special names come
 /// first, in the order of their slots; a name with `Word` at its end has no underscores.
 #[derive(Clone, Copy, PartialEq, Eq)]
@@ -290,6 +292,13 @@ impl Known {
         ensures within { result < 130 }
     {
         self as u64
+    }
+
+    /// The name, as each table of names has it.
+    pub fn interned(self) -> PyStrInterned
+        ensures { result ≡ record { 0 = number_of self } }
+    {
+        PyStrInterned(self.number())
     }
 
     /// The name's text.

@@ -1,14 +1,27 @@
-use Rattle.std.proofs.Common.{refl, sym, ◌∙◌, arith}
+use Rattle.std.proofs.Common.{List, map, refl, sym, ap, ◌∙◌, arith}
+use Rattle.py_node.specs.declared.known.Known.{Known}
+use Rattle.class_model.specs.Slot.{is_one_of, wrapped}
+use Rattle.class_table.specs.Keys.{table_keys}
+use Rattle.py_node.specs.declared.refs.PyStrInterned.{PyStrInterned}
+use Rattle.py_node.specs.Attributes.{value_of, is_same_name}
 use Rattle.class_table.proofs.Along.{wrapped-found, wrapped-next, wrapped-end}
 use Rattle.class_table.proofs.entries.own_wrapper.Goals as goal
 
+pub loop-name-init : goal.loop-name-init
+loop-name-init c =
+    let named = c.special_names-name-items.ensures in
+    record {
+      names = named;
+      left = ap (λ (ks : List Known). wrapped c.args.slot (value_of (is_one_of is_same_name (map table_keys.special ks)) c.args.attrs.now)) named;
+    }
+
 pub returns-in-Some : goal.returns-in-Some
-returns-in-Some c = c.wrapper.ensures ∙ sym (wrapped-found c.args.slot c.special_names-name-items.result.now c.loop-name.name-index _ c.args.attrs.now c.in-Some.value c.loop-name.invariant.names (omega arith) refl (sym c.in-Some.ensures)) ∙ c.loop-name.invariant.left
+returns-in-Some c = c.wrapper.ensures ∙ sym (wrapped-found c.args.slot c.special_names-name-items.result.now c.loop-name.name-index _ _ c.args.attrs.now c.in-Some.value c.loop-name.invariant.names (omega arith) refl (ap (λ (n : PyStrInterned). value_of (λ j. is_same_name j n) c.args.attrs.now) (sym c.interned.ensures) ∙ sym c.in-Some.ensures)) ∙ c.loop-name.invariant.left
 
 pub loop-name-preserved : goal.loop-name-preserved
 loop-name-preserved c = record {
   names = c.loop-name.invariant.names;
-  left = wrapped-next c.args.slot c.special_names-name-items.result.now c.loop-name.name-index _ c.args.attrs.now (omega arith) refl (sym c.get.ensures ∙ c.in_default.is) ∙ c.loop-name.invariant.left;
+  left = wrapped-next c.args.slot c.special_names-name-items.result.now c.loop-name.name-index _ _ c.args.attrs.now (omega arith) refl (ap (λ (n : PyStrInterned). value_of (λ j. is_same_name j n) c.args.attrs.now) (sym c.interned.ensures) ∙ sym c.get.ensures ∙ c.in_default.is) ∙ c.loop-name.invariant.left;
 }
 
 pub returns : goal.returns

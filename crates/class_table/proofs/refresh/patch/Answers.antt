@@ -18,14 +18,14 @@ loop-place-preserved c =
     let kept = c.args.classes.now in
     let at = c.args.at in
     let i = c.loop-place.place in
-    let s = c.slot_at-slot.result in
+    let s = c.at-slot.result in
     let same : (d : Kept) → get_or kept at d ≡ get_or kept at (get_or kept at d) = λ d. get_or_default kept at d (get_or kept at d) c.requires.inside in
     let is : (d : Kept) → c.if-is_name_of.classes ≡ set kept at (part (plain kept) (i + 1) (get_or kept at d)) = λ d.
     elim c.if-is_name_of.branch [
       | then-is_name_of w ↦
-          part-then kept at (get_or kept at d) c.requires.inside (same d) i s c.loop-place.classes c.if-is_name_of.classes c.slot_at-slot.ensures (c.requires.near d).count (c.loop-place.invariant.is d) (w.classes-is ∙ w.patch_slot.ensures (get_or kept at d))
+          part-then kept at (get_or kept at d) c.requires.inside (same d) i s c.loop-place.classes c.if-is_name_of.classes c.at-slot.ensures (c.requires.near d).count (c.loop-place.invariant.is d) (w.classes-is ∙ w.patch_slot.ensures (get_or kept at d))
       | else-is_name_of w ↦
-          w.classes-is ∙ c.loop-place.invariant.is d ∙ part-else kept at (get_or kept at d) c.requires.inside (same d) i s c.args.name c.slot_at-slot.ensures (c.requires.near d) (sym c.is_name_of.ensures ∙ w.if-is_name_of.false)
+          w.classes-is ∙ c.loop-place.invariant.is d ∙ part-else kept at (get_or kept at d) c.requires.inside (same d) i s c.args.name c.at-slot.ensures (c.requires.near d) (sym c.is_name_of.ensures ∙ w.if-is_name_of.false)
     ] in
     record {
       lines = let P : List Kept → Type 0 = λ ys. HasLines ys in

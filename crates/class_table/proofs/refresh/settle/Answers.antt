@@ -20,7 +20,7 @@ loop-place-preserved c =
     let e = element kept at c.requires.inside in
     let same : (d : Kept) → get_or kept at d ≡ get_or kept at (get_or kept at d) = λ d. get_or_default kept at d (get_or kept at d) c.requires.inside in
     let is : (d : Kept) → c.patch_slot.new.classes ≡ set kept at (part (plain kept) (i + 1) (get_or kept at d)) = λ d.
-    part-then kept at (get_or kept at d) c.requires.inside (same d) i c.slot_at.result c.loop-place.classes c.patch_slot.new.classes c.slot_at.ensures (c.requires.full d) (c.loop-place.invariant.is d) (c.patch_slot.ensures (get_or kept at d)) in
+    part-then kept at (get_or kept at d) c.requires.inside (same d) i c.at.result c.loop-place.classes c.patch_slot.new.classes c.at.ensures (c.requires.full d) (c.loop-place.invariant.is d) (c.patch_slot.ensures (get_or kept at d)) in
     let P : List Kept → Type 0 = λ ys. HasLines ys in
     record {
       lines = subst P (sym (is e)) (part-lines kept at (get_or kept at e) c.requires.inside (same e) (i + 1) c.requires.lines);

@@ -1,5 +1,5 @@
 use Rattle.std.proofs.Common.{◌≡◌, map, take}
 use Rattle.class_table.proofs.start.table_of.Given as goal
 
-abbrev pub invariant-loop-text : goal.invariant-loop-text
-invariant-loop-text l = l.names ≡ map (λ s. s.now) (take l.text-index l.texts)
+abbrev pub invariant-loop-row : goal.invariant-loop-row
+invariant-loop-row l = l.names ≡ map (λ r. r.1.now) (take l.row-index l.rows)
