@@ -17,6 +17,5 @@ pub mod Stored
 pub mod Shown
 pub mod Defined
 pub mod StartSound
-pub mod OwnAttrs
 pub mod ClassText
 pub mod SoundWorld
