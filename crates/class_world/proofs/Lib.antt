@@ -8,7 +8,6 @@ pub mod Apart
 pub mod Added
 pub mod Bound
 pub mod Filled
-pub mod Named
 pub mod OfClasses
 pub mod ClassChanges
 pub mod Look

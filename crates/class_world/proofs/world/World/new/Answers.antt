@@ -1,4 +1,4 @@
-use Rattle.std.proofs.Common.{ap, ◌∙◌}
+use Rattle.std.proofs.Common.{ap, fold, ◌∙◌}
 use Rattle.plain_machine.specs.Start.{start, with_attrs}
 use Rattle.py_node.specs.BuiltIns.{all_built_ins}
 use Rattle.class_world.proofs.world.World.new.Goals as goal
