@@ -232,14 +232,16 @@ fn enter_method(
 // The operands in the order in which a method takes them: the reflected one is that of the right operand.
 fn in_order(reflected: bool, a: PyObjectRef, b: PyObjectRef) -> (PyObjectRef, PyObjectRef)
     ensures order { result ≡ in_order reflected a b }
-    ensures holds { (w : World) → Holds w (IsNode a) → Holds w (IsNode b) → Holds w (AreNodes (result.0 ∷ result.1 ∷ [])) }
+    ensures first { (w : World) → Holds w (IsNode a) → Holds w (IsNode b) → Holds w (IsNode result.0) }
+    ensures second { (w : World) → Holds w (IsNode a) → Holds w (IsNode b) → Holds w (IsNode result.1) }
 {
     if reflected { (b, a) } else { (a, b) }
 }
 
 // One argument.
 fn alone(alloc: Global, a: PyObjectRef) -> Result<Args, OutOfMemory>
-    ensures { IfOk result (λ v. v.items ≡ a ∷ []) }
+    ensures items { IfOk result (λ v. v.items ≡ a ∷ []) }
+    ensures holds { IfOk result (λ v. (w : World) → Holds w (IsNode a) → Holds w (AreNodes v.items)) }
 {
     Ok(vec![in alloc; a]?)
 }
