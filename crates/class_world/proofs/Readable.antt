@@ -69,6 +69,9 @@ tree_at : (ℕ → Text) → List Form → ℕ → ℕ → Tree
 tree_at text forms zero n = blank
 tree_at text forms (suc bound) n = tree_from text (tree_at text forms bound) (slice_get forms n)
 
+abbrev both : (ℕ → Tree) → ℕ × ℕ → Tree × Tree
+both f p = (f p.0, f p.1)
+
 module _ (text : ℕ → Text) (f g : ℕ → Tree) (n : ℕ) (h : (a : ℕ) → a < n → f a ≡ g a) where
   map-agrees : (es : List ℕ) → All (λ e. e < n) es → map f es ≡ map g es
   map-agrees [] b = refl
@@ -81,7 +84,7 @@ module _ (text : ℕ → Text) (f g : ℕ → Tree) (n : ℕ) (h : (a : ℕ) →
   trees-agree es b = ap trees_of (map-agrees es b)
 
   pairs-agree : (ps : List (ℕ × ℕ)) → All (λ p. p.0 < n) ps → All (λ p. p.1 < n) ps
-      → map (λ p. (f p.0, f p.1)) ps ≡ map (λ p. (g p.0, g p.1)) ps
+      → map (both f) ps ≡ map (both g) ps
   pairs-agree [] b c = refl
   pairs-agree (p ∷ ps) b c =
       let key : p.0 < n = b 0 p (omega arith) in
