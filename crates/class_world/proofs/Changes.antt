@@ -13,20 +13,24 @@ use Rattle.class_world.specs.Sound.{IsNode, IsClass, class_in, held_class, Holds
 use Rattle.class_world.proofs.Claims.{all-grow, each-push}
 use Rattle.class_world.proofs.Growth.{grows-lasts, node-grows, form-grows, names-grow}
 
-all-unmap : (n : ℕ) (es : List (PyStrInterned × ℕ)) → All (λ e. e < n) (map (λ e. e.1) es) → All (λ e. e.1 < n) es
-all-unmap n es h = λ i d l. go es i d l (λ j l. h j 0 l)
+-- what holds of what each item has holds of each item
+all-unmap : {A : Type 0} (f : A → ℕ) (n : ℕ) (es : List A) → All (λ e. e < n) (map f es) → All (λ e. f e < n) es
+all-unmap {A} f n es h = λ i d l. go es i d l (λ j l. h j 0 l)
   where
-    at : (es : List (PyStrInterned × ℕ)) (i d : ℕ) (e : PyStrInterned × ℕ) → i < length es → get_or (map (λ e. e.1) es) i d ≡ (get_or es i e).1
+    at : (es : List A) (i d : ℕ) (e : A) → i < length es → get_or (map f es) i d ≡ f (get_or es i e)
     at [] i d e l = absurd (omega arith)
     at (x ∷ es) zero d e l = refl
     at (x ∷ es) (suc i) d e l = at es i d e (omega arith)
 
-    long : (es : List (PyStrInterned × ℕ)) → length (map (λ e. e.1) es) ≡ length es
+    long : (es : List A) → length (map f es) ≡ length es
     long [] = refl
     long (x ∷ es) = let r = long es in omega arith
 
-    go : (es : List (PyStrInterned × ℕ)) (i : ℕ) (d : PyStrInterned × ℕ) → i < length es → ((j : ℕ) → j < length (map (λ e. e.1) es) → get_or (map (λ e. e.1) es) j 0 < n) → (get_or es i d).1 < n
+    go : (es : List A) (i : ℕ) (d : A) → i < length es → ((j : ℕ) → j < length (map f es) → get_or (map f es) j 0 < n) → f (get_or es i d) < n
     go es i d l k = let p = k i (omega (arith, long es)) in let e = at es i 0 d l in omega arith
+
+all-stored : (n : ℕ) (es : List (PyStrInterned × ℕ)) → All (λ e. e < n) (map (λ e. e.1) es) → All (λ e. e.1 < n) es
+all-stored n es h = all-unmap (λ (e : PyStrInterned × ℕ). e.1) n es h
 
 -- an expression of what is there has its parts before it
 pub form-below : (w : Held) (f : Form) → AllHold w (of_form f) → IsBelow (length w.forms) f
@@ -34,11 +38,22 @@ unfolding Holds
 form-below w (form.Const k) h = tt
 form-below w (form.Name x) h = tt
 form-below w (form.Bind x e) h = h.1.0
-form-below w (form.Func x ps e) h = h.1.1.0
+form-below w (form.Tuple es) h = h.0
+form-below w (form.List es) h = h.0
+form-below w (form.Dict ps) h =
+    let n = length w.forms in
+    (all-unmap (λ (p : ℕ × ℕ). p.0) n ps.items h.0, all-unmap (λ (p : ℕ × ℕ). p.1) n ps.items h.1.0)
+form-below w (form.Func x ps rest e) h = h.1.1.0
+form-below w (form.Attr o x) h = h.0
 form-below w (form.SetAttr o x e) h = (h.0, h.1.1.0)
-form-below w (form.Call f es) h = (h.0, h.1.0)
+form-below w (form.DelAttr o x) h = h.0
+form-below w (form.Call f es kw) h = (h.0, h.1.0, all-stored (length w.forms) kw.items h.1.1.1.0)
 form-below w (form.Op word es) h = h.0
-form-below w (form.Class x bs es) h = (h.1.0, all-unmap (length w.forms) es.items h.1.1.1.0)
+form-below w (form.If c a b) h = (h.0, h.1.0, h.1.1.0)
+form-below w (form.Seq es) h = h.0
+form-below w (form.Raise kind) h = tt
+form-below w (form.Class x bs kw es) h =
+    (h.1.0, all-stored (length w.forms) kw.items h.1.1.1.0, all-stored (length w.forms) es.items h.1.1.1.1.1.0)
 
 below-push : (forms : List Form) (f : Form) → AreBelow forms → IsBelow (length forms) f → AreBelow (forms ++ f ∷ [])
 below-push forms f b h = λ n x e. go forms n x (λ m y k. b m y k) h e

@@ -12,7 +12,7 @@ use Rattle.py_node.specs.declared.payload.Node.{Node}
 use Rattle.py_node.specs.declared.payload.Payload.{Payload}
 use Rattle.py_node.specs.declared.payload.Form.{Form}
 use Rattle.class_world.specs.Held.{Held}
-use Rattle.class_world.specs.Sound.{Claim, IsNode, AreNodes, IsExpression, AreExpressions, IsName, AreNames, IsClass, IsOf, CanBeBase, Holding, Standing, KeysDiffer, HasOperand, HasParams, HasValues, params_in, held_params, AreFilled, operands_at, home_of, home_at, key_in, held_key, class_in, held_class, Holds, Lasts, Grows}
+use Rattle.class_world.specs.Sound.{Claim, IsNode, AreNodes, IsExpression, AreExpressions, IsName, AreNames, IsClass, IsOf, CanBeBase, Holding, Standing, KeysDiffer, HasForm, HasParams, HasValues, params_in, held_params, AreFilled, home_of, home_at, key_in, held_key, class_in, held_class, Holds, Lasts, Grows}
 use Rattle.class_world.proofs.Claims.{get-pushed}
 use Rattle.class_world.proofs.Homes.{held_by-push}
 
@@ -102,13 +102,6 @@ keys-keep old new g rs h = record {
       h.apart i j r s e f same;
 }
 
-operand-stays : (old new : List Form) (e n : ℕ) → Stays old new → n < length (operands_at (slice_get old e)) → n < length (operands_at (slice_get new e))
-operand-stays old new e n s h = go (slice_get old e) refl h
-  where
-    go : (o : Option Form) → slice_get old e ≡ o → n < length (operands_at o) → n < length (operands_at (slice_get new e))
-    go None q h = absurd (omega arith)
-    go (Some f) q h = subst (λ o. n < length (operands_at o)) (sym (s e f q)) h
-
 grows-at : (old new : Held) → length old.names ≤ length new.names → length old.forms ≤ length new.forms → Stays old.forms new.forms → length old.nodes ≤ length new.nodes → Keep old.nodes new.nodes → Like old.classes new.classes → (c : Claim) → Holds old c → Holds new c
 unfolding Holds
 grows-at old new x e s n p l (IsNode r) h = omega arith
@@ -123,7 +116,7 @@ grows-at old new x e s n p l (CanBeBase c) h = l.bases c h
 grows-at old new x e s n p l (Holding r b) h = home-still old.nodes new.nodes p r.0 b h
 grows-at old new x e s n p l (Standing c r) h = class-still old.nodes new.nodes p r c h
 grows-at old new x e s n p l (KeysDiffer rs) h = keys-keep old.nodes new.nodes p rs h
-grows-at old new x e s n p l (HasOperand m i) h = operand-stays old.forms new.forms m i s h
+grows-at old new x e s n p l (HasForm m test) h = (h.0, s m h.0 h.1, h.2)
 grows-at old new x e s n p l (HasParams r ps) h = params-still old.nodes new.nodes p r ps h
 grows-at old new x e s n p l (HasValues r vars) h = values-still old.nodes new.nodes p r vars h
 

@@ -9,11 +9,11 @@ use Rattle.py_node.specs.declared.refs.PyStrInterned.{PyStrInterned}
 use Rattle.py_node.specs.declared.payload.Form.{Form}
 use Rattle.py_node.specs.declared.payload.Form.TheVariants as form
 use Rattle.py_node.specs.Texts.{AreDistinct}
-use Rattle.py_node.specs.Tree.{Text, Tree, TConst, TCall, TOp, TClass, LNone, trees_of}
+use Rattle.py_node.specs.Tree.{Text, Tree, TConst, TTuple, TList, TDict, TCall, TOp, TSeq, TClass, LNone, trees_of, keyed_of}
 use Rattle.plain_machine.specs.World.{is_text}
 use Rattle.class_world.specs.declared.world.World.{World}
 use Rattle.class_world.specs.Tables.{IsBelow, AreBelow}
-use Rattle.class_world.specs.Reading.{form_tree, entry_list, IsReadable}
+use Rattle.class_world.specs.Reading.{form_tree, entry_list, stored_entries, IsReadable}
 
 abbrev total : List Text → ℕ
 total [] = 0
@@ -69,37 +69,53 @@ tree_at : (ℕ → Text) → List Form → ℕ → ℕ → Tree
 tree_at text forms zero n = blank
 tree_at text forms (suc bound) n = tree_from text (tree_at text forms bound) (slice_get forms n)
 
-map-agrees : (f g : ℕ → Tree) (n : ℕ) (es : List ℕ) → All (λ e. e < n) es → ((a : ℕ) → a < n → f a ≡ g a) → map f es ≡ map g es
-map-agrees f g n [] b h = refl
-map-agrees f g n (e ∷ es) b h =
-    let here : e < n = b 0 0 (omega arith) in
-    let rest = map-agrees f g n es (λ i d l. b (suc i) d (omega arith)) h in
-    cc (h e here, rest)
+abbrev both : (ℕ → Tree) → ℕ × ℕ → Tree × Tree
+both f p = (f p.0, f p.1)
 
-abbrev Pair : Type 0
-Pair = Text × Tree
+module _ (text : ℕ → Text) (f g : ℕ → Tree) (n : ℕ) (h : (a : ℕ) → a < n → f a ≡ g a) where
+  map-agrees : (es : List ℕ) → All (λ e. e < n) es → map f es ≡ map g es
+  map-agrees [] b = refl
+  map-agrees (e ∷ es) b =
+      let here : e < n = b 0 0 (omega arith) in
+      let rest = map-agrees es (λ i d l. b (suc i) d (omega arith)) in
+      cc (h e here, rest)
 
-abbrev pair_of : (ℕ → Text) → (ℕ → Tree) → PyStrInterned × ℕ → Pair
-pair_of text f e = (text e.0.0, f e.1)
+  trees-agree : (es : List ℕ) → All (λ e. e < n) es → trees_of (map f es) ≡ trees_of (map g es)
+  trees-agree es b = ap trees_of (map-agrees es b)
 
-entries-agree : (text : ℕ → Text) (f g : ℕ → Tree) (n : ℕ) (es : List (PyStrInterned × ℕ)) → All (λ e. e.1 < n) es → ((a : ℕ) → a < n → f a ≡ g a) → map (pair_of text f) es ≡ map (pair_of text g) es
-entries-agree text f g n [] b h = refl
-entries-agree text f g n (e ∷ es) b h =
-    let here : e.1 < n = b 0 e (omega arith) in
-    let rest = entries-agree text f g n es (λ i d l. b (suc i) d (omega arith)) h in
-    cc (h e.1 here, rest)
+  pairs-agree : (ps : List (ℕ × ℕ)) → All (λ p. p.0 < n) ps → All (λ p. p.1 < n) ps
+      → map (both f) ps ≡ map (both g) ps
+  pairs-agree [] b c = refl
+  pairs-agree (p ∷ ps) b c =
+      let key : p.0 < n = b 0 p (omega arith) in
+      let value : p.1 < n = c 0 p (omega arith) in
+      let rest = pairs-agree ps (λ i d l. b (suc i) d (omega arith)) (λ i d l. c (suc i) d (omega arith)) in
+      cc (h p.0 key, h p.1 value, rest)
 
-form_tree-agrees : (text : ℕ → Text) (f g : ℕ → Tree) (n : ℕ) (x : Form) → IsBelow n x → ((a : ℕ) → a < n → f a ≡ g a) → form_tree text f x ≡ form_tree text g x
-form_tree-agrees text f g n (form.Const k) b h = refl
-form_tree-agrees text f g n (form.Name x) b h = refl
-form_tree-agrees text f g n (form.Bind x e) b h = cc (h e b)
-form_tree-agrees text f g n (form.Func x ps e) b h = cc (h e b)
-form_tree-agrees text f g n (form.SetAttr o x e) b h = cc (h o b.0, h e b.1)
-form_tree-agrees text f g n (form.Call k es) b h = ap (λ u. TCall u (trees_of (map f es.items))) (h k b.0) ∙ ap (λ l. TCall (g k) (trees_of l)) (map-agrees f g n es.items b.1 h)
-form_tree-agrees text f g n (form.Op word es) b h = ap (λ l. TOp word (trees_of l)) (map-agrees f g n es.items b h)
-form_tree-agrees text f g n (form.Class x bs es) b h =
-    ap (λ l. TClass (text x.0) (trees_of l) (entry_list (map (pair_of text f) es.items))) (map-agrees f g n bs.items b.0 h)
-    ∙ ap (λ l. TClass (text x.0) (trees_of (map g bs.items)) (entry_list l)) (entries-agree text f g n es.items b.1 h)
+  entries-agree : (es : List (PyStrInterned × ℕ)) → All (λ e. e.1 < n) es → stored_entries text f es ≡ stored_entries text g es
+  entries-agree [] b = refl
+  entries-agree (e ∷ es) b =
+      let here : e.1 < n = b 0 e (omega arith) in
+      let rest = entries-agree es (λ i d l. b (suc i) d (omega arith)) in
+      cc (h e.1 here, rest)
+
+  form_tree-agrees : (x : Form) → IsBelow n x → form_tree text f x ≡ form_tree text g x
+  form_tree-agrees (form.Const k) b = refl
+  form_tree-agrees (form.Name x) b = refl
+  form_tree-agrees (form.Bind x e) b = cc (h e b)
+  form_tree-agrees (form.Tuple es) b = ap TTuple (trees-agree es.items b)
+  form_tree-agrees (form.List es) b = ap TList (trees-agree es.items b)
+  form_tree-agrees (form.Dict ps) b = ap (λ l. TDict (keyed_of l)) (pairs-agree ps.items b.0 b.1)
+  form_tree-agrees (form.Func x ps rest e) b = cc (h e b)
+  form_tree-agrees (form.Attr o x) b = cc (h o b)
+  form_tree-agrees (form.SetAttr o x e) b = cc (h o b.0, h e b.1)
+  form_tree-agrees (form.DelAttr o x) b = cc (h o b)
+  form_tree-agrees (form.Call k es kw) b = cc (h k b.0, trees-agree es.items b.1, entries-agree kw.items b.2)
+  form_tree-agrees (form.Op word es) b = ap (TOp word) (trees-agree es.items b)
+  form_tree-agrees (form.If c k l) b = cc (h c b.0, h k b.1, h l b.2)
+  form_tree-agrees (form.Seq es) b = ap TSeq (trees-agree es.items b)
+  form_tree-agrees (form.Raise kind) b = refl
+  form_tree-agrees (form.Class x bs kw es) b = cc (trees-agree bs.items b.0, entries-agree kw.items b.1, entries-agree es.items b.2)
 
 module _ (text : ℕ → Text) (forms : List Form) (below : AreBelow forms) where
   tree_at-agrees : (i j n : ℕ) → n < i → n < j → tree_at text forms i n ≡ tree_at text forms j n
@@ -110,13 +126,13 @@ module _ (text : ℕ → Text) (forms : List Form) (below : AreBelow forms) wher
     where
       go : (o : Option Form) → slice_get forms n ≡ o → ((a : ℕ) → a < n → tree_at text forms i a ≡ tree_at text forms j a) → tree_from text (tree_at text forms i) o ≡ tree_from text (tree_at text forms j) o
       go None e f = refl
-      go (Some x) e f = form_tree-agrees text _ _ n x (below n x e) f
+      go (Some x) e f = form_tree-agrees text _ _ n f x (below n x e)
 
   tree_at-form : (n : ℕ) (x : Form) → slice_get forms n ≡ Some x → tree_at text forms (suc n) n ≡ form_tree text (λ a. tree_at text forms (suc a) a) x
   unfolding tree_at tree_from
   tree_at-form n x e =
       ap (tree_from text (tree_at text forms n)) e
-      ∙ form_tree-agrees text (tree_at text forms n) (λ a. tree_at text forms (suc a) a) n x (below n x e) (λ a l. tree_at-agrees n (suc a) a l (omega arith))
+      ∙ form_tree-agrees text (tree_at text forms n) (λ a. tree_at text forms (suc a) a) n (λ a l. tree_at-agrees n (suc a) a l (omega arith)) x (below n x e)
 
 -- a world whose names differ, and in which the parts of each expression stand before it, can be read
 pub readable : (w : World) → AreDistinct w.names → AreBelow w.forms → IsReadable w

@@ -24,7 +24,7 @@ use Rattle.py_node.specs.declared.task.ClassTask.{ClassTask}
 use Rattle.py_node.specs.declared.task.ClassTask.TheVariants as class
 use Rattle.py_node.specs.declared.task.OperatorTask.{OperatorTask}
 use Rattle.py_node.specs.declared.task.OperatorTask.TheVariants as operator
-use Rattle.py_node.specs.Tree.{Text, Tree, TConst, TName, TBind, TFunc, TSetAttr, TCall, TOp, TClass, Entries, no_entries, entry, trees_of, literal_of}
+use Rattle.py_node.specs.Tree.{Text, Tree, TConst, TName, TBind, TTuple, TList, TDict, TFunc, TAttr, TSetAttr, TDelAttr, TCall, TOp, TIf, TSeq, TRaise, TClass, Entries, no_entries, entry, trees_of, keyed_of, literal_of}
 use Rattle.class_model.specs.Class.{renamed}
 use Rattle.plain_machine.specs.Plain.{Datum, AnObject, AClass, ANumber, AText, ATuple, ADict, AFunction, AMethod, ANativeFunction, ABuiltinMethod, AMethodDescriptor, AGetSet, AClassMethod, no_members, Node, Bindings, Scope, PlainWorld, EvalJob, DoEval, AttributeJob, DoSetAttr, DoTypeSet, DoSpecial, DoBind, DoDescrGet, CallJob, DoCall, DoBody, DoTypeCall, DoNew, DoInit, DoObject, ClassJob, DoMakeClass, DoType, OperatorJob, DoAdd, DoBinOp1, DoEnter, DoInt, PlainTask, ToEval, ToAttribute, ToCall, ToClass, ToOperator, ToLater, PlainAnswer, AsValue, AsDone, AsNumber, AsTruth, AsMaybe, AsObjects, AsExhausted, AsFunction, AsAttribute, AsStart, Ended}
 use Rattle.plain_machine.specs.World.{is_text}
@@ -41,16 +41,29 @@ abbrev pub entry_list : List (Text × Tree) → Entries
 entry_list [] = no_entries
 entry_list (e ∷ es) = entry e.0 e.1 (entry_list es)
 
+-- names with the numbers of expressions, as entries
+abbrev pub stored_entries : (ℕ → Text) → (ℕ → Tree) → List (PyStrInterned × ℕ) → Entries
+stored_entries text tree es = entry_list (map (λ e. (text e.0.0, tree e.1)) es)
+
 -- an expression of the store, as a tree
 abbrev pub form_tree : (ℕ → Text) → (ℕ → Tree) → Form → Tree
 form_tree text tree (form.Const k) = TConst (literal_of k)
 form_tree text tree (form.Name x) = TName (text x.0)
 form_tree text tree (form.Bind x e) = TBind (text x.0) (tree e)
-form_tree text tree (form.Func x ps e) = TFunc (text x.0) (map (λ p. text p.0) ps.items) (tree e)
+form_tree text tree (form.Tuple es) = TTuple (trees_of (map tree es.items))
+form_tree text tree (form.List es) = TList (trees_of (map tree es.items))
+form_tree text tree (form.Dict ps) = TDict (keyed_of (map (λ p. (tree p.0, tree p.1)) ps.items))
+form_tree text tree (form.Func x ps rest e) = TFunc (text x.0) (map (λ p. text p.0) ps.items) rest (tree e)
+form_tree text tree (form.Attr o x) = TAttr (tree o) (text x.0)
 form_tree text tree (form.SetAttr o x e) = TSetAttr (tree o) (text x.0) (tree e)
-form_tree text tree (form.Call f es) = TCall (tree f) (trees_of (map tree es.items))
+form_tree text tree (form.DelAttr o x) = TDelAttr (tree o) (text x.0)
+form_tree text tree (form.Call f es kw) = TCall (tree f) (trees_of (map tree es.items)) (stored_entries text tree kw.items)
 form_tree text tree (form.Op word es) = TOp word (trees_of (map tree es.items))
-form_tree text tree (form.Class x bs es) = TClass (text x.0) (trees_of (map tree bs.items)) (entry_list (map (λ e. (text e.0.0, tree e.1)) es.items))
+form_tree text tree (form.If c a b) = TIf (tree c) (tree a) (tree b)
+form_tree text tree (form.Seq es) = TSeq (trees_of (map tree es.items))
+form_tree text tree (form.Raise kind) = TRaise kind
+form_tree text tree (form.Class x bs kw es) =
+    TClass (text x.0) (trees_of (map tree bs.items)) (stored_entries text tree kw.items) (stored_entries text tree es.items)
 
 -- the numbers are read as the world's tables have them
 pub record Reads (t : Reading) (w : World) : Type 0 where

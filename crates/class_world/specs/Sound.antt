@@ -41,27 +41,12 @@ pub data Claim : Type 0 where
   CanBeBase : ℕ → Claim
   -- the objects are numbers or texts, no two of them alike
   KeysDiffer : List PyObjectRef → Claim
-  -- the expression has more operands than so many
-  HasOperand : ℕ → ℕ → Claim
+  -- the expression is of a form that passes the test
+  HasForm : ℕ → (Form → Bool) → Claim
   -- the object is a function with these parameters
   HasParams : PyObjectRef → List PyStrInterned → Claim
   -- the object is a function, and each of its parameters has a value among these
   HasValues : PyObjectRef → List (PyStrInterned × PyObjectRef) → Claim
-
--- the parts of an expression that are evaluated first, in order
-abbrev pub operands : Form → List ℕ
-operands (form.Const k) = []
-operands (form.Name x) = []
-operands (form.Bind x e) = e ∷ []
-operands (form.Func x ps e) = []
-operands (form.SetAttr o x e) = o ∷ e ∷ []
-operands (form.Call f es) = f ∷ es.items
-operands (form.Op word es) = es.items
-operands (form.Class x bs es) = bs.items ++ map (λ e. e.1) es.items
-
-abbrev pub operands_at : Option Form → List ℕ
-operands_at None = []
-operands_at (Some f) = operands f
 
 -- the built-in class whose objects hold such
 abbrev pub home_of : Payload → BuiltIn
@@ -128,7 +113,7 @@ Holds w (Holding r b) = home_at w.nodes r.0 ≡ Some b
 Holds w (Standing c r) = held_class w.nodes r ≡ Some c
 Holds w (CanBeBase c) = is_base_at (class_at w.classes c) ≡ true
 Holds w (KeysDiffer rs) = AreKeys (held_key w.nodes) rs
-Holds w (HasOperand e n) = n < length (operands_at (slice_get w.forms e))
+Holds w (HasForm e test) = (f : Form) × (slice_get w.forms e ≡ Some f) × (test f ≡ true)
 Holds w (HasParams r ps) = held_params w.nodes r ≡ Some ps
 Holds w (HasValues r vars) = AreFilled vars (held_params w.nodes r)
 
@@ -179,15 +164,27 @@ of_dict_ref r = IsNode r ∷ Holding r built_in.Dict ∷ []
 abbrev pub of_node : Node → List Claim
 of_node n = IsClass n.class.0 ∷ IsOf n.class.0 (home_of n.payload) ∷ of_option of_dict_ref n.dict ++ of_payload n.payload
 
+-- names with expressions
+abbrev pub of_stored : List (PyStrInterned × ℕ) → List Claim
+of_stored es = AreNames (map (λ e. e.0) es) ∷ AreExpressions (map (λ e. e.1) es) ∷ []
+
 abbrev pub of_form : Form → List Claim
 of_form (form.Const k) = []
 of_form (form.Name x) = IsName x ∷ []
 of_form (form.Bind x e) = IsName x ∷ IsExpression e ∷ []
-of_form (form.Func x ps e) = IsName x ∷ AreNames ps.items ∷ IsExpression e ∷ []
+of_form (form.Tuple es) = AreExpressions es.items ∷ []
+of_form (form.List es) = AreExpressions es.items ∷ []
+of_form (form.Dict ps) = AreExpressions (map (λ p. p.0) ps.items) ∷ AreExpressions (map (λ p. p.1) ps.items) ∷ []
+of_form (form.Func x ps rest e) = IsName x ∷ AreNames ps.items ∷ IsExpression e ∷ []
+of_form (form.Attr o x) = IsExpression o ∷ IsName x ∷ []
 of_form (form.SetAttr o x e) = IsExpression o ∷ IsName x ∷ IsExpression e ∷ []
-of_form (form.Call f es) = IsExpression f ∷ AreExpressions es.items ∷ []
+of_form (form.DelAttr o x) = IsExpression o ∷ IsName x ∷ []
+of_form (form.Call f es kw) = IsExpression f ∷ AreExpressions es.items ∷ of_stored kw.items
 of_form (form.Op word es) = AreExpressions es.items ∷ []
-of_form (form.Class x bs es) = IsName x ∷ AreExpressions bs.items ∷ AreNames (map (λ e. e.0) es.items) ∷ AreExpressions (map (λ e. e.1) es.items) ∷ []
+of_form (form.If c a b) = IsExpression c ∷ IsExpression a ∷ IsExpression b ∷ []
+of_form (form.Seq es) = AreExpressions es.items ∷ []
+of_form (form.Raise kind) = []
+of_form (form.Class x bs kw es) = IsName x ∷ AreExpressions bs.items ∷ of_stored kw.items ++ of_stored es.items
 
 abbrev pub of_binding : PyStrInterned × PyObjectRef → List Claim
 of_binding b = IsName b.0 ∷ IsNode b.1 ∷ []

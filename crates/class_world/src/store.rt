@@ -1,8 +1,8 @@
 // Expressions of scripts, put into the world's store: names are interned, and parts go in first.
 
 ghost use Rattle.std.specs.Prelude.{◌≡◌, map, IfOk, string_bytes};
-ghost use Rattle.py_node.specs.Tree.{TBind, TFunc, TSetAttr, TCall, TClass, tree_of, part_of, texts_of, trees_of};
-ghost use Rattle.class_world.specs.Reading.{Reading, Reads, plain, spelled, entry_list};
+ghost use Rattle.py_node.specs.Tree.{tree_of, part_of, pair_of, texts_of};
+ghost use Rattle.class_world.specs.Reading.{Reading, Reads, plain};
 ghost use Rattle.class_world.specs.Sound.{IsExpression, AreExpressions, AreNames, Holds, Grows};
 
 use crate::world::World;
@@ -30,126 +30,74 @@ pub fn add_expr(world: &mut World, alloc: Global, expr: &Expr) -> Result<u64, Ou
             let name = world.intern(alloc, name.as_str())?;
             world.add_form(Form::Name(name))
         }
-        Expr::Bind(name, value) => add_bind(world, alloc, name, value),
-        Expr::Func(name, params, body) => add_func(world, alloc, name, params, body),
+        Expr::Bind(name, value) => {
+            let name = world.intern(alloc, name.as_str())?;
+            let value = add_expr(world, alloc, value)?;
+            world.add_form(Form::Bind(name, value))
+        }
+        Expr::Tuple(items) => {
+            let items = add_exprs(world, alloc, items)?;
+            world.add_form(Form::Tuple(items))
+        }
+        Expr::List(items) => {
+            let items = add_exprs(world, alloc, items)?;
+            world.add_form(Form::List(items))
+        }
+        Expr::Dict(pairs) => {
+            let pairs = add_pairs(world, alloc, pairs)?;
+            world.add_form(Form::Dict(pairs))
+        }
+        Expr::Func(name, params, rest, body) => {
+            let name = world.intern(alloc, name.as_str())?;
+            let params = intern_all(world, alloc, params)?;
+            let body = add_expr(world, alloc, body)?;
+            world.add_form(Form::Func(name, params, *rest, body))
+        }
+        Expr::Attr(target, name) => {
+            let target = add_expr(world, alloc, target)?;
+            let name = world.intern(alloc, name.as_str())?;
+            world.add_form(Form::Attr(target, name))
+        }
         Expr::SetAttr(target, name, value) => {
             let target = add_expr(world, alloc, target)?;
-            add_set_attr(world, alloc, target, name, value)
+            let name = world.intern(alloc, name.as_str())?;
+            let value = add_expr(world, alloc, value)?;
+            world.add_form(Form::SetAttr(target, name, value))
         }
-        Expr::Call(func, args) => {
+        Expr::DelAttr(target, name) => {
+            let target = add_expr(world, alloc, target)?;
+            let name = world.intern(alloc, name.as_str())?;
+            world.add_form(Form::DelAttr(target, name))
+        }
+        Expr::Call(func, args, keywords) => {
             let func = add_expr(world, alloc, func)?;
-            add_call(world, alloc, func, args)
+            let args = add_exprs(world, alloc, args)?;
+            let keywords = add_entries(world, alloc, keywords)?;
+            world.add_form(Form::Call(func, args, keywords))
         }
         Expr::Op(word, operands) => {
             let operands = add_exprs(world, alloc, operands)?;
             world.add_form(Form::Op(*word, operands))
         }
-        Expr::Class(name, bases, entries) => {
+        Expr::If(condition, then, otherwise) => {
+            let condition = add_expr(world, alloc, condition)?;
+            let then = add_expr(world, alloc, then)?;
+            let otherwise = add_expr(world, alloc, otherwise)?;
+            world.add_form(Form::If(condition, then, otherwise))
+        }
+        Expr::Seq(items) => {
+            let items = add_exprs(world, alloc, items)?;
+            world.add_form(Form::Seq(items))
+        }
+        Expr::Raise(kind) => world.add_form(Form::Raise(*kind)),
+        Expr::Class(name, bases, keywords, entries) => {
+            let name = world.intern(alloc, name.as_str())?;
             let bases = add_exprs(world, alloc, bases)?;
-            add_class(world, alloc, name, bases, entries)
+            let keywords = add_entries(world, alloc, keywords)?;
+            let entries = add_entries(world, alloc, entries)?;
+            world.add_form(Form::Class(name, bases, keywords, entries))
         }
     }
-}
-
-// A name that is bound to a value.
-#[cycle(store)]
-fn add_bind(
-    world: &mut World,
-    alloc: Global,
-    name: &String,
-    value: &Box<Expr>,
-) -> Result<u64, OutOfMemory>
-    ensures added { IfOk result (λ n. (t : Reading) → Reads t world.new → t.tree n ≡ TBind (string_bytes name.now) (tree_of value.now.value)) }
-    ensures same { (t : Reading) → plain t world.new ≡ plain t world.old }
-    ensures reads { (t : Reading) → Reads t world.new → Reads t world.old }
-    ensures grows { Grows world.old world.new }
-    ensures holds { IfOk result (λ n. Holds world.new (IsExpression n)) }
-{
-    let name = world.intern(alloc, name.as_str())?;
-    let value = add_expr(world, alloc, value)?;
-    world.add_form(Form::Bind(name, value))
-}
-
-// A function, by its name, its parameters and its body.
-#[cycle(store)]
-fn add_func(
-    world: &mut World,
-    alloc: Global,
-    name: &String,
-    params: &Vec<String>,
-    body: &Box<Expr>,
-) -> Result<u64, OutOfMemory>
-    ensures added { IfOk result (λ n. (t : Reading) → Reads t world.new → t.tree n ≡ TFunc (string_bytes name.now) (texts_of params.now.items) (tree_of body.now.value)) }
-    ensures same { (t : Reading) → plain t world.new ≡ plain t world.old }
-    ensures reads { (t : Reading) → Reads t world.new → Reads t world.old }
-    ensures grows { Grows world.old world.new }
-    ensures holds { IfOk result (λ n. Holds world.new (IsExpression n)) }
-{
-    let name = world.intern(alloc, name.as_str())?;
-    let params = intern_all(world, alloc, params)?;
-    let body = add_expr(world, alloc, body)?;
-    world.add_form(Form::Func(name, params, body))
-}
-
-// An attribute that is set, of an expression that is there.
-#[cycle(store)]
-fn add_set_attr(
-    world: &mut World,
-    alloc: Global,
-    target: u64,
-    name: &String,
-    value: &Box<Expr>,
-) -> Result<u64, OutOfMemory>
-    requires { Holds world.old (IsExpression target) }
-    ensures added { IfOk result (λ n. (t : Reading) → Reads t world.new → t.tree n ≡ TSetAttr (t.tree target) (string_bytes name.now) (tree_of value.now.value)) }
-    ensures same { (t : Reading) → plain t world.new ≡ plain t world.old }
-    ensures reads { (t : Reading) → Reads t world.new → Reads t world.old }
-    ensures grows { Grows world.old world.new }
-    ensures holds { IfOk result (λ n. Holds world.new (IsExpression n)) }
-{
-    let name = world.intern(alloc, name.as_str())?;
-    let value = add_expr(world, alloc, value)?;
-    world.add_form(Form::SetAttr(target, name, value))
-}
-
-// A call of an expression that is there.
-#[cycle(store)]
-fn add_call(
-    world: &mut World,
-    alloc: Global,
-    func: u64,
-    args: &Vec<Expr>,
-) -> Result<u64, OutOfMemory>
-    requires { Holds world.old (IsExpression func) }
-    ensures added { IfOk result (λ n. (t : Reading) → Reads t world.new → t.tree n ≡ TCall (t.tree func) (trees_of (map tree_of args.now.items))) }
-    ensures same { (t : Reading) → plain t world.new ≡ plain t world.old }
-    ensures reads { (t : Reading) → Reads t world.new → Reads t world.old }
-    ensures grows { Grows world.old world.new }
-    ensures holds { IfOk result (λ n. Holds world.new (IsExpression n)) }
-{
-    let args = add_exprs(world, alloc, args)?;
-    world.add_form(Form::Call(func, args))
-}
-
-// A class, over bases that are there.
-#[cycle(store)]
-fn add_class(
-    world: &mut World,
-    alloc: Global,
-    name: &String,
-    bases: Vec<u64>,
-    entries: &Vec<(String, Expr)>,
-) -> Result<u64, OutOfMemory>
-    requires { Holds world.old (AreExpressions bases.items) }
-    ensures added { IfOk result (λ n. (t : Reading) → Reads t world.new → t.tree n ≡ TClass (string_bytes name.now) (trees_of (map t.tree bases.items)) (entry_list (map part_of entries.now.items))) }
-    ensures same { (t : Reading) → plain t world.new ≡ plain t world.old }
-    ensures reads { (t : Reading) → Reads t world.new → Reads t world.old }
-    ensures grows { Grows world.old world.new }
-    ensures holds { IfOk result (λ n. Holds world.new (IsExpression n)) }
-{
-    let name = world.intern(alloc, name.as_str())?;
-    let entries = add_entries(world, alloc, entries)?;
-    world.add_form(Form::Class(name, bases, entries))
 }
 
 // The numbers of expressions, in order.
@@ -166,6 +114,29 @@ fn add_exprs(world: &mut World, alloc: Global, exprs: &Vec<Expr>) -> Result<Vec<
         numbers.push(add_expr(world, alloc, expr)?)?;
     }
     Ok(numbers)
+}
+
+// The numbers of keys with those of their values, in order.
+#[cycle(store)]
+fn add_pairs(
+    world: &mut World,
+    alloc: Global,
+    pairs: &Vec<(Expr, Expr)>,
+) -> Result<Vec<(u64, u64)>, OutOfMemory>
+    ensures added { IfOk result (λ ps. (t : Reading) → Reads t world.new → map (λ p. (t.tree p.0, t.tree p.1)) ps.items ≡ map pair_of pairs.now.items) }
+    ensures same { (t : Reading) → plain t world.new ≡ plain t world.old }
+    ensures reads { (t : Reading) → Reads t world.new → Reads t world.old }
+    ensures grows { Grows world.old world.new }
+    ensures keys { IfOk result (λ ps. Holds world.new (AreExpressions (map (λ p. p.0) ps.items))) }
+    ensures holds { IfOk result (λ ps. Holds world.new (AreExpressions (map (λ p. p.1) ps.items))) }
+{
+    let mut stored = Vec::with_capacity(alloc, pairs.len())?;
+    for (key, expr) in pairs {
+        let key = add_expr(world, alloc, key)?;
+        let value = add_expr(world, alloc, expr)?;
+        stored.push((key, value))?;
+    }
+    Ok(stored)
 }
 
 // The names of entries with the numbers of their expressions, in order.

@@ -1,6 +1,6 @@
 -- Expressions whose operands are evaluated in order.
 use Rattle.std.proofs.Common.{◌≡◌, ℕ, zero, suc, ◌+◌, ◌<◌, ◌≤◌, List, [], ◌∷◌, ◌++◌, length, map, Option, Some, None, Ok, Err, refl, sym, ap, ◌∙◌, subst, arith, length-append}
-use Rattle.std.specs.Prelude.{slice_get, Result, IfOk, IfSome}
+use Rattle.std.specs.Prelude.{slice_get, Result, IfOk, IfSome, Bool}
 use Rattle.std.specs.Global.{Vec}
 use Rattle.std.proofs.lemmas.List.{map-append, length-map}
 use Rattle.std.proofs.lemmas.Option.{slice_get_within}
@@ -13,12 +13,12 @@ use Rattle.py_node.specs.declared.task.Answer.TheVariants.{Value, Done, Number, 
 use Rattle.py_node.specs.declared.task.PyMethod.TheVariants as method
 use Rattle.py_node.specs.declared.payload.Form.{Form}
 use Rattle.py_node.specs.declared.payload.Form.TheVariants as form
-use Rattle.py_node.specs.Tree.{Text, Tree, trees_of, list_of, entry_trees}
+use Rattle.py_node.specs.Tree.{Text, Tree, Trees, TCall, TClass, Entries, no_entries, trees_of, list_of, entry_trees}
 use Rattle.plain_machine.specs.Plain.{PlainWorld, DoEval, ToEval, Answered, Told, Said, Asks, Ends}
 use Rattle.plain_machine.specs.Row.{Row, on_value, evaluate}
 use Rattle.class_world.specs.Held.{Held}
-use Rattle.class_world.specs.Reading.{Reading, Reads, form_tree, entry_list, plain, ended_of}
-use Rattle.class_world.specs.Sound.{Holds, AllHold, IsNode, IsName, AreNames, AreNodes, IsExpression, AreExpressions, HasOperand, of_form, of_node_ref, of_option, operands, operands_at}
+use Rattle.class_world.specs.Reading.{Reading, Reads, form_tree, entry_list, stored_entries, plain, ended_of}
+use Rattle.class_world.specs.Sound.{Holds, AllHold, IsNode, IsName, AreNames, AreNodes, IsExpression, AreExpressions, HasForm, of_form, of_node_ref, of_option}
 use Rattle.class_world.proofs.Claims.{expression-in, got-map, node-in}
 use Rattle.py_node.specs.declared.task.Step.{Step}
 use Rattle.py_node.specs.declared.task.Step.TheVariants.{Ask, End}
@@ -28,13 +28,12 @@ use Rattle.class_world.specs.declared.world.World.{World}
 use Rattle.class_world.specs.Rows.{Steps}
 use Rattle.eval_forms.specs.declared.EvalKept.{EvalKept}
 use Rattle.eval_forms.specs.declared.EvalKept.TheVariants.{Operands}
-use Rattle.py_node.specs.declared.expr.Word.TheVariants as word
 use Rattle.eval_forms.specs.declared.Own.{Own}
 use Rattle.eval_forms.specs.declared.Own.TheVariants as own
 use Rattle.py_node.specs.declared.expr.Word.{Word}
-use Rattle.eval_forms.specs.Say.{operand_trees, own_say, one_of, func_say, set_attr_say, call_say, op_say, add_of, class_say, entry_names, eval_say}
+use Rattle.eval_forms.specs.Say.{operand_trees, own_say, one_of, func_say, set_attr_say, call_say, op_say, not_yet, class_say, entry_names, eval_say}
 use Rattle.plain_machine.specs.Args.{two_of}
-use Rattle.eval_forms.specs.Rows.{answered, eval_stands, Continues, Closes, TakesAt, Takes, StepsAt, EndsSo, HasValues, IsOther, IsOwn}
+use Rattle.eval_forms.specs.Rows.{answered, eval_stands, Continues, Closes, TakesAt, Takes, StepsAt, EndsSo, HasValues, IsFilled, IsLater, IsOther, IsOwn, operands, operands_at, has_operand}
 
 list_of-trees_of : (ts : List Tree) → list_of (trees_of ts) ≡ ts
 list_of-trees_of [] = refl
@@ -49,17 +48,13 @@ entry_trees-list text tree (e ∷ es) = ap (λ l. tree e.1 ∷ l) (entry_trees-l
 
 -- the operands of an expression of the store are those of its tree
 pub operand_trees-form : (text : ℕ → Text) (tree : ℕ → Tree) (f : Form) → operand_trees (form_tree text tree f) ≡ map tree (operands f)
-operand_trees-form text tree (form.Const k) = refl
-operand_trees-form text tree (form.Name x) = refl
-operand_trees-form text tree (form.Bind x e) = refl
-operand_trees-form text tree (form.Func x ps e) = refl
-operand_trees-form text tree (form.SetAttr o x e) = refl
-operand_trees-form text tree (form.Call f es) = ap (λ l. tree f ∷ l) (list_of-trees_of (map tree es.items))
+operand_trees-form text tree (form.Call f es kw) = ap (λ l. tree f ∷ l) (list_of-trees_of (map tree es.items))
 operand_trees-form text tree (form.Op word es) = list_of-trees_of (map tree es.items)
-operand_trees-form text tree (form.Class x bs es) =
+operand_trees-form text tree (form.Class x bs kw es) =
     ap (λ l. l ++ entry_trees (entry_list (map (part text tree) es.items))) (list_of-trees_of (map tree bs.items))
     ∙ ap (λ l. map tree bs.items ++ l) (entry_trees-list text tree es.items)
     ∙ sym (map-append tree bs.items (map (λ e. e.1) es.items))
+operand_trees-form text tree _ = refl
 
 append-nil : {A : Type 0} (xs : List A) → xs ++ [] ≡ xs
 append-nil [] = refl
@@ -113,18 +108,16 @@ append-holds w (x ∷ xs) ys (suc n) e g h k = append-holds w xs ys n e (λ i d 
 
 -- each operand is an expression
 pub operand-holds : (w : Held) (f : Form) (n e : ℕ) → AllHold w (of_form f) → slice_get (operands f) n ≡ Some e → Holds w (IsExpression e)
-operand-holds w (form.Const k) n e h p = cc
-operand-holds w (form.Name x) n e h p = cc
 operand-holds w (form.Bind x b) zero e h p = let same : b ≡ e = cc in subst (λ e. Holds w (IsExpression e)) same h.1.0
 operand-holds w (form.Bind x b) (suc n) e h p = cc
-operand-holds w (form.Func x ps b) n e h p = cc
 operand-holds w (form.SetAttr o x b) zero e h p = let same : o ≡ e = cc in subst (λ e. Holds w (IsExpression e)) same h.0
 operand-holds w (form.SetAttr o x b) (suc zero) e h p = let same : b ≡ e = cc in subst (λ e. Holds w (IsExpression e)) same h.1.1.0
 operand-holds w (form.SetAttr o x b) (suc (suc n)) e h p = cc
-operand-holds w (form.Call f es) zero e h p = let same : f ≡ e = cc in subst (λ e. Holds w (IsExpression e)) same h.0
-operand-holds w (form.Call f es) (suc n) e h p = expression-in w es.items n e h.1.0 p
+operand-holds w (form.Call f es kw) zero e h p = let same : f ≡ e = cc in subst (λ e. Holds w (IsExpression e)) same h.0
+operand-holds w (form.Call f es kw) (suc n) e h p = expression-in w es.items n e h.1.0 p
 operand-holds w (form.Op word es) n e h p = expression-in w es.items n e h.0 p
-operand-holds w (form.Class x bs es) n e h p = append-holds w bs.items (map (λ e. e.1) es.items) n e h.1.0 h.1.1.1.0 p
+operand-holds w (form.Class x bs kw es) n e h p = append-holds w bs.items (map (λ e. e.1) es.items) n e h.1.0 h.1.1.1.1.1.0 p
+operand-holds w _ n e h p = cc
 
 -- a row at an expression of the store is that at its tree
 pub at-tree : (t : Reading) (e : ℕ) (x : Tree) (vs : List PyObjectRef) (old new : World) (next : Step EvalKept) → t.tree e ≡ x → StepsAt t x vs old new next → StepsAt t (t.tree e) vs old new next
@@ -142,20 +135,17 @@ goes-on w e n f vs h k = λ t r. (r, step t (r.trees e f h))
         subst (λ said. Steps eval_say (eval_stands t) t (DoEval (t.tree e)) (map answered vs.items) said (Ask (task.Eval (eval.Eval n)) (Operands e vs)) w) (sym asks) (refl, refl, record { says = λ w r more. ap (λ told. eval_say w (DoEval (t.tree e)) (told ++ Answered r ∷ more)) (append-nil (map answered vs.items)) })
 
 -- an operand that is answered no object ends the expression so
-pub ends-with : (w : World) (e : ℕ) (vs : List PyObjectRef) (s : Result Answer Fault) → IsOther s → Holds w (HasOperand e (length vs)) → EndsSo e vs w s
+pub ends-with : (w : World) (e : ℕ) (vs : List PyObjectRef) (s : Result Answer Fault) → IsOther s → Holds w (HasForm e (has_operand (length vs))) → EndsSo e vs w s
 unfolding Holds eval_say
-ends-with w e vs s o h = go (slice_get w.forms e) refl h
-  where
-    go : (f : Option Form) → slice_get w.forms e ≡ f → length vs < length (operands_at f) → EndsSo e vs w s
-    go None q h = absurd (omega arith)
-    go (Some f) q h = λ t r.
-        let some = there (operands f) (length vs) h in
-        let asks = evaluate-other (plain t w) (operand_trees (t.tree e)) (own_say (plain t w) (t.tree e)) vs (t.tree some.0) s [] o (ap (λ x. slice_get (operand_trees x) (length vs)) (r.trees e f q) ∙ ap (λ ts. slice_get ts (length vs)) (operand_trees-form t.text t.tree f) ∙ got-map t.tree (operands f) (length vs) some.0 some.1) in
-        (r, subst (λ said. Steps eval_say (eval_stands t) t (DoEval (t.tree e)) (map answered vs ++ Answered (ended_of s) ∷ []) said (End s) w) (sym asks) (refl, refl))
+ends-with w e vs s o h = λ t r.
+    let f = h.0 in
+    let some = there (operands f) (length vs) (omega (arith, h.2)) in
+    let asks = evaluate-other (plain t w) (operand_trees (t.tree e)) (own_say (plain t w) (t.tree e)) vs (t.tree some.0) s [] o (ap (λ x. slice_get (operand_trees x) (length vs)) (r.trees e f h.1) ∙ ap (λ ts. slice_get ts (length vs)) (operand_trees-form t.text t.tree f) ∙ got-map t.tree (operands f) (length vs) some.0 some.1) in
+    (r, subst (λ said. Steps eval_say (eval_stands t) t (DoEval (t.tree e)) (map answered vs ++ Answered (ended_of s) ∷ []) said (End s) w) (sym asks) (refl, refl))
 
-pub has-operand : (w : Held) (e n : ℕ) (f : Form) (x : ℕ) → slice_get w.forms e ≡ Some f → slice_get (operands f) n ≡ Some x → Holds w (HasOperand e n)
+pub has-operand : (w : Held) (e n : ℕ) (f : Form) (x : ℕ) → slice_get w.forms e ≡ Some f → slice_get (operands f) n ≡ Some x → Holds w (HasForm e (has_operand n))
 unfolding Holds
-has-operand w e n f x h k = subst (λ o. n < length (operands_at o)) (sym h) (slice_get_within (operands f) n x k)
+has-operand w e n f x h k = (f, h, let within = slice_get_within (operands f) n x k in omega (arith, within))
 
 -- where there is no further operand, all have values
 pub has-values : (w : World) (e : ℕ) (f : Form) (vs : List PyObjectRef) → slice_get w.forms e ≡ Some f → slice_get (operands f) (length vs) ≡ None → length vs ≤ length (operands_at (slice_get w.forms e)) → HasValues w e vs
@@ -225,54 +215,66 @@ one-holds w (a ∷ []) h = (node-in w (a ∷ []) 0 a h refl, tt)
 one-holds w (a ∷ (b ∷ vs)) h = tt
 
 -- a function
-says-func : (x : PyStrInterned) (ps : Vec PyStrInterned) (e : ℕ) (vs : List PyObjectRef) (f : Form) → IsOwn (own.Func x ps e) f → (t : Reading) (u : PlainWorld) → own_say u (form_tree t.text t.tree f) vs [] ≡ func_say u (t.text x.0) (map (λ p. t.text p.0) ps.items) (t.tree e) []
-says-func x ps e vs (form.Const k) o t u = absurd o
-says-func x ps e vs (form.Name y) o t u = absurd o
-says-func x ps e vs (form.Bind y b) o t u = absurd o
-says-func x ps e vs (form.Func y qs b) o t u =
-    ap (λ z. func_say u (t.text z.0) (map (λ p. t.text p.0) qs.items) (t.tree b) []) (sym o.0)
-    ∙ ap (λ rs. func_say u (t.text x.0) (map (λ p. t.text p.0) rs) (t.tree b) []) (sym o.1)
-    ∙ ap (λ c. func_say u (t.text x.0) (map (λ p. t.text p.0) ps.items) (t.tree c) []) (sym o.2)
-says-func x ps e vs (form.SetAttr a y b) o t u = absurd o
-says-func x ps e vs (form.Call f es) o t u = absurd o
-says-func x ps e vs (form.Op word es) o t u = absurd o
-says-func x ps e vs (form.Class y bs es) o t u = absurd o
+says-func : (x : PyStrInterned) (ps : Vec PyStrInterned) (rest : Bool) (e : ℕ) (vs : List PyObjectRef) (f : Form) → IsOwn (own.Func x ps rest e) f
+    → (t : Reading) (u : PlainWorld) → own_say u (form_tree t.text t.tree f) vs [] ≡ func_say u (t.text x.0) (map (λ p. t.text p.0) ps.items) rest (t.tree e) []
+says-func x ps rest e vs (form.Func y qs more b) o t u =
+    ap (λ z. func_say u (t.text z.0) (map (λ p. t.text p.0) qs.items) more (t.tree b) []) (sym o.0)
+    ∙ ap (λ rs. func_say u (t.text x.0) (map (λ p. t.text p.0) rs) more (t.tree b) []) (sym o.1)
+    ∙ ap (λ m. func_say u (t.text x.0) (map (λ p. t.text p.0) ps.items) m (t.tree b) []) (sym o.2)
+    ∙ ap (λ c. func_say u (t.text x.0) (map (λ p. t.text p.0) ps.items) rest (t.tree c) []) (sym o.3)
+says-func x ps rest e vs _ o t u = absurd o
 
-pub own-func : (w new : World) (e : ℕ) (f : Form) (vs : List PyObjectRef) (x : PyStrInterned) (ps : Vec PyStrInterned) (b : ℕ) (r : Result (Step EvalKept) OutOfMemory) → slice_get w.forms e ≡ Some f → length (operands f) ≡ length vs → IsOwn (own.Func x ps b) f → IfOk r (λ step. Closes (λ t u. func_say u (t.text x.0) (map (λ p. t.text p.0) ps.items) (t.tree b)) w new step) → IfOk r (λ step. Continues e vs w new step)
-own-func w new e f vs x ps b (Ok step) h l o k = own-closes w new e f vs (λ t u. func_say u (t.text x.0) (map (λ p. t.text p.0) ps.items) (t.tree b)) step h l (says-func x ps b vs f o) k
-own-func w new e f vs x ps b (Err out) h l o k = tt
+pub own-func : (w new : World) (e : ℕ) (f : Form) (vs : List PyObjectRef) (x : PyStrInterned) (ps : Vec PyStrInterned) (rest : Bool) (b : ℕ) (r : Result (Step EvalKept) OutOfMemory)
+    → slice_get w.forms e ≡ Some f → length (operands f) ≡ length vs → IsOwn (own.Func x ps rest b) f
+    → IfOk r (λ step. Closes (λ t u. func_say u (t.text x.0) (map (λ p. t.text p.0) ps.items) rest (t.tree b)) w new step) → IfOk r (λ step. Continues e vs w new step)
+own-func w new e f vs x ps rest b (Ok step) h l o k =
+    own-closes w new e f vs (λ t u. func_say u (t.text x.0) (map (λ p. t.text p.0) ps.items) rest (t.tree b)) step h l (says-func x ps rest b vs f o) k
+own-func w new e f vs x ps rest b (Err out) h l o k = tt
 
--- the steps of an attribute that is set, of a call, of a sum and of a class
+-- the steps of an attribute that is set, of a call, of an operation and of a class
 
 pub says-set : (x : PyStrInterned) (vs : List PyObjectRef) (f : Form) → IsOwn (own.SetAttr x) f → (t : Reading) (u : PlainWorld) (more : Told) → own_say u (form_tree t.text t.tree f) vs more ≡ set_attr_say u (t.text x.0) (two_of vs) more
-says-set x vs (form.Const k) o t u more = absurd o
-says-set x vs (form.Name y) o t u more = absurd o
-says-set x vs (form.Bind y e) o t u more = absurd o
-says-set x vs (form.Func y ps e) o t u more = absurd o
 says-set x vs (form.SetAttr a y b) o t u more = ap (λ z. set_attr_say u (t.text z.0) (two_of vs) more) (sym o)
-says-set x vs (form.Call g es) o t u more = absurd o
-says-set x vs (form.Op word es) o t u more = absurd o
-says-set x vs (form.Class y bs es) o t u more = absurd o
+says-set x vs _ o t u more = absurd o
+
+-- a call and a class as they are with these keywords
+call-row : PlainWorld → Tree → Trees → List PyObjectRef → Told → Entries → Said
+call-row u f es vs more kw = own_say u (TCall f es kw) vs more
+
+class-row : PlainWorld → Text → Trees → Entries → List PyObjectRef → Told → Entries → Said
+class-row u x bs es vs more kw = own_say u (TClass x bs kw es) vs more
+
+-- no keywords are no entries
+none-stored : (text : ℕ → Text) (tree : ℕ → Tree) (kw : List (PyStrInterned × ℕ)) → kw ≡ [] → stored_entries text tree kw ≡ no_entries
+none-stored text tree kw h = ap (stored_entries text tree) h
 
 pub says-call : (vs : List PyObjectRef) (f : Form) → IsOwn own.Call f → (t : Reading) (u : PlainWorld) (more : Told) → own_say u (form_tree t.text t.tree f) vs more ≡ call_say u vs more
-says-call vs (form.Const k) o t u more = absurd o
-says-call vs (form.Name y) o t u more = absurd o
-says-call vs (form.Bind y e) o t u more = absurd o
-says-call vs (form.Func y ps e) o t u more = absurd o
-says-call vs (form.SetAttr a y b) o t u more = absurd o
-says-call vs (form.Call g es) o t u more = refl
-says-call vs (form.Op word es) o t u more = absurd o
-says-call vs (form.Class y bs es) o t u more = absurd o
+unfolding call-row
+says-call vs (form.Call g es kw) o t u more = ap (call-row u (t.tree g) (trees_of (map t.tree es.items)) vs more) (none-stored t.text t.tree kw.items o)
+says-call vs _ o t u more = absurd o
 
-pub says-add : (vs : List PyObjectRef) (f : Form) → IsOwn (own.Op word.Add) f → (t : Reading) (u : PlainWorld) (more : Told) → own_say u (form_tree t.text t.tree f) vs more ≡ add_of u (two_of vs) more
-says-add vs (form.Const k) o t u more = absurd o
-says-add vs (form.Name y) o t u more = absurd o
-says-add vs (form.Bind y e) o t u more = absurd o
-says-add vs (form.Func y ps e) o t u more = absurd o
-says-add vs (form.SetAttr a y b) o t u more = absurd o
-says-add vs (form.Call g es) o t u more = absurd o
-says-add vs (form.Op v es) o t u more = ap (λ v. op_say u v vs more) (sym o)
-says-add vs (form.Class y bs es) o t u more = absurd o
+pub says-op : (word : Word) (vs : List PyObjectRef) (f : Form) → IsOwn (own.Op word) f → (t : Reading) (u : PlainWorld) (more : Told) → own_say u (form_tree t.text t.tree f) vs more ≡ op_say u word vs more
+says-op word vs (form.Op v es) o t u more = ap (λ v. op_say u v vs more) (sym o)
+says-op word vs _ o t u more = absurd o
+
+-- a form that no request has named
+says-later : (vs : List PyObjectRef) (f : Form) → IsLater f → (t : Reading) (u : PlainWorld) (more : Told) → own_say u (form_tree t.text t.tree f) vs more ≡ not_yet u more
+unfolding call-row class-row
+says-later vs (form.Const k) o t u more = absurd o
+says-later vs (form.Name y) o t u more = absurd o
+says-later vs (form.Bind y e) o t u more = absurd o
+says-later vs (form.Func y ps rest e) o t u more = absurd o
+says-later vs (form.SetAttr a y b) o t u more = absurd o
+says-later vs (form.Op v es) o t u more = absurd o
+says-later vs (form.Call g es kw) o t u more =
+    ap (λ ks. call-row u (t.tree g) (trees_of (map t.tree es.items)) vs more (stored_entries t.text t.tree ks)) o.2
+says-later vs (form.Class y bs kw es) o t u more =
+    ap (λ ks. class-row u (t.text y.0) (trees_of (map t.tree bs.items)) (stored_entries t.text t.tree es.items) vs more (stored_entries t.text t.tree ks)) o.2
+says-later vs _ o t u more = refl
+
+pub own-later : (w : World) (e : ℕ) (f : Form) (vs : List PyObjectRef) (next : Step EvalKept) → slice_get w.forms e ≡ Some f → length (operands f) ≡ length vs → IsLater f
+    → Closes (λ t u. not_yet u) w w next → Continues e vs w w next
+own-later w e f vs next h l o k = own-closes w w e f vs (λ t u. not_yet u) next h l (λ t u. says-later vs f o t u []) k
 
 long-trees : (tree : ℕ → Tree) (es : List ℕ) → length (list_of (trees_of (map tree es))) ≡ length es
 long-trees tree [] = refl
@@ -283,59 +285,31 @@ names-of-entries text tree [] = refl
 names-of-entries text tree (e ∷ es) = ap (λ l. text e.0.0 ∷ l) (names-of-entries text tree es)
 
 pub says-class : (x : PyStrInterned) (n : ℕ) (xs : Vec PyStrInterned) (vs : List PyObjectRef) (f : Form) → IsOwn (own.Class x n xs) f → (t : Reading) (u : PlainWorld) (more : Told) → own_say u (form_tree t.text t.tree f) vs more ≡ class_say u (t.text x.0) n (map (λ y. t.text y.0) xs.items) vs more
-says-class x n xs vs (form.Const k) o t u more = absurd o
-says-class x n xs vs (form.Name y) o t u more = absurd o
-says-class x n xs vs (form.Bind y e) o t u more = absurd o
-says-class x n xs vs (form.Func y ps e) o t u more = absurd o
-says-class x n xs vs (form.SetAttr a y b) o t u more = absurd o
-says-class x n xs vs (form.Call g es) o t u more = absurd o
-says-class x n xs vs (form.Op word es) o t u more = absurd o
-says-class x n xs vs (form.Class y bs es) o t u more =
-    ap (λ m. class_say u (t.text y.0) m (entry_names (entry_list (map (part t.text t.tree) es.items))) vs more) (long-trees t.tree bs.items ∙ sym o.1)
+unfolding class-row
+says-class x n xs vs (form.Class y bs kw es) o t u more =
+    ap (class-row u (t.text y.0) (trees_of (map t.tree bs.items)) (stored_entries t.text t.tree es.items) vs more) (none-stored t.text t.tree kw.items o.3)
+    ∙ ap (λ m. class_say u (t.text y.0) m (entry_names (entry_list (map (part t.text t.tree) es.items))) vs more) (long-trees t.tree bs.items ∙ sym o.1)
     ∙ ap (λ ys. class_say u (t.text y.0) n ys vs more) (names-of-entries t.text t.tree es.items ∙ ap (map (λ y. t.text y.0)) (sym o.2))
     ∙ ap (λ z. class_say u (t.text z.0) n (map (λ y. t.text y.0) xs.items) vs more) (sym o.0)
+says-class x n xs vs _ o t u more = absurd o
 
 -- how many operands a class has
 pub class-long : (x : PyStrInterned) (n : ℕ) (xs : Vec PyStrInterned) (f : Form) → IsOwn (own.Class x n xs) f → length (operands f) ≡ n + length xs.items
-class-long x n xs (form.Const k) o = absurd o
-class-long x n xs (form.Name y) o = absurd o
-class-long x n xs (form.Bind y e) o = absurd o
-class-long x n xs (form.Func y ps e) o = absurd o
-class-long x n xs (form.SetAttr a y b) o = absurd o
-class-long x n xs (form.Call g es) o = absurd o
-class-long x n xs (form.Op word es) o = absurd o
-class-long x n xs (form.Class y bs es) o =
+class-long x n xs (form.Class y bs kw es) o =
     let both = length-append bs.items (map (λ e. e.1) es.items) in
     let entries = length-map es.items (λ e. e.1) in
     let names = ap length o.2 in
     let named = length-map es.items (λ e. e.0) in
     let bases = o.1 in
     omega (arith, both, entries, names, named, bases)
+class-long x n xs _ o = absurd o
 
 -- what is said of the names of a class
 pub class-names : (w : Held) (x : PyStrInterned) (n : ℕ) (xs : Vec PyStrInterned) (f : Form) → IsOwn (own.Class x n xs) f → AllHold w (of_form f) → Holds w (IsName x) × Holds w (AreNames xs.items)
-class-names w x n xs (form.Const k) o h = absurd o
-class-names w x n xs (form.Name y) o h = absurd o
-class-names w x n xs (form.Bind y e) o h = absurd o
-class-names w x n xs (form.Func y ps e) o h = absurd o
-class-names w x n xs (form.SetAttr a y b) o h = absurd o
-class-names w x n xs (form.Call g es) o h = absurd o
-class-names w x n xs (form.Op word es) o h = absurd o
-class-names w x n xs (form.Class y bs es) o h = (subst (λ z. Holds w (IsName z)) (sym o.0) h.0, subst (λ ys. Holds w (AreNames ys)) (sym o.2) h.1.1.0)
+class-names w x n xs (form.Class y bs kw es) o h =
+    (subst (λ z. Holds w (IsName z)) (sym o.0) h.0, subst (λ ys. Holds w (AreNames ys)) (sym o.2) h.1.1.1.1.0)
+class-names w x n xs _ o h = absurd o
 
 pub set-name : (w : Held) (x : PyStrInterned) (f : Form) → IsOwn (own.SetAttr x) f → AllHold w (of_form f) → Holds w (IsName x)
-set-name w x (form.Const k) o h = absurd o
-set-name w x (form.Name y) o h = absurd o
-set-name w x (form.Bind y e) o h = absurd o
-set-name w x (form.Func y ps e) o h = absurd o
 set-name w x (form.SetAttr a y b) o h = subst (λ z. Holds w (IsName z)) (sym o) h.1.0
-set-name w x (form.Call g es) o h = absurd o
-set-name w x (form.Op word es) o h = absurd o
-set-name w x (form.Class y bs es) o h = absurd o
-
--- the one word of this stage
-pub own-sum : (f : Form) (o : Own) (v : Word) → o ≡ own.Op v → IsOwn o f → IsOwn (own.Op word.Add) f
-own-sum f o v e h = subst (λ v. IsOwn (own.Op v) f) (only v) (subst (λ o. IsOwn o f) e h)
-  where
-    only : (v : Word) → v ≡ word.Add
-    only word.Add = refl
+set-name w x _ o h = absurd o

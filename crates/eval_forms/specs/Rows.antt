@@ -1,8 +1,9 @@
 -- What the contracts of the rows of expressions say.
-use Rattle.std.specs.Prelude.{◌≡◌, ℕ, List, [], ◌∷◌, ◌++◌, map, length, Result, Ok, slice_get}
+use Rattle.std.specs.Prelude.{◌≡◌, ℕ, nat_lt, Bool, true, List, [], ◌∷◌, ◌++◌, map, length, Option, Some, None, Result, Ok, slice_get}
 use Rattle.py_node.specs.declared.raised.Raised.{Raised as Fault}
 use Rattle.py_node.specs.declared.refs.PyObjectRef.{PyObjectRef}
-use Rattle.py_node.specs.declared.expr.Word.TheVariants.{Add}
+use Rattle.py_node.specs.declared.expr.Word.TheVariants.{Binary}
+use Rattle.py_node.specs.declared.task.PyNumberBinaryOp.TheVariants.{Add}
 use Rattle.py_node.specs.declared.task.Answer.{Answer}
 use Rattle.py_node.specs.declared.task.Answer.TheVariants.{Value}
 use Rattle.py_node.specs.declared.task.EvalTask.{EvalTask}
@@ -17,7 +18,7 @@ use Rattle.plain_machine.specs.Rows.{Pending, fresh, given}
 use Rattle.class_world.specs.declared.world.World.{World}
 use Rattle.class_world.specs.Reading.{Reading, Reads, plain, eval_job, task_of, ended_of}
 use Rattle.class_world.specs.Rows.{Goes, Steps}
-use Rattle.class_world.specs.Sound.{Claim, AreNodes, IsExpression, HasOperand, operands_at}
+use Rattle.class_world.specs.Sound.{Claim, AreNodes, IsExpression, HasForm}
 use Rattle.eval_forms.specs.declared.EvalKept.{EvalKept}
 use Rattle.eval_forms.specs.declared.EvalKept.TheVariants.{Pass, SetDone, Operands}
 use Rattle.eval_forms.specs.declared.Own.{Own}
@@ -30,7 +31,7 @@ answered v = Answered (value v)
 
 -- an expression whose operands have been evaluated, and which passes on what it then asked
 abbrev pub passing : Tree
-passing = TOp Add (tree (TConst LNone) (tree (TConst LNone) no_trees))
+passing = TOp (Binary Add) (tree (TConst LNone) (tree (TConst LNone) no_trees))
 
 -- the same of one that has set an attribute
 abbrev pub setting : Tree
@@ -45,11 +46,28 @@ eval_stands t Pass = record { task = DoEval passing; told = map answered passed 
 eval_stands t SetDone = record { task = DoEval setting; told = map answered passed }
 eval_stands t (Operands e vs) = record { task = DoEval (t.tree e); told = map answered vs.items }
 
+-- the parts of an expression of the store that are evaluated first, in order
+abbrev pub operands : Form → List ℕ
+operands (form.Bind x e) = e ∷ []
+operands (form.SetAttr o x e) = o ∷ e ∷ []
+operands (form.Call f es kw) = f ∷ es.items
+operands (form.Op word es) = es.items
+operands (form.Class x bs kw es) = bs.items ++ map (λ e. e.1) es.items
+operands _ = []
+
+abbrev pub operands_at : Option Form → List ℕ
+operands_at None = []
+operands_at (Some f) = operands f
+
+-- a form of more operands than so many
+abbrev pub has_operand : ℕ → Form → Bool
+has_operand n f = nat_lt n (length (operands f))
+
 -- what is said of what is kept
 abbrev pub of_eval_kept : EvalKept → List Claim
 of_eval_kept Pass = []
 of_eval_kept SetDone = []
-of_eval_kept (Operands e vs) = IsExpression e ∷ HasOperand e (length vs.items) ∷ AreNodes vs.items ∷ []
+of_eval_kept (Operands e vs) = IsExpression e ∷ HasForm e (has_operand (length vs.items)) ∷ AreNodes vs.items ∷ []
 
 abbrev pub Begins : EvalTask → World → World → Step EvalKept → Type 0
 Begins task = Goes eval_say eval_stands (λ t. fresh (eval_job t task))
@@ -65,6 +83,22 @@ Continues e vs = Goes eval_say eval_stands (λ t. record { task = DoEval (t.tree
 abbrev pub ContinuesTree : (Reading → Tree) → List PyObjectRef → World → World → Step EvalKept → Type 0
 ContinuesTree spell vs = Goes eval_say eval_stands (λ t. record { task = DoEval (spell t); told = map answered vs })
 
+-- a list is not empty
+abbrev pub IsFilled : {A : Type 0} → List A → Type 0
+IsFilled {A} xs = (a : A) × (rest : List A) × (xs ≡ a ∷ rest)
+
+-- no request has named the form so far
+abbrev pub IsLater : Form → Type 0
+IsLater (form.Const k) = ⊥
+IsLater (form.Name x) = ⊥
+IsLater (form.Bind x e) = ⊥
+IsLater (form.Func x ps rest e) = ⊥
+IsLater (form.SetAttr o x e) = ⊥
+IsLater (form.Op word es) = ⊥
+IsLater (form.Call f es kw) = IsFilled kw.items
+IsLater (form.Class x bs kw es) = IsFilled kw.items
+IsLater _ = Unit {0}
+
 -- what is kept of an expression's own step is that of the expression
 abbrev pub IsOwn : Own → Form → Type 0
 IsOwn (own.Const k) (form.Const j) = literal_of k ≡ literal_of j
@@ -73,16 +107,18 @@ IsOwn (own.Name x) (form.Name y) = x ≡ y
 IsOwn (own.Name x) _ = ⊥
 IsOwn (own.Bind x) (form.Bind y e) = x ≡ y
 IsOwn (own.Bind x) _ = ⊥
-IsOwn (own.Func x ps e) (form.Func y qs b) = (x ≡ y) × (ps.items ≡ qs.items) × (e ≡ b)
-IsOwn (own.Func x ps e) _ = ⊥
+IsOwn (own.Func x ps rest e) (form.Func y qs more b) = (x ≡ y) × (ps.items ≡ qs.items) × (rest ≡ more) × (e ≡ b)
+IsOwn (own.Func x ps rest e) _ = ⊥
 IsOwn (own.Op word) (form.Op other es) = word ≡ other
 IsOwn (own.Op word) _ = ⊥
 IsOwn (own.SetAttr x) (form.SetAttr o y e) = x ≡ y
 IsOwn (own.SetAttr x) _ = ⊥
-IsOwn own.Call (form.Call f es) = Unit {0}
+IsOwn own.Call (form.Call f es kw) = kw.items ≡ []
 IsOwn own.Call _ = ⊥
-IsOwn (own.Class x n xs) (form.Class y bs es) = (x ≡ y) × (n ≡ length bs.items) × (xs.items ≡ map (λ e. e.0) es.items)
+IsOwn (own.Class x n xs) (form.Class y bs kw es) =
+    (x ≡ y) × (n ≡ length bs.items) × (xs.items ≡ map (λ e. e.0) es.items) × (kw.items ≡ [])
 IsOwn (own.Class x n xs) _ = ⊥
+IsOwn own.NotYet f = IsLater f
 
 -- the expression's operands have so many values
 abbrev pub HasValues : World → ℕ → List PyObjectRef → Type 0

@@ -1,11 +1,12 @@
 -- What the rows of expressions say.
-use Rattle.std.specs.Prelude.{ℕ, false, if◌then◌else◌, bytes_eq, codes, List, [], ◌∷◌, ◌++◌, Option, Some, None, length, take, drop, slice_get}
+use Rattle.std.specs.Prelude.{ℕ, Bool, if◌then◌else◌, bytes_eq, codes, List, [], ◌∷◌, ◌++◌, Option, Some, None, length, take, drop, slice_get}
 use Rattle.py_node.specs.declared.refs.PyObjectRef.{PyObjectRef}
-use Rattle.py_node.specs.declared.raised.Kind.TheVariants.{NameError, TypeError}
-use Rattle.py_node.specs.declared.raised.Cause.TheVariants.{ArgCount, Unbound}
+use Rattle.py_node.specs.declared.raised.Kind.TheVariants.{NameError, NotImplementedError, TypeError}
+use Rattle.py_node.specs.declared.raised.Cause.TheVariants.{ArgCount, NotYet, Unbound}
 use Rattle.py_node.specs.declared.expr.Word.{Word}
 use Rattle.py_node.specs.declared.expr.Word.TheVariants as word
-use Rattle.py_node.specs.Tree.{Text, Tree, TConst, TName, TBind, TFunc, TSetAttr, TCall, TOp, TClass, Entries, no_entries, entry, Literal, LNone, LFalse, LTrue, LInt, LText, list_of, entry_trees}
+use Rattle.py_node.specs.declared.task.PyNumberBinaryOp.TheVariants as op
+use Rattle.py_node.specs.Tree.{Text, Tree, TConst, TName, TBind, TTuple, TList, TDict, TFunc, TAttr, TSetAttr, TDelAttr, TCall, TOp, TIf, TSeq, TRaise, TClass, Entries, no_entries, entry, Literal, LNone, LFalse, LTrue, LInt, LText, list_of, entry_trees}
 use Rattle.plain_machine.specs.Plain.{ANumber, AText, ATuple, ADict, AFunction, PlainWorld, Bindings, EvalJob, DoEval, DoAdd, DoSetAttr, DoCall, ToAttribute, ToCall, ToOperator, Said}
 use Rattle.plain_machine.specs.World.{ref, variable, or_else_var, with_binding, with_node, next_node}
 use Rattle.plain_machine.specs.Args.{two_of, filled}
@@ -60,8 +61,12 @@ bind_say w x None = end w (fault TypeError ArgCount)
 bind_say w x (Some v) = end (with_binding w x v) (value v)
 
 -- a function is a new object
-abbrev pub func_say : PlainWorld → Text → List Text → Tree → Row
-func_say w x ps e = make w the_function (AFunction x ps false e None)
+abbrev pub func_say : PlainWorld → Text → List Text → Bool → Tree → Row
+func_say w x ps rest e = make w the_function (AFunction x ps rest e None)
+
+-- what no request has named so far
+abbrev pub not_yet : PlainWorld → Row
+not_yet w = end w (fault NotImplementedError NotYet)
 
 -- a sum of two operands
 abbrev pub add_of : PlainWorld → Option (PyObjectRef × PyObjectRef) → Row
@@ -70,7 +75,8 @@ add_of w (Some p) = ask w (ToOperator (DoAdd p.0 p.1)) (end w)
 
 -- the word's task, with the values of the operands
 abbrev pub op_say : PlainWorld → Word → List PyObjectRef → Row
-op_say w word.Add vs = add_of w (two_of vs)
+op_say w (word.Binary op.Add) vs = add_of w (two_of vs)
+op_say w _ vs = not_yet w
 
 -- an attribute is set to the second operand, and the answer is None
 abbrev pub set_attr_say : PlainWorld → Text → Option (PyObjectRef × PyObjectRef) → Row
@@ -115,27 +121,26 @@ abbrev pub entry_names : Entries → List Text
 entry_names no_entries = []
 entry_names (entry x e es) = x ∷ entry_names es
 
--- the parts of an expression that are evaluated first, in order
+-- the parts of an expression that are evaluated first, in order. A form that no request has named has none yet
 abbrev pub operand_trees : Tree → List Tree
-operand_trees (TConst k) = []
-operand_trees (TName x) = []
 operand_trees (TBind x e) = e ∷ []
-operand_trees (TFunc x ps e) = []
 operand_trees (TSetAttr o x e) = o ∷ e ∷ []
-operand_trees (TCall f es) = f ∷ list_of es
+operand_trees (TCall f es kw) = f ∷ list_of es
 operand_trees (TOp word es) = list_of es
-operand_trees (TClass x bs es) = list_of bs ++ entry_trees es
+operand_trees (TClass x bs kw es) = list_of bs ++ entry_trees es
+operand_trees _ = []
 
--- what an expression does with the values of its operands
+-- what an expression does with the values of its operands. No keyword is named yet
 abbrev pub own_say : PlainWorld → Tree → List PyObjectRef → Row
 own_say w (TConst k) vs = const_say w k
 own_say w (TName x) vs = name_say w x
 own_say w (TBind x e) vs = bind_say w x (one_of vs)
-own_say w (TFunc x ps e) vs = func_say w x ps e
+own_say w (TFunc x ps rest e) vs = func_say w x ps rest e
 own_say w (TSetAttr o x e) vs = set_attr_say w x (two_of vs)
-own_say w (TCall f es) vs = call_say w vs
+own_say w (TCall f es no_entries) vs = call_say w vs
 own_say w (TOp word es) vs = op_say w word vs
-own_say w (TClass x bs es) vs = class_say w x (length (list_of bs)) (entry_names es) vs
+own_say w (TClass x bs no_entries es) vs = class_say w x (length (list_of bs)) (entry_names es) vs
+own_say w _ vs = not_yet w
 
 -- an expression's operands are evaluated in order. Then it has a step of its own
 unfoldable pub eval_say : PlainWorld → EvalJob → Row

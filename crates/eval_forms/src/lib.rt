@@ -2,26 +2,30 @@
 #![tactic(auto, unfolding(crate::specs::Say::eval_say))]
 
 ghost use Rattle.std.specs.Prelude.{◌≡◌, ◌≤◌, ◌++◌, [], ◌∷◌, map, length, slice_get, Ok, IfOk, IfErr, OnOk, IfSome};
-ghost use Rattle.class_world.specs.Sound.{AllHold, Holds, IsExpression, IsName, IsNode, AreNodes, HasOperand, of_form, of_node_ref, of_option, operands, operands_at};
+ghost use Rattle.class_world.specs.Sound.{AllHold, Holds, IsExpression, IsName, IsNode, AreNodes, of_form, of_node_ref, of_option};
 ghost use Rattle.class_world.specs.Claims.{of_eval_task, of_ended, of_step, Leaves};
 ghost use Rattle.class_world.specs.Reading.{Reading, Reads};
-ghost use Rattle.eval_forms.specs.Say.{built_in_named, name_say, one_of, bind_say, func_say, set_attr_say, call_say, add_of};
+ghost use Rattle.eval_forms.specs.Say.{one_of, bind_say, func_say, set_attr_say, call_say, add_of, op_say};
 ghost use Rattle.plain_machine.specs.Args.{two_of};
 ghost use Rattle.py_node.specs.Tree.{TConst, literal_of};
-ghost use Rattle.eval_forms.specs.Rows.{Begins, Resumes, Continues, ContinuesTree, Closes, Takes, IsOwn, HasValues, IsOther, of_eval_kept};
+ghost use Rattle.eval_forms.specs.Rows.{Begins, Resumes, Continues, ContinuesTree, Closes, Takes, IsOwn, HasValues, IsLater, IsOther, of_eval_kept, operands, operands_at};
 
 mod class_form;
+mod names;
 
 use class_form::class_step;
 use class_world::args::{copy_args, two_of};
 use class_world::world::{Fixed, World};
+use names::name_step;
 use py_node::built_in::BuiltIn;
 use py_node::expr::{Constant, Word};
 use py_node::memory::OutOfMemory;
 use py_node::payload::{Form, Function, Payload};
 use py_node::raised::{Cause, Kind, Raised};
 use py_node::refs::{PyObjectRef, PyStrInterned};
-use py_node::task::{Answer, AttributeTask, CallTask, EvalTask, OperatorTask, Step, Task};
+use py_node::task::{
+    Answer, AttributeTask, CallTask, EvalTask, OperatorTask, PyNumberBinaryOp, Step, Task,
+};
 use std::alloc::Global;
 
 /// What a row of an expression keeps while it waits for an answer.
@@ -151,9 +155,6 @@ fn operand(form: &Form, place: usize) -> Option<u64>
     ensures { result ≡ slice_get (operands form.now) place }
 {
     match form {
-        Form::Const(_) => None,
-        Form::Name(_) => None,
-        Form::Func(_, _, _) => None,
         Form::Bind(_, value) => first_of(*value, place),
         Form::SetAttr(target, _, value) => {
             if place == 0 {
@@ -162,7 +163,7 @@ fn operand(form: &Form, place: usize) -> Option<u64>
                 first_of(*value, place - 1)
             }
         }
-        Form::Call(func, args) => {
+        Form::Call(func, args, _) => {
             if place == 0 {
                 Some(*func)
             } else {
@@ -170,7 +171,7 @@ fn operand(form: &Form, place: usize) -> Option<u64>
             }
         }
         Form::Op(_, operands) => operands.get(place).copied(),
-        Form::Class(_, bases, entries) => {
+        Form::Class(_, bases, _, entries) => {
             if place < bases.len() {
                 Some(bases[place])
             } else {
@@ -180,6 +181,7 @@ fn operand(form: &Form, place: usize) -> Option<u64>
                 }
             }
         }
+        _ => None,
     }
 }
 
@@ -196,13 +198,15 @@ pub enum Own {
     Const(Constant),
     Name(PyStrInterned),
     Bind(PyStrInterned),
-    /// The function's name, its parameters and its body.
-    Func(PyStrInterned, Vec<PyStrInterned>, u64),
+    /// The function's name, its parameters, whether the last one takes the rest, and its body.
+    Func(PyStrInterned, Vec<PyStrInterned>, bool, u64),
     SetAttr(PyStrInterned),
     Call,
     Op(Word),
     /// The class's name, how many bases it has, and the names of its entries.
     Class(PyStrInterned, usize, Vec<PyStrInterned>),
+    /// What no request has named so far.
+    NotYet,
 }
 
 // The step of an expression whose operands have their values.
@@ -225,17 +229,18 @@ fn own_step(
             Ok(step)
         }
         Own::Bind(name) => bind_step(world, name, one_of(&values)),
-        Own::Func(name, params, body) => func_step(world, alloc, name, params, body),
+        Own::Func(name, params, rest, body) => func_step(world, alloc, name, params, rest, body),
         Own::SetAttr(name) => {
             let step = set_attr_step(name, &values);
             Ok(step)
         }
         Own::Call => call_step(alloc, &values),
-        Own::Op(Word::Add) => {
-            let step = add_step(&values);
+        Own::Op(word) => {
+            let step = op_step(word, &values);
             Ok(step)
         }
         Own::Class(name, bases, names) => class_step(world, alloc, name, bases, &names, &values),
+        Own::NotYet => Ok(not_yet()),
     }
 }
 
@@ -250,17 +255,28 @@ fn own_of(alloc: Global, form: &Form) -> Result<Own, OutOfMemory>
         }
         Form::Name(name) => Ok(Own::Name(*name)),
         Form::Bind(name, _) => Ok(Own::Bind(*name)),
-        Form::Func(name, params, body) => {
+        Form::Func(name, params, rest, body) => {
             let copy = params.clone()?;
-            Ok(Own::Func(*name, copy, *body))
+            Ok(Own::Func(*name, copy, *rest, *body))
         }
         Form::SetAttr(_, name, _) => Ok(Own::SetAttr(*name)),
-        Form::Call(_, _) => Ok(Own::Call),
-        Form::Op(word, _) => Ok(Own::Op(*word)),
-        Form::Class(name, bases, entries) => {
-            let names = names_of(alloc, entries)?;
-            Ok(Own::Class(*name, bases.len(), names))
+        Form::Call(_, _, keywords) => {
+            if keywords.is_empty() {
+                Ok(Own::Call)
+            } else {
+                Ok(Own::NotYet)
+            }
         }
+        Form::Op(word, _) => Ok(Own::Op(*word)),
+        Form::Class(name, bases, keywords, entries) => {
+            if keywords.is_empty() {
+                let names = names_of(alloc, entries)?;
+                Ok(Own::Class(*name, bases.len(), names))
+            } else {
+                Ok(Own::NotYet)
+            }
+        }
+        _ => Ok(Own::NotYet),
     }
 }
 
@@ -305,72 +321,6 @@ fn const_step(
     }
 }
 
-// A name is that of a variable, or else of a built-in object.
-fn name_step(world: &World, name: PyStrInterned) -> Step<EvalKept>
-    requires { Holds world.now (IsName name) }
-    ensures goes { Closes (λ t w. name_say w (t.text name.0)) world.now world.now result }
-    ensures safe { AllHold world.now (of_step of_eval_kept result) }
-{
-    match world.variable(name) {
-        Some(node) => Step::End(Ok(Answer::Value(node))),
-        None => match built_in_at(world, name) {
-            Some(node) => Step::End(Ok(Answer::Value(node))),
-            None => Step::End(Err(Raised {
-                kind: Kind::NameError,
-                cause: Cause::Unbound,
-            })),
-        },
-    }
-}
-
-// The built-in object of a name.
-fn built_in_at(world: &World, name: PyStrInterned) -> Option<PyObjectRef>
-    requires { Holds world.now (IsName name) }
-    ensures named { (t : Reading) → Reads t world.now → built_in_named (t.text name.0) ≡ result }
-    ensures node { IfSome result (λ r. Holds world.now (IsNode r)) }
-{
-    // Every world has the nodes up to this one.
-    let _last = world.fixed(Fixed::True);
-    built_in_named(world.names().text(name))
-}
-
-// The built-in object that a text names.
-#[tactic(auto, unfolding(crate::specs::Say::built_in_named))]
-fn built_in_named(text: &str) -> Option<PyObjectRef>
-    ensures named { result ≡ built_in_named text.now }
-    ensures fixed { IfSome result (λ r. r.0 ≤ 26) }
-{
-    if text == "object" {
-        Some(PyObjectRef(0))
-    } else if text == "type" {
-        Some(PyObjectRef(1))
-    } else if text == "int" {
-        Some(PyObjectRef(4))
-    } else if text == "bool" {
-        Some(PyObjectRef(5))
-    } else if text == "str" {
-        Some(PyObjectRef(6))
-    } else if text == "tuple" {
-        Some(PyObjectRef(7))
-    } else if text == "list" {
-        Some(PyObjectRef(8))
-    } else if text == "dict" {
-        Some(PyObjectRef(9))
-    } else if text == "property" {
-        Some(PyObjectRef(17))
-    } else if text == "classmethod" {
-        Some(PyObjectRef(18))
-    } else if text == "staticmethod" {
-        Some(PyObjectRef(19))
-    } else if text == "super" {
-        Some(PyObjectRef(20))
-    } else if text == "NotImplemented" {
-        Some(PyObjectRef(24))
-    } else {
-        None
-    }
-}
-
 // A variable is bound to the value of its operand, which is the answer.
 fn bind_step(
     world: &mut World,
@@ -411,17 +361,18 @@ fn func_step(
     alloc: Global,
     name: PyStrInterned,
     params: Vec<PyStrInterned>,
+    rest: bool,
     body: u64,
 ) -> Result<Step<EvalKept>, OutOfMemory>
-    requires parts { AllHold world.old (of_form (Form.Func name params body)) }
-    ensures goes { IfOk result (λ step. Closes (λ t w. func_say w (t.text name.0) (map (λ p. t.text p.0) params.items) (t.tree body)) world.old world.new step) }
+    requires parts { AllHold world.old (of_form (Form.Func name params rest body)) }
+    ensures goes { IfOk result (λ step. Closes (λ t w. func_say w (t.text name.0) (map (λ p. t.text p.0) params.items) rest (t.tree body)) world.old world.new step) }
     ensures safe { Leaves of_eval_kept world.old world.new result }
 {
     let class = world.built_in(BuiltIn::Function);
     let function = Function {
         name,
         params,
-        rest: false,
+        rest,
         body,
         class: None,
     };
@@ -458,6 +409,17 @@ fn call_step(alloc: Global, values: &[PyObjectRef]) -> Result<Step<EvalKept>, Ou
     }
 }
 
+// The word's task, with the values of the operands.
+fn op_step(word: Word, values: &[PyObjectRef]) -> Step<EvalKept>
+    ensures goes { (w : World) → Takes (λ t u. op_say u word values.now) w w result }
+    ensures safe { (w : World) → Holds w (AreNodes values.now) → AllHold w (of_step of_eval_kept result) }
+{
+    match word {
+        Word::Binary(PyNumberBinaryOp::Add) => add_step(values),
+        _ => not_yet(),
+    }
+}
+
 // A sum, with the values of its operands.
 fn add_step(values: &[PyObjectRef]) -> Step<EvalKept>
     ensures goes { (w : World) → Takes (λ t u. add_of u (two_of values.now)) w w result }
@@ -467,6 +429,16 @@ fn add_step(values: &[PyObjectRef]) -> Step<EvalKept>
         None => missing_operand(),
         Some((a, b)) => Step::Ask(Task::Operator(OperatorTask::Add(a, b)), EvalKept::Pass),
     }
+}
+
+// What no request has named so far.
+fn not_yet() -> Step<EvalKept>
+    ensures { result ≡ Step.End (Err (record { kind = Kind.NotImplementedError; cause = Cause.NotYet })) }
+{
+    Step::End(Err(Raised {
+        kind: Kind::NotImplementedError,
+        cause: Cause::NotYet,
+    }))
 }
 
 // There are too few operands, or too many.

@@ -13,6 +13,7 @@ use py_node::expr::{Command, Constant, Expr, Word};
 use py_node::memory::OutOfMemory;
 use py_node::refs::PyTypeRef;
 use py_node::reply::{Reply, ReplyAnswer};
+use py_node::task::PyNumberBinaryOp;
 use std::alloc::Global;
 use std::io;
 use vm_eval::machine::{RunFault, VirtualMachine};
@@ -81,7 +82,7 @@ fn replies(vm: &mut VirtualMachine, alloc: Global) -> Result<Vec<Reply>, RunFaul
 fn commands(alloc: Global) -> Result<Vec<Command>, OutOfMemory> {
     let bind = Expr::Bind(String::from_str(alloc, "n")?, Box::new(alloc, int(33))?);
     let operands = vec![in alloc; Expr::Name(String::from_str(alloc, "n")?), int(12)]?;
-    let sum = Expr::Op(Word::Add, operands);
+    let sum = Expr::Op(Word::Binary(PyNumberBinaryOp::Add), operands);
     Ok(vec![in alloc; Command { expr: bind }, Command { expr: sum }]?)
 }
 

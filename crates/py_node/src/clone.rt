@@ -1,7 +1,7 @@
 // Copies of expressions, commands and replies, which stand for the same trees and replies.
 
 ghost use Rattle.std.specs.Prelude.{◌≡◌, map, string_bytes, IfOk};
-ghost use Rattle.py_node.specs.Tree.{literal_of, texts_of, tree_of, part_of};
+ghost use Rattle.py_node.specs.Tree.{literal_of, texts_of, tree_of, part_of, pair_of};
 ghost use Rattle.py_node.specs.Replies.{reply_of, started_of, told_of};
 
 use crate::expr::{Command, Constant, Expr};
@@ -37,25 +37,45 @@ impl Expr {
                 let name = copy_text(alloc, name)?;
                 Ok(Expr::Bind(name, copy_box(alloc, value)?))
             }
-            Expr::Func(name, params, body) => {
+            Expr::Tuple(items) => Ok(Expr::Tuple(copy_all(alloc, items)?)),
+            Expr::List(items) => Ok(Expr::List(copy_all(alloc, items)?)),
+            Expr::Dict(pairs) => Ok(Expr::Dict(copy_pairs(alloc, pairs)?)),
+            Expr::Func(name, params, rest, body) => {
                 let name = copy_text(alloc, name)?;
                 let params = copy_texts(alloc, params)?;
-                Ok(Expr::Func(name, params, copy_box(alloc, body)?))
+                Ok(Expr::Func(name, params, *rest, copy_box(alloc, body)?))
+            }
+            Expr::Attr(object, name) => {
+                let object = copy_box(alloc, object)?;
+                Ok(Expr::Attr(object, copy_text(alloc, name)?))
             }
             Expr::SetAttr(object, name, value) => {
                 let object = copy_box(alloc, object)?;
                 let name = copy_text(alloc, name)?;
                 Ok(Expr::SetAttr(object, name, copy_box(alloc, value)?))
             }
-            Expr::Call(function, args) => {
+            Expr::DelAttr(object, name) => {
+                let object = copy_box(alloc, object)?;
+                Ok(Expr::DelAttr(object, copy_text(alloc, name)?))
+            }
+            Expr::Call(function, args, keywords) => {
                 let function = copy_box(alloc, function)?;
-                Ok(Expr::Call(function, copy_all(alloc, args)?))
+                let args = copy_all(alloc, args)?;
+                Ok(Expr::Call(function, args, copy_entries(alloc, keywords)?))
             }
             Expr::Op(word, operands) => Ok(Expr::Op(*word, copy_all(alloc, operands)?)),
-            Expr::Class(name, bases, entries) => {
+            Expr::If(condition, then, otherwise) => {
+                let condition = copy_box(alloc, condition)?;
+                let then = copy_box(alloc, then)?;
+                Ok(Expr::If(condition, then, copy_box(alloc, otherwise)?))
+            }
+            Expr::Seq(items) => Ok(Expr::Seq(copy_all(alloc, items)?)),
+            Expr::Raise(kind) => Ok(Expr::Raise(*kind)),
+            Expr::Class(name, bases, keywords, entries) => {
                 let name = copy_text(alloc, name)?;
                 let bases = copy_all(alloc, bases)?;
-                Ok(Expr::Class(name, bases, copy_entries(alloc, entries)?))
+                let keywords = copy_entries(alloc, keywords)?;
+                Ok(Expr::Class(name, bases, keywords, copy_entries(alloc, entries)?))
             }
         }
     }
@@ -94,6 +114,19 @@ fn copy_entries(
     for (name, expr) in entries {
         let name = copy_text(alloc, name)?;
         copies.push((name, expr.try_clone(alloc)?))?;
+    }
+    Ok(copies)
+}
+
+// The same keys with the same values, in order.
+#[cycle(copy)]
+fn copy_pairs(alloc: Global, pairs: &Vec<(Expr, Expr)>) -> Result<Vec<(Expr, Expr)>, OutOfMemory>
+    ensures { IfOk result (λ ps. map pair_of ps.items ≡ map pair_of pairs.now.items) }
+{
+    let mut copies = Vec::with_capacity(alloc, pairs.len())?;
+    for (key, value) in pairs {
+        let key = key.try_clone(alloc)?;
+        copies.push((key, value.try_clone(alloc)?))?;
     }
     Ok(copies)
 }

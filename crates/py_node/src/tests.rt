@@ -7,6 +7,7 @@ use crate::names::Names;
 use crate::raised::{Cause, Kind, Raised};
 use crate::refs::{PyObjectRef, PyStrInterned};
 use crate::reply::{BodyCall, Reply, ReplyAnswer};
+use crate::task::PyNumberBinaryOp;
 use std::alloc::Global;
 use std::test::Fail;
 
@@ -61,11 +62,11 @@ fn copies_a_constant(rt: HostRuntime) -> Result<(), Fail> {
 fn copies_an_operation(rt: HostRuntime) -> Result<(), Fail> {
     let alloc = rt.alloc();
     let command = Command {
-        expr: Expr::Op(Word::Add, one(alloc)?),
+        expr: Expr::Op(Word::Binary(PyNumberBinaryOp::Add), one(alloc)?),
     };
     let copy = command.try_clone(alloc)?;
     match &copy.expr {
-        Expr::Op(Word::Add, operands) => {
+        Expr::Op(Word::Binary(PyNumberBinaryOp::Add), operands) => {
             assert_eq!(rt; operands.len(), 1);
             match &operands[0] {
                 Expr::Const(Constant::Int(value)) => assert_eq!(rt; *value, 1),

@@ -6,7 +6,7 @@ use Rattle.serde_json.specs.Data.{depth, items_depth}
 use Rattle.serde_json.specs.View.{view, items_view}
 use Rattle.serde_json.specs.declared.value.Value.{Value}
 use Rattle.py_node.specs.declared.expr.Expr.{Expr, Class, the_lemmas}
-use Rattle.py_node.specs.Tree.{TClass, entry, entries_of, trees_of, tree_of}
+use Rattle.py_node.specs.Tree.{TClass, Entries, no_entries, entry, entries_of, trees_of, tree_of}
 use Rattle.script_text.specs.Forms.{of_two, expr_of, exprs_of, entry_of, entries_in, named, named_entries, class}
 
 -- what is left, with what was found before it
@@ -57,7 +57,13 @@ entries-named : (fs : List (String Global × Expr)) → entries_of (map (λ e. (
 entries-named [] = refl
 entries-named (f ∷ fs) = ap (entry (string_bytes f.0) (tree_of f.1)) (entries-named fs)
 
-pub class-tree : (text : String Global) (bases : Vec Expr Global) (entries : Vec (String Global × Expr) Global) → tree_of (Class text bases entries) ≡ class (string_bytes text) (map tree_of bases.items) (map named entries.items)
-class-tree text bases entries =
-    let seen : tree_of (Class text bases entries) ≡ TClass (string_bytes text) (trees_of (map tree_of bases.items)) (entries_of (map (λ (e : String Global × Expr). (e.0, tree_of e.1)) entries.items)) = search (rules, the_lemmas) in
-    seen ∙ ap (TClass (string_bytes text) (trees_of (map tree_of bases.items))) (entries-named entries.items)
+-- a class that was read, whose list of keywords is empty
+pub class-tree : (text : String Global) (bases : Vec Expr Global) (keywords entries : Vec (String Global × Expr) Global) → keywords.items ≡ []
+    → tree_of (Class text bases keywords entries) ≡ class (string_bytes text) (map tree_of bases.items) (map named entries.items)
+class-tree text bases keywords entries none =
+    let seen : tree_of (Class text bases keywords entries) ≡ TClass (string_bytes text) (trees_of (map tree_of bases.items))
+    (entries_of (map (λ (e : String Global × Expr). (e.0, tree_of e.1)) keywords.items)) (entries_of (map (λ (e : String Global × Expr). (e.0, tree_of e.1)) entries.items)) =
+    search (rules, the_lemmas) in
+    let body : Entries = entries_of (map (λ (e : String Global × Expr). (e.0, tree_of e.1)) entries.items) in
+    seen ∙ ap (λ ks. TClass (string_bytes text) (trees_of (map tree_of bases.items)) (entries_of (map (λ (e : String Global × Expr). (e.0, tree_of e.1)) ks)) body) none
+    ∙ ap (TClass (string_bytes text) (trees_of (map tree_of bases.items)) no_entries) (entries-named entries.items)

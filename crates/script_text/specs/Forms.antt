@@ -1,12 +1,13 @@
 -- Which expression a JSON value spells.
-use Rattle.std.specs.Prelude.{⊤, ℕ, ◌&&◌, ◌==◌, nat_le, List, [], ◌∷◌, length, codes, bytes_eq, Bool, true, false, not, if◌then◌else◌, Option, Some, None, option_map, option_and_then, String, string_bytes}
+use Rattle.std.specs.Prelude.{⊤, ◌&&◌, ◌==◌, nat_le, List, [], ◌∷◌, length, codes, bytes_eq, Bool, true, false, not, if◌then◌else◌, Option, Some, None, option_map, option_and_then, String, string_bytes}
 use Rattle.std.specs.List.{list_any}
 use Rattle.serde_json.specs.Data.{Data, null, boolean, number, string, array, object, Items, no_items, item}
 use Rattle.serde_json.specs.Find.{as_i64, as_str}
 use Rattle.std.specs.declared.alloc.Global.{Global}
 use Rattle.py_node.specs.declared.expr.Expr.{Expr}
 use Rattle.py_node.specs.declared.expr.Word.{Word}
-use Rattle.py_node.specs.declared.expr.Word.TheVariants.{Add}
+use Rattle.py_node.specs.declared.expr.Word.TheVariants.{Binary}
+use Rattle.py_node.specs.declared.task.PyNumberBinaryOp.TheVariants.{Add}
 use Rattle.py_node.specs.Tree.{Text, LNone, LFalse, LTrue, LInt, LText, Tree, TConst, TName, TBind, TFunc, TSetAttr, TCall, TOp, TClass, Entries, no_entries, entry, trees_of, tree_of}
 
 -- f of two parts, where both are there
@@ -21,14 +22,10 @@ of_three f None b c = None
 
 -- the operation that a word stands for
 abbrev pub word_of : Text → Option Word
-word_of text = if bytes_eq text (codes "+") then Some Add else None
+word_of text = if bytes_eq text (codes "+") then Some (Binary Add) else None
 
 abbrev pub operation_of : Data → Option Word
 operation_of d = option_and_then word_of (as_str d)
-
--- how many operands an operation takes
-abbrev pub arity : Word → ℕ
-arity Add = 2
 
 -- the strings of a list
 abbrev pub texts_in : Items → Option (List Text)
@@ -66,9 +63,9 @@ abbrev pub named_entries : List Named → Entries
 named_entries [] = no_entries
 named_entries (e ∷ es) = entry e.0 e.1 (named_entries es)
 
--- an operation has as many operands as its word takes
+-- each operation that is read so far has two operands
 abbrev pub operation : Option Word → Option (List Tree) → Option Tree
-operation (Some w) (Some ts) = if length ts == arity w then Some (TOp w (trees_of ts)) else None
+operation (Some w) (Some ts) = if length ts == 2 then Some (TOp w (trees_of ts)) else None
 operation (Some w) None = None
 operation None ts = None
 
@@ -80,11 +77,15 @@ at_most_one None = None
 abbrev pub pair : Text → Tree → Named
 pair text t = (text, t)
 
+-- no parameter takes the rest of the arguments yet
+abbrev pub func : Text → List Text → Tree → Tree
+func name params body = TFunc name params false body
+
 abbrev pub call : Tree → List Tree → Tree
-call callee args = TCall callee (trees_of args)
+call callee args = TCall callee (trees_of args) no_entries
 
 abbrev pub class : Text → List Tree → List Named → Tree
-class name bases body = TClass name (trees_of bases) (named_entries body)
+class name bases body = TClass name (trees_of bases) no_entries (named_entries body)
 
 -- t, where nothing follows that could hold keywords: none is read yet
 abbrev pub unless_keywords : Items → Option Tree → Option Tree
@@ -126,7 +127,7 @@ unfoldable mutual
 
   -- a name, the parameters and the body
   pub func_of : Items → Option Tree
-  func_of (item n (item ps (item e no_items))) = of_three TFunc (as_str n) (params_of ps) (expr_of e)
+  func_of (item n (item ps (item e no_items))) = of_three func (as_str n) (params_of ps) (expr_of e)
   func_of _ = None
 
   -- an object, the name of an attribute, and what it is set to

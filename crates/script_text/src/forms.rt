@@ -4,10 +4,11 @@ ghost use Rattle.std.specs.Prelude.{◌≡◌, Some, None, Err, IfOk, IfErr, ok_
 ghost use Rattle.serde_json.specs.Find.{as_str};
 ghost use Rattle.serde_json.specs.View.{view, items_view};
 ghost use Rattle.py_node.specs.Tree.{tree_of, texts_of};
-ghost use Rattle.script_text.specs.Forms.{word_of, operation_of, arity, texts_in, all_differ, params_of, nothing_in, expr_of, array_of, name_of, bind_of, func_of, setattr_of, call_of, op_of, class_of, list_of, exprs_of, body_of, entries_in, entry_of, named_of, differing, named};
+ghost use Rattle.script_text.specs.Forms.{word_of, operation_of, texts_in, all_differ, params_of, nothing_in, expr_of, array_of, name_of, bind_of, func_of, setattr_of, call_of, op_of, class_of, list_of, exprs_of, body_of, entries_in, entry_of, named_of, differing, named};
 
 use crate::parts::{Unread, next, no_more, one, three, three_and_rest, two, two_and_rest};
 use py_node::expr::{Constant, Expr, Word};
+use py_node::task::PyNumberBinaryOp;
 use serde_json::Value;
 use std::alloc::{AllocError, Global};
 use std::collections::BTreeSet;
@@ -16,7 +17,11 @@ use std::collections::BTreeSet;
 fn find_word(text: &str) -> Option<Word>
     ensures { result ≡ word_of text.now }
 {
-    if text == "+" { Some(Word::Add) } else { None }
+    if text == "+" {
+        Some(Word::Binary(PyNumberBinaryOp::Add))
+    } else {
+        None
+    }
 }
 
 // A copy of a string.
@@ -34,15 +39,6 @@ fn read_word(value: &Value) -> Result<Word, Unread>
 {
     let text = value.as_str().ok_or(Unread::Shape)?;
     find_word(text).ok_or(Unread::Shape)
-}
-
-// How many operands an operation takes.
-fn count_operands(word: Word) -> usize
-    ensures { result ≡ arity word }
-{
-    match word {
-        Word::Add => 2,
-    }
 }
 
 // Nothing more, or an empty list.
@@ -205,7 +201,7 @@ fn read_func(alloc: Global, items: &[Value]) -> Result<Expr, Unread>
     let text = read_text(alloc, name)?;
     let texts = read_params(alloc, params)?;
     let expr = read_expr(alloc, body)?;
-    Ok(Expr::Func(text, texts, Box::new(alloc, expr)?))
+    Ok(Expr::Func(text, texts, false, Box::new(alloc, expr)?))
 }
 
 // An object, the name of an attribute, and what it is set to.
@@ -233,10 +229,10 @@ fn read_call(alloc: Global, items: &[Value]) -> Result<Expr, Unread>
     read_nothing(rest)?;
     let function = read_expr(alloc, callee)?;
     let args = read_list(alloc, list)?;
-    Ok(Expr::Call(Box::new(alloc, function)?, args))
+    Ok(Expr::Call(Box::new(alloc, function)?, args, Vec::new(alloc)))
 }
 
-// The word of an operation, and as many operands as it takes.
+// The word of an operation, and two operands.
 #[tactic(auto, unfolding(crate::specs::Forms::op_of))]
 #[cycle(forms)]
 fn read_op(alloc: Global, items: &[Value]) -> Result<Expr, Unread>
@@ -246,7 +242,7 @@ fn read_op(alloc: Global, items: &[Value]) -> Result<Expr, Unread>
     let (head, rest) = next(items)?;
     let word = read_word(head)?;
     let operands = read_exprs(alloc, rest)?;
-    if operands.len() == count_operands(word) {
+    if operands.len() == 2 {
         Ok(Expr::Op(word, operands))
     } else {
         Err(Unread::Shape)
@@ -266,7 +262,7 @@ fn read_class(alloc: Global, items: &[Value]) -> Result<Expr, Unread>
     let bases = read_list(alloc, base_list)?;
     no_second(bases.as_slice())?;
     let entries = read_body(alloc, entry_list)?;
-    Ok(Expr::Class(text, bases, entries))
+    Ok(Expr::Class(text, bases, Vec::new(alloc), entries))
 }
 
 // A list of expressions.

@@ -2,6 +2,7 @@
 
 use crate::read::{ScriptFault, read_script};
 use py_node::expr::{Constant, Expr, Word};
+use py_node::task::PyNumberBinaryOp;
 use std::alloc::Global;
 use std::test::Fail;
 
@@ -55,7 +56,7 @@ fn reads_a_sum(rt: HostRuntime) -> Result<(), Fail> {
         panic!(rt; "it is a script")
     };
     assert_eq!(rt; commands.len(), 1);
-    let Expr::Op(Word::Add, parts) = &commands[0].expr else {
+    let Expr::Op(Word::Binary(PyNumberBinaryOp::Add), parts) = &commands[0].expr else {
         panic!(rt; "it is a sum")
     };
     assert_eq!(rt; parts.len(), 2);

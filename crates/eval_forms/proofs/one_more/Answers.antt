@@ -1,6 +1,7 @@
-use Rattle.std.proofs.Common.{◌∷◌, [], arith, length-append}
+use Rattle.std.proofs.Common.{◌∷◌, [], ap, length, arith, length-append}
 use Rattle.class_world.specs.Sound.{Holds}
 use Rattle.class_world.proofs.Claims.{more-nodes}
+use Rattle.eval_forms.specs.Rows.{operands_at}
 use Rattle.eval_forms.proofs.one_more.Goals as goal
 
 pub next_operand-requires-clause-values : goal.next_operand-requires-clause-values
@@ -11,4 +12,5 @@ unfolding Holds
 next_operand-requires-clause-fits c =
     let l = length-append c.args.values.items (c.args.value ∷ []) in
     let h = c.requires.kept.1.0 in
-    rw c.in_ok-values.ensures (omega (arith, l, h))
+    let long = ap (λ o. length (operands_at o)) h.1 in
+    rw c.in_ok-values.ensures (omega (arith, l, h.2, long))

@@ -1,16 +1,16 @@
-use Rattle.std.proofs.Common.{length, map, ap, sym, subst, ◌∙◌}
+use Rattle.std.proofs.Common.{length, map, refl, ap, sym, subst, ◌∙◌}
 use Rattle.py_node.specs.declared.refs.PyStrInterned.{PyStrInterned}
 use Rattle.plain_machine.specs.Plain.{PlainWorld}
 use Rattle.class_world.specs.declared.world.World.{World}
 use Rattle.class_world.specs.Claims.{of_step}
 use Rattle.class_world.specs.Reading.{Reading}
-use Rattle.class_world.specs.Sound.{Holds, AllHold, AreNodes, operands_at}
+use Rattle.class_world.specs.Sound.{Holds, AllHold, AreNodes}
 use Rattle.class_world.proofs.Stored.{ok-map}
-use Rattle.eval_forms.specs.Say.{set_attr_say, call_say, add_of, class_say}
+use Rattle.eval_forms.specs.Say.{set_attr_say, call_say, op_say, class_say}
 use Rattle.plain_machine.specs.Args.{two_of}
-use Rattle.eval_forms.specs.Rows.{IsOwn, Takes, Continues, of_eval_kept}
+use Rattle.eval_forms.specs.Rows.{IsOwn, Takes, Continues, of_eval_kept, operands_at}
 use Rattle.eval_forms.proofs.ClassForm.{takes-same}
-use Rattle.eval_forms.proofs.Operands.{own-takes, says-set, says-call, says-add, says-class, class-long, class-names, set-name, own-sum, one-holds, own-func}
+use Rattle.eval_forms.proofs.Operands.{own-takes, says-set, says-call, says-op, says-class, class-long, class-names, set-name, one-holds, own-func, own-later}
 use Rattle.class_world.proofs.Growth.{grows-itself}
 use Rattle.eval_forms.proofs.own_step.Goals as goal
 
@@ -48,21 +48,30 @@ returns-in-Call-clause-safe c =
     let safe = rw c.deref-in-Call.ensures.value at c.call_step.ensures.safe in
     (grows-itself w, ok-map (λ step. (v : World) → Holds v (AreNodes vs) → AllHold v (of_step of_eval_kept step)) (λ step. AllHold w (of_step of_eval_kept step)) c.call_step.result (λ step k. k w c.requires.values) safe)
 
-pub returns-in-Op-Add-clause-goes : goal.returns-in-Op-Add-clause-goes
-returns-in-Op-Add-clause-goes c =
+pub returns-in-Op-clause-goes : goal.returns-in-Op-clause-goes
+returns-in-Op-clause-goes c =
     let w = c.args.world.now in
     let f = c.form.result.now in
     let vs = c.args.values.items in
-    let own = own-sum f _ c.in-Op-Add.field-0 c.in-Op-Add.is c.in_ok-constant.ensures in
+    let word = c.in-Op.word in
+    let own = subst (λ o. IsOwn o f) c.in-Op.is c.in_ok-constant.ensures in
     let long = ap (λ o. length (operands_at o)) (sym c.form.ensures.stored) ∙ c.requires.all in
-    let goes = rw c.deref-in-Op-Add.ensures.value at c.add_step-step.ensures.goes in
-    own-takes w w c.args.e f vs (λ t u. add_of u (two_of vs)) c.add_step-step.result c.form.ensures.stored long (says-add vs f own) (goes w)
+    let goes = rw c.deref-in-Op.ensures.value at c.op_step-step.ensures.goes in
+    own-takes w w c.args.e f vs (λ t u. op_say u word vs) c.op_step-step.result c.form.ensures.stored long (says-op word vs f own) (goes w)
 
-pub returns-in-Op-Add-clause-safe : goal.returns-in-Op-Add-clause-safe
-returns-in-Op-Add-clause-safe c =
+pub returns-in-Op-clause-safe : goal.returns-in-Op-clause-safe
+returns-in-Op-clause-safe c =
     let w = c.args.world.now in
-    let safe = rw c.deref-in-Op-Add.ensures.value at c.add_step-step.ensures.safe in
+    let safe = rw c.deref-in-Op.ensures.value at c.op_step-step.ensures.safe in
     (grows-itself w, safe w c.requires.values)
+
+pub returns-in-NotYet-clause-goes : goal.returns-in-NotYet-clause-goes
+returns-in-NotYet-clause-goes c =
+    let w = c.args.world.now in
+    let f = c.form.result.now in
+    let own = subst (λ o. IsOwn o f) c.in-NotYet.is c.in_ok-constant.ensures in
+    let long = ap (λ o. length (operands_at o)) (sym c.form.ensures.stored) ∙ c.requires.all in
+    own-later w c.args.e f c.args.values.items c.not_yet.result c.form.ensures.stored long own (rw c.not_yet.ensures (λ t r. (r, refl)))
 
 pub class_step-requires-clause-name : goal.class_step-requires-clause-name
 class_step-requires-clause-name c =
@@ -110,4 +119,4 @@ returns-in-Func-clause-goes c =
     let f = c.form.result.now in
     let own = subst (λ o. IsOwn o f) c.in-Func.is c.in_ok-constant.ensures in
     let long = ap (λ o. length (operands_at o)) (sym c.form.ensures.stored) ∙ c.requires.all in
-    own-func c.args.world.now c.func_step.new.world c.args.e f c.args.values.items c.in-Func.name c.in-Func.params c.in-Func.body c.func_step.result c.form.ensures.stored long own c.func_step.ensures.goes
+    own-func c.args.world.now c.func_step.new.world c.args.e f c.args.values.items c.in-Func.name c.in-Func.params c.in-Func.rest c.in-Func.body c.func_step.result c.form.ensures.stored long own c.func_step.ensures.goes

@@ -1,5 +1,5 @@
 use Rattle.std.proofs.Common.{◌≡◌, take, map}
-use Rattle.py_node.specs.Tree.{tree_of, part_of}
+use Rattle.py_node.specs.Tree.{tree_of, part_of, pair_of}
 use Rattle.py_node.proofs.+copy.Given as goal
 
 abbrev pub invariant-clone::copy_all-loop-expr : goal.invariant-clone::copy_all-loop-expr
@@ -7,3 +7,6 @@ invariant-clone::copy_all-loop-expr l = map tree_of l.copies.items ≡ map tree_
 
 abbrev pub invariant-clone::copy_entries-loop-name : goal.invariant-clone::copy_entries-loop-name
 invariant-clone::copy_entries-loop-name l = map part_of l.copies.items ≡ map part_of (take l.name-index l.name-items)
+
+abbrev pub invariant-clone::copy_pairs-loop-key : goal.invariant-clone::copy_pairs-loop-key
+invariant-clone::copy_pairs-loop-key l = map pair_of l.copies.items ≡ map pair_of (take l.key-index l.key-items)

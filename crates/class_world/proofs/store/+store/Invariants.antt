@@ -1,5 +1,5 @@
 use Rattle.std.proofs.Common.{◌≡◌, take, map}
-use Rattle.py_node.specs.Tree.{tree_of, part_of}
+use Rattle.py_node.specs.Tree.{tree_of, part_of, pair_of}
 use Rattle.class_world.specs.Reading.{Reading, Reads, plain}
 use Rattle.class_world.specs.Sound.{AreNames, AreExpressions, Holds, Grows}
 use Rattle.class_world.proofs.store.+store.Given as goal
@@ -21,4 +21,14 @@ invariant-add_entries-loop-name l = record {
   grows : Grows l.initial.world l.world;
   names : Holds l.world (AreNames (map (λ e. e.0) l.stored.items));
   holds : Holds l.world (AreExpressions (map (λ e. e.1) l.stored.items));
+}
+
+abbrev pub invariant-add_pairs-loop-key : goal.invariant-add_pairs-loop-key
+invariant-add_pairs-loop-key l = record {
+  added : (t : Reading) → Reads t l.world → map (λ p. (t.tree p.0, t.tree p.1)) l.stored.items ≡ map pair_of (take l.key-index l.key-items);
+  same : (t : Reading) → plain t l.world ≡ plain t l.initial.world;
+  reads : (t : Reading) → Reads t l.world → Reads t l.initial.world;
+  grows : Grows l.initial.world l.world;
+  keys : Holds l.world (AreExpressions (map (λ p. p.0) l.stored.items));
+  holds : Holds l.world (AreExpressions (map (λ p. p.1) l.stored.items));
 }

@@ -19,7 +19,7 @@ read_class-returns-clause-ok t c =
     let base : list_of (view p.base_list.now) ≡ Some (map tree_of bases.items) = grind arith in
     let few : nat_le (length (map tree_of bases.items)) 1 ≡ true = rw (length-map bases.items tree_of) (grind arith) in
     let body : body_of (view p.entry_list.now) ≡ Some (map named entries.items) = grind arith in
-    rw (parts, none, text, base, few, body, class-tree c.in_ok-text.text bases entries)
+    rw (parts, none, text, base, few, body, class-tree c.in_ok-text.text bases c.new.result entries c.new.ensures.items)
 
 pub read_exprs-read_expr-requires : goal.read_exprs-read_expr-requires
 read_exprs-read_expr-requires t c =

@@ -1,5 +1,5 @@
 use Rattle.eval_forms.proofs.Operands.{names-in, nodes-in}
-use Rattle.eval_forms.proofs.built_in_at.Goals as goal
+use Rattle.eval_forms.proofs.names.built_in_at.Goals as goal
 
 pub text-requires : goal.text-requires
 text-requires c = rw c.names.ensures (names-in _ c.args.name c.requires)
