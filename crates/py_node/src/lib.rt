@@ -10,6 +10,7 @@ pub mod flags;
 pub mod memory;
 pub mod names;
 pub mod payload;
+pub mod protocol;
 pub mod raised;
 pub mod refs;
 pub mod reply;
