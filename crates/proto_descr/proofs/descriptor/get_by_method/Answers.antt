@@ -1,5 +1,5 @@
 use Rattle.class_world.specs.Sound.{IsNode}
-use Rattle.proto_attr.proofs.descriptor.get_by_method.Goals as goal
+use Rattle.proto_descr.proofs.descriptor.get_by_method.Goals as goal
 
 pub returns-clause-safe : goal.returns-clause-safe
 returns-clause-safe c =
