@@ -12,6 +12,10 @@ use Rattle.py_node.specs.declared.task.EvalTask.{EvalTask}
 use Rattle.py_node.specs.declared.task.EvalTask.TheVariants as eval
 use Rattle.py_node.specs.declared.task.AttributeTask.{AttributeTask}
 use Rattle.py_node.specs.declared.task.AttributeTask.TheVariants as attribute
+use Rattle.py_node.specs.declared.task.PySetterValue.{PySetterValue}
+use Rattle.py_node.specs.declared.task.PySetterValue.TheVariants.{Assign, Delete}
+use Rattle.py_node.specs.declared.task.DescriptorTask.{DescriptorTask}
+use Rattle.py_node.specs.declared.task.DescriptorTask.TheVariants as descriptor
 use Rattle.py_node.specs.declared.task.CallTask.{CallTask}
 use Rattle.py_node.specs.declared.task.CallTask.TheVariants as call
 use Rattle.py_node.specs.declared.task.ClassTask.{ClassTask}
@@ -20,6 +24,12 @@ use Rattle.py_node.specs.declared.refs.PyObjectRef.{PyObjectRef}
 use Rattle.py_node.specs.declared.refs.PyStrInterned.{PyStrInterned}
 use Rattle.py_node.specs.declared.task.OperatorTask.{OperatorTask}
 use Rattle.py_node.specs.declared.task.OperatorTask.TheVariants as operator
+use Rattle.py_node.specs.declared.protocol.CompareTask.{CompareTask}
+use Rattle.py_node.specs.declared.protocol.CompareTask.TheVariants as compare
+use Rattle.py_node.specs.declared.protocol.ProtocolTask.{ProtocolTask}
+use Rattle.py_node.specs.declared.protocol.ProtocolTask.TheVariants as protocol
+use Rattle.py_node.specs.declared.protocol.ObjectTask.{ObjectTask}
+use Rattle.py_node.specs.declared.protocol.ObjectTask.TheVariants as object
 use Rattle.py_node.specs.declared.task.Step.{Step}
 use Rattle.py_node.specs.declared.task.Step.TheVariants.{Ask, End}
 use Rattle.py_node.specs.declared.built_in.BuiltIn.TheVariants.{TypeType}
@@ -33,12 +43,35 @@ of_eval_task (eval.Eval e) = IsExpression e ∷ []
 abbrev pub of_args : List PyObjectRef → List (PyStrInterned × PyObjectRef) → List Claim
 of_args args kw = AreNodes args ∷ of_each of_binding kw
 
+-- of what is set
+abbrev pub of_setter : PySetterValue → List Claim
+of_setter (Assign v) = IsNode v ∷ []
+of_setter Delete = []
+
+abbrev pub of_method : PyMethod → List Claim
+of_method (method.Function r f) = IsNode r ∷ IsNode f ∷ []
+of_method (method.Attribute r) = IsNode r ∷ []
+
 abbrev pub of_attribute_task : AttributeTask → List Claim
-of_attribute_task (attribute.SetAttr o x v) = IsNode o ∷ IsName x ∷ IsNode v ∷ []
-of_attribute_task (attribute.TypeSet c x v) = IsClass c.0 ∷ IsName x ∷ IsNode v ∷ []
+of_attribute_task (attribute.GetAttr o x) = IsNode o ∷ IsName x ∷ []
+of_attribute_task (attribute.Generic o x) = IsNode o ∷ IsName x ∷ []
+of_attribute_task (attribute.GenericOpt o x d) = IsNode o ∷ IsName x ∷ of_option of_node_ref d
+of_attribute_task (attribute.SetAttr o x v) = IsNode o ∷ IsName x ∷ of_setter v
+of_attribute_task (attribute.GenericSet o x v) = IsNode o ∷ IsName x ∷ of_setter v
+of_attribute_task (attribute.TypeGet c x) = IsClass c.0 ∷ IsName x ∷ []
+of_attribute_task (attribute.TypeSet c x v) = IsClass c.0 ∷ IsName x ∷ of_setter v
+of_attribute_task (attribute.HasAttr o x) = IsNode o ∷ IsName x ∷ []
 of_attribute_task (attribute.Special o x args kw) = IsNode o ∷ IsName x ∷ of_args args.items kw.items
 of_attribute_task (attribute.Bind m o c) = IsNode m ∷ IsNode c ∷ of_option of_node_ref o
-of_attribute_task (attribute.DescrGet m o c) = IsNode m ∷ of_option of_node_ref o ++ of_option of_node_ref c
+of_attribute_task (attribute.LoadMethod o x) = IsNode o ∷ IsName x ∷ []
+of_attribute_task (attribute.Invoke m args kw) = of_method m ++ of_args args.items kw.items
+
+abbrev pub of_descriptor_task : DescriptorTask → List Claim
+of_descriptor_task (descriptor.DescrGet m o c) = IsNode m ∷ of_option of_node_ref o ++ of_option of_node_ref c
+of_descriptor_task (descriptor.DescrSet m o v) = IsNode m ∷ IsNode o ∷ of_setter v
+of_descriptor_task (descriptor.SuperGet s x) = IsNode s ∷ IsName x ∷ []
+of_descriptor_task (descriptor.SuperInit s args) = IsNode s ∷ AreNodes args.items ∷ []
+of_descriptor_task (descriptor.SuperCheck c o) = IsClass c.0 ∷ IsNode o ∷ []
 
 abbrev pub of_call_task : CallTask → List Claim
 of_call_task (call.Call f args kw) = IsNode f ∷ of_args args.items kw.items
@@ -56,19 +89,76 @@ abbrev pub of_operator_task : OperatorTask → List Claim
 of_operator_task (operator.Add a b) = IsNode a ∷ IsNode b ∷ []
 of_operator_task (operator.BinOp1 op a b) = IsNode a ∷ IsNode b ∷ []
 of_operator_task (operator.Enter s a b) = IsNode a ∷ IsNode b ∷ []
+of_operator_task (operator.Binary op a b) = IsNode a ∷ IsNode b ∷ []
+of_operator_task (operator.InplaceOp1 op a b) = IsNode a ∷ IsNode b ∷ []
+of_operator_task (operator.Inplace op a b) = IsNode a ∷ IsNode b ∷ []
+of_operator_task (operator.Concat a b) = IsNode a ∷ IsNode b ∷ []
+of_operator_task (operator.InplaceAdd a b) = IsNode a ∷ IsNode b ∷ []
+of_operator_task (operator.InplaceConcat a b) = IsNode a ∷ IsNode b ∷ []
+of_operator_task (operator.Mul a b) = IsNode a ∷ IsNode b ∷ []
+of_operator_task (operator.Repeat a n) = IsNode a ∷ IsNode n ∷ []
+of_operator_task (operator.InplaceMul a b) = IsNode a ∷ IsNode b ∷ []
+of_operator_task (operator.InplaceRepeat a n) = IsNode a ∷ IsNode n ∷ []
+of_operator_task (operator.EnterPower s a b c) = IsNode a ∷ IsNode b ∷ IsNode c ∷ []
+of_operator_task (operator.Power a b c) = IsNode a ∷ IsNode b ∷ IsNode c ∷ []
+of_operator_task (operator.InplacePower a b c) = IsNode a ∷ IsNode b ∷ IsNode c ∷ []
+of_operator_task (operator.Unary op a) = IsNode a ∷ []
 of_operator_task (operator.Int n args kw) = AreNodes args.items ∷ of_each of_binding kw.items
+
+abbrev pub of_compare_task : CompareTask → List Claim
+of_compare_task (compare.Compare a b op) = IsNode a ∷ IsNode b ∷ []
+of_compare_task (compare.Cmp a b op) = IsNode a ∷ IsNode b ∷ []
+of_compare_task (compare.RichBool a b op) = IsNode a ∷ IsNode b ∷ []
+of_compare_task (compare.BoolEq a b) = IsNode a ∷ IsNode b ∷ []
+of_compare_task (compare.IdEq a b) = IsNode a ∷ IsNode b ∷ []
+of_compare_task (compare.SeqLt a b) = IsNode a ∷ IsNode b ∷ []
+of_compare_task (compare.SeqGt a b) = IsNode a ∷ IsNode b ∷ []
+
+abbrev pub of_protocol_task : ProtocolTask → List Claim
+of_protocol_task (protocol.IsTrue o) = IsNode o ∷ []
+of_protocol_task (protocol.Index o) = IsNode o ∷ []
+of_protocol_task (protocol.Int o) = IsNode o ∷ []
+of_protocol_task (protocol.Length o) = IsNode o ∷ []
+of_protocol_task (protocol.Hint o d) = IsNode o ∷ []
+of_protocol_task (protocol.GetItem o k) = IsNode o ∷ IsNode k ∷ []
+of_protocol_task (protocol.SetItem o k v) = IsNode o ∷ IsNode k ∷ IsNode v ∷ []
+of_protocol_task (protocol.DelItem o k) = IsNode o ∷ IsNode k ∷ []
+of_protocol_task (protocol.GetSlice o i j) = IsNode o ∷ []
+of_protocol_task (protocol.SetSlice o i j v) = IsNode o ∷ IsNode v ∷ []
+of_protocol_task (protocol.DelSlice o i j) = IsNode o ∷ []
+of_protocol_task (protocol.GetIter o) = IsNode o ∷ []
+of_protocol_task (protocol.Next o) = IsNode o ∷ []
+of_protocol_task (protocol.Collect o) = IsNode o ∷ []
+of_protocol_task (protocol.Contains o x) = IsNode o ∷ IsNode x ∷ []
+of_protocol_task (protocol.Count o x) = IsNode o ∷ IsNode x ∷ []
+of_protocol_task (protocol.Find o x) = IsNode o ∷ IsNode x ∷ []
+of_protocol_task (protocol.Keys o) = IsNode o ∷ []
+of_protocol_task (protocol.Values o) = IsNode o ∷ []
+of_protocol_task (protocol.Items o) = IsNode o ∷ []
+
+abbrev pub of_object_task : ObjectTask → List Claim
+of_object_task (object.Hash o) = IsNode o ∷ []
+of_object_task (object.Repr o) = IsNode o ∷ []
+of_object_task (object.Str o) = IsNode o ∷ []
+of_object_task (object.Format o s) = IsNode o ∷ IsNode s ∷ []
+of_object_task (object.Dir o) = IsNode o ∷ []
+of_object_task (object.IsInstance o c) = IsNode o ∷ IsNode c ∷ []
+of_object_task (object.Inst o c) = IsNode o ∷ IsNode c ∷ []
+of_object_task (object.IsSubclass d c) = IsNode d ∷ IsNode c ∷ []
+of_object_task (object.Sub d c) = IsNode d ∷ IsNode c ∷ []
+of_object_task (object.AbsSub d c) = IsNode d ∷ IsNode c ∷ []
 
 abbrev pub of_task : Task → List Claim
 of_task (task.Eval job) = of_eval_task job
 of_task (task.Attribute job) = of_attribute_task job
+of_task (task.Descriptor job) = of_descriptor_task job
 of_task (task.Call job) = of_call_task job
 of_task (task.Class job) = of_class_task job
 of_task (task.Operator job) = of_operator_task job
-of_task (task.Later job) = []
-
-abbrev pub of_method : PyMethod → List Claim
-of_method (method.Function r f) = IsNode r ∷ IsNode f ∷ []
-of_method (method.Attribute r) = IsNode r ∷ []
+of_task (task.Compare job) = of_compare_task job
+of_task (task.Protocol job) = of_protocol_task job
+of_task (task.Object job) = of_object_task job
+of_task (task.Native n args kw) = of_args args.items kw.items
 
 abbrev pub of_answer : Answer → List Claim
 of_answer (Value r) = IsNode r ∷ []

@@ -1,5 +1,5 @@
 -- How the numbers of the code are read as texts and trees.
-use Rattle.std.specs.Prelude.{◌≡◌, ℕ, eqb, List, [], ◌∷◌, Some, Result, Ok, Err, map, slice_get, string_bytes, option_map}
+use Rattle.std.specs.Prelude.{◌≡◌, ℕ, eqb, List, [], ◌∷◌, Option, Some, None, Result, Ok, Err, map, slice_get, string_bytes, option_map}
 use Rattle.py_node.specs.declared.refs.PyObjectRef.{PyObjectRef}
 use Rattle.py_node.specs.declared.refs.PyStrInterned.{PyStrInterned}
 use Rattle.py_node.specs.declared.payload.Node.{Node as StoredNode}
@@ -18,15 +18,32 @@ use Rattle.py_node.specs.declared.task.EvalTask.{EvalTask}
 use Rattle.py_node.specs.declared.task.EvalTask.TheVariants as eval
 use Rattle.py_node.specs.declared.task.AttributeTask.{AttributeTask}
 use Rattle.py_node.specs.declared.task.AttributeTask.TheVariants as attribute
+use Rattle.py_node.specs.declared.task.PySetterValue.{PySetterValue}
+use Rattle.py_node.specs.declared.task.PySetterValue.TheVariants.{Assign, Delete}
+use Rattle.py_node.specs.declared.task.DescriptorTask.{DescriptorTask}
+use Rattle.py_node.specs.declared.task.DescriptorTask.TheVariants as descriptor
 use Rattle.py_node.specs.declared.task.CallTask.{CallTask}
 use Rattle.py_node.specs.declared.task.CallTask.TheVariants as call
 use Rattle.py_node.specs.declared.task.ClassTask.{ClassTask}
 use Rattle.py_node.specs.declared.task.ClassTask.TheVariants as class
 use Rattle.py_node.specs.declared.task.OperatorTask.{OperatorTask}
 use Rattle.py_node.specs.declared.task.OperatorTask.TheVariants as operator
+use Rattle.py_node.specs.declared.protocol.CompareTask.{CompareTask}
+use Rattle.py_node.specs.declared.protocol.CompareTask.TheVariants as compare
+use Rattle.py_node.specs.declared.protocol.ProtocolTask.{ProtocolTask}
+use Rattle.py_node.specs.declared.protocol.ProtocolTask.TheVariants as protocol
+use Rattle.py_node.specs.declared.protocol.ObjectTask.{ObjectTask}
+use Rattle.py_node.specs.declared.protocol.ObjectTask.TheVariants as object
 use Rattle.py_node.specs.Tree.{Text, Tree, TConst, TName, TBind, TTuple, TList, TDict, TFunc, TAttr, TSetAttr, TDelAttr, TCall, TOp, TIf, TSeq, TRaise, TClass, Entries, no_entries, entry, trees_of, keyed_of, literal_of}
 use Rattle.class_model.specs.Class.{renamed}
-use Rattle.plain_machine.specs.Plain.{Datum, AnObject, AClass, ANumber, AText, ATuple, ADict, AFunction, AMethod, ANativeFunction, ABuiltinMethod, AMethodDescriptor, AGetSet, AClassMethod, no_members, Node, Bindings, Scope, PlainWorld, EvalJob, DoEval, AttributeJob, DoSetAttr, DoTypeSet, DoSpecial, DoBind, DoDescrGet, CallJob, DoCall, DoBody, DoTypeCall, DoNew, DoInit, DoObject, ClassJob, DoMakeClass, DoType, OperatorJob, DoAdd, DoBinOp1, DoEnter, DoInt, PlainTask, ToEval, ToAttribute, ToCall, ToClass, ToOperator, ToLater, PlainAnswer, AsValue, AsDone, AsNumber, AsTruth, AsMaybe, AsObjects, AsExhausted, AsFunction, AsAttribute, AsStart, Ended}
+use Rattle.plain_machine.specs.Plain.{Datum, AnObject, AClass, ANumber, AText, ATuple, ADict, AFunction, AMethod, ANativeFunction, ABuiltinMethod, AMethodDescriptor, AGetSet, AClassMethod, no_members, Node, Bindings, Scope, PlainWorld, PlainTask, ToEval, ToAttribute, ToDescriptor, ToCall, ToClass, ToOperator, ToCompare, ToProtocol, ToObject, ToNative, PlainAnswer, AsValue, AsDone, AsNumber, AsTruth, AsMaybe, AsObjects, AsExhausted, AsFunction, AsAttribute, AsStart, Ended}
+use Rattle.plain_machine.specs.Plain.{EvalJob, DoEval, CallJob, DoCall, DoBody, DoTypeCall, DoNew, DoInit, DoObject, ClassJob, DoMakeClass, DoType}
+use Rattle.plain_machine.specs.Plain.{AttributeJob, DoGetAttr, DoGeneric, DoGenericOpt, DoSetAttr, DoGenericSet, DoTypeGet, DoTypeSet, DoHasAttr, DoSpecial, DoBind, DoLoadMethod, DoInvoke}
+use Rattle.plain_machine.specs.Plain.{DescriptorJob, DoDescrGet, DoDescrSet, DoSuperGet, DoSuperInit, DoSuperCheck}
+use Rattle.plain_machine.specs.Plain.{OperatorJob, DoAdd, DoBinOp1, DoEnter, DoBinary, DoInplaceOp1, DoInplace, DoConcat, DoInplaceAdd, DoInplaceConcat, DoMul, DoRepeat, DoInplaceMul, DoInplaceRepeat, DoEnterPower, DoPower, DoInplacePower, DoUnary, DoInt}
+use Rattle.plain_machine.specs.Plain.{CompareJob, DoCompare, DoCmp, DoRichBool, DoBoolEq, DoIdEq, DoSeqLt, DoSeqGt}
+use Rattle.plain_machine.specs.Plain.{ProtocolJob, DoIsTrue, DoIndex, DoWhole, DoLength, DoHint, DoGetItem, DoSetItem, DoDelItem, DoGetSlice, DoSetSlice, DoDelSlice, DoGetIter, DoNext, DoCollect, DoContains, DoCount, DoFind, DoKeys, DoValues, DoItems}
+use Rattle.plain_machine.specs.Plain.{ObjectJob, DoHash, DoRepr, DoStr, DoFormat, DoDir, DoIsInstance, DoInst, DoIsSubclass, DoSub, DoAbsSub}
 use Rattle.plain_machine.specs.World.{is_text}
 use Rattle.class_world.specs.declared.scope.Scope.{Scope as HeldScope}
 use Rattle.class_world.specs.declared.world.World.{World}
@@ -114,12 +131,39 @@ plain t w = record {
 abbrev pub eval_job : Reading → EvalTask → EvalJob
 eval_job t (eval.Eval e) = DoEval (t.tree e)
 
+-- what is set: a value, or nothing where it is taken out
+abbrev pub setter_value : PySetterValue → Option PyObjectRef
+setter_value (Assign v) = Some v
+setter_value Delete = None
+
+abbrev pub method_target : PyMethod → Option PyObjectRef
+method_target (method.Function r f) = Some r
+method_target (method.Attribute f) = None
+
+abbrev pub method_func : PyMethod → PyObjectRef
+method_func (method.Function r f) = f
+method_func (method.Attribute f) = f
+
 abbrev pub attribute_job : Reading → AttributeTask → AttributeJob
-attribute_job t (attribute.SetAttr o x v) = DoSetAttr o (spelled t x) v
-attribute_job t (attribute.TypeSet c x v) = DoTypeSet c.0 (spelled t x) v
+attribute_job t (attribute.GetAttr o x) = DoGetAttr o (spelled t x)
+attribute_job t (attribute.Generic o x) = DoGeneric o (spelled t x)
+attribute_job t (attribute.GenericOpt o x d) = DoGenericOpt o (spelled t x) d
+attribute_job t (attribute.SetAttr o x v) = DoSetAttr o (spelled t x) (setter_value v)
+attribute_job t (attribute.GenericSet o x v) = DoGenericSet o (spelled t x) (setter_value v)
+attribute_job t (attribute.TypeGet c x) = DoTypeGet c.0 (spelled t x)
+attribute_job t (attribute.TypeSet c x v) = DoTypeSet c.0 (spelled t x) (setter_value v)
+attribute_job t (attribute.HasAttr o x) = DoHasAttr o (spelled t x)
 attribute_job t (attribute.Special o x args kw) = DoSpecial o (spelled t x) args.items (bindings t kw.items)
 attribute_job t (attribute.Bind m o c) = DoBind m o c
-attribute_job t (attribute.DescrGet m o c) = DoDescrGet m o c
+attribute_job t (attribute.LoadMethod o x) = DoLoadMethod o (spelled t x)
+attribute_job t (attribute.Invoke m args kw) = DoInvoke (method_target m) (method_func m) args.items (bindings t kw.items)
+
+abbrev pub descriptor_job : Reading → DescriptorTask → DescriptorJob
+descriptor_job t (descriptor.DescrGet m o c) = DoDescrGet m o c
+descriptor_job t (descriptor.DescrSet m o v) = DoDescrSet m o (setter_value v)
+descriptor_job t (descriptor.SuperGet s x) = DoSuperGet s (spelled t x)
+descriptor_job t (descriptor.SuperInit s args) = DoSuperInit s args.items
+descriptor_job t (descriptor.SuperCheck c o) = DoSuperCheck c.0 o
 
 abbrev pub call_job : Reading → CallTask → CallJob
 call_job t (call.Call f args kw) = DoCall f args.items (bindings t kw.items)
@@ -137,15 +181,76 @@ abbrev pub operator_job : Reading → OperatorTask → OperatorJob
 operator_job t (operator.Add a b) = DoAdd a b
 operator_job t (operator.BinOp1 op a b) = DoBinOp1 op a b
 operator_job t (operator.Enter s a b) = DoEnter s a b
+operator_job t (operator.Binary op a b) = DoBinary op a b
+operator_job t (operator.InplaceOp1 op a b) = DoInplaceOp1 op a b
+operator_job t (operator.Inplace op a b) = DoInplace op a b
+operator_job t (operator.Concat a b) = DoConcat a b
+operator_job t (operator.InplaceAdd a b) = DoInplaceAdd a b
+operator_job t (operator.InplaceConcat a b) = DoInplaceConcat a b
+operator_job t (operator.Mul a b) = DoMul a b
+operator_job t (operator.Repeat a n) = DoRepeat a n
+operator_job t (operator.InplaceMul a b) = DoInplaceMul a b
+operator_job t (operator.InplaceRepeat a n) = DoInplaceRepeat a n
+operator_job t (operator.EnterPower s a b c) = DoEnterPower s a b c
+operator_job t (operator.Power a b c) = DoPower a b c
+operator_job t (operator.InplacePower a b c) = DoInplacePower a b c
+operator_job t (operator.Unary op a) = DoUnary op a
 operator_job t (operator.Int n args kw) = DoInt n args.items (bindings t kw.items)
+
+abbrev pub compare_job : CompareTask → CompareJob
+compare_job (compare.Compare a b op) = DoCompare a b op
+compare_job (compare.Cmp a b op) = DoCmp a b op
+compare_job (compare.RichBool a b op) = DoRichBool a b op
+compare_job (compare.BoolEq a b) = DoBoolEq a b
+compare_job (compare.IdEq a b) = DoIdEq a b
+compare_job (compare.SeqLt a b) = DoSeqLt a b
+compare_job (compare.SeqGt a b) = DoSeqGt a b
+
+abbrev pub protocol_job : ProtocolTask → ProtocolJob
+protocol_job (protocol.IsTrue o) = DoIsTrue o
+protocol_job (protocol.Index o) = DoIndex o
+protocol_job (protocol.Int o) = DoWhole o
+protocol_job (protocol.Length o) = DoLength o
+protocol_job (protocol.Hint o d) = DoHint o d
+protocol_job (protocol.GetItem o k) = DoGetItem o k
+protocol_job (protocol.SetItem o k v) = DoSetItem o k v
+protocol_job (protocol.DelItem o k) = DoDelItem o k
+protocol_job (protocol.GetSlice o i j) = DoGetSlice o i j
+protocol_job (protocol.SetSlice o i j v) = DoSetSlice o i j v
+protocol_job (protocol.DelSlice o i j) = DoDelSlice o i j
+protocol_job (protocol.GetIter o) = DoGetIter o
+protocol_job (protocol.Next o) = DoNext o
+protocol_job (protocol.Collect o) = DoCollect o
+protocol_job (protocol.Contains o x) = DoContains o x
+protocol_job (protocol.Count o x) = DoCount o x
+protocol_job (protocol.Find o x) = DoFind o x
+protocol_job (protocol.Keys o) = DoKeys o
+protocol_job (protocol.Values o) = DoValues o
+protocol_job (protocol.Items o) = DoItems o
+
+abbrev pub object_job : ObjectTask → ObjectJob
+object_job (object.Hash o) = DoHash o
+object_job (object.Repr o) = DoRepr o
+object_job (object.Str o) = DoStr o
+object_job (object.Format o s) = DoFormat o s
+object_job (object.Dir o) = DoDir o
+object_job (object.IsInstance o c) = DoIsInstance o c
+object_job (object.Inst o c) = DoInst o c
+object_job (object.IsSubclass d c) = DoIsSubclass d c
+object_job (object.Sub d c) = DoSub d c
+object_job (object.AbsSub d c) = DoAbsSub d c
 
 abbrev pub task_of : Reading → Task → PlainTask
 task_of t (task.Eval job) = ToEval (eval_job t job)
 task_of t (task.Attribute job) = ToAttribute (attribute_job t job)
+task_of t (task.Descriptor job) = ToDescriptor (descriptor_job t job)
 task_of t (task.Call job) = ToCall (call_job t job)
 task_of t (task.Class job) = ToClass (class_job t job)
 task_of t (task.Operator job) = ToOperator (operator_job t job)
-task_of t (task.Later job) = ToLater job
+task_of t (task.Compare job) = ToCompare (compare_job job)
+task_of t (task.Protocol job) = ToProtocol (protocol_job job)
+task_of t (task.Object job) = ToObject (object_job job)
+task_of t (task.Native n args kw) = ToNative n args.items (bindings t kw.items)
 
 abbrev pub method_of : PyMethod → PlainAnswer
 method_of (method.Function r f) = AsFunction r f

@@ -4,7 +4,7 @@ ghost use Rattle.std.specs.Prelude.{◌≡◌, [], ◌∷◌, map, IfOk};
 ghost use Rattle.class_world.specs.Held.{Held};
 ghost use Rattle.class_world.specs.Reading.{Reading, spelled, bindings, task_of};
 ghost use Rattle.class_world.specs.Claims.{of_args, of_task};
-ghost use Rattle.class_world.specs.Sound.{AllHold, AreNames, AreNodes, Holds, of_binding, of_each};
+ghost use Rattle.class_world.specs.Sound.{AllHold, AreNames, AreNodes, Holds, IsNode, of_binding, of_each};
 ghost use Rattle.plain_machine.specs.Args.{two_of, filled};
 ghost use Rattle.plain_machine.specs.Native.{native_task};
 
@@ -13,7 +13,7 @@ use py_node::attributes::PyAttributes;
 use py_node::entry::NativeEntry;
 use py_node::memory::OutOfMemory;
 use py_node::refs::{PyObjectRef, PyStrInterned};
-use py_node::task::{Args, CallTask, ClassTask, Keywords, LaterTask, OperatorTask, Task};
+use py_node::task::{Args, CallTask, ClassTask, Keywords, OperatorTask, Task};
 use std::alloc::Global;
 
 /// The arguments with one before them.
@@ -28,6 +28,22 @@ pub fn with_first(
     all.push(first)?;
     all.extend_from_slice(args)?;
     Ok(all)
+}
+
+/// One argument.
+pub fn alone(alloc: Global, a: PyObjectRef) -> Result<Args, OutOfMemory>
+    ensures items { IfOk result (λ v. v.items ≡ a ∷ []) }
+    ensures holds { IfOk result (λ v. (w : Held) → Holds w (IsNode a) → Holds w (AreNodes v.items)) }
+{
+    Ok(vec![in alloc; a]?)
+}
+
+/// Two arguments.
+pub fn both(alloc: Global, a: PyObjectRef, b: PyObjectRef) -> Result<Args, OutOfMemory>
+    ensures items { IfOk result (λ v. v.items ≡ a ∷ b ∷ []) }
+    ensures holds { IfOk result (λ v. (w : Held) → Holds w (IsNode a) → Holds w (IsNode b) → Holds w (AreNodes v.items)) }
+{
+    Ok(vec![in alloc; a, b]?)
 }
 
 /// The same arguments again.
@@ -86,6 +102,6 @@ pub fn native_task(entry: NativeEntry, args: Args, kw: Keywords) -> Task
         NativeEntry::OfObject(native) => Task::Call(CallTask::Object(native, args, kw)),
         NativeEntry::OfType(native) => Task::Class(ClassTask::Type(native, args, kw)),
         NativeEntry::OfInt(native) => Task::Operator(OperatorTask::Int(native, args, kw)),
-        _ => Task::Later(LaterTask::Native),
+        entry => Task::Native(entry, args, kw),
     }
 }

@@ -3,12 +3,11 @@ use Rattle.std.specs.Prelude.{List}
 use Rattle.py_node.specs.declared.refs.PyObjectRef.{PyObjectRef}
 use Rattle.py_node.specs.declared.entry.NativeEntry.{NativeEntry}
 use Rattle.py_node.specs.declared.entry.NativeEntry.TheVariants.{OfObject, OfType, OfInt}
-use Rattle.py_node.specs.declared.task.LaterTask.TheVariants as later
-use Rattle.plain_machine.specs.Plain.{Bindings, DoObject, DoType, DoInt, PlainTask, ToCall, ToClass, ToOperator, ToLater}
+use Rattle.plain_machine.specs.Plain.{Bindings, DoObject, DoType, DoInt, PlainTask, ToCall, ToClass, ToOperator, ToNative}
 
--- a native is asked with its arguments and keywords
+-- a native is asked with its arguments and keywords, in the group that it stands in, if any
 abbrev pub native_task : NativeEntry → List PyObjectRef → Bindings → PlainTask
 native_task (OfObject n) args kw = ToCall (DoObject n args kw)
 native_task (OfType n) args kw = ToClass (DoType n args kw)
 native_task (OfInt n) args kw = ToOperator (DoInt n args kw)
-native_task _ args kw = ToLater later.Native
+native_task n args kw = ToNative n args kw

@@ -8,7 +8,8 @@ use Rattle.py_node.specs.declared.entry.TypeNative.{TypeNative}
 use Rattle.py_node.specs.declared.entry.NativeEntry.{NativeEntry}
 use Rattle.py_node.specs.declared.entry.SlotEntry.{SlotEntry}
 use Rattle.py_node.specs.declared.task.PyNumberBinaryOp.{PyNumberBinaryOp}
-use Rattle.py_node.specs.declared.task.LaterTask.{LaterTask}
+use Rattle.py_node.specs.declared.task.PyNumberUnaryOp.{PyNumberUnaryOp}
+use Rattle.py_node.specs.declared.task.PyComparisonOp.{PyComparisonOp}
 use Rattle.py_node.specs.Tree.{Text, Tree}
 use Rattle.py_node.specs.Replies.{Started}
 use Rattle.class_model.specs.Class.{Classes}
@@ -69,13 +70,28 @@ pub record PlainWorld : Type 0 where
 pub data EvalJob : Type 0 where
   DoEval : Tree → EvalJob
 
--- keywords are bindings of their names
+-- keywords are bindings of their names. What is set is a value, or nothing where it is taken out.
+-- A loaded method is invoked with its target, if it has one
 pub data AttributeJob : Type 0 where
-  DoSetAttr : PyObjectRef → Text → PyObjectRef → AttributeJob
-  DoTypeSet : ℕ → Text → PyObjectRef → AttributeJob
+  DoGetAttr : PyObjectRef → Text → AttributeJob
+  DoGeneric : PyObjectRef → Text → AttributeJob
+  DoGenericOpt : PyObjectRef → Text → Option PyObjectRef → AttributeJob
+  DoSetAttr : PyObjectRef → Text → Option PyObjectRef → AttributeJob
+  DoGenericSet : PyObjectRef → Text → Option PyObjectRef → AttributeJob
+  DoTypeGet : ℕ → Text → AttributeJob
+  DoTypeSet : ℕ → Text → Option PyObjectRef → AttributeJob
+  DoHasAttr : PyObjectRef → Text → AttributeJob
   DoSpecial : PyObjectRef → Text → List PyObjectRef → Bindings → AttributeJob
   DoBind : PyObjectRef → Option PyObjectRef → PyObjectRef → AttributeJob
-  DoDescrGet : PyObjectRef → Option PyObjectRef → Option PyObjectRef → AttributeJob
+  DoLoadMethod : PyObjectRef → Text → AttributeJob
+  DoInvoke : Option PyObjectRef → PyObjectRef → List PyObjectRef → Bindings → AttributeJob
+
+pub data DescriptorJob : Type 0 where
+  DoDescrGet : PyObjectRef → Option PyObjectRef → Option PyObjectRef → DescriptorJob
+  DoDescrSet : PyObjectRef → PyObjectRef → Option PyObjectRef → DescriptorJob
+  DoSuperGet : PyObjectRef → Text → DescriptorJob
+  DoSuperInit : PyObjectRef → List PyObjectRef → DescriptorJob
+  DoSuperCheck : ℕ → PyObjectRef → DescriptorJob
 
 pub data CallJob : Type 0 where
   DoCall : PyObjectRef → List PyObjectRef → Bindings → CallJob
@@ -93,15 +109,76 @@ pub data OperatorJob : Type 0 where
   DoAdd : PyObjectRef → PyObjectRef → OperatorJob
   DoBinOp1 : PyNumberBinaryOp → PyObjectRef → PyObjectRef → OperatorJob
   DoEnter : SlotEntry → PyObjectRef → PyObjectRef → OperatorJob
+  DoBinary : PyNumberBinaryOp → PyObjectRef → PyObjectRef → OperatorJob
+  DoInplaceOp1 : PyNumberBinaryOp → PyObjectRef → PyObjectRef → OperatorJob
+  DoInplace : PyNumberBinaryOp → PyObjectRef → PyObjectRef → OperatorJob
+  DoConcat : PyObjectRef → PyObjectRef → OperatorJob
+  DoInplaceAdd : PyObjectRef → PyObjectRef → OperatorJob
+  DoInplaceConcat : PyObjectRef → PyObjectRef → OperatorJob
+  DoMul : PyObjectRef → PyObjectRef → OperatorJob
+  DoRepeat : PyObjectRef → PyObjectRef → OperatorJob
+  DoInplaceMul : PyObjectRef → PyObjectRef → OperatorJob
+  DoInplaceRepeat : PyObjectRef → PyObjectRef → OperatorJob
+  DoEnterPower : SlotEntry → PyObjectRef → PyObjectRef → PyObjectRef → OperatorJob
+  DoPower : PyObjectRef → PyObjectRef → PyObjectRef → OperatorJob
+  DoInplacePower : PyObjectRef → PyObjectRef → PyObjectRef → OperatorJob
+  DoUnary : PyNumberUnaryOp → PyObjectRef → OperatorJob
   DoInt : IntNative → List PyObjectRef → Bindings → OperatorJob
+
+pub data CompareJob : Type 0 where
+  DoCompare : PyObjectRef → PyObjectRef → PyComparisonOp → CompareJob
+  DoCmp : PyObjectRef → PyObjectRef → PyComparisonOp → CompareJob
+  DoRichBool : PyObjectRef → PyObjectRef → PyComparisonOp → CompareJob
+  DoBoolEq : PyObjectRef → PyObjectRef → CompareJob
+  DoIdEq : PyObjectRef → PyObjectRef → CompareJob
+  DoSeqLt : PyObjectRef → PyObjectRef → CompareJob
+  DoSeqGt : PyObjectRef → PyObjectRef → CompareJob
+
+pub data ProtocolJob : Type 0 where
+  DoIsTrue : PyObjectRef → ProtocolJob
+  DoIndex : PyObjectRef → ProtocolJob
+  DoWhole : PyObjectRef → ProtocolJob
+  DoLength : PyObjectRef → ProtocolJob
+  DoHint : PyObjectRef → ℤ → ProtocolJob
+  DoGetItem : PyObjectRef → PyObjectRef → ProtocolJob
+  DoSetItem : PyObjectRef → PyObjectRef → PyObjectRef → ProtocolJob
+  DoDelItem : PyObjectRef → PyObjectRef → ProtocolJob
+  DoGetSlice : PyObjectRef → ℤ → ℤ → ProtocolJob
+  DoSetSlice : PyObjectRef → ℤ → ℤ → PyObjectRef → ProtocolJob
+  DoDelSlice : PyObjectRef → ℤ → ℤ → ProtocolJob
+  DoGetIter : PyObjectRef → ProtocolJob
+  DoNext : PyObjectRef → ProtocolJob
+  DoCollect : PyObjectRef → ProtocolJob
+  DoContains : PyObjectRef → PyObjectRef → ProtocolJob
+  DoCount : PyObjectRef → PyObjectRef → ProtocolJob
+  DoFind : PyObjectRef → PyObjectRef → ProtocolJob
+  DoKeys : PyObjectRef → ProtocolJob
+  DoValues : PyObjectRef → ProtocolJob
+  DoItems : PyObjectRef → ProtocolJob
+
+pub data ObjectJob : Type 0 where
+  DoHash : PyObjectRef → ObjectJob
+  DoRepr : PyObjectRef → ObjectJob
+  DoStr : PyObjectRef → ObjectJob
+  DoFormat : PyObjectRef → PyObjectRef → ObjectJob
+  DoDir : PyObjectRef → ObjectJob
+  DoIsInstance : PyObjectRef → PyObjectRef → ObjectJob
+  DoInst : PyObjectRef → PyObjectRef → ObjectJob
+  DoIsSubclass : PyObjectRef → PyObjectRef → ObjectJob
+  DoSub : PyObjectRef → PyObjectRef → ObjectJob
+  DoAbsSub : PyObjectRef → PyObjectRef → ObjectJob
 
 pub data PlainTask : Type 0 where
   ToEval : EvalJob → PlainTask
   ToAttribute : AttributeJob → PlainTask
+  ToDescriptor : DescriptorJob → PlainTask
   ToCall : CallJob → PlainTask
   ToClass : ClassJob → PlainTask
   ToOperator : OperatorJob → PlainTask
-  ToLater : LaterTask → PlainTask
+  ToCompare : CompareJob → PlainTask
+  ToProtocol : ProtocolJob → PlainTask
+  ToObject : ObjectJob → PlainTask
+  ToNative : NativeEntry → List PyObjectRef → Bindings → PlainTask
 
 -- what a task answers: an object, that it is done, a number, a truth value, an object or that there is none, a list of objects, or that an iteration has come to its end
 pub data PlainAnswer : Type 0 where

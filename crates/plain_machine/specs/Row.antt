@@ -3,7 +3,9 @@ use Rattle.std.specs.Prelude.{ℕ, List, [], ◌∷◌, Option, Some, None, Resu
 use Rattle.py_node.specs.declared.refs.PyObjectRef.{PyObjectRef}
 use Rattle.py_node.specs.declared.raised.Raised.{Raised as Fault}
 use Rattle.py_node.specs.declared.raised.Kind.{Kind}
+use Rattle.py_node.specs.declared.raised.Kind.TheVariants.{NotImplementedError}
 use Rattle.py_node.specs.declared.raised.Cause.{Cause}
+use Rattle.py_node.specs.declared.raised.Cause.TheVariants.{NotYet}
 use Rattle.py_node.specs.declared.entry.SlotEntry.{SlotEntry}
 use Rattle.py_node.specs.Tree.{Tree}
 use Rattle.plain_machine.specs.Plain.{Datum, Bindings, PlainWorld, DoEval, PlainTask, ToEval, AsValue, AsDone, Ended, Fact, Answered, Made, Read, ReadObjects, ReadNames, Chose, Told, Said, Asks, Ends}
@@ -51,6 +53,10 @@ pass w task = Asks w [] task
 
 abbrev pub fault : {A : Type 0} → Kind → Cause → Result A Fault
 fault kind cause = Err (record { kind = kind; cause = cause })
+
+-- how a row ends that is not there yet
+abbrev pub not_yet : {A : Type 0} → Result A Fault
+not_yet = fault NotImplementedError NotYet
 
 -- goes on with an object. A row that gets any other answer ends with it
 abbrev pub on_value : PlainWorld → Ended → (PyObjectRef → Row) → Row

@@ -10,7 +10,7 @@ use crate::AttributeKept;
 use class_world::world::World;
 use py_node::entry::SlotId;
 use py_node::refs::PyObjectRef;
-use py_node::task::{Answer, AttributeTask, Step, Task};
+use py_node::task::{Answer, DescriptorTask, Step, Task};
 
 // A value is bound where its class has an entry for that.
 pub(crate) fn bind(
@@ -26,8 +26,8 @@ pub(crate) fn bind(
     match world.slot(m, SlotId::DescrGet) {
         None => Step::End(Ok(Answer::Value(m))),
         Some(_) => {
-            let task = AttributeTask::DescrGet(m, o, Some(class));
-            Step::Ask(Task::Attribute(task), AttributeKept::Pass)
+            let task = DescriptorTask::DescrGet(m, o, Some(class));
+            Step::Ask(Task::Descriptor(task), AttributeKept::Pass)
         }
     }
 }

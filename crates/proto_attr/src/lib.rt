@@ -1,4 +1,4 @@
-// The rows of attributes, special methods and descriptors, each a small automaton: `begin` and
+// The rows of attributes and special methods, each a small automaton: `begin` and
 // `resume`.
 #![tactic(auto, unfolding(crate::specs::Say::attribute_say))]
 
@@ -8,7 +8,6 @@ ghost use Rattle.class_world.specs.Claims.{of_attribute_task, of_ended, Leaves};
 ghost use Rattle.proto_attr.specs.Rows.{Begins, Resumes, of_attribute_kept};
 
 mod binding;
-mod descriptor;
 mod setting;
 mod special;
 
@@ -47,7 +46,7 @@ pub fn begin(
             let step = binding::bind(world, m, o, class);
             Ok(step)
         }
-        AttributeTask::DescrGet(m, o, class) => descriptor::descr_get(world, alloc, m, o, class),
+        _ => Ok(Step::not_yet()),
     }
 }
 

@@ -1,38 +1,37 @@
-// How attributes are set.
+// How attributes are set and taken out.
 #![tactic(auto, unfolding(crate::specs::Say::attribute_say, py_node::specs::BuiltIns::place_of))]
 
-ghost use Rattle.std.specs.Prelude.{◌≡◌, Some, IfOk, slice_get};
+ghost use Rattle.std.specs.Prelude.{◌≡◌, Some, IfOk};
 ghost use Rattle.class_model.specs.Class.{class_at as class_numbered};
 ghost use Rattle.class_model.specs.Slot.{is_heap_at};
-ghost use Rattle.class_world.specs.Sound.{AllHold, Holds, IsClass, IsNode, of_option, of_node_ref, of_class_ref};
-ghost use Rattle.class_world.specs.Claims.{of_attribute_task, of_step, Leaves};
-ghost use Rattle.class_world.specs.Reading.{Reading, Reads, plain, spelled};
-ghost use Rattle.plain_machine.specs.Objects.{class_object, special_at};
+ghost use Rattle.class_world.specs.Sound.{AllHold, of_option, of_node_ref};
+ghost use Rattle.class_world.specs.Claims.{of_attribute_task, Leaves};
+ghost use Rattle.class_world.specs.Reading.{Reading, Reads, plain, spelled, setter_value};
 ghost use Rattle.py_node.specs.declared.task.AttributeTask.TheVariants as attribute;
-ghost use Rattle.proto_attr.specs.Say.{set_by, set_in_class, sets, type_set_by};
-ghost use Rattle.proto_attr.specs.Rows.{Begins, Starts, number, of_attribute_kept};
+ghost use Rattle.proto_attr.specs.Say.{set_by_method, setter, own_set};
+ghost use Rattle.proto_attr.specs.Rows.{Begins, Starts, of_attribute_kept};
 
 use crate::AttributeKept;
-use crate::special::both;
 use class_table::fault::ClassFault;
+use class_world::args::{alone, both};
 use class_world::world::World;
 use py_node::built_in::BuiltIn;
-use py_node::entry::{NativeEntry, ObjectNative, SlotEntry, SlotId, TypeNative};
 use py_node::known::Known;
+use py_node::entry::{NativeEntry, SlotEntry, SlotId, TypeNative};
 use py_node::memory::OutOfMemory;
 use py_node::payload::Payload;
-use py_node::raised::{Kind, Raised};
+use py_node::raised::{Cause, Kind, Raised};
 use py_node::refs::{PyObjectRef, PyStrInterned, PyTypeRef};
-use py_node::task::{Answer, AttributeTask, LaterTask, Step, Task};
+use py_node::task::{Answer, AttributeTask, DescriptorTask, PySetterValue, Step, Task};
 use std::alloc::Global;
 
-// An object's attribute is set, as its class's entry for that says.
+// An object's attribute is set or taken out, as its class's entry for that says.
 pub(crate) fn set_attr(
     world: &mut World,
     alloc: Global,
     o: PyObjectRef,
     name: PyStrInterned,
-    value: PyObjectRef,
+    value: PySetterValue,
 ) -> Result<Step<AttributeKept>, OutOfMemory>
     requires { AllHold world.old (of_attribute_task (attribute.SetAttr o name value)) }
     ensures goes { IfOk result (λ step. Begins (attribute.SetAttr o name value) world.old world.new step) }
@@ -40,57 +39,60 @@ pub(crate) fn set_attr(
 {
     match world.slot(o, SlotId::Setattro) {
         Some(SlotEntry::Wrapper(_)) => set_by_method(world, alloc, o, name, value),
-        Some(SlotEntry::Native(NativeEntry::OfObject(ObjectNative::SetAttr))) => {
-            Ok(later(LaterTask::GenericSet))
-        }
         Some(SlotEntry::Native(NativeEntry::OfType(TypeNative::SetAttr))) => {
             match world.class_number(o) {
-                None => Ok(later(LaterTask::GenericSet)),
-                Some(class) => {
-                    let task = AttributeTask::TypeSet(class, name, value);
-                    Ok(Step::Ask(Task::Attribute(task), AttributeKept::Pass))
-                }
+                None => Ok(asked(AttributeTask::GenericSet(o, name, value))),
+                Some(class) => Ok(asked(AttributeTask::TypeSet(class, name, value))),
             }
         }
-        _ => Ok(later(LaterTask::Native)),
+        _ => Ok(asked(AttributeTask::GenericSet(o, name, value))),
     }
 }
 
-// What no stage so far has named is asked, and its answer passed on.
-fn later(task: LaterTask) -> Step<AttributeKept>
-    ensures { result ≡ Step.Ask (Task.Later task) AttributeKept.Pass }
+// A task is asked, and its answer passed on.
+fn asked(task: AttributeTask) -> Step<AttributeKept>
+    ensures { result ≡ Step.Ask (Task.Attribute task) AttributeKept.Pass }
 {
-    Step::Ask(Task::Later(task), AttributeKept::Pass)
+    Step::Ask(Task::Attribute(task), AttributeKept::Pass)
 }
 
-// A special method sets the attribute. It is given the name as a new text.
+// A special method sets the attribute or takes it out. It is given the name as a new text.
 fn set_by_method(
     world: &mut World,
     alloc: Global,
     o: PyObjectRef,
     name: PyStrInterned,
-    value: PyObjectRef,
+    value: PySetterValue,
 ) -> Result<Step<AttributeKept>, OutOfMemory>
     requires { AllHold world.old (of_attribute_task (attribute.SetAttr o name value)) }
-    ensures goes { IfOk result (λ step. Starts (attribute.SetAttr o name value) (λ t w. set_by w (Some (SlotEntry.Wrapper SlotId.Setattro)) o (spelled t name) value) world.old world.new step) }
+    ensures goes { IfOk result (λ step. Starts (attribute.SetAttr o name value)
+        (λ t w. set_by_method w o (spelled t name) (setter_value value)) world.old world.new step) }
     ensures safe { Leaves of_attribute_kept world.old world.new result }
 {
     let text = world.spelling(alloc, name)?;
     let class = world.built_in(BuiltIn::Str);
     let node = world.make_node(alloc, class, Payload::Text(text))?;
-    let method = world.known(Known::SetAttr);
-    let args = both(alloc, node, value)?;
-    let task = AttributeTask::Special(o, method, args, Vec::new(alloc));
-    Ok(Step::Ask(Task::Attribute(task), AttributeKept::Pass))
+    match value {
+        PySetterValue::Assign(value) => {
+            let method = world.known(Known::SetAttr);
+            let args = both(alloc, node, value)?;
+            Ok(asked(AttributeTask::Special(o, method, args, Vec::new(alloc))))
+        }
+        PySetterValue::Delete => {
+            let method = world.known(Known::DelAttr);
+            let args = alone(alloc, node)?;
+            Ok(asked(AttributeTask::Special(o, method, args, Vec::new(alloc))))
+        }
+    }
 }
 
-// A class's attribute is set by what its metaclass has under the name, or else in the class itself,
-// which must be made by a script.
+// A class's attribute is set or taken out by what its metaclass has under the name, or else in the class
+// itself.
 pub(crate) fn type_set(
     world: &mut World,
     class: PyTypeRef,
     name: PyStrInterned,
-    value: PyObjectRef,
+    value: PySetterValue,
 ) -> Result<Step<AttributeKept>, OutOfMemory>
     requires { AllHold world.old (of_attribute_task (attribute.TypeSet class name value)) }
     ensures goes { IfOk result (λ step. Begins (attribute.TypeSet class name value) world.old world.new step) }
@@ -98,26 +100,65 @@ pub(crate) fn type_set(
 {
     let object = world.class_object(class);
     let found = world.special(object, name);
-    if sets(world, found) {
-        return Ok(later(LaterTask::DescrSet));
-    }
-    match world.set_attr(class, name, value) {
-        Ok(()) => Ok(Step::End(Ok(Answer::Done))),
-        Err(ClassFault::Refused(cause)) => Ok(Step::End(Err(Raised {
-            kind: Kind::TypeError,
-            cause,
-        }))),
-        Err(ClassFault::OutOfMemory) => Err(OutOfMemory),
+    match setter(world, found) {
+        Some(setter) => {
+            let task = DescriptorTask::DescrSet(setter, object, value);
+            Ok(Step::Ask(Task::Descriptor(task), AttributeKept::Pass))
+        }
+        None => own_set(world, class, name, value),
     }
 }
 
-// Whether a value that was found is one that sets attributes.
-fn sets(world: &World, found: Option<PyObjectRef>) -> bool
+// A class's own attribute is set. The class must be made by a script.
+fn own_set(
+    world: &mut World,
+    class: PyTypeRef,
+    name: PyStrInterned,
+    value: PySetterValue,
+) -> Result<Step<AttributeKept>, OutOfMemory>
+    requires { AllHold world.old (of_attribute_task (attribute.TypeSet class name value)) }
+    ensures goes { IfOk result (λ step. Starts (attribute.TypeSet class name value)
+        (λ t w. own_set w (is_heap_at (class_numbered w.classes class.0)) class.0 (spelled t name) (setter_value value))
+        world.old world.new step) }
+    ensures safe { Leaves of_attribute_kept world.old world.new result }
+{
+    match value {
+        PySetterValue::Assign(value) => match world.set_attr(class, name, value) {
+            Ok(()) => Ok(Step::End(Ok(Answer::Done))),
+            Err(ClassFault::Refused(cause)) => Ok(refused(cause)),
+            Err(ClassFault::OutOfMemory) => Err(OutOfMemory),
+        },
+        PySetterValue::Delete => {
+            if world.class_is_heap(class) {
+                Ok(Step::not_yet())
+            } else {
+                Ok(refused(Cause::ImmutableType))
+            }
+        }
+    }
+}
+
+// A class may not be changed so.
+fn refused(cause: Cause) -> Step<AttributeKept>
+    ensures { result ≡ Step.End (Err (record { kind = Kind.TypeError; cause = cause })) }
+{
+    Step::End(Err(Raised {
+        kind: Kind::TypeError,
+        cause,
+    }))
+}
+
+// A value that was found, where it is one that sets attributes.
+fn setter(world: &World, found: Option<PyObjectRef>) -> Option<PyObjectRef>
     requires { AllHold world.now (of_option of_node_ref found) }
-    ensures { (t : Reading) → Reads t world.now → sets (plain t world.now) found ≡ result }
+    ensures setter { (t : Reading) → Reads t world.now → setter (plain t world.now) found ≡ result }
+    ensures node { AllHold world.now (of_option of_node_ref result) }
 {
     match found {
-        None => false,
-        Some(value) => world.slot(value, SlotId::DescrSet).is_some(),
+        None => None,
+        Some(value) => match world.slot(value, SlotId::DescrSet) {
+            None => None,
+            Some(_) => Some(value),
+        },
     }
 }

@@ -1,13 +1,11 @@
 // How special methods are called.
 #![tactic(auto, unfolding(crate::specs::Say::attribute_say))]
 
-ghost use Rattle.std.specs.Prelude.{◌≡◌, ◌∷◌, [], IfOk};
-ghost use Rattle.class_world.specs.Sound.{AllHold, Holds, IsNode, AreNodes, of_option, of_node_ref};
-ghost use Rattle.class_world.specs.Claims.{of_args, of_attribute_task, of_step};
-ghost use Rattle.class_world.specs.Reading.{bindings};
-ghost use Rattle.py_node.specs.declared.refs.PyStrInterned.{PyStrInterned as Name};
+ghost use Rattle.std.specs.Prelude.{◌≡◌, ◌∷◌, IfOk};
+ghost use Rattle.class_world.specs.Sound.{AllHold, Holds, IsNode, AreNodes};
+ghost use Rattle.class_world.specs.Claims.{of_attribute_task, of_step};
 ghost use Rattle.py_node.specs.declared.task.AttributeTask.TheVariants as attribute;
-ghost use Rattle.proto_attr.specs.Rows.{Begins, AreBoth, of_attribute_kept};
+ghost use Rattle.proto_attr.specs.Rows.{Begins, of_attribute_kept};
 
 use crate::AttributeKept;
 use class_world::args::with_first;
@@ -56,12 +54,4 @@ fn bound(alloc: Global, object: PyObjectRef, args: &[PyObjectRef]) -> Result<Arg
 {
     let all = with_first(alloc, object, args)?;
     Ok(all)
-}
-
-// Two arguments.
-pub(crate) fn both(alloc: Global, a: PyObjectRef, b: PyObjectRef) -> Result<Args, OutOfMemory>
-    ensures items { IfOk result (λ v. v.items ≡ a ∷ b ∷ []) }
-    ensures holds { IfOk result (λ v. AreBoth a b v.items) }
-{
-    Ok(vec![in alloc; a, b]?)
 }

@@ -13,6 +13,7 @@ pub mod names;
 pub mod operator;
 pub mod own_attrs;
 pub mod payload;
+pub mod protocol;
 pub mod raised;
 pub mod refs;
 pub mod reply;

@@ -1,7 +1,10 @@
 // Tasks, what they answer, and the steps of their rows.
 
-use crate::entry::{IntNative, ObjectNative, SlotEntry, TypeNative};
-use crate::raised::Raised;
+ghost use Rattle.std.specs.Prelude.{◌≡◌, Err};
+
+use crate::entry::{IntNative, NativeEntry, ObjectNative, SlotEntry, TypeNative};
+use crate::protocol::{CompareTask, ObjectTask, ProtocolTask};
+use crate::raised::{Cause, Kind, Raised};
 use crate::refs::{PyObjectRef, PyStrInterned, PyTypeRef};
 
 /// A binary operator of numbers.
@@ -102,10 +105,15 @@ pub type Keywords = Vec<(PyStrInterned, PyObjectRef)>;
 pub enum Task {
     Eval(EvalTask),
     Attribute(AttributeTask),
+    Descriptor(DescriptorTask),
     Call(CallTask),
     Class(ClassTask),
     Operator(OperatorTask),
-    Later(LaterTask),
+    Compare(CompareTask),
+    Protocol(ProtocolTask),
+    Object(ObjectTask),
+    /// A native that stands in no group.
+    Native(NativeEntry, Args, Keywords),
 }
 
 /// A task on expressions, which are named by their number in the world's store.
@@ -114,19 +122,48 @@ pub enum EvalTask {
     Eval(u64),
 }
 
-/// A task on attributes, special methods and descriptors.
+/// A task on attributes and special methods.
 #[derive(Drop)]
 pub enum AttributeTask {
-    /// Gives an object's attribute a value.
-    SetAttr(PyObjectRef, PyStrInterned, PyObjectRef),
-    /// Gives a class's attribute a value.
-    TypeSet(PyTypeRef, PyStrInterned, PyObjectRef),
+    /// An object's attribute.
+    GetAttr(PyObjectRef, PyStrInterned),
+    /// An object's attribute, as objects have them.
+    Generic(PyObjectRef, PyStrInterned),
+    /// The same, or that there is none. The dict that is given, if any, stands for the object's own.
+    GenericOpt(PyObjectRef, PyStrInterned, Option<PyObjectRef>),
+    /// Sets an object's attribute, or takes it out.
+    SetAttr(PyObjectRef, PyStrInterned, PySetterValue),
+    /// Sets an object's attribute, or takes it out, as objects do.
+    GenericSet(PyObjectRef, PyStrInterned, PySetterValue),
+    /// A class's attribute, as classes have them.
+    TypeGet(PyTypeRef, PyStrInterned),
+    /// Sets a class's attribute, or takes it out, as classes do.
+    TypeSet(PyTypeRef, PyStrInterned, PySetterValue),
+    /// Whether an object has an attribute that isn't None.
+    HasAttr(PyObjectRef, PyStrInterned),
     /// Calls the special method of a name that an object's class has.
     Special(PyObjectRef, PyStrInterned, Args, Keywords),
     /// Binds a value that was found for an object, if any, and a class.
     Bind(PyObjectRef, Option<PyObjectRef>, PyObjectRef),
+    /// An object's attribute, to be called at once.
+    LoadMethod(PyObjectRef, PyStrInterned),
+    /// Calls a method that was loaded.
+    Invoke(PyMethod, Args, Keywords),
+}
+
+/// A task on descriptors and `super`.
+#[derive(Drop)]
+pub enum DescriptorTask {
     /// What a descriptor gives for an object and a class, of which each may be missing.
     DescrGet(PyObjectRef, Option<PyObjectRef>, Option<PyObjectRef>),
+    /// Sets what a descriptor stands for in an object, or takes it out.
+    DescrSet(PyObjectRef, PyObjectRef, PySetterValue),
+    /// An attribute of what a super object stands for.
+    SuperGet(PyObjectRef, PyStrInterned),
+    /// Initialises a super object with arguments.
+    SuperInit(PyObjectRef, Args),
+    /// The class from which `super` of a class and an object starts.
+    SuperCheck(PyTypeRef, PyObjectRef),
 }
 
 /// A task on calls, and the natives of `object`.
@@ -156,21 +193,36 @@ pub enum ClassTask {
 /// A task on operators, and the natives of `int`.
 #[derive(Drop)]
 pub enum OperatorTask {
+    /// The sum of numbers, or sequences joined.
     Add(PyObjectRef, PyObjectRef),
+    /// What an operator's candidates give, or NotImplemented.
     BinOp1(PyNumberBinaryOp, PyObjectRef, PyObjectRef),
+    /// Enters an operator's entry with both operands.
     Enter(SlotEntry, PyObjectRef, PyObjectRef),
+    /// An operator of two numbers.
+    Binary(PyNumberBinaryOp, PyObjectRef, PyObjectRef),
+    /// What an operator in place gives, or else its candidates, or NotImplemented.
+    InplaceOp1(PyNumberBinaryOp, PyObjectRef, PyObjectRef),
+    /// An operator of two numbers in place.
+    Inplace(PyNumberBinaryOp, PyObjectRef, PyObjectRef),
+    /// Joins sequences.
+    Concat(PyObjectRef, PyObjectRef),
+    InplaceAdd(PyObjectRef, PyObjectRef),
+    InplaceConcat(PyObjectRef, PyObjectRef),
+    /// The product of numbers, or a sequence repeated.
+    Mul(PyObjectRef, PyObjectRef),
+    /// Repeats a sequence so many times.
+    Repeat(PyObjectRef, PyObjectRef),
+    InplaceMul(PyObjectRef, PyObjectRef),
+    InplaceRepeat(PyObjectRef, PyObjectRef),
+    /// Enters an entry for powers with both operands and a modulus, which may be None.
+    EnterPower(SlotEntry, PyObjectRef, PyObjectRef, PyObjectRef),
+    /// A power, by a modulus unless that is None.
+    Power(PyObjectRef, PyObjectRef, PyObjectRef),
+    InplacePower(PyObjectRef, PyObjectRef, PyObjectRef),
+    /// An operator of one number.
+    Unary(PyNumberUnaryOp, PyObjectRef),
     Int(IntNative, Args, Keywords),
-}
-
-/// A task that no stage so far has named: it ends with the cause `NotYet`.
-#[derive(Clone, Copy, PartialEq, Eq, Debug)]
-pub enum LaterTask {
-    Concat,
-    DescrGet,
-    DescrSet,
-    GenericSet,
-    GetAttr,
-    Native,
 }
 
 /// What a row does next: it asks another task and keeps something, or it ends.
@@ -178,4 +230,16 @@ pub enum LaterTask {
 pub enum Step<K> {
     Ask(Task, K),
     End(Result<Answer, Raised>),
+}
+
+impl<K> Step<K> {
+    /// The end of a row that is not there yet.
+    pub fn not_yet() -> Step<K>
+        ensures { result ≡ Step.End (Err (record { kind = Kind.NotImplementedError; cause = Cause.NotYet })) }
+    {
+        Step::End(Err(Raised {
+            kind: Kind::NotImplementedError,
+            cause: Cause::NotYet,
+        }))
+    }
 }

@@ -1,22 +1,21 @@
 // What descriptors give.
-#![tactic(auto, unfolding(crate::specs::Say::attribute_say, py_node::specs::BuiltIns::place_of))]
+#![tactic(auto, unfolding(crate::specs::Say::descriptor_say, py_node::specs::BuiltIns::place_of))]
 
 ghost use Rattle.std.specs.Prelude.{◌≡◌, ◌∷◌, ◌++◌, Option, Some, IfOk};
-ghost use Rattle.class_world.specs.Sound.{AllHold, Grows, Holds, IsClass, IsName, IsNode, of_option, of_node_ref, of_class_ref};
+ghost use Rattle.class_world.specs.Sound.{AllHold, Grows, Holds, IsName, IsNode, of_option, of_node_ref};
 ghost use Rattle.class_world.specs.Held.{Held};
-ghost use Rattle.class_world.specs.Claims.{of_attribute_task, of_ended, of_step, Leaves};
+ghost use Rattle.class_world.specs.Claims.{of_descriptor_task, of_ended, Leaves};
 ghost use Rattle.class_world.specs.Reading.{Reading, plain, spelled, ended_of};
-ghost use Rattle.plain_machine.specs.Objects.{for_objects, for_classes};
 ghost use Rattle.plain_machine.specs.Plain.{PlainWorld, Ends};
 ghost use Rattle.plain_machine.specs.World.{datum_at};
 ghost use Rattle.py_node.specs.declared.refs.PyObjectRef.{PyObjectRef as Object};
-ghost use Rattle.py_node.specs.declared.task.AttributeTask.TheVariants as attribute;
-ghost use Rattle.proto_attr.specs.Say.{descr_get_by, function_get, is_object_none, class_of_option, or_none, is_none_type, bound_native, object_get, class_get, static_get, native_get};
-ghost use Rattle.proto_attr.specs.Rows.{Begins, Starts, Closes, number, described, native_of, of_attribute_kept};
+ghost use Rattle.py_node.specs.declared.task.DescriptorTask.TheVariants as descriptor;
+ghost use Rattle.proto_descr.specs.Say.{descr_get_by, function_get, is_object_none, class_of_option, or_none, is_none_type, bound_native, object_get, class_get, static_get, native_get};
+ghost use Rattle.proto_descr.specs.Rows.{Begins, Starts, Closes, number, described, native_of, of_descriptor_kept};
 
-use crate::AttributeKept;
-use crate::special::both;
+use crate::DescriptorKept;
 use bitflags::Flags;
+use class_world::args::both;
 use class_world::world::{Fixed, World};
 use py_node::built_in::BuiltIn;
 use py_node::entry::{CallableNative, NativeEntry, SlotEntry, SlotId};
@@ -26,7 +25,7 @@ use py_node::memory::OutOfMemory;
 use py_node::payload::{BoundMethod, BuiltinMethod, MethodDescriptor, Payload};
 use py_node::raised::{Cause, Kind, Raised};
 use py_node::refs::{PyObjectRef, PyTypeRef};
-use py_node::task::{Answer, AttributeTask, LaterTask, Step, Task};
+use py_node::task::{Answer, AttributeTask, Step, Task};
 use std::alloc::Global;
 
 // How a row ends.
@@ -39,10 +38,10 @@ pub(crate) fn descr_get(
     m: PyObjectRef,
     o: Option<PyObjectRef>,
     class: Option<PyObjectRef>,
-) -> Result<Step<AttributeKept>, OutOfMemory>
-    requires { AllHold world.old (of_attribute_task (attribute.DescrGet m o class)) }
-    ensures goes { IfOk result (λ step. Begins (attribute.DescrGet m o class) world.old world.new step) }
-    ensures safe { Leaves of_attribute_kept world.old world.new result }
+) -> Result<Step<DescriptorKept>, OutOfMemory>
+    requires { AllHold world.old (of_descriptor_task (descriptor.DescrGet m o class)) }
+    ensures goes { IfOk result (λ step. Begins (descriptor.DescrGet m o class) world.old world.new step) }
+    ensures safe { Leaves of_descriptor_kept world.old world.new result }
 {
     match world.slot(m, SlotId::DescrGet) {
         None => Ok(Step::End(Ok(Answer::Value(m)))),
@@ -55,7 +54,7 @@ pub(crate) fn descr_get(
         Some(SlotEntry::Native(NativeEntry::OfCallable(CallableNative::GetMethodDescriptor))) => {
             get_of_native(world, alloc, m, o, class)
         }
-        Some(_) => Ok(Step::Ask(Task::Later(LaterTask::DescrGet), AttributeKept::Pass)),
+        Some(_) => Ok(Step::not_yet()),
     }
 }
 
@@ -66,10 +65,10 @@ fn get_of_native(
     m: PyObjectRef,
     o: Option<PyObjectRef>,
     class: Option<PyObjectRef>,
-) -> Result<Step<AttributeKept>, OutOfMemory>
-    requires { AllHold world.old (of_attribute_task (attribute.DescrGet m o class)) }
-    ensures goes { IfOk result (λ step. Starts (attribute.DescrGet m o class) (λ t w. native_get w (datum_at w m) m o class) world.old world.new step) }
-    ensures safe { Leaves of_attribute_kept world.old world.new result }
+) -> Result<Step<DescriptorKept>, OutOfMemory>
+    requires { AllHold world.old (of_descriptor_task (descriptor.DescrGet m o class)) }
+    ensures goes { IfOk result (λ step. Starts (descriptor.DescrGet m o class) (λ t w. native_get w (datum_at w m) m o class) world.old world.new step) }
+    ensures safe { Leaves of_descriptor_kept world.old world.new result }
 {
     let native = descriptor_of(world, m);
     let ended = native_get(world, alloc, native, m, o, class)?;
@@ -83,17 +82,17 @@ fn get_by_method(
     m: PyObjectRef,
     o: Option<PyObjectRef>,
     class: Option<PyObjectRef>,
-) -> Result<Step<AttributeKept>, OutOfMemory>
-    requires { AllHold world.now (of_attribute_task (attribute.DescrGet m o class)) }
-    ensures goes { IfOk result (λ step. Starts (attribute.DescrGet m o class) (λ t w. descr_get_by w (Some (SlotEntry.Wrapper SlotId.DescrGet)) m o class) world.now world.now step) }
-    ensures safe { Leaves of_attribute_kept world.now world.now result }
+) -> Result<Step<DescriptorKept>, OutOfMemory>
+    requires { AllHold world.now (of_descriptor_task (descriptor.DescrGet m o class)) }
+    ensures goes { IfOk result (λ step. Starts (descriptor.DescrGet m o class) (λ t w. descr_get_by w (Some (SlotEntry.Wrapper SlotId.DescrGet)) m o class) world.now world.now step) }
+    ensures safe { Leaves of_descriptor_kept world.now world.now result }
 {
     let object = or_none(world, o);
     let class = or_none(world, class);
     let method = world.known(Known::Get);
     let args = both(alloc, object, class)?;
     let task = AttributeTask::Special(m, method, args, Vec::new(alloc));
-    Ok(Step::Ask(Task::Attribute(task), AttributeKept::Pass))
+    Ok(Step::Ask(Task::Attribute(task), DescriptorKept::Pass))
 }
 
 // An object, or else None.
@@ -188,7 +187,7 @@ fn native_get(
     class: Option<PyObjectRef>,
 ) -> Result<Ended, OutOfMemory>
     requires native { AllHold world.old (of_option native_of native) }
-    requires task { AllHold world.old (of_attribute_task (attribute.DescrGet m o class)) }
+    requires task { AllHold world.old (of_descriptor_task (descriptor.DescrGet m o class)) }
     ensures goes { IfOk result (λ r. Closes (λ t w. native_get w (described t native) m o class) world.old world.new r) }
     ensures grows { Grows world.old world.new }
     ensures safe { IfOk result (λ r. AllHold world.new (of_ended r)) }

@@ -1,0 +1,53 @@
+// The rows of descriptors, each a small automaton: `begin` and `resume`.
+#![tactic(auto, unfolding(crate::specs::Say::descriptor_say))]
+
+ghost use Rattle.std.specs.Prelude.{◌≡◌, IfOk};
+ghost use Rattle.class_world.specs.Sound.{AllHold};
+ghost use Rattle.class_world.specs.Claims.{of_descriptor_task, of_ended, of_step, Leaves};
+ghost use Rattle.proto_descr.specs.Rows.{Begins, Resumes, of_descriptor_kept};
+
+mod descriptor;
+
+use class_world::world::World;
+use py_node::memory::OutOfMemory;
+use py_node::raised::Raised;
+use py_node::task::{Answer, DescriptorTask, Step};
+use std::alloc::Global;
+
+/// What a row of a descriptor keeps while it waits for an answer.
+#[derive(Drop)]
+pub enum DescriptorKept {
+    /// The answer is passed on.
+    Pass,
+}
+
+/// Begins a task.
+pub fn begin(
+    world: &mut World,
+    alloc: Global,
+    task: DescriptorTask,
+) -> Result<Step<DescriptorKept>, OutOfMemory>
+    requires { AllHold world.old (of_descriptor_task task) }
+    ensures goes { IfOk result (λ step. Begins task world.old world.new step) }
+    ensures safe { Leaves of_descriptor_kept world.old world.new result }
+{
+    match task {
+        DescriptorTask::DescrGet(m, o, class) => descriptor::descr_get(world, alloc, m, o, class),
+        _ => Ok(Step::not_yet()),
+    }
+}
+
+/// Goes on with a task that was given an answer.
+pub fn resume(
+    world: &World,
+    kept: DescriptorKept,
+    answer: Result<Answer, Raised>,
+) -> Step<DescriptorKept>
+    requires { AllHold world.now (of_ended answer) }
+    ensures goes { Resumes kept answer world.now world.now result }
+    ensures safe { AllHold world.now (of_step of_descriptor_kept result) }
+{
+    match kept {
+        DescriptorKept::Pass => Step::End(answer),
+    }
+}
