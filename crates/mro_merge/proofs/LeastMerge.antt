@@ -38,7 +38,7 @@ module _ (c : ℕ) (bs : List ℕ) (ls : List (List ℕ)) (apart : (l : List ℕ
   order-merge : (xs : List ℕ) → IsOrder c bs ls (c ∷ xs) → IsMerge (ls ++ bs ∷ []) xs
   order-merge xs o = record {
     distinct = o.distinct.1;
-    only = λ x h. flat-from x (elim (o.members_only x (inr h)) [ inl e ↦ absurd (o.distinct.0 (Holds-equal xs x c (sym e) h)) | inr k ↦ k ]);
+    members_only = λ x h. flat-from x (elim (o.members_only x (inr h)) [ inl e ↦ absurd (o.distinct.0 (Holds-equal xs x c (sym e) h)) | inr k ↦ k ]);
     keeps = λ l h. Subsequence-rest l xs c (kept l h) (all_apart l h);
   }
     where
@@ -51,7 +51,7 @@ module _ (c : ℕ) (bs : List ℕ) (ls : List (List ℕ)) (apart : (l : List ℕ
   merge-order : (xs : List ℕ) → IsMerge (ls ++ bs ∷ []) xs → IsOrder c bs ls (c ∷ xs)
   merge-order xs m = record {
     begins = refl;
-    distinct = (λ h. not_there (flat-to c (m.only c h)), m.distinct);
+    distinct = (λ h. not_there (flat-to c (m.members_only c h)), m.distinct);
     members_only = only;
     all_members = all;
     keeps_bases = Subsequence-more c bs xs (m.keeps bs (Holds-right ls (bs ∷ []) bs (inl refl)));
@@ -60,7 +60,7 @@ module _ (c : ℕ) (bs : List ℕ) (ls : List (List ℕ)) (apart : (l : List ℕ
     where
       only : (x : ℕ) → Holds (c ∷ xs) x → Holds (members_of c ls) x
       only x (inl e) = inl e
-      only x (inr h) = inr (flat-to x (m.only x h))
+      only x (inr h) = inr (flat-to x (m.members_only x h))
 
       all : (x : ℕ) → Holds (members_of c ls) x → Holds (c ∷ xs) x
       all x (inl e) = inl e
@@ -93,8 +93,8 @@ module _ (c : ℕ) (bs : List ℕ) (ls : List (List ℕ)) (apart : (l : List ℕ
       let m = merge-sound n (ls ++ bs ∷ []) xs e in
       let k = order-merge zs (least_order-order c bs ls (c ∷ zs) f) in
       let a : is_lexicographic (ranks ls zs) (ranks ls xs) ≡ true = lex-tail (rank ls c) (ranks ls zs) (ranks ls xs) ((least_order-least c bs ls (c ∷ zs) f).least (c ∷ xs) (merge-order xs m)) in
-      let p = ranks-last zs (λ x h. flat-to x (k.only x h)) in
-      let q = ranks-last xs (λ x h. flat-to x (m.only x h)) in
+      let p = ranks-last zs (λ x h. flat-to x (k.members_only x h)) in
+      let q = ranks-last xs (λ x h. flat-to x (m.members_only x h)) in
       let b : is_lexicographic (ranks (ls ++ bs ∷ []) zs) (ranks (ls ++ bs ∷ []) xs) ≡ true = ap (λ v. is_lexicographic v (ranks (ls ++ bs ∷ []) xs)) p ∙ ap (is_lexicographic (ranks ls zs)) q ∙ a in
       elim (merge-best n (ls ++ bs ∷ []) xs zs e k) [ inl g ↦ absurd (both_ways _ g b) | inr i ↦ i ]
 

@@ -13,7 +13,7 @@ use Rattle.class_model.proofs.Tests.{Decides-has}
 use Rattle.mro_merge.proofs.Struck.{without-none, without-head, Distinct-without, Subsequence-without, flat-struck, struck-back, ranks-struck}
 
 -- a member stands past no head
-pub Free : ℕ → List (List ℕ) → Type 0
+unfoldable pub Free : ℕ → List (List ℕ) → Type 0
 Free x ls = (l : List ℕ) → Holds ls l → has (past_first l) x ≡ false
 
 free-from : (x : ℕ) (ls : List (List ℕ)) → stands_past x ls ≡ false → Free x ls
@@ -28,7 +28,7 @@ free-to x [] f = refl
 free-to x (l ∷ ls) f = or_from _ _ (f l (inl refl)) (free-to x ls (λ m h. f m (inr h)))
 
 -- a merge's first member is free
-first-free : (ls : List (List ℕ)) (y : ℕ) (ys : List ℕ) → IsMerge ls (y ∷ ys) → Free y ls
+pub first-free : (ls : List (List ℕ)) (y : ℕ) (ys : List ℕ) → IsMerge ls (y ∷ ys) → Free y ls
 unfolding Free
 first-free ls y ys m l h = false_from_ne_true _ (λ e. go l (m.keeps l h) e)
   where
@@ -41,11 +41,11 @@ first-free ls y ys m l h = false_from_ne_true _ (λ e. go l (m.keeps l h) e)
 struck-merge : (x : ℕ) (ls : List (List ℕ)) (ys : List ℕ) → IsMerge ls ys → IsMerge (struck x ls) (without x ys)
 struck-merge x ls ys m = record {
   distinct = Distinct-without x ys m.distinct;
-  only = λ z h. let r = from_without x z ys h in let P : List ℕ → Type 0 = λ l. Holds l z in subst P (sym (flat-struck x ls)) (Holds-without x z (flat_map (λ l. l) ls) (m.only z r.0) r.1);
+  members_only = λ z h. let r = from_without x z ys h in let P : List ℕ → Type 0 = λ l. Holds l z in subst P (sym (flat-struck x ls)) (Holds-without x z (flat_map (λ l. l) ls) (m.members_only z r.0) r.1);
   keeps = λ l h. let r = struck-back x ls l h in let P : List ℕ → Type 0 = λ w. Subsequence w (without x ys) in subst P r.2 (Subsequence-without x r.0 ys (m.keeps r.0 r.1));
 }
 
-struck-rest : (y : ℕ) (ls : List (List ℕ)) (ys : List ℕ) → IsMerge ls (y ∷ ys) → IsMerge (struck y ls) ys
+pub struck-rest : (y : ℕ) (ls : List (List ℕ)) (ys : List ℕ) → IsMerge ls (y ∷ ys) → IsMerge (struck y ls) ys
 struck-rest y ls ys m = let P : List ℕ → Type 0 = λ l. IsMerge (struck y ls) l in subst P (without-head y ys m.distinct.0) (struck-merge y ls (y ∷ ys) m)
 
 unstruck : (x : ℕ) (ls : List (List ℕ)) (z : ℕ) → Holds (flat_map (λ l. l) (struck x ls)) z → Holds (flat_map (λ l. l) ls) z × (z ≡ x → ⊥)
@@ -55,14 +55,14 @@ unstruck x ls z h = from_without x z (flat_map (λ l. l) ls) (let P : List ℕ �
 put-first : (x : ℕ) (ls : List (List ℕ)) (ys : List ℕ) → Free x ls → Holds (flat_map (λ l. l) ls) x → IsMerge (struck x ls) ys → IsMerge ls (x ∷ ys)
 unfolding Free
 put-first x ls ys f h m = record {
-  distinct = (λ k. (unstruck x ls x (m.only x k)).1 refl, m.distinct);
-  only = only;
+  distinct = (λ k. (unstruck x ls x (m.members_only x k)).1 refl, m.distinct);
+  members_only = only;
   keeps = λ l k. keeps l (f l k) (m.keeps (without x l) (Holds-map (without x) ls l k));
 }
   where
     only : (z : ℕ) → Holds (x ∷ ys) z → Holds (flat_map (λ l. l) ls) z
     only z (inl e) = Holds-equal (flat_map (λ l. l) ls) x z e h
-    only z (inr k) = (unstruck x ls z (m.only z k)).0
+    only z (inr k) = (unstruck x ls z (m.members_only z k)).0
 
     keeps : (l : List ℕ) → has (past_first l) x ≡ false → Subsequence (without x l) ys → Subsequence l (x ∷ ys)
     keeps [] e s = tt
@@ -147,14 +147,14 @@ full-some ((x ∷ m) ∷ ls) e = (x, inl refl)
 pub merge-empty : (ls : List (List ℕ)) → are_empty ls ≡ true → IsMerge ls []
 merge-empty ls e = record {
   distinct = tt;
-  only = λ x h. absurd h;
+  members_only = λ x h. absurd h;
   keeps = λ l h. let P : List ℕ → Type 0 = λ w. Subsequence w [] in subst P (empty-each ls e l h) tt;
 }
 
 -- a merge of lists that are empty
 only-empty : (ls : List (List ℕ)) (ys : List ℕ) → are_empty ls ≡ true → IsMerge ls ys → [] ≡ ys
 only-empty ls [] e m = refl
-only-empty ls (y ∷ ys) e m = absurd (let P : List ℕ → Type 0 = λ l. Holds l y in subst P (sym (empty-flat ls e)) (m.only y (inl refl)))
+only-empty ls (y ∷ ys) e m = absurd (let P : List ℕ → Type 0 = λ l. Holds l y in subst P (sym (empty-flat ls e)) (m.members_only y (inl refl)))
 
 -- a merge of lists that are not all empty
 not-nil : (ls : List (List ℕ)) → are_empty ls ≡ false → IsMerge ls [] → ⊥
@@ -251,7 +251,7 @@ merge-none (suc n) ls ys few e m = go (are_empty ls) refl e (λ x. merge-none n 
   where
     none_at : (ys : List ℕ) → are_empty ls ≡ false → first_free ls ls ≡ None → IsMerge ls ys → ⊥
     none_at [] t f m = not-nil ls t m
-    none_at (y ∷ ys) t f m = stuck ls ls y (λ l h. h) (first-free ls y ys m) (m.only y (inl refl)) f
+    none_at (y ∷ ys) t f m = stuck ls ls y (λ l h. h) (first-free ls y ys m) (m.members_only y (inl refl)) f
 
     fewer : (x : ℕ) → Holds (flat_map (λ l. l) ls) x → length (flat_map (λ l. l) (struck x ls)) ≤ n
     fewer x h = let a = ap length (flat-struck x ls) in let b = length-without x (flat_map (λ l. l) ls) h in omega (arith, a, b)

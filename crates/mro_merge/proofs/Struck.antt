@@ -49,7 +49,7 @@ struck-back x [] m h = absurd h
 struck-back x (l ∷ ls) m (inl e) = (l, inl refl, e)
 struck-back x (l ∷ ls) m (inr h) = let r = struck-back x ls m h in (r.0, inr r.1, r.2)
 
-same_tests : (a b : Bool) → (a ≡ true → b ≡ true) → (b ≡ true → a ≡ true) → a ≡ b
+pub same_tests : (a b : Bool) → (a ≡ true → b ≡ true) → (b ≡ true → a ≡ true) → a ≡ b
 same_tests true b f g = sym (f refl)
 same_tests false true f g = g refl
 same_tests false false f g = refl

@@ -16,7 +16,10 @@ WithMemory (Err OutOfMemory) P = Unit {0}
 -- said where it was refused
 abbrev pub OnRefusal : {T : Type 0} → Result T MroFault → Type 0 → Type 0
 OnRefusal (Ok x) P = Unit {0}
-OnRefusal (Err fault) P = WithMemory (Err fault) P
+OnRefusal (Err (DuplicateBase b)) P = P
+OnRefusal (Err LocalPrecedence) P = P
+OnRefusal (Err MroConflict) P = P
+OnRefusal (Err OutOfMemory) P = Unit {0}
 
 -- an order's fault tells the cause
 abbrev pub Tells : MroFault → Cause → Type 0

@@ -21,7 +21,7 @@ fn breaks_precedence(lists: &[Vec<PyTypeRef>]) -> bool
     ensures { result ≡ breaks_precedence (heads (rows lists.now)) (rows lists.now) }
 {
     for i in 0..lists.len() {
-        if !lists[i].is_empty() && stands_past(&lists[i + 1..], lists[i][0]) {
+        if stands_past(&lists[i + 1..], lists[i][0]) {
             return true;
         }
     }
@@ -40,6 +40,7 @@ fn first_repeat(bases: &[PyTypeRef]) -> Option<PyTypeRef>
     None
 }
 
+#[tactic(auto, using(crate::proofs::Linearised::same_ranks))]
 /// The merge of some lists: a list without repeats that has just their members, in the order of each
 /// list and of the lists' heads, and of all such lists the one whose ranks are the least. A member's
 /// rank is the place of the first list that holds it. Where a head stands past the head of a later
