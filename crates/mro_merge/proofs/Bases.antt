@@ -1,8 +1,7 @@
 -- The lists of a class's bases: their heads are the bases.
-use Rattle.std.proofs.Common.{◌≡◌, ℕ, ◌<◌, List, [], ◌∷◌, ◌++◌, length, get_or, Some, None, inl, inr, refl, sym, ap, subst, ◌∙◌, arith}
-use Rattle.std.specs.Prelude.{Bool, ◌||◌, option_map, zero, suc}
-use Rattle.class_model.specs.Order.{unique, without, least_order, Holds, Distinct, BeginsWith}
-use Rattle.class_model.specs.Change.{stands_past, breaks_precedence}
+use Rattle.std.proofs.Common.{◌≡◌, ℕ, List, [], ◌∷◌, ◌++◌, inl, inr, refl, sym, ap, subst, ◌∙◌}
+use Rattle.std.specs.Prelude.{option_map}
+use Rattle.class_model.specs.Order.{unique, without, Holds, Distinct, BeginsWith}
 use Rattle.mro_merge.specs.Merge.{heads, with_heads, IsLeastMerge, HasNoMerge, AreLines, AreLinesOf, IsRest, HasNoOrder}
 use Rattle.mro_merge.specs.Steps.{merged}
 use Rattle.mro_merge.proofs.Struck.{without-none}

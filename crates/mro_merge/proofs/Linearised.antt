@@ -1,13 +1,13 @@
 -- What is merged is the least merge, and merges with the same ranks are the same.
-use Rattle.std.proofs.Common.{◌≡◌, ℕ, suc, ◌≤◌, Bool, true, false, cond, List, [], ◌∷◌, length, Option, Some, None, inl, inr, refl, sym, ap, subst, ◌∙◌, arith}
-use Rattle.std.proofs.lemmas.Bool.{both_ways, cases_Bool, false≢true}
+use Rattle.std.proofs.Common.{◌≡◌, ℕ, suc, Bool, true, false, cond, List, [], ◌∷◌, length, Option, Some, None, inl, inr, refl, sym, ap, subst, ◌∙◌, arith}
+use Rattle.std.proofs.lemmas.Bool.{both_ways, cases_Bool}
 use Rattle.class_model.specs.Order.{has, rank, ranks, is_lexicographic, Holds}
 use Rattle.class_model.specs.Class.{past_first}
 use Rattle.class_model.proofs.Held.{Holds-equal, Holds-sides}
 use Rattle.class_model.proofs.Tests.{Decides-has}
 use Rattle.class_model.proofs.Lexicographic.{other_way}
 use Rattle.mro_merge.specs.Merge.{members, IsMerge, IsLeastMerge, HasNoMerge, DifferByRanks}
-use Rattle.mro_merge.specs.Steps.{struck, merge, merged}
+use Rattle.mro_merge.specs.Steps.{struck, merged}
 use Rattle.mro_merge.proofs.Struck.{ranks-struck}
 use Rattle.mro_merge.proofs.Merged.{Free, first-free, struck-rest, merge-sound, merge-best, merge-none}
 
@@ -59,16 +59,16 @@ head-of (z ∷ l) x y f g a b = let p = (Decides-has (z ∷ l) x).0 a in let q =
 free-same : (ls : List (List ℕ)) (x y : ℕ) → Free x ls → Free y ls → Holds (members ls) x → rank ls x ≡ rank ls y → x ≡ y
 unfolding Free
 free-same [] x y f g h e = absurd h
-free-same (l ∷ ls) x y f g h e = go (has l x) refl (has l y) refl e
+free-same (l ∷ ls) x y f g h e = go (has l x) refl (has l y) refl e (free-same ls x y (λ m i. f m (inr i)) (λ m i. g m (inr i)))
   where
-    go : (a : Bool) → has l x ≡ a → (b : Bool) → has l y ≡ b → cond a 0 (suc (rank ls x)) ≡ cond b 0 (suc (rank ls y)) → x ≡ y
-    go true p true q k = head-of l x y (f l (inl refl)) (g l (inl refl)) p q
-    go true p false q k = cc
-    go false p true q k = cc
-    go false p false q k =
+    go : (a : Bool) → has l x ≡ a → (b : Bool) → has l y ≡ b → cond a 0 (suc (rank ls x)) ≡ cond b 0 (suc (rank ls y)) → (Holds (members ls) x → rank ls x ≡ rank ls y → x ≡ y) → x ≡ y
+    go true p true q k more = head-of l x y (f l (inl refl)) (g l (inl refl)) p q
+    go true p false q k more = cc
+    go false p true q k more = cc
+    go false p false q k more =
         elim (Holds-sides l (members ls) x h) [
           | inl a ↦ absurd (both_ways _ p ((Decides-has l x).1 a))
-          | inr b ↦ free-same ls x y (λ m i. f m (inr i)) (λ m i. g m (inr i)) b cc
+          | inr b ↦ more b cc
         ]
 
 pub same_ranks : (ls : List (List ℕ)) → DifferByRanks ls

@@ -1,5 +1,5 @@
 -- Where a base stands twice, or past the head of a later base's line, no class has an order.
-use Rattle.std.proofs.Common.{◌≡◌, ℕ, true, List, [], ◌∷◌, Option, Some, None, inl, inr, refl, sym, ap, subst, ◌∙◌}
+use Rattle.std.proofs.Common.{◌≡◌, ℕ, true, List, [], ◌∷◌, Option, Some, None, inl, inr, refl, sym, subst}
 use Rattle.std.proofs.lemmas.Bool.{or_cases}
 use Rattle.class_model.specs.Order.{has, least_order, Holds, Distinct, Subsequence, BeginsWith, IsOrder}
 use Rattle.class_model.specs.Class.{past_first}

@@ -1,8 +1,8 @@
 -- The base that stands twice.
-use Rattle.std.proofs.Common.{◌≡◌, ℕ, Bool, true, false, cond, List, [], ◌∷◌, ◌++◌, Option, Some, None, inl, inr, refl, sym, ap, subst, ◌∙◌, append_assoc, append-nil}
+use Rattle.std.proofs.Common.{◌≡◌, ℕ, Bool, true, false, cond, List, [], ◌∷◌, ◌++◌, Some, None, inl, inr, refl, sym, ap, subst, ◌∙◌, append_assoc, append-nil}
 use Rattle.std.proofs.lemmas.Bool.{both_ways, false_from_ne_true}
 use Rattle.class_model.specs.Order.{has, Holds, Distinct}
-use Rattle.class_model.proofs.Held.{Holds-left, Holds-right, Holds-sides}
+use Rattle.class_model.proofs.Held.{Holds-right, Holds-sides}
 use Rattle.class_model.proofs.Tests.{Decides-has}
 use Rattle.mro_merge.specs.Merge.{IsFirstRepeat}
 use Rattle.mro_merge.specs.Steps.{repeat_past}

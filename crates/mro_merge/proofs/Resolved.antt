@@ -1,8 +1,7 @@
 -- What the merge of the bases' linearisations answers, of the bases.
-use Rattle.std.proofs.Common.{◌≡◌, ℕ, true, false, cond, List, Result, Ok, Err, refl, sym, ap, ◌∙◌}
+use Rattle.std.proofs.Common.{◌≡◌, ℕ, cond, List, Result, Ok, Err, refl, sym, ap, ◌∙◌}
 use Rattle.std.specs.Prelude.{◌↔◌, IfOk, IfErr, IsTrue}
 use Rattle.std.specs.Global.{Vec}
-use Rattle.py_node.specs.declared.raised.Cause.{Cause}
 use Rattle.py_node.specs.declared.raised.Cause.TheVariants as causes
 use Rattle.py_node.specs.declared.refs.PyTypeRef.{PyTypeRef}
 use Rattle.class_model.specs.Order.{Distinct}

@@ -5,7 +5,7 @@ ghost use Rattle.class_model.specs.Order.{has, without, unique};
 ghost use Rattle.class_model.specs.Class.{past_first};
 ghost use Rattle.class_model.specs.Change.{stands_past};
 ghost use Rattle.mro_merge.specs.Lists.{numbers, number_of, rows};
-ghost use Rattle.mro_merge.specs.Merge.{heads};
+ghost use Rattle.mro_merge.specs.Merge.{heads, AreLines};
 ghost use Rattle.mro_merge.specs.Steps.{first_free, are_empty, struck, merged};
 
 use py_node::memory::OutOfMemory;
@@ -81,12 +81,14 @@ fn remove(list: &mut Vec<PyTypeRef>, class: PyTypeRef)
 
 // The lists' heads, each once.
 pub(crate) fn heads(alloc: Global, lists: &[Vec<PyTypeRef>]) -> Result<Vec<PyTypeRef>, OutOfMemory>
+    requires { AreLines (rows lists.now) }
     ensures { IfOk result (λ v. numbers v.items ≡ unique (heads (rows lists.now))) }
 {
     let mut found = Vec::new(alloc);
     for list in lists {
-        if !list.is_empty() && !has(&found, list[0]) {
-            found.push(list[0])?;
+        let head = list[0];
+        if !has(&found, head) {
+            found.push(head)?;
         }
     }
     Ok(found)

@@ -1,4 +1,4 @@
-use Rattle.std.proofs.Common.{◌≡◌, ℕ, refl, sym, ap, subst, ◌∙◌}
+use Rattle.std.proofs.Common.{◌≡◌, sym, subst, ◌∙◌}
 use Rattle.py_node.specs.declared.refs.PyTypeRef.{PyTypeRef}
 use Rattle.mro_merge.specs.Lists.{numbers, rows}
 use Rattle.mro_merge.specs.Merge.{IsFirstRepeat}
@@ -14,8 +14,7 @@ linearise_mro-requires c = record { lines = lines-bases (numbers c.args.bases.no
 
 pub returns-in-Some-clause-duplicate : goal.returns-in-Some-clause-duplicate
 returns-in-Some-clause-duplicate c = λ b.
-    let first = first-repeat (numbers c.args.bases.now) c.in-Some.base.0 (sym c.in-Some.ensures) in
-    (
+    let first = first-repeat (numbers c.args.bases.now) c.in-Some.base.0 (sym c.in-Some.ensures) in (
       λ e. let s : c.in-Some.base ≡ b = cc in let P : PyTypeRef → Type 0 = λ k. IsFirstRepeat (numbers c.args.bases.now) k.0 in subst P s first,
       λ k. let e = c.in-Some.ensures ∙ repeat-first (numbers c.args.bases.now) b.0 k in let n : c.in-Some.base.0 ≡ b.0 = cc in let s = same-class c.in-Some.base b n in cc,
     )
