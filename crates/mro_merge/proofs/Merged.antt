@@ -22,7 +22,7 @@ free-from x [] e l h = absurd h
 free-from x (m ∷ ls) e l (inl i) = let p = or_parts _ _ e in ap (λ w. has (past_first w) x) (sym i) ∙ p.0
 free-from x (m ∷ ls) e l (inr h) = let p = or_parts _ _ e in free-from x ls p.1 l h
 
-free-to : (x : ℕ) (ls : List (List ℕ)) → Free x ls → stands_past x ls ≡ false
+pub free-to : (x : ℕ) (ls : List (List ℕ)) → Free x ls → stands_past x ls ≡ false
 unfolding Free
 free-to x [] f = refl
 free-to x (l ∷ ls) f = or_from _ _ (f l (inl refl)) (free-to x ls (λ m h. f m (inr h)))

@@ -4,12 +4,13 @@ use Rattle.std.specs.Prelude.{option_map}
 use Rattle.std.specs.List.{flat_map}
 use Rattle.std.proofs.lemmas.Bool.{both_ways}
 use Rattle.class_model.specs.Order.{ranks, least_order, Holds}
+use Rattle.class_model.specs.Change.{stands_past}
 use Rattle.mro_merge.specs.Steps.{first_free, are_empty, struck, after, merge, merged}
 use Rattle.class_model.proofs.Held.{length-without}
 use Rattle.mro_merge.proofs.Struck.{flat-struck}
 use Rattle.class_model.proofs.Lexicographic.{other_way}
 use Rattle.mro_merge.proofs.LeastMerge.{least_order-merge}
-use Rattle.mro_merge.proofs.Merged.{merge-sound, merge-best, merge-none, first-some}
+use Rattle.mro_merge.proofs.Merged.{merge-sound, merge-best, merge-none, first-some, free-to}
 
 -- steps that are not needed change nothing
 pub merge-fuel : (n m : ℕ) (ls : List (List ℕ)) → length (flat_map (λ l. l) ls) ≤ n → length (flat_map (λ l. l) ls) ≤ m → merge n ls ≡ merge m ls
@@ -34,6 +35,9 @@ merged-empty ls e = go (length (flat_map (λ l. l) ls))
 
 pub struck-fewer : (x : ℕ) (ls : List (List ℕ)) → first_free ls ls ≡ Some x → length (flat_map (λ l. l) (struck x ls)) < length (flat_map (λ l. l) ls)
 struck-fewer x ls f = let h = (first-some ls ls x f).1 in let a = ap length (flat-struck x ls) in let b = length-without x (flat_map (λ l. l) ls) h in omega (arith, a, b)
+
+pub first-past : (x : ℕ) (ls : List (List ℕ)) → first_free ls ls ≡ Some x → stands_past x ls ≡ false
+first-past x ls f = free-to x ls (first-some ls ls x f).0
 
 pub merged-step : (ls : List (List ℕ)) (x : ℕ) → are_empty ls ≡ false → first_free ls ls ≡ Some x → merged ls ≡ option_map (λ xs. x ∷ xs) (merged (struck x ls))
 unfolding merged merge

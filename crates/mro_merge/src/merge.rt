@@ -1,6 +1,6 @@
 // The merge, a member at a time.
 
-ghost use Rattle.std.specs.Prelude.{ℕ, ◌≡◌, IfOk, option_map};
+ghost use Rattle.std.specs.Prelude.{ℕ, ◌≡◌, false, IfOk, option_map};
 ghost use Rattle.class_model.specs.Order.{has, without, unique};
 ghost use Rattle.class_model.specs.Class.{past_first};
 ghost use Rattle.class_model.specs.Change.{stands_past};
@@ -65,18 +65,23 @@ fn first_free(lists: &[Vec<PyTypeRef>]) -> Option<PyTypeRef>
     None
 }
 
+// Takes a class, which stands past no head, off the lists that it heads.
 fn strike(lists: &mut Vec<Vec<PyTypeRef>>, class: PyTypeRef)
+    requires { stands_past class.0 (rows lists.old.items) ≡ false }
     ensures { rows lists.new.items ≡ struck class.0 (rows lists.old.items) }
 {
     for i in 0..lists.len() {
-        remove(&mut lists[i], class);
+        behead(&mut lists[i], class);
     }
 }
 
-fn remove(list: &mut Vec<PyTypeRef>, class: PyTypeRef)
+fn behead(list: &mut Vec<PyTypeRef>, class: PyTypeRef)
+    requires { has (past_first (numbers list.old.items)) class.0 ≡ false }
     ensures { numbers list.new.items ≡ without class.0 (numbers list.old.items) }
 {
-    list.retain(|other| other.0 != class.0);
+    if !list.is_empty() && list[0].0 == class.0 {
+        list.remove(0);
+    }
 }
 
 // The lists' heads, each once.

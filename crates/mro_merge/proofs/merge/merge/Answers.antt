@@ -3,7 +3,7 @@ use Rattle.std.specs.Prelude.{option_map}
 use Rattle.std.specs.Global.{Vec}
 use Rattle.std.proofs.lemmas.List.{map-append}
 use Rattle.mro_merge.specs.Steps.{are_empty, first_free, struck, merged}
-use Rattle.mro_merge.proofs.Steps.{merged-empty, merged-stuck, merged-step, struck-fewer}
+use Rattle.mro_merge.proofs.Steps.{first-past, merged-empty, merged-stuck, merged-step, struck-fewer}
 use Rattle.py_node.specs.declared.refs.PyTypeRef.{PyTypeRef}
 use Rattle.mro_merge.specs.Lists.{numbers, rows}
 use Rattle.mro_merge.proofs.Mapped.{put_before}
@@ -38,3 +38,8 @@ pub returns : goal.returns
 returns c =
     let empty = ap (λ (zs : List (Vec PyTypeRef)). are_empty (rows zs)) (sym c.deref.ensures.value) ∙ sym c.are_empty.ensures ∙ c.loop-lists-test.false in
     sym (c.loop-lists.invariant ∙ ap (option_map (λ xs. numbers c.loop-lists.line.items ++ xs)) (merged-empty (rows c.loop-lists.lists.items) empty) ∙ ap Some (append-nil (numbers c.loop-lists.line.items)))
+
+pub strike-requires : goal.strike-requires
+strike-requires c =
+    let some = sym (c.in-Some.ensures ∙ head_at _ _ c.deref-in-loop-lists.ensures.value) in
+    first-past c.in-Some.next.0 (rows c.loop-lists.lists.items) some
