@@ -1,8 +1,9 @@
 -- The lists of a class's bases: their heads are the bases.
-use Rattle.std.proofs.Common.{◌≡◌, ℕ, List, [], ◌∷◌, ◌++◌, inl, inr, refl, sym, ap, subst, ◌∙◌}
+use Rattle.std.proofs.Common.{◌≡◌, ℕ, List, [], ◌∷◌, ◌++◌, Some, None, inl, inr, refl, sym, ap, subst, ◌∙◌}
 use Rattle.std.specs.Prelude.{option_map}
-use Rattle.class_model.specs.Order.{unique, without, Holds, Distinct, BeginsWith}
-use Rattle.mro_merge.specs.Merge.{heads, with_heads, IsLeastMerge, HasNoMerge, AreLines, AreLinesOf, IsRest, HasNoOrder}
+use Rattle.class_model.specs.Order.{unique, without, least_order, Holds, Distinct, BeginsWith}
+use Rattle.class_model.proofs.Arranged.{least_order-least, least_order-none}
+use Rattle.mro_merge.specs.Merge.{IsApart, heads, with_heads, IsLeastMerge, HasNoMerge, AreLines, AreLinesOf, IsRest, HasNoOrder}
 use Rattle.mro_merge.specs.Steps.{merged}
 use Rattle.mro_merge.proofs.Struck.{without-none}
 use Rattle.mro_merge.proofs.Steps.{least_order-merged}
@@ -40,11 +41,17 @@ with_heads-bases : (bs : List ℕ) (ls : List (List ℕ)) → AreLinesOf bs ls �
 with_heads-bases bs ls h d = ap (λ w. ls ++ w ∷ []) (ap unique (heads-bases bs ls h) ∙ unique-distinct bs d)
 
 pub merge-rest : (bs : List ℕ) (ls : List (List ℕ)) (xs : List ℕ) → AreLinesOf bs ls → Distinct bs → IsLeastMerge (with_heads ls) xs → IsRest bs ls xs
-merge-rest bs ls xs h d m c apart =
-    least_order-merged c bs ls apart (based bs ls h)
-    ∙ ap (option_map (λ xs. c ∷ xs)) (sym (ap merged (with_heads-bases bs ls h d)) ∙ merged-least (with_heads ls) xs m)
+merge-rest bs ls xs h d m = record { computed = computed; least = λ c apart. least_order-least c bs ls (c ∷ xs) (computed c apart) }
+  where
+    computed : (c : ℕ) → IsApart c ls → least_order c bs ls ≡ Some (c ∷ xs)
+    computed c apart =
+        least_order-merged c bs ls apart (based bs ls h)
+        ∙ ap (option_map (λ xs. c ∷ xs)) (sym (ap merged (with_heads-bases bs ls h d)) ∙ merged-least (with_heads ls) xs m)
 
 pub conflict-none : (bs : List ℕ) (ls : List (List ℕ)) → AreLinesOf bs ls → Distinct bs → HasNoMerge (with_heads ls) → HasNoOrder bs ls
-conflict-none bs ls h d n c apart =
-    least_order-merged c bs ls apart (based bs ls h)
-    ∙ ap (option_map (λ xs. c ∷ xs)) (sym (ap merged (with_heads-bases bs ls h d)) ∙ merged-none (with_heads ls) n)
+conflict-none bs ls h d n = record { computed = computed; none = λ c apart xs o. least_order-none c bs ls xs (computed c apart) o }
+  where
+    computed : (c : ℕ) → IsApart c ls → least_order c bs ls ≡ None
+    computed c apart =
+        least_order-merged c bs ls apart (based bs ls h)
+        ∙ ap (option_map (λ xs. c ∷ xs)) (sym (ap merged (with_heads-bases bs ls h d)) ∙ merged-none (with_heads ls) n)

@@ -66,8 +66,11 @@ none-of c bs ls n = go (least_order c bs ls) refl
     go None e = refl
     go (Some xs) e = absurd (n xs (least_order-order c bs ls xs e))
 
+no-order : (bs : List ℕ) (ls : List (List ℕ)) → ((c : ℕ) (xs : List ℕ) → IsOrder c bs ls xs → ⊥) → HasNoOrder bs ls
+no-order bs ls n = record { computed = λ c apart. none-of c bs ls (n c); none = λ c apart xs o. n c xs o }
+
 pub repeat-none : (bs : List ℕ) (ls : List (List ℕ)) (b : ℕ) → IsFirstRepeat bs b → HasNoOrder bs ls
-repeat-none bs ls b r c apart = none-of c bs ls (λ xs o. repeat-differs bs b r (Subsequence-distinct bs xs o.keeps_bases o.distinct))
+repeat-none bs ls b r = no-order bs ls (λ c xs o. repeat-differs bs b r (Subsequence-distinct bs xs o.keeps_bases o.distinct))
 
 pub broken-none : (bs : List ℕ) (ls : List (List ℕ)) → AreLinesOf bs ls → breaks_precedence bs ls ≡ true → HasNoOrder bs ls
-broken-none bs ls lines h c apart = none-of c bs ls (λ xs o. broken xs o.distinct bs ls lines h o.keeps_bases o.keeps)
+broken-none bs ls lines h = no-order bs ls (λ c xs o. broken xs o.distinct bs ls lines h o.keeps_bases o.keeps)

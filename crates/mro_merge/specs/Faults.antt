@@ -5,6 +5,9 @@ use Rattle.py_node.specs.declared.raised.Cause.TheVariants as causes
 use Rattle.mro_merge.specs.declared.fault.MroFault.{MroFault}
 use Rattle.mro_merge.specs.declared.fault.MroFault.TheVariants.{DuplicateBase, LocalPrecedence, MroConflict, OutOfMemory}
 
+abbrev pub no_memory : MroFault
+no_memory = OutOfMemory
+
 -- said of every answer but want of memory
 abbrev pub WithMemory : {T : Type 0} → Result T MroFault → Type 0 → Type 0
 WithMemory (Ok x) P = P

@@ -1,7 +1,7 @@
 -- What a merge of linearisations is.
 use Rattle.std.specs.Prelude.{◌≡◌, ℕ, false, List, [], ◌∷◌, ◌++◌, Some, None, IsTrue}
 use Rattle.std.specs.List.{flat_map}
-use Rattle.class_model.specs.Order.{Holds, Distinct, Subsequence, BeginsWith, unique, ranks, is_lexicographic, least_order}
+use Rattle.class_model.specs.Order.{Holds, Distinct, Subsequence, BeginsWith, unique, ranks, is_lexicographic, least_order, IsOrder, IsLeastOrder}
 use Rattle.class_model.specs.Change.{breaks_precedence}
 
 -- all members of some lists
@@ -13,7 +13,7 @@ heads [] = []
 heads ([] ∷ ls) = heads ls
 heads ((x ∷ l) ∷ ls) = x ∷ heads ls
 
--- the lists, and as the last one their heads, each once
+-- the lists, and as the last one their heads, each once (at the end they change no rank)
 abbrev pub with_heads : List (List ℕ) → List (List ℕ)
 with_heads ls = ls ++ unique (heads ls) ∷ []
 
@@ -76,9 +76,11 @@ pub record IsOrderConflict (bases : List ℕ) (lines : List (List ℕ)) : Type 0
   pub conflict : IsConflict lines
 
 -- any class that is in none of the lines has, with these bases, itself and then the list as its least order
-abbrev pub IsRest : List ℕ → List (List ℕ) → List ℕ → Type 0
-IsRest bases lines xs = (c : ℕ) → IsApart c lines → least_order c bases lines ≡ Some (c ∷ xs)
+pub record IsRest (bases : List ℕ) (lines : List (List ℕ)) (xs : List ℕ) : Type 0 where
+  pub computed : (c : ℕ) → IsApart c lines → least_order c bases lines ≡ Some (c ∷ xs)
+  pub least : (c : ℕ) → IsApart c lines → IsLeastOrder c bases lines (c ∷ xs)
 
 -- any such class has no order
-abbrev pub HasNoOrder : List ℕ → List (List ℕ) → Type 0
-HasNoOrder bases lines = (c : ℕ) → IsApart c lines → least_order c bases lines ≡ None
+pub record HasNoOrder (bases : List ℕ) (lines : List (List ℕ)) : Type 0 where
+  pub computed : (c : ℕ) → IsApart c lines → least_order c bases lines ≡ None
+  pub none : (c : ℕ) → IsApart c lines → (xs : List ℕ) → IsOrder c bases lines xs → ⊥

@@ -2,6 +2,7 @@
 
 use py_node::memory::OutOfMemory;
 use py_node::refs::PyTypeRef;
+use std::alloc::AllocFailed;
 use thiserror::Error;
 
 /// Why the bases of a class have no order.
@@ -22,7 +23,23 @@ pub enum MroFault {
 }
 
 impl From<OutOfMemory> for MroFault {
-    fn from(_: OutOfMemory) -> MroFault {
+    ghost use Rattle.std.specs.Prelude.{◌≡◌};
+    ghost use Rattle.mro_merge.specs.Faults.{no_memory};
+
+    ghost from_gives = { λ _ e. e ≡ no_memory };
+
+    fn from(_refused: OutOfMemory) -> MroFault {
+        MroFault::OutOfMemory
+    }
+}
+
+impl<T: Drop> From<AllocFailed<T>> for MroFault {
+    ghost use Rattle.std.specs.Prelude.{◌≡◌};
+    ghost use Rattle.mro_merge.specs.Faults.{no_memory};
+
+    ghost from_gives = { λ _ e. e ≡ no_memory };
+
+    fn from(_refused: AllocFailed<T>) -> MroFault {
         MroFault::OutOfMemory
     }
 }

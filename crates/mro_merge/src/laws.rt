@@ -59,18 +59,11 @@ pub fn linearise_mro(
     if breaks_precedence(&lists) {
         return Err(MroFault::LocalPrecedence);
     }
-    let last = match heads(alloc, &lists) {
-        Ok(last) => last,
-        Err(_) => return Err(MroFault::OutOfMemory),
-    };
-    match lists.push(last) {
-        Ok(()) => {}
-        Err(_) => return Err(MroFault::OutOfMemory),
-    }
-    match merge(alloc, lists) {
-        Ok(Some(line)) => Ok(line),
-        Ok(None) => Err(MroFault::MroConflict),
-        Err(_) => Err(MroFault::OutOfMemory),
+    let last = heads(alloc, &lists)?;
+    lists.push(last)?;
+    match merge(alloc, lists)? {
+        Some(line) => Ok(line),
+        None => Err(MroFault::MroConflict),
     }
 }
 

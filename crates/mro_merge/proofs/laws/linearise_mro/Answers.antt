@@ -20,18 +20,18 @@ conflict-of lists all seen r put is found kept same = record {
   none = none-merge (with_heads (rows lists)) (sym (ap merged put) ∙ sym found ∙ ap (option_map (λ (v : Vec PyTypeRef). numbers v.items)) is);
 }
 
-pub returns-in-Ok-Some-clause-merge : goal.returns-in-Ok-Some-clause-merge
-returns-in-Ok-Some-clause-merge c =
-    let put = rows-heads c.args.lists.items c.push.new.self.items c.deref-2.result.now c.in-Ok.last c.in-Ok-push.ensures.items c.in-Ok.ensures c.deref-2.ensures.value in
-    least-of c.args.lists.items c.push.new.self.items c.in-Ok-Some.line c.in-Ok-Some.field-0 put c.in-Ok-Some.field-0-is c.in-Ok-Some.ensures
+pub returns-in-Some-clause-merge : goal.returns-in-Some-clause-merge
+returns-in-Some-clause-merge c =
+    let put = rows-heads c.args.lists.items c.push.new.self.items c.deref-2.result.now c.in_ok-last.last c.in_ok-push.ensures.items c.in_ok-last.ensures c.deref-2.ensures.value in
+    least-of c.args.lists.items c.push.new.self.items c.in-Some.line c.in_ok-line.field-0 put c.in-Some.is c.in_ok-line.ensures
 
-pub returns-in-Ok-Some-clause-conflict : goal.returns-in-Ok-Some-clause-conflict
-returns-in-Ok-Some-clause-conflict c =
-    let put = rows-heads c.args.lists.items c.push.new.self.items c.deref-2.result.now c.in-Ok.last c.in-Ok-push.ensures.items c.in-Ok.ensures c.deref-2.ensures.value in
-    let least = least-of c.args.lists.items c.push.new.self.items c.in-Ok-Some.line c.in-Ok-Some.field-0 put c.in-Ok-Some.field-0-is c.in-Ok-Some.ensures in
-    (λ e. cc, λ k. absurd (k.none (numbers c.in-Ok-Some.line.items) least.merge))
+pub returns-in-Some-clause-conflict : goal.returns-in-Some-clause-conflict
+returns-in-Some-clause-conflict c =
+    let put = rows-heads c.args.lists.items c.push.new.self.items c.deref-2.result.now c.in_ok-last.last c.in_ok-push.ensures.items c.in_ok-last.ensures c.deref-2.ensures.value in
+    let least = least-of c.args.lists.items c.push.new.self.items c.in-Some.line c.in_ok-line.field-0 put c.in-Some.is c.in_ok-line.ensures in
+    (λ e. cc, λ k. absurd (k.none (numbers c.in-Some.line.items) least.merge))
 
-pub returns-in-Ok-None-clause-conflict : goal.returns-in-Ok-None-clause-conflict
-returns-in-Ok-None-clause-conflict c =
-    let put = rows-heads c.args.lists.items c.push.new.self.items c.deref-2.result.now c.in-Ok.last c.in-Ok-push.ensures.items c.in-Ok.ensures c.deref-2.ensures.value in
-    (λ e. conflict-of c.args.lists.items c.push.new.self.items c.deref.result.now c.in-Ok-None.field-0 put c.in-Ok-None.field-0-is c.in-Ok-None.ensures (sym c.breaks_precedence.ensures ∙ c.if-breaks_precedence.false) c.deref.ensures.value, λ k. refl)
+pub returns-in-None-clause-conflict : goal.returns-in-None-clause-conflict
+returns-in-None-clause-conflict c =
+    let put = rows-heads c.args.lists.items c.push.new.self.items c.deref-2.result.now c.in_ok-last.last c.in_ok-push.ensures.items c.in_ok-last.ensures c.deref-2.ensures.value in
+    (λ e. conflict-of c.args.lists.items c.push.new.self.items c.deref.result.now c.in_ok-line.field-0 put c.in-None.is c.in_ok-line.ensures (sym c.breaks_precedence.ensures ∙ c.if-breaks_precedence.false) c.deref.ensures.value, λ k. refl)
