@@ -12,9 +12,6 @@ use Rattle.mro_merge.specs.Merge.{IsMerge}
 use Rattle.mro_merge.proofs.Merged.{merge-sound, merge-best, merge-none}
 
 module _ (c : ℕ) (bs : List ℕ) (ls : List (List ℕ)) (apart : (l : List ℕ) → Holds ls l → Holds l c → ⊥) (based : (b : ℕ) → Holds bs b → (l : List ℕ) × Holds ls l × Holds l b) where
-  lists : List (List ℕ)
-  lists = ls ++ bs ∷ []
-
   all_apart : (l : List ℕ) → Holds (ls ++ bs ∷ []) l → Holds l c → ⊥
   all_apart l h k = elim (Holds-sides ls (bs ∷ []) l h) [
     | inl a ↦ apart l a k

@@ -3,7 +3,8 @@ use Rattle.std.specs.Prelude.{◌≡◌, Result, Ok, Err}
 use Rattle.py_node.specs.declared.raised.Cause.{Cause}
 use Rattle.py_node.specs.declared.raised.Cause.TheVariants as causes
 use Rattle.mro_merge.specs.declared.fault.MroFault.{MroFault}
-use Rattle.mro_merge.specs.declared.fault.MroFault.TheVariants.{DuplicateBase, LocalPrecedence, MroConflict, OutOfMemory}
+use Rattle.mro_merge.specs.declared.fault.MroFault.TheVariants.{DuplicateBase, LocalPrecedence}
+use Rattle.mro_merge.specs.declared.fault.MroFault.TheVariants.{MroConflict, OutOfMemory}
 
 abbrev pub no_memory : MroFault
 no_memory = OutOfMemory

@@ -1,7 +1,8 @@
 -- What a merge of linearisations is.
 use Rattle.std.specs.Prelude.{◌≡◌, ℕ, false, List, [], ◌∷◌, ◌++◌, Some, None, IsTrue}
 use Rattle.std.specs.List.{flat_map}
-use Rattle.class_model.specs.Order.{Holds, Distinct, Subsequence, BeginsWith, unique, ranks, is_lexicographic, least_order, IsOrder, IsLeastOrder}
+use Rattle.class_model.specs.Order.{Holds, Distinct, Subsequence, BeginsWith, unique, ranks, is_lexicographic}
+use Rattle.class_model.specs.Order.{least_order, IsOrder, IsLeastOrder}
 use Rattle.class_model.specs.Change.{breaks_precedence}
 
 -- all members of some lists
@@ -60,7 +61,11 @@ pub record IsFirstRepeat (xs : List ℕ) (x : ℕ) : Type 0 where
   pub distinct : Distinct before
   pub again : Holds before x
 
--- no head stands past the head of a later list, and still the lists have no merge
+-- a head stands past the head of a later list
+abbrev pub AreOutOfOrder : List (List ℕ) → Type 0
+AreOutOfOrder ls = IsTrue (breaks_precedence (heads ls) ls)
+
+-- no head stands so, and still the lists have no merge
 pub record IsConflict (ls : List (List ℕ)) : Type 0 where
   pub kept : breaks_precedence (heads ls) ls ≡ false
   pub none : HasNoMerge (with_heads ls)

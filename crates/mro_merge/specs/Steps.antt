@@ -1,5 +1,6 @@
 -- The merge, a member at a time. No public contract names these.
-use Rattle.std.specs.Prelude.{ℕ, zero, suc, Bool, true, false, not, cond, List, [], ◌∷◌, ◌++◌, map, filter, length, Option, Some, None, option_map}
+use Rattle.std.specs.Prelude.{ℕ, zero, suc, Bool, true, false, not, cond, Option, Some, None, option_map}
+use Rattle.std.specs.Prelude.{List, [], ◌∷◌, ◌++◌, map, filter, length}
 use Rattle.class_model.specs.Order.{has, without}
 use Rattle.class_model.specs.Change.{stands_past}
 use Rattle.mro_merge.specs.Merge.{members}
@@ -35,7 +36,7 @@ merged ls = merge (length (members ls)) ls
 abbrev pub past : List ℕ → List ℕ → List ℕ
 past seen xs = filter (λ x. not (has seen x)) xs
 
--- the first that stands further before it or was seen
+-- the first that was seen, or that stands before its place
 abbrev pub repeat_past : List ℕ → List ℕ → Option ℕ
 repeat_past seen [] = None
 repeat_past seen (x ∷ xs) = cond (has seen x) (Some x) (repeat_past (seen ++ x ∷ []) xs)

@@ -1,14 +1,15 @@
 // The order of classes that several lists allow.
 
-ghost use Rattle.std.specs.Prelude.{◌≡◌, ◌↔◌, [], Err, IfOk, IfErr, IsTrue};
+ghost use Rattle.std.specs.Prelude.{◌≡◌, ◌↔◌, [], Err, IfOk, IfErr};
 ghost use Rattle.py_node.specs.declared.refs.PyTypeRef.{PyTypeRef};
 ghost use Rattle.class_model.specs.Change.{breaks_precedence, order_cause};
 ghost use Rattle.mro_merge.specs.declared.fault.MroFault.TheVariants.{DuplicateBase, LocalPrecedence, MroConflict};
 ghost use Rattle.mro_merge.specs.Lists.{numbers, number_of, rows};
 ghost use Rattle.mro_merge.specs.Faults.{WithMemory, OnRefusal, Tells};
 ghost use Rattle.mro_merge.specs.Steps.{repeat_past};
-ghost use Rattle.mro_merge.specs.Merge.{heads, with_heads, IsLeastMerge, IsConflict, DifferByRanks, AreLines};
-ghost use Rattle.mro_merge.specs.Merge.{AreLinesOf, IsFirstRepeat, IsBrokenPrecedence, IsOrderConflict, IsRest, HasNoOrder};
+ghost use Rattle.mro_merge.specs.Merge.{heads, with_heads, AreLines, IsLeastMerge, DifferByRanks, AreOutOfOrder, IsConflict};
+ghost use Rattle.mro_merge.specs.Merge.{AreLinesOf, IsFirstRepeat, IsBrokenPrecedence, IsOrderConflict};
+ghost use Rattle.mro_merge.specs.Merge.{IsRest, HasNoOrder};
 
 use crate::fault::MroFault;
 use crate::merge::{has, heads, merge, stands_past};
@@ -40,11 +41,11 @@ fn first_repeat(bases: &[PyTypeRef]) -> Option<PyTypeRef>
     None
 }
 
-#[tactic(auto, using(crate::proofs::Linearised::same_ranks))]
 /// The merge of some lists: a list without repeats that has just their members, in the order of each
 /// list and of the lists' heads, and of all such lists the one whose ranks are the least. A member's
 /// rank is the place of the first list that holds it. Where a head stands past the head of a later
 /// list, or there is no such list, it is refused.
+#[tactic(auto, using(crate::proofs::Linearised::same_ranks))]
 pub fn linearise_mro(
     alloc: Global,
     mut lists: Vec<Vec<PyTypeRef>>,
@@ -52,7 +53,7 @@ pub fn linearise_mro(
     requires lines { AreLines (rows lists.items) }
     ensures merge { IfOk result (λ line. IsLeastMerge (with_heads (rows lists.items)) (numbers line.items)) }
     ensures unique { DifferByRanks (with_heads (rows lists.items)) }
-    ensures precedence { (result ≡ Err LocalPrecedence) ↔ IsTrue (breaks_precedence (heads (rows lists.items)) (rows lists.items)) }
+    ensures precedence { (result ≡ Err LocalPrecedence) ↔ AreOutOfOrder (rows lists.items) }
     ensures conflict { WithMemory result ((result ≡ Err MroConflict) ↔ IsConflict (rows lists.items)) }
     ensures duplicate { (b : PyTypeRef) → (result ≡ Err (DuplicateBase b)) → ⊥ }
 {

@@ -1,6 +1,6 @@
 // The merge, a member at a time.
 
-ghost use Rattle.std.specs.Prelude.{ℕ, ◌≡◌, false, IfOk, option_map};
+ghost use Rattle.std.specs.Prelude.{◌≡◌, false, IfOk, option_map};
 ghost use Rattle.class_model.specs.Order.{has, without, unique};
 ghost use Rattle.class_model.specs.Class.{past_first};
 ghost use Rattle.class_model.specs.Change.{stands_past};
