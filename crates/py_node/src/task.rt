@@ -1,7 +1,10 @@
 // Tasks, what they answer, and the steps of their rows.
 
+ghost use Rattle.std.specs.Prelude.{◌≡◌, Err};
+ghost use Rattle.py_node.specs.Faults.{raised};
+
 use crate::entry::{IntNative, ObjectNative, SlotEntry, TypeNative};
-use crate::raised::Raised;
+use crate::raised::{Cause, Raised};
 use crate::refs::{PyObjectRef, PyStrInterned, PyTypeRef};
 
 /// A binary operator of numbers.
@@ -166,4 +169,13 @@ pub enum LaterTask {
 pub enum Step<K> {
     Ask(Task, K),
     End(Result<Answer, Raised>),
+}
+
+impl<K> Step<K> {
+    /// The row ends with a fault of a cause.
+    pub fn raise(cause: Cause) -> Step<K>
+        ensures { result ≡ Step.End (Err (raised cause)) }
+    {
+        Step::End(Err(Raised::new(cause)))
+    }
 }
