@@ -4,3 +4,4 @@ pub mod Texts
 pub mod KnownNames
 pub mod SlotTables
 pub mod Operators
+pub mod Faults

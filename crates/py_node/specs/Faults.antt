@@ -1,123 +1,42 @@
--- The words for kinds and causes of faults.
-use Rattle.std.specs.Prelude.{ℕ, List, codes}
+-- The kinds and causes of faults, with their words, as their tables have them.
+use Rattle.std.specs.Prelude.{ℕ, List, [], map, slice_index_or}
+use denote.Enum.Declared.{tag_of}
+use Rattle.py_node.specs.contracts.raised.Kind.{the_type as kinds}
+use Rattle.py_node.specs.contracts.raised.Cause.{the_type as causes}
 use Rattle.py_node.specs.declared.raised.Kind.{Kind}
-use Rattle.py_node.specs.declared.raised.Kind.TheVariants.{TypeError, AttributeError, OverflowError, ZeroDivisionError, ValueError, KeyError, IndexError, StopIteration, NotImplementedError, NameError, RuntimeError, RecursionError}
+use Rattle.py_node.specs.declared.raised.Kind.TheVariants.{TypeError}
 use Rattle.py_node.specs.declared.raised.Cause.{Cause}
-use Rattle.py_node.specs.declared.raised.Cause.TheVariants.{DuplicateBase, LocalPrecedence, MroConflict, MetaclassConflict, NotBaseType, LayoutConflict, InheritanceCycle, ImmutableType, EmptyBases, LayoutDiffers, BasesShape, CannotDelete, NotAClass, NotCallable, ArgCount, UnexpectedKeyword, RepeatedKeyword, SelfType, TypeArgs, TypeArgTypes, BasesNotTypes, MroEntries, NamespaceKey, SlotsType, QualnameType, NameType, CannotCreate, UnsafeNew, NewSubtype, AbstractMethods, InitNotNone, NeedsType, MemberClass, MemberBool, DictType, SuperArg, SuperNoClass, SuperCheckFailed, UnsupportedOperand, UnsupportedUnary, NotConcatenable, NotRepeatable, ConcatType, NotIndex, IndexReturn, IntReturn, TruncReturn, NotInt, BoolType, NotIterable, NotIterator, NoLength, LengthType, NotSubscriptable, NoItemAssignment, NoItemDeletion, Unsliceable, KeyType, ContainsType, Unhashable, HashType, ReprType, StrType, FormatType, FormatSpec, ClassArg, NonIterableMethod, NotMapping, NotSequence, NoAttribute, NoSpecial, NoGetter, NoSetter, NoDeleter, EmptyMember, NoDict, ReadOnly, IntRange, IndexRange, TooLong, RepeatTooLong, ZeroDivisor, NullInName, NegativeLength, NegativeExponent, NegativeShift, IntLiteral, NotFound, MissingKey, IndexOut, IterEnd, ClassDict, Unbound, NoBody, NoArguments, SetNameCalled, DepthLimit, NotYet, Body}
+use Rattle.py_node.specs.declared.raised.Raised.{Raised}
+use Rattle.py_node.specs.declared.raised.TheConstants.{KINDS, CAUSES}
+
+unfoldable pub kind_words : List (List ℕ)
+kind_words = map (λ r. r.1.now) KINDS
+
+abbrev pub kind_place : Kind → ℕ
+kind_place = tag_of kinds
 
 -- the word for a kind
-unfoldable pub kind_word : Kind → List ℕ
-kind_word TypeError = codes "TypeError"
-kind_word AttributeError = codes "AttributeError"
-kind_word OverflowError = codes "OverflowError"
-kind_word ZeroDivisionError = codes "ZeroDivisionError"
-kind_word ValueError = codes "ValueError"
-kind_word KeyError = codes "KeyError"
-kind_word IndexError = codes "IndexError"
-kind_word StopIteration = codes "StopIteration"
-kind_word NotImplementedError = codes "NotImplementedError"
-kind_word NameError = codes "NameError"
-kind_word RuntimeError = codes "RuntimeError"
-kind_word RecursionError = codes "RecursionError"
+abbrev pub kind_word : Kind → List ℕ
+kind_word k = slice_index_or kind_words (kind_place k) []
+
+-- the word for each cause, and the kind of its faults
+unfoldable pub cause_rows : List (List ℕ × Kind)
+cause_rows = map (λ r. (r.1.now, r.2)) CAUSES
+
+abbrev pub cause_place : Cause → ℕ
+cause_place = tag_of causes
+
+abbrev pub cause_row_of : Cause → List ℕ × Kind
+cause_row_of c = slice_index_or cause_rows (cause_place c) ([], TypeError)
 
 -- the word for a cause
-unfoldable pub cause_word : Cause → List ℕ
-cause_word DuplicateBase = codes "DuplicateBase"
-cause_word LocalPrecedence = codes "LocalPrecedence"
-cause_word MroConflict = codes "MroConflict"
-cause_word MetaclassConflict = codes "MetaclassConflict"
-cause_word NotBaseType = codes "NotBaseType"
-cause_word LayoutConflict = codes "LayoutConflict"
-cause_word InheritanceCycle = codes "InheritanceCycle"
-cause_word ImmutableType = codes "ImmutableType"
-cause_word EmptyBases = codes "EmptyBases"
-cause_word LayoutDiffers = codes "LayoutDiffers"
-cause_word BasesShape = codes "BasesShape"
-cause_word CannotDelete = codes "CannotDelete"
-cause_word NotAClass = codes "NotAClass"
-cause_word NotCallable = codes "NotCallable"
-cause_word ArgCount = codes "ArgCount"
-cause_word UnexpectedKeyword = codes "UnexpectedKeyword"
-cause_word RepeatedKeyword = codes "RepeatedKeyword"
-cause_word SelfType = codes "SelfType"
-cause_word TypeArgs = codes "TypeArgs"
-cause_word TypeArgTypes = codes "TypeArgTypes"
-cause_word BasesNotTypes = codes "BasesNotTypes"
-cause_word MroEntries = codes "MroEntries"
-cause_word NamespaceKey = codes "NamespaceKey"
-cause_word SlotsType = codes "SlotsType"
-cause_word QualnameType = codes "QualnameType"
-cause_word NameType = codes "NameType"
-cause_word CannotCreate = codes "CannotCreate"
-cause_word UnsafeNew = codes "UnsafeNew"
-cause_word NewSubtype = codes "NewSubtype"
-cause_word AbstractMethods = codes "AbstractMethods"
-cause_word InitNotNone = codes "InitNotNone"
-cause_word NeedsType = codes "NeedsType"
-cause_word MemberClass = codes "MemberClass"
-cause_word MemberBool = codes "MemberBool"
-cause_word DictType = codes "DictType"
-cause_word SuperArg = codes "SuperArg"
-cause_word SuperNoClass = codes "SuperNoClass"
-cause_word SuperCheckFailed = codes "SuperCheckFailed"
-cause_word UnsupportedOperand = codes "UnsupportedOperand"
-cause_word UnsupportedUnary = codes "UnsupportedUnary"
-cause_word NotConcatenable = codes "NotConcatenable"
-cause_word NotRepeatable = codes "NotRepeatable"
-cause_word ConcatType = codes "ConcatType"
-cause_word NotIndex = codes "NotIndex"
-cause_word IndexReturn = codes "IndexReturn"
-cause_word IntReturn = codes "IntReturn"
-cause_word TruncReturn = codes "TruncReturn"
-cause_word NotInt = codes "NotInt"
-cause_word BoolType = codes "BoolType"
-cause_word NotIterable = codes "NotIterable"
-cause_word NotIterator = codes "NotIterator"
-cause_word NoLength = codes "NoLength"
-cause_word LengthType = codes "LengthType"
-cause_word NotSubscriptable = codes "NotSubscriptable"
-cause_word NoItemAssignment = codes "NoItemAssignment"
-cause_word NoItemDeletion = codes "NoItemDeletion"
-cause_word Unsliceable = codes "Unsliceable"
-cause_word KeyType = codes "KeyType"
-cause_word ContainsType = codes "ContainsType"
-cause_word Unhashable = codes "Unhashable"
-cause_word HashType = codes "HashType"
-cause_word ReprType = codes "ReprType"
-cause_word StrType = codes "StrType"
-cause_word FormatType = codes "FormatType"
-cause_word FormatSpec = codes "FormatSpec"
-cause_word ClassArg = codes "ClassArg"
-cause_word NonIterableMethod = codes "NonIterableMethod"
-cause_word NotMapping = codes "NotMapping"
-cause_word NotSequence = codes "NotSequence"
-cause_word NoAttribute = codes "NoAttribute"
-cause_word NoSpecial = codes "NoSpecial"
-cause_word NoGetter = codes "NoGetter"
-cause_word NoSetter = codes "NoSetter"
-cause_word NoDeleter = codes "NoDeleter"
-cause_word EmptyMember = codes "EmptyMember"
-cause_word NoDict = codes "NoDict"
-cause_word ReadOnly = codes "ReadOnly"
-cause_word IntRange = codes "IntRange"
-cause_word IndexRange = codes "IndexRange"
-cause_word TooLong = codes "TooLong"
-cause_word RepeatTooLong = codes "RepeatTooLong"
-cause_word ZeroDivisor = codes "ZeroDivisor"
-cause_word NullInName = codes "NullInName"
-cause_word NegativeLength = codes "NegativeLength"
-cause_word NegativeExponent = codes "NegativeExponent"
-cause_word NegativeShift = codes "NegativeShift"
-cause_word IntLiteral = codes "IntLiteral"
-cause_word NotFound = codes "NotFound"
-cause_word MissingKey = codes "MissingKey"
-cause_word IndexOut = codes "IndexOut"
-cause_word IterEnd = codes "IterEnd"
-cause_word ClassDict = codes "ClassDict"
-cause_word Unbound = codes "Unbound"
-cause_word NoBody = codes "NoBody"
-cause_word NoArguments = codes "NoArguments"
-cause_word SetNameCalled = codes "SetNameCalled"
-cause_word DepthLimit = codes "DepthLimit"
-cause_word NotYet = codes "NotYet"
-cause_word Body = codes "Body"
+abbrev pub cause_word : Cause → List ℕ
+cause_word c = (cause_row_of c).0
+
+-- the kind of the faults of a cause
+abbrev pub kind_of : Cause → Kind
+kind_of c = (cause_row_of c).1
+
+-- a fault of a cause, with the kind that such faults have
+unfoldable pub raised : Cause → Raised
+raised c = record { kind = kind_of c; cause = c }

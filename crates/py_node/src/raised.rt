@@ -1,7 +1,7 @@
-// Faults: their kinds, their causes and the words for both.
+//! Faults: their kinds, their causes and the words for both.
 
-ghost use Rattle.std.specs.Prelude.{◌≡◌};
-ghost use Rattle.py_node.specs.Faults.{kind_word, cause_word};
+ghost use Rattle.std.specs.Prelude.{◌≡◌, ◌<◌, map, length};
+ghost use Rattle.py_node.specs.Faults.{kind_words, kind_place, kind_word, cause_rows, cause_place, cause_word, kind_of, raised};
 
 /// The kind of a fault: the exception that the language reference names.
 #[derive(Clone, Copy, PartialEq, Eq, Debug)]
@@ -20,26 +20,45 @@ pub enum Kind {
     RecursionError,
 }
 
-#[tactic(auto, unfolding(crate::specs::Faults::kind_word))]
+/// The kinds with their words.
+pub const KINDS: [(Kind, &str); 12] = [
+    (Kind::TypeError, "TypeError"),
+    (Kind::AttributeError, "AttributeError"),
+    (Kind::OverflowError, "OverflowError"),
+    (Kind::ZeroDivisionError, "ZeroDivisionError"),
+    (Kind::ValueError, "ValueError"),
+    (Kind::KeyError, "KeyError"),
+    (Kind::IndexError, "IndexError"),
+    (Kind::StopIteration, "StopIteration"),
+    (Kind::NotImplementedError, "NotImplementedError"),
+    (Kind::NameError, "NameError"),
+    (Kind::RuntimeError, "RuntimeError"),
+    (Kind::RecursionError, "RecursionError"),
+];
+
+// The kinds with their words.
+fn all_kinds() -> &'static [(Kind, &'static str)]
+    ensures words { map (λ r. r.1.now) result.now ≡ kind_words }
+    ensures count { length result.now ≡ 12 }
+{
+    &KINDS
+}
+
 impl Kind {
+    // Its place among the kinds.
+    #[tactic(auto, using(crate::proofs::Faults::kind_below))]
+    fn place(self) -> usize
+        ensures place { result ≡ kind_place self }
+        ensures within { result < 12 }
+    {
+        self as usize
+    }
+
     /// The word for the kind.
     pub fn word(self) -> &'static str
         ensures { result.now ≡ kind_word self }
     {
-        match self {
-            Kind::TypeError => "TypeError",
-            Kind::AttributeError => "AttributeError",
-            Kind::OverflowError => "OverflowError",
-            Kind::ZeroDivisionError => "ZeroDivisionError",
-            Kind::ValueError => "ValueError",
-            Kind::KeyError => "KeyError",
-            Kind::IndexError => "IndexError",
-            Kind::StopIteration => "StopIteration",
-            Kind::NotImplementedError => "NotImplementedError",
-            Kind::NameError => "NameError",
-            Kind::RuntimeError => "RuntimeError",
-            Kind::RecursionError => "RecursionError",
-        }
+        all_kinds()[self.place()].1
     }
 }
 
@@ -149,113 +168,160 @@ pub enum Cause {
     Body,
 }
 
-#[tactic(auto, unfolding(crate::specs::Faults::cause_word))]
+/// The causes with their words and the kinds of their faults. A script that raises by itself, with
+/// the cause `Body`, gives a kind of its own.
+pub const CAUSES: [(Cause, &str, Kind); 99] = [
+    (Cause::DuplicateBase, "DuplicateBase", Kind::TypeError),
+    (Cause::LocalPrecedence, "LocalPrecedence", Kind::TypeError),
+    (Cause::MroConflict, "MroConflict", Kind::TypeError),
+    (
+        Cause::MetaclassConflict,
+        "MetaclassConflict",
+        Kind::TypeError,
+    ),
+    (Cause::NotBaseType, "NotBaseType", Kind::TypeError),
+    (Cause::LayoutConflict, "LayoutConflict", Kind::TypeError),
+    (Cause::InheritanceCycle, "InheritanceCycle", Kind::TypeError),
+    (Cause::ImmutableType, "ImmutableType", Kind::TypeError),
+    (Cause::EmptyBases, "EmptyBases", Kind::TypeError),
+    (Cause::LayoutDiffers, "LayoutDiffers", Kind::TypeError),
+    (Cause::BasesShape, "BasesShape", Kind::TypeError),
+    (Cause::CannotDelete, "CannotDelete", Kind::TypeError),
+    (Cause::NotAClass, "NotAClass", Kind::TypeError),
+    (Cause::NotCallable, "NotCallable", Kind::TypeError),
+    (Cause::ArgCount, "ArgCount", Kind::TypeError),
+    (
+        Cause::UnexpectedKeyword,
+        "UnexpectedKeyword",
+        Kind::TypeError,
+    ),
+    (Cause::RepeatedKeyword, "RepeatedKeyword", Kind::TypeError),
+    (Cause::SelfType, "SelfType", Kind::TypeError),
+    (Cause::TypeArgs, "TypeArgs", Kind::TypeError),
+    (Cause::TypeArgTypes, "TypeArgTypes", Kind::TypeError),
+    (Cause::BasesNotTypes, "BasesNotTypes", Kind::TypeError),
+    (Cause::MroEntries, "MroEntries", Kind::TypeError),
+    (Cause::NamespaceKey, "NamespaceKey", Kind::TypeError),
+    (Cause::SlotsType, "SlotsType", Kind::TypeError),
+    (Cause::QualnameType, "QualnameType", Kind::TypeError),
+    (Cause::NameType, "NameType", Kind::TypeError),
+    (Cause::CannotCreate, "CannotCreate", Kind::TypeError),
+    (Cause::UnsafeNew, "UnsafeNew", Kind::TypeError),
+    (Cause::NewSubtype, "NewSubtype", Kind::TypeError),
+    (Cause::AbstractMethods, "AbstractMethods", Kind::TypeError),
+    (Cause::InitNotNone, "InitNotNone", Kind::TypeError),
+    (Cause::NeedsType, "NeedsType", Kind::TypeError),
+    (Cause::MemberClass, "MemberClass", Kind::TypeError),
+    (Cause::MemberBool, "MemberBool", Kind::TypeError),
+    (Cause::DictType, "DictType", Kind::TypeError),
+    (Cause::SuperArg, "SuperArg", Kind::TypeError),
+    (Cause::SuperNoClass, "SuperNoClass", Kind::TypeError),
+    (Cause::SuperCheckFailed, "SuperCheckFailed", Kind::TypeError),
+    (
+        Cause::UnsupportedOperand,
+        "UnsupportedOperand",
+        Kind::TypeError,
+    ),
+    (Cause::UnsupportedUnary, "UnsupportedUnary", Kind::TypeError),
+    (Cause::NotConcatenable, "NotConcatenable", Kind::TypeError),
+    (Cause::NotRepeatable, "NotRepeatable", Kind::TypeError),
+    (Cause::ConcatType, "ConcatType", Kind::TypeError),
+    (Cause::NotIndex, "NotIndex", Kind::TypeError),
+    (Cause::IndexReturn, "IndexReturn", Kind::TypeError),
+    (Cause::IntReturn, "IntReturn", Kind::TypeError),
+    (Cause::TruncReturn, "TruncReturn", Kind::TypeError),
+    (Cause::NotInt, "NotInt", Kind::TypeError),
+    (Cause::BoolType, "BoolType", Kind::TypeError),
+    (Cause::NotIterable, "NotIterable", Kind::TypeError),
+    (Cause::NotIterator, "NotIterator", Kind::TypeError),
+    (Cause::NoLength, "NoLength", Kind::TypeError),
+    (Cause::LengthType, "LengthType", Kind::TypeError),
+    (Cause::NotSubscriptable, "NotSubscriptable", Kind::TypeError),
+    (Cause::NoItemAssignment, "NoItemAssignment", Kind::TypeError),
+    (Cause::NoItemDeletion, "NoItemDeletion", Kind::TypeError),
+    (Cause::Unsliceable, "Unsliceable", Kind::TypeError),
+    (Cause::KeyType, "KeyType", Kind::TypeError),
+    (Cause::ContainsType, "ContainsType", Kind::TypeError),
+    (Cause::Unhashable, "Unhashable", Kind::TypeError),
+    (Cause::HashType, "HashType", Kind::TypeError),
+    (Cause::ReprType, "ReprType", Kind::TypeError),
+    (Cause::StrType, "StrType", Kind::TypeError),
+    (Cause::FormatType, "FormatType", Kind::TypeError),
+    (Cause::FormatSpec, "FormatSpec", Kind::TypeError),
+    (Cause::ClassArg, "ClassArg", Kind::TypeError),
+    (
+        Cause::NonIterableMethod,
+        "NonIterableMethod",
+        Kind::TypeError,
+    ),
+    (Cause::NotMapping, "NotMapping", Kind::TypeError),
+    (Cause::NotSequence, "NotSequence", Kind::TypeError),
+    (Cause::NoAttribute, "NoAttribute", Kind::AttributeError),
+    (Cause::NoSpecial, "NoSpecial", Kind::AttributeError),
+    (Cause::NoGetter, "NoGetter", Kind::AttributeError),
+    (Cause::NoSetter, "NoSetter", Kind::AttributeError),
+    (Cause::NoDeleter, "NoDeleter", Kind::AttributeError),
+    (Cause::EmptyMember, "EmptyMember", Kind::AttributeError),
+    (Cause::NoDict, "NoDict", Kind::AttributeError),
+    (Cause::ReadOnly, "ReadOnly", Kind::AttributeError),
+    (Cause::IntRange, "IntRange", Kind::OverflowError),
+    (Cause::IndexRange, "IndexRange", Kind::OverflowError),
+    (Cause::TooLong, "TooLong", Kind::OverflowError),
+    (Cause::RepeatTooLong, "RepeatTooLong", Kind::OverflowError),
+    (Cause::ZeroDivisor, "ZeroDivisor", Kind::ZeroDivisionError),
+    (Cause::NullInName, "NullInName", Kind::ValueError),
+    (Cause::NegativeLength, "NegativeLength", Kind::ValueError),
+    (
+        Cause::NegativeExponent,
+        "NegativeExponent",
+        Kind::ValueError,
+    ),
+    (Cause::NegativeShift, "NegativeShift", Kind::ValueError),
+    (Cause::IntLiteral, "IntLiteral", Kind::ValueError),
+    (Cause::NotFound, "NotFound", Kind::ValueError),
+    (Cause::MissingKey, "MissingKey", Kind::KeyError),
+    (Cause::IndexOut, "IndexOut", Kind::IndexError),
+    (Cause::IterEnd, "IterEnd", Kind::StopIteration),
+    (Cause::ClassDict, "ClassDict", Kind::NotImplementedError),
+    (Cause::Unbound, "Unbound", Kind::NameError),
+    (Cause::NoBody, "NoBody", Kind::RuntimeError),
+    (Cause::NoArguments, "NoArguments", Kind::RuntimeError),
+    (Cause::SetNameCalled, "SetNameCalled", Kind::RuntimeError),
+    (Cause::DepthLimit, "DepthLimit", Kind::RecursionError),
+    (Cause::NotYet, "NotYet", Kind::NotImplementedError),
+    (Cause::Body, "Body", Kind::RuntimeError),
+];
+
+// The causes with their words and kinds.
+fn all_causes() -> &'static [(Cause, &'static str, Kind)]
+    ensures rows { map (λ r. (r.1.now, r.2)) result.now ≡ cause_rows }
+    ensures count { length result.now ≡ 99 }
+{
+    &CAUSES
+}
+
 impl Cause {
+    // Its place among the causes.
+    #[tactic(auto, using(crate::proofs::Faults::cause_below))]
+    fn place(self) -> usize
+        ensures place { result ≡ cause_place self }
+        ensures within { result < 99 }
+    {
+        self as usize
+    }
+
     /// The word for the cause.
     pub fn word(self) -> &'static str
         ensures { result.now ≡ cause_word self }
     {
-        match self {
-            Cause::DuplicateBase => "DuplicateBase",
-            Cause::LocalPrecedence => "LocalPrecedence",
-            Cause::MroConflict => "MroConflict",
-            Cause::MetaclassConflict => "MetaclassConflict",
-            Cause::NotBaseType => "NotBaseType",
-            Cause::LayoutConflict => "LayoutConflict",
-            Cause::InheritanceCycle => "InheritanceCycle",
-            Cause::ImmutableType => "ImmutableType",
-            Cause::EmptyBases => "EmptyBases",
-            Cause::LayoutDiffers => "LayoutDiffers",
-            Cause::BasesShape => "BasesShape",
-            Cause::CannotDelete => "CannotDelete",
-            Cause::NotAClass => "NotAClass",
-            Cause::NotCallable => "NotCallable",
-            Cause::ArgCount => "ArgCount",
-            Cause::UnexpectedKeyword => "UnexpectedKeyword",
-            Cause::RepeatedKeyword => "RepeatedKeyword",
-            Cause::SelfType => "SelfType",
-            Cause::TypeArgs => "TypeArgs",
-            Cause::TypeArgTypes => "TypeArgTypes",
-            Cause::BasesNotTypes => "BasesNotTypes",
-            Cause::MroEntries => "MroEntries",
-            Cause::NamespaceKey => "NamespaceKey",
-            Cause::SlotsType => "SlotsType",
-            Cause::QualnameType => "QualnameType",
-            Cause::NameType => "NameType",
-            Cause::CannotCreate => "CannotCreate",
-            Cause::UnsafeNew => "UnsafeNew",
-            Cause::NewSubtype => "NewSubtype",
-            Cause::AbstractMethods => "AbstractMethods",
-            Cause::InitNotNone => "InitNotNone",
-            Cause::NeedsType => "NeedsType",
-            Cause::MemberClass => "MemberClass",
-            Cause::MemberBool => "MemberBool",
-            Cause::DictType => "DictType",
-            Cause::SuperArg => "SuperArg",
-            Cause::SuperNoClass => "SuperNoClass",
-            Cause::SuperCheckFailed => "SuperCheckFailed",
-            Cause::UnsupportedOperand => "UnsupportedOperand",
-            Cause::UnsupportedUnary => "UnsupportedUnary",
-            Cause::NotConcatenable => "NotConcatenable",
-            Cause::NotRepeatable => "NotRepeatable",
-            Cause::ConcatType => "ConcatType",
-            Cause::NotIndex => "NotIndex",
-            Cause::IndexReturn => "IndexReturn",
-            Cause::IntReturn => "IntReturn",
-            Cause::TruncReturn => "TruncReturn",
-            Cause::NotInt => "NotInt",
-            Cause::BoolType => "BoolType",
-            Cause::NotIterable => "NotIterable",
-            Cause::NotIterator => "NotIterator",
-            Cause::NoLength => "NoLength",
-            Cause::LengthType => "LengthType",
-            Cause::NotSubscriptable => "NotSubscriptable",
-            Cause::NoItemAssignment => "NoItemAssignment",
-            Cause::NoItemDeletion => "NoItemDeletion",
-            Cause::Unsliceable => "Unsliceable",
-            Cause::KeyType => "KeyType",
-            Cause::ContainsType => "ContainsType",
-            Cause::Unhashable => "Unhashable",
-            Cause::HashType => "HashType",
-            Cause::ReprType => "ReprType",
-            Cause::StrType => "StrType",
-            Cause::FormatType => "FormatType",
-            Cause::FormatSpec => "FormatSpec",
-            Cause::ClassArg => "ClassArg",
-            Cause::NonIterableMethod => "NonIterableMethod",
-            Cause::NotMapping => "NotMapping",
-            Cause::NotSequence => "NotSequence",
-            Cause::NoAttribute => "NoAttribute",
-            Cause::NoSpecial => "NoSpecial",
-            Cause::NoGetter => "NoGetter",
-            Cause::NoSetter => "NoSetter",
-            Cause::NoDeleter => "NoDeleter",
-            Cause::EmptyMember => "EmptyMember",
-            Cause::NoDict => "NoDict",
-            Cause::ReadOnly => "ReadOnly",
-            Cause::IntRange => "IntRange",
-            Cause::IndexRange => "IndexRange",
-            Cause::TooLong => "TooLong",
-            Cause::RepeatTooLong => "RepeatTooLong",
-            Cause::ZeroDivisor => "ZeroDivisor",
-            Cause::NullInName => "NullInName",
-            Cause::NegativeLength => "NegativeLength",
-            Cause::NegativeExponent => "NegativeExponent",
-            Cause::NegativeShift => "NegativeShift",
-            Cause::IntLiteral => "IntLiteral",
-            Cause::NotFound => "NotFound",
-            Cause::MissingKey => "MissingKey",
-            Cause::IndexOut => "IndexOut",
-            Cause::IterEnd => "IterEnd",
-            Cause::ClassDict => "ClassDict",
-            Cause::Unbound => "Unbound",
-            Cause::NoBody => "NoBody",
-            Cause::NoArguments => "NoArguments",
-            Cause::SetNameCalled => "SetNameCalled",
-            Cause::DepthLimit => "DepthLimit",
-            Cause::NotYet => "NotYet",
-            Cause::Body => "Body",
-        }
+        all_causes()[self.place()].1
+    }
+
+    /// The kind of the faults of this cause. Those of `Body` have any kind.
+    pub fn kind(self) -> Kind
+        ensures { result ≡ kind_of self }
+    {
+        all_causes()[self.place()].2
     }
 }
 
@@ -264,4 +330,17 @@ impl Cause {
 pub struct Raised {
     pub kind: Kind,
     pub cause: Cause,
+}
+
+#[tactic(auto, unfolding(crate::specs::Faults::raised))]
+impl Raised {
+    /// A fault of a cause, with the kind that such faults have.
+    pub fn new(cause: Cause) -> Raised
+        ensures { result ≡ raised cause }
+    {
+        Raised {
+            kind: cause.kind(),
+            cause,
+        }
+    }
 }

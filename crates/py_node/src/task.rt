@@ -1,6 +1,7 @@
 // Tasks, what they answer, and the steps of their rows.
 
 ghost use Rattle.std.specs.Prelude.{◌≡◌, Err};
+ghost use Rattle.py_node.specs.Faults.{raised};
 
 use crate::entry::{IntNative, NativeEntry, ObjectNative, SlotEntry, TypeNative};
 use crate::protocol::{CompareTask, ObjectTask, ProtocolTask};
@@ -241,5 +242,12 @@ impl<K> Step<K> {
             kind: Kind::NotImplementedError,
             cause: Cause::NotYet,
         }))
+    }
+
+    /// The row ends with a fault of a cause.
+    pub fn raise(cause: Cause) -> Step<K>
+        ensures { result ≡ Step.End (Err (raised cause)) }
+    {
+        Step::End(Err(Raised::new(cause)))
     }
 }

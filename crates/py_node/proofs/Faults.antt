@@ -1,0 +1,22 @@
+-- The tables of faults have a row for each kind and each cause.
+use Rattle.std.proofs.Common.{◌≡◌, ◌<◌, true, refl, nat_lt, arith, rules, ℕ}
+use borrow.Author.Tests.{ltb-true}
+use Rattle.py_node.specs.declared.raised.Kind.{Kind}
+use Rattle.py_node.specs.declared.raised.Kind.TheVariants.{TypeError}
+use Rattle.py_node.specs.declared.raised.Cause.{Cause}
+use Rattle.py_node.specs.declared.raised.Cause.TheVariants.{DuplicateBase}
+use Rattle.py_node.specs.Faults.{kind_place, cause_place}
+
+kind-test : (k : Kind) → nat_lt (kind_place k) 12 ≡ true
+kind-test TypeError = refl
+kind-test _ = refl
+
+pub kind_below : (k : Kind) → kind_place k < 12
+kind_below k = ltb-true _ _ (kind-test k)
+
+cause-test : (c : Cause) → nat_lt (cause_place c) 99 ≡ true
+cause-test DuplicateBase = refl
+cause-test _ = refl
+
+pub cause_below : (c : Cause) → cause_place c < 99
+cause_below c = ltb-true _ _ (cause-test c)
