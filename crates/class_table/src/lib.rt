@@ -16,5 +16,3 @@ pub mod special;
 pub mod start;
 pub mod stored;
 pub mod table;
-#[cfg(test)]
-mod tests;

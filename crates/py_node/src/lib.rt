@@ -14,5 +14,3 @@ pub mod raised;
 pub mod refs;
 pub mod reply;
 pub mod task;
-#[cfg(test)]
-mod tests;
