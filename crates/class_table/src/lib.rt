@@ -15,5 +15,3 @@ pub mod refresh;
 pub mod start;
 pub mod stored;
 pub mod table;
-#[cfg(test)]
-mod tests;

@@ -14,7 +14,5 @@ pub mod scope;
 pub mod show;
 mod start;
 pub mod store;
-#[cfg(test)]
-mod tests;
 mod variables;
 pub mod world;

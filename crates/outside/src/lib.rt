@@ -9,7 +9,5 @@ pub mod read_all;
 pub mod sink;
 pub mod source;
 pub mod standard;
-#[cfg(test)]
-mod tests;
 pub mod words;
 pub mod write_all;

@@ -19,5 +19,3 @@ pub mod refs;
 pub mod reply;
 pub mod slots;
 pub mod task;
-#[cfg(test)]
-mod tests;

@@ -3,6 +3,4 @@
 
 pub mod class;
 pub mod escape;
-#[cfg(test)]
-mod tests;
 pub mod write;

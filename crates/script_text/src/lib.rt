@@ -4,5 +4,3 @@
 mod forms;
 mod parts;
 pub mod read;
-#[cfg(test)]
-mod tests;

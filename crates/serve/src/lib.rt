@@ -2,6 +2,4 @@
 #![tactic(auto)]
 
 pub mod status;
-#[cfg(test)]
-mod tests;
 pub mod top;

@@ -1,8 +1,8 @@
 // Scripts that are refused, and one that is read.
 
-use crate::read::{ScriptFault, read_script};
 use py_node::expr::{Constant, Expr, Word};
 use py_node::task::PyNumberBinaryOp;
+use script_text::read::{ScriptFault, read_script};
 use std::alloc::Global;
 use std::test::Fail;
 

@@ -1,6 +1,6 @@
-use crate::fault::ClassFault;
-use crate::start::known_names;
-use crate::table::ClassTable;
+use class_table::fault::ClassFault;
+use class_table::start::known_names;
+use class_table::table::ClassTable;
 use py_node::attributes::PyAttributes;
 use py_node::entry::{SlotEntry, SlotId};
 use py_node::raised::Cause;

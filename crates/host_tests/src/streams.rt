@@ -1,11 +1,11 @@
 // Small tables: the words, reads of a byte at a time, and failures in mid-stream.
 ghost use Rattle.std.specs.Prelude.{◌<◌};
 
-use crate::memory::{MemorySink, MemorySource, QuietSink, QuietSource};
-use crate::read_all::{LIMIT, ReadEnd, read_all};
-use crate::standard::{StdSink, StdSource};
-use crate::words::units_of;
-use crate::write_all::write_all;
+use outside::memory::{MemorySink, MemorySource, QuietSink, QuietSource};
+use outside::read_all::{LIMIT, ReadEnd, read_all};
+use outside::standard::{StdSink, StdSource};
+use outside::words::units_of;
+use outside::write_all::write_all;
 use std::alloc::{AllocError, Global};
 use std::test::Fail;
 

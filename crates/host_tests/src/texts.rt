@@ -1,12 +1,12 @@
 // Replies, classes and texts, and what is written for them.
 
-use crate::class::push_class_lines;
-use crate::escape::{escaped_string, quoted_string};
-use crate::write::write_replies;
 use py_node::memory::OutOfMemory;
 use py_node::raised::{Cause, Kind, Raised};
 use py_node::refs::PyObjectRef;
 use py_node::reply::{BodyCall, Reply, ReplyAnswer};
+use reply_text::class::push_class_lines;
+use reply_text::escape::{escaped_string, quoted_string};
+use reply_text::write::write_replies;
 use std::alloc::Global;
 
 fn value(alloc: Global, text: &str) -> Result<ReplyAnswer, OutOfMemory> {

@@ -1,8 +1,8 @@
 // Calls whose scripts are no files of the worked ones: every front of a script, and a script of the greatest length.
-use crate::status::Status;
-use crate::top::serve;
 use outside::memory::{MemorySink, MemorySource};
 use script_text::read::ScriptError;
+use serve::status::Status;
+use serve::top::serve;
 use std::alloc::{AllocError, Global};
 use std::test::Fail;
 

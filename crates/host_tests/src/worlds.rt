@@ -3,8 +3,8 @@
 ghost use Rattle.std.specs.Prelude.{◌≤◌, length};
 ghost use Rattle.class_world.specs.Sound.{AllHold, of_class_ref, of_each};
 
-use crate::world::{Fixed, World};
 use class_table::fault::ClassFault;
+use class_world::world::{Fixed, World};
 use py_node::attributes::PyAttributes;
 use py_node::built_in::BuiltIn;
 use py_node::known::Known;

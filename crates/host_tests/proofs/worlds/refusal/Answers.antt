@@ -1,6 +1,6 @@
 use Rattle.class_world.proofs.Claims.{all-grow}
 use Rattle.class_world.proofs.Stored.{no-names}
-use Rattle.class_world.proofs.tests.refusal.Goals as goal
+use Rattle.host_tests.proofs.worlds.refusal.Goals as goal
 
 pub new_heap-requires-clause-bases : goal.new_heap-requires-clause-bases
 new_heap-requires-clause-bases c = all-grow _ _ c.in_ok-name.ensures.grows _ c.requires.bases

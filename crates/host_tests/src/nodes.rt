@@ -1,13 +1,13 @@
 // Each call that can find no memory, once with ample memory.
 
-use crate::attributes::PyAttributes;
-use crate::expr::{Command, Constant, Expr, Word};
-use crate::flags::PyTypeFlags;
-use crate::names::Names;
-use crate::raised::{Cause, Kind, Raised};
-use crate::refs::{PyObjectRef, PyStrInterned};
-use crate::reply::{BodyCall, Reply, ReplyAnswer};
-use crate::task::PyNumberBinaryOp;
+use py_node::attributes::PyAttributes;
+use py_node::expr::{Command, Constant, Expr, Word};
+use py_node::flags::PyTypeFlags;
+use py_node::names::Names;
+use py_node::raised::{Cause, Kind, Raised};
+use py_node::refs::{PyObjectRef, PyStrInterned};
+use py_node::reply::{BodyCall, Reply, ReplyAnswer};
+use py_node::task::PyNumberBinaryOp;
 use std::alloc::Global;
 use std::test::Fail;
 
