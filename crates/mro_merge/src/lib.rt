@@ -4,5 +4,3 @@
 pub mod fault;
 pub mod laws;
 mod merge;
-#[cfg(test)]
-mod tests;

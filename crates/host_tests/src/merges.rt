@@ -1,5 +1,5 @@
-use crate::fault::MroFault;
-use crate::laws::{linearise_mro, resolve_mro};
+use mro_merge::fault::MroFault;
+use mro_merge::laws::{linearise_mro, resolve_mro};
 use py_node::refs::PyTypeRef;
 use std::test::Fail;
 
