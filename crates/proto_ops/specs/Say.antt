@@ -9,17 +9,16 @@ use Rattle.py_node.specs.declared.entry.SlotEntry.{SlotEntry}
 use Rattle.py_node.specs.declared.entry.SlotEntry.TheVariants.{Native, Wrapper, Unhashable}
 use Rattle.py_node.specs.declared.task.PyNumberBinaryOp.{PyNumberBinaryOp}
 use Rattle.py_node.specs.declared.task.PyNumberBinaryOp.TheVariants as op
-use Rattle.py_node.specs.declared.task.LaterTask.TheVariants as later
 use Rattle.py_node.specs.declared.known.Known.{Known}
 use Rattle.py_node.specs.Known.{known_text}
 use Rattle.py_node.specs.Slots.{names_of}
 use Rattle.py_node.specs.Operators.{operator_row, is_reflected}
-use Rattle.plain_machine.specs.Plain.{ANumber, PlainWorld, Bindings, OperatorJob, DoAdd, DoBinOp1, DoEnter, DoInt, DoSpecial, PlainTask, ToAttribute, ToOperator, ToLater, Said, Asks, Ends}
+use Rattle.plain_machine.specs.Plain.{ANumber, PlainWorld, Bindings, OperatorJob, DoAdd, DoBinOp1, DoEnter, DoConcat, DoInt, DoSpecial, ToAttribute, ToOperator, Said, Ends}
 use Rattle.plain_machine.specs.World.{ref, class_at, datum_at, number_of, slot_at, candidates_at}
 use Rattle.plain_machine.specs.Args.{two_of}
 use Rattle.plain_machine.specs.Known.{the_int}
 use Rattle.plain_machine.specs.Native.{native_task}
-use Rattle.plain_machine.specs.Row.{Row, start, ask, pass, end, value, fault, on_value, make, read_once}
+use Rattle.plain_machine.specs.Row.{Row, start, ask, pass, end, value, fault, not_yet, on_value, make, read_once}
 
 -- NotImplemented: the operator is not for these operands
 abbrev pub not_implemented : PyObjectRef
@@ -41,34 +40,34 @@ binop1_say w o a b = read_once (candidates_at w (operator_row o).1 (operator_row
 abbrev pub in_order : Bool → PyObjectRef → PyObjectRef → PyObjectRef × PyObjectRef
 in_order reflected a b = cond reflected (b, a) (a, b)
 
--- the special method of a first name. There may be none, which is for later
-abbrev pub method_of : List Known → PyObjectRef × PyObjectRef → PlainTask
-method_of [] p = ToLater later.Native
-method_of (x ∷ xs) p = ToAttribute (DoSpecial p.0 (known_text x) (p.1 ∷ []) [])
+-- the special method of a first name. That of a slot without one is not there yet
+abbrev pub method_of : PlainWorld → List Known → PyObjectRef × PyObjectRef → Said
+method_of w [] p = Ends w not_yet
+method_of w (x ∷ xs) p = pass w (ToAttribute (DoSpecial p.0 (known_text x) (p.1 ∷ []) []))
 
 -- the special method that a wrapper stands for: that of its slot's first name
-abbrev pub method_task : SlotId → PyObjectRef → PyObjectRef → PlainTask
-method_task s a b = method_of (names_of s) (in_order (is_reflected s) a b)
+abbrev pub enter_method : PlainWorld → SlotId → PyObjectRef → PyObjectRef → Said
+enter_method w s a b = method_of w (names_of s) (in_order (is_reflected s) a b)
 
 -- an entry is entered: a native with both operands, or the special method of an operand
-abbrev pub enter_task : SlotEntry → PyObjectRef → PyObjectRef → PlainTask
-enter_task (Native n) a b = native_task n (a ∷ b ∷ []) []
-enter_task (Wrapper s) a b = method_task s a b
-enter_task Unhashable a b = ToLater later.Native
+abbrev pub enter_by : PlainWorld → SlotEntry → PyObjectRef → PyObjectRef → Said
+enter_by w (Native n) a b = pass w (native_task n (a ∷ b ∷ []) [])
+enter_by w (Wrapper s) a b = enter_method w s a b
+enter_by w Unhashable a b = Ends w not_yet
 
 abbrev pub enter_say : PlainWorld → SlotEntry → PyObjectRef → PyObjectRef → Row
-enter_say w s a b = start (pass w (enter_task s a b)) (end w)
+enter_say w s a b = start (enter_by w s a b) (end w)
 
 -- a sequence is joined, and nothing else
-abbrev pub joined : PlainWorld → Option SlotEntry → Said
-joined w None = Ends w (fault TypeError UnsupportedOperand)
-joined w (Some s) = Asks w [] (ToLater later.Concat)
+abbrev pub joined : PlainWorld → Option SlotEntry → PyObjectRef → PyObjectRef → Said
+joined w None a b = Ends w (fault TypeError UnsupportedOperand)
+joined w (Some s) a b = pass w (ToOperator (DoConcat a b))
 
 -- where no candidate serves, sequences are joined
 abbrev pub add_say : PlainWorld → PyObjectRef → PyObjectRef → Row
 add_say w a b =
     ask w (ToOperator (DoBinOp1 op.Add a b)) (λ r. on_value w r (λ x.
-    cond (is_not_implemented x) (start (joined w (slot_at w a SeqItem)) (end w)) (end w (value x))))
+    cond (is_not_implemented x) (start (joined w (slot_at w a SeqItem) a b) (end w)) (end w (value x))))
 
 -- whether a whole number has at most 128 bits with its sign
 abbrev pub fits : ℤ → Bool
@@ -101,3 +100,4 @@ operator_say w (DoAdd a b) told = add_say w a b told
 operator_say w (DoBinOp1 o a b) told = binop1_say w o a b told
 operator_say w (DoEnter s a b) told = enter_say w s a b told
 operator_say w (DoInt n args kw) told = int_say w (two_of args) kw told
+operator_say w _ told = end w not_yet told

@@ -8,10 +8,10 @@ ghost use Rattle.py_node.specs.declared.task.OperatorTask.TheVariants as operato
 ghost use Rattle.class_table.specs.Turn.{list_of};
 ghost use Rattle.proto_ops.specs.Say.{total, in_order, is_not_implemented};
 ghost use Rattle.plain_machine.specs.Args.{two_of};
-ghost use Rattle.proto_ops.specs.Rows.{Begins, Resumes, Sums, AreBoth, joining, entered, of_operator_kept};
+ghost use Rattle.proto_ops.specs.Rows.{Begins, Resumes, Sums, joining, entered, of_operator_kept};
 
 use class_table::candidates::Candidates;
-use class_world::args::{native_task, two_of};
+use class_world::args::{alone, both, native_task, two_of};
 use class_world::world::{Fixed, World};
 use py_node::built_in::BuiltIn;
 use py_node::entry::{IntNative, SlotEntry, SlotId};
@@ -20,7 +20,7 @@ use py_node::payload::Payload;
 use py_node::raised::{Cause, Kind, Raised};
 use py_node::refs::PyObjectRef;
 use py_node::task::{
-    Answer, Args, AttributeTask, Keywords, LaterTask, OperatorTask, PyNumberBinaryOp, Step, Task,
+    Answer, Args, AttributeTask, Keywords, OperatorTask, PyNumberBinaryOp, Step, Task,
 };
 use std::alloc::Global;
 
@@ -29,8 +29,8 @@ use std::alloc::Global;
 pub enum OperatorKept {
     /// The answer is passed on.
     Pass,
-    /// Of a sum: the left operand, for the case that no candidate serves.
-    AddRest(PyObjectRef),
+    /// Of a sum: the operands, for the case that no candidate serves.
+    AddRest(PyObjectRef, PyObjectRef),
     /// The candidate that is left, if any, and the operands.
     Candidate(Option<SlotEntry>, PyObjectRef, PyObjectRef),
 }
@@ -48,11 +48,12 @@ pub fn begin(
     match task {
         OperatorTask::Add(a, b) => Ok(Step::Ask(
             Task::Operator(OperatorTask::BinOp1(PyNumberBinaryOp::Add, a, b)),
-            OperatorKept::AddRest(a),
+            OperatorKept::AddRest(a, b),
         )),
         OperatorTask::BinOp1(op, a, b) => binop1(world, op, a, b),
         OperatorTask::Enter(entry, a, b) => enter(world, alloc, entry, a, b),
         OperatorTask::Int(native, args, kw) => int(world, alloc, native, args, kw),
+        _ => Ok(Step::not_yet()),
     }
 }
 
@@ -69,8 +70,8 @@ pub fn resume(
 {
     match kept {
         OperatorKept::Pass => Ok(Step::End(answer)),
-        OperatorKept::AddRest(a) => match answer {
-            Ok(Answer::Value(x)) => add_rest(world, a, x),
+        OperatorKept::AddRest(a, b) => match answer {
+            Ok(Answer::Value(x)) => add_rest(world, a, b, x),
             other => Ok(Step::End(other)),
         },
         OperatorKept::Candidate(next, a, b) => match answer {
@@ -91,26 +92,31 @@ fn is_not_implemented(object: PyObjectRef) -> bool
 fn add_rest(
     world: &mut World,
     a: PyObjectRef,
+    b: PyObjectRef,
     x: PyObjectRef,
 ) -> Result<Step<OperatorKept>, OutOfMemory>
-    requires kept { Holds world.old (IsNode a) }
+    requires a { Holds world.old (IsNode a) }
+    requires b { Holds world.old (IsNode b) }
     requires answer { Holds world.old (IsNode x) }
-    ensures goes { IfOk result (λ step. Resumes (OperatorKept.AddRest a) (Ok (Answer.Value x)) world.old world.new step) }
+    ensures goes { IfOk result (λ step. Resumes (OperatorKept.AddRest a b) (Ok (Answer.Value x)) world.old world.new step) }
     ensures safe { Leaves of_operator_kept world.old world.new result }
 {
     if !is_not_implemented(x) {
         return Ok(Step::End(Ok(Answer::Value(x))));
     }
-    let step = joining(world.slot(a, SlotId::SeqItem));
+    let step = joining(world.slot(a, SlotId::SeqItem), a, b);
     Ok(step)
 }
 
 // A sequence is joined, and nothing else.
-fn joining(item: Option<SlotEntry>) -> Step<OperatorKept>
-    ensures { result ≡ joining item }
+fn joining(item: Option<SlotEntry>, a: PyObjectRef, b: PyObjectRef) -> Step<OperatorKept>
+    ensures { result ≡ joining item a b }
 {
     match item {
-        Some(_) => Step::Ask(Task::Later(LaterTask::Concat), OperatorKept::Pass),
+        Some(_) => Step::Ask(
+            Task::Operator(OperatorTask::Concat(a, b)),
+            OperatorKept::Pass,
+        ),
         None => Step::End(Err(Raised {
             kind: Kind::TypeError,
             cause: Cause::UnsupportedOperand,
@@ -204,7 +210,7 @@ fn enter(
             Ok(Step::Ask(task, OperatorKept::Pass))
         }
         SlotEntry::Wrapper(slot) => enter_method(world, alloc, slot, a, b),
-        SlotEntry::Unhashable => Ok(Step::Ask(Task::Later(LaterTask::Native), OperatorKept::Pass)),
+        SlotEntry::Unhashable => Ok(Step::not_yet()),
     }
 }
 
@@ -221,7 +227,7 @@ fn enter_method(
     ensures safe { Leaves of_operator_kept world.now world.now result }
 {
     let [name, ..] = slot.special_names() else {
-        return Ok(Step::Ask(Task::Later(LaterTask::Native), OperatorKept::Pass));
+        return Ok(Step::not_yet());
     };
     let (object, other) = in_order(slot.is_reflected(), a, b);
     let args = alone(alloc, other)?;
@@ -236,22 +242,6 @@ fn in_order(reflected: bool, a: PyObjectRef, b: PyObjectRef) -> (PyObjectRef, Py
     ensures second { (w : World) → Holds w (IsNode a) → Holds w (IsNode b) → Holds w (IsNode result.1) }
 {
     if reflected { (b, a) } else { (a, b) }
-}
-
-// One argument.
-fn alone(alloc: Global, a: PyObjectRef) -> Result<Args, OutOfMemory>
-    ensures items { IfOk result (λ v. v.items ≡ a ∷ []) }
-    ensures holds { IfOk result (λ v. (w : World) → Holds w (IsNode a) → Holds w (AreNodes v.items)) }
-{
-    Ok(vec![in alloc; a]?)
-}
-
-// Two arguments.
-fn both(alloc: Global, a: PyObjectRef, b: PyObjectRef) -> Result<Args, OutOfMemory>
-    ensures items { IfOk result (λ v. v.items ≡ a ∷ b ∷ []) }
-    ensures holds { IfOk result (λ v. AreBoth a b v.items) }
-{
-    Ok(vec![in alloc; a, b]?)
 }
 
 // A native of `int`: the sum of two whole numbers.
