@@ -9,11 +9,11 @@ use Rattle.py_node.specs.declared.refs.PyStrInterned.{PyStrInterned}
 use Rattle.py_node.specs.declared.payload.Form.{Form}
 use Rattle.py_node.specs.declared.payload.Form.TheVariants as form
 use Rattle.py_node.specs.Texts.{AreDistinct}
-use Rattle.py_node.specs.Tree.{Text, Tree, TConst, TTuple, TList, TDict, TCall, TOp, TSeq, TClass, LNone, trees_of, keyed_of}
+use Rattle.py_node.specs.Tree.{Text, Tree, TConst, TTuple, TList, TDict, TOp, TSeq, LNone, trees_of, keyed_of}
 use Rattle.plain_machine.specs.World.{is_text}
 use Rattle.class_world.specs.declared.world.World.{World}
 use Rattle.class_world.specs.Tables.{IsBelow, AreBelow}
-use Rattle.class_world.specs.Reading.{form_tree, entry_list, stored_entries, IsReadable}
+use Rattle.class_world.specs.Reading.{form_tree, stored_entries, IsReadable}
 
 abbrev total : List Text → ℕ
 total [] = 0

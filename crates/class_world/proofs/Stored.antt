@@ -7,7 +7,7 @@ use Rattle.std.specs.declared.alloc.Global.{Global}
 use Rattle.py_node.specs.declared.refs.PyStrInterned.{PyStrInterned}
 use Rattle.py_node.specs.declared.expr.Expr.{Expr, the_lemmas}
 use Rattle.py_node.specs.declared.expr.Expr.TheViews.{Call, Class}
-use Rattle.py_node.specs.Tree.{Text, Tree, TCall, TClass, Entries, entry, entries_of, trees_of, tree_of, part_of}
+use Rattle.py_node.specs.Tree.{Text, Tree, TCall, TClass, entry, entries_of, trees_of, tree_of, part_of}
 use Rattle.class_world.specs.Held.{Held}
 use Rattle.class_world.specs.Reading.{entry_list}
 use Rattle.class_world.specs.Sound.{IsExpression, AreExpressions, IsName, AreNames, Holds}
