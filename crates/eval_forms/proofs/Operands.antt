@@ -2,6 +2,7 @@
 use Rattle.std.proofs.Common.{◌≡◌, ℕ, zero, suc, ◌+◌, ◌<◌, ◌≤◌, List, [], ◌∷◌, ◌++◌, length, map, Option, Some, None, Ok, Err, refl, sym, ap, ◌∙◌, subst, arith, length-append}
 use Rattle.std.specs.Prelude.{slice_get, Result, IfOk, IfSome, Bool}
 use Rattle.std.specs.Global.{Vec}
+use Rattle.std.proofs.lemmas.Bool.{ltb-true, lt-ltb}
 use Rattle.std.proofs.lemmas.List.{map-append, length-map}
 use Rattle.std.proofs.lemmas.Option.{slice_get_within}
 use Rattle.py_node.specs.declared.refs.PyObjectRef.{PyObjectRef}
@@ -28,12 +29,11 @@ use Rattle.class_world.specs.declared.world.World.{World}
 use Rattle.class_world.specs.Rows.{Steps}
 use Rattle.eval_forms.specs.declared.EvalKept.{EvalKept}
 use Rattle.eval_forms.specs.declared.EvalKept.TheVariants.{Operands}
-use Rattle.eval_forms.specs.declared.Own.{Own}
 use Rattle.eval_forms.specs.declared.Own.TheVariants as own
 use Rattle.py_node.specs.declared.expr.Word.{Word}
 use Rattle.eval_forms.specs.Say.{operand_trees, own_say, one_of, func_say, set_attr_say, call_say, op_say, not_yet, class_say, entry_names, eval_say}
 use Rattle.plain_machine.specs.Args.{two_of}
-use Rattle.eval_forms.specs.Rows.{answered, eval_stands, Continues, Closes, TakesAt, Takes, StepsAt, EndsSo, HasValues, IsFilled, IsLater, IsOther, IsOwn, operands, operands_at, has_operand}
+use Rattle.eval_forms.specs.Rows.{answered, eval_stands, Continues, Closes, TakesAt, Takes, StepsAt, EndsSo, HasValues, IsLater, IsOther, IsOwn, operands, operands_at, has_operand}
 
 list_of-trees_of : (ts : List Tree) → list_of (trees_of ts) ≡ ts
 list_of-trees_of [] = refl
@@ -139,13 +139,13 @@ pub ends-with : (w : World) (e : ℕ) (vs : List PyObjectRef) (s : Result Answer
 unfolding Holds eval_say
 ends-with w e vs s o h = λ t r.
     let f = h.0 in
-    let some = there (operands f) (length vs) (omega (arith, h.2)) in
+    let some = there (operands f) (length vs) (ltb-true (length vs) (length (operands f)) h.2) in
     let asks = evaluate-other (plain t w) (operand_trees (t.tree e)) (own_say (plain t w) (t.tree e)) vs (t.tree some.0) s [] o (ap (λ x. slice_get (operand_trees x) (length vs)) (r.trees e f h.1) ∙ ap (λ ts. slice_get ts (length vs)) (operand_trees-form t.text t.tree f) ∙ got-map t.tree (operands f) (length vs) some.0 some.1) in
     (r, subst (λ said. Steps eval_say (eval_stands t) t (DoEval (t.tree e)) (map answered vs ++ Answered (ended_of s) ∷ []) said (End s) w) (sym asks) (refl, refl))
 
 pub has-operand : (w : Held) (e n : ℕ) (f : Form) (x : ℕ) → slice_get w.forms e ≡ Some f → slice_get (operands f) n ≡ Some x → Holds w (HasForm e (has_operand n))
 unfolding Holds
-has-operand w e n f x h k = (f, h, let within = slice_get_within (operands f) n x k in omega (arith, within))
+has-operand w e n f x h k = (f, h, lt-ltb n (length (operands f)) (slice_get_within (operands f) n x k))
 
 -- where there is no further operand, all have values
 pub has-values : (w : World) (e : ℕ) (f : Form) (vs : List PyObjectRef) → slice_get w.forms e ≡ Some f → slice_get (operands f) (length vs) ≡ None → length vs ≤ length (operands_at (slice_get w.forms e)) → HasValues w e vs
@@ -257,6 +257,19 @@ pub says-op : (word : Word) (vs : List PyObjectRef) (f : Form) → IsOwn (own.Op
 says-op word vs (form.Op v es) o t u more = ap (λ v. op_say u v vs more) (sym o)
 says-op word vs _ o t u more = absurd o
 
+-- with keywords, neither is named
+call-later : (u : PlainWorld) (f : Tree) (es : Trees) (vs : List PyObjectRef) (more : Told) (text : ℕ → Text) (tree : ℕ → Tree) (kw : List (PyStrInterned × ℕ))
+    → 0 < length kw → call-row u f es vs more (stored_entries text tree kw) ≡ not_yet u more
+unfolding call-row
+call-later u f es vs more text tree [] h = absurd (omega arith)
+call-later u f es vs more text tree (k ∷ kw) h = refl
+
+class-later : (u : PlainWorld) (x : Text) (bs : Trees) (es : Entries) (vs : List PyObjectRef) (more : Told) (text : ℕ → Text) (tree : ℕ → Tree) (kw : List (PyStrInterned × ℕ))
+    → 0 < length kw → class-row u x bs es vs more (stored_entries text tree kw) ≡ not_yet u more
+unfolding class-row
+class-later u x bs es vs more text tree [] h = absurd (omega arith)
+class-later u x bs es vs more text tree (k ∷ kw) h = refl
+
 -- a form that no request has named
 says-later : (vs : List PyObjectRef) (f : Form) → IsLater f → (t : Reading) (u : PlainWorld) (more : Told) → own_say u (form_tree t.text t.tree f) vs more ≡ not_yet u more
 unfolding call-row class-row
@@ -266,10 +279,9 @@ says-later vs (form.Bind y e) o t u more = absurd o
 says-later vs (form.Func y ps rest e) o t u more = absurd o
 says-later vs (form.SetAttr a y b) o t u more = absurd o
 says-later vs (form.Op v es) o t u more = absurd o
-says-later vs (form.Call g es kw) o t u more =
-    ap (λ ks. call-row u (t.tree g) (trees_of (map t.tree es.items)) vs more (stored_entries t.text t.tree ks)) o.2
+says-later vs (form.Call g es kw) o t u more = call-later u (t.tree g) (trees_of (map t.tree es.items)) vs more t.text t.tree kw.items o
 says-later vs (form.Class y bs kw es) o t u more =
-    ap (λ ks. class-row u (t.text y.0) (trees_of (map t.tree bs.items)) (stored_entries t.text t.tree es.items) vs more (stored_entries t.text t.tree ks)) o.2
+    class-later u (t.text y.0) (trees_of (map t.tree bs.items)) (stored_entries t.text t.tree es.items) vs more t.text t.tree kw.items o
 says-later vs _ o t u more = refl
 
 pub own-later : (w : World) (e : ℕ) (f : Form) (vs : List PyObjectRef) (next : Step EvalKept) → slice_get w.forms e ≡ Some f → length (operands f) ≡ length vs → IsLater f

@@ -1,5 +1,5 @@
 -- What the contracts of the rows of expressions say.
-use Rattle.std.specs.Prelude.{◌≡◌, ℕ, nat_lt, Bool, true, List, [], ◌∷◌, ◌++◌, map, length, Option, Some, None, Result, Ok, slice_get}
+use Rattle.std.specs.Prelude.{◌≡◌, ℕ, ◌<◌, ltb, Bool, List, [], ◌∷◌, ◌++◌, map, length, Option, Some, None, Result, Ok, slice_get}
 use Rattle.py_node.specs.declared.raised.Raised.{Raised as Fault}
 use Rattle.py_node.specs.declared.refs.PyObjectRef.{PyObjectRef}
 use Rattle.py_node.specs.declared.expr.Word.TheVariants.{Binary}
@@ -61,7 +61,7 @@ operands_at (Some f) = operands f
 
 -- a form of more operands than so many
 abbrev pub has_operand : ℕ → Form → Bool
-has_operand n f = nat_lt n (length (operands f))
+has_operand n f = ltb n (length (operands f))
 
 -- what is said of what is kept
 abbrev pub of_eval_kept : EvalKept → List Claim
@@ -83,10 +83,6 @@ Continues e vs = Goes eval_say eval_stands (λ t. record { task = DoEval (t.tree
 abbrev pub ContinuesTree : (Reading → Tree) → List PyObjectRef → World → World → Step EvalKept → Type 0
 ContinuesTree spell vs = Goes eval_say eval_stands (λ t. record { task = DoEval (spell t); told = map answered vs })
 
--- a list is not empty
-abbrev pub IsFilled : {A : Type 0} → List A → Type 0
-IsFilled {A} xs = (a : A) × (rest : List A) × (xs ≡ a ∷ rest)
-
 -- no request has named the form so far
 abbrev pub IsLater : Form → Type 0
 IsLater (form.Const k) = ⊥
@@ -95,8 +91,8 @@ IsLater (form.Bind x e) = ⊥
 IsLater (form.Func x ps rest e) = ⊥
 IsLater (form.SetAttr o x e) = ⊥
 IsLater (form.Op word es) = ⊥
-IsLater (form.Call f es kw) = IsFilled kw.items
-IsLater (form.Class x bs kw es) = IsFilled kw.items
+IsLater (form.Call f es kw) = 0 < length kw.items
+IsLater (form.Class x bs kw es) = 0 < length kw.items
 IsLater _ = Unit {0}
 
 -- what is kept of an expression's own step is that of the expression

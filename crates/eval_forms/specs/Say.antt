@@ -6,7 +6,7 @@ use Rattle.py_node.specs.declared.raised.Cause.TheVariants.{ArgCount, NotYet, Un
 use Rattle.py_node.specs.declared.expr.Word.{Word}
 use Rattle.py_node.specs.declared.expr.Word.TheVariants as word
 use Rattle.py_node.specs.declared.task.PyNumberBinaryOp.TheVariants as op
-use Rattle.py_node.specs.Tree.{Text, Tree, TConst, TName, TBind, TTuple, TList, TDict, TFunc, TAttr, TSetAttr, TDelAttr, TCall, TOp, TIf, TSeq, TRaise, TClass, Entries, no_entries, entry, Literal, LNone, LFalse, LTrue, LInt, LText, list_of, entry_trees}
+use Rattle.py_node.specs.Tree.{Text, Tree, TConst, TName, TBind, TFunc, TSetAttr, TCall, TOp, TClass, Entries, no_entries, entry, Literal, LNone, LFalse, LTrue, LInt, LText, list_of, entry_trees}
 use Rattle.plain_machine.specs.Plain.{ANumber, AText, ATuple, ADict, AFunction, PlainWorld, Bindings, EvalJob, DoEval, DoAdd, DoSetAttr, DoCall, ToAttribute, ToCall, ToOperator, Said}
 use Rattle.plain_machine.specs.World.{ref, variable, or_else_var, with_binding, with_node, next_node}
 use Rattle.plain_machine.specs.Args.{two_of, filled}

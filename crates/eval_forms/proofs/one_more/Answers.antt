@@ -1,7 +1,8 @@
 use Rattle.std.proofs.Common.{◌∷◌, [], ap, length, arith, length-append}
+use Rattle.std.proofs.lemmas.Bool.{ltb-true}
 use Rattle.class_world.specs.Sound.{Holds}
 use Rattle.class_world.proofs.Claims.{more-nodes}
-use Rattle.eval_forms.specs.Rows.{operands_at}
+use Rattle.eval_forms.specs.Rows.{operands, operands_at}
 use Rattle.eval_forms.proofs.one_more.Goals as goal
 
 pub next_operand-requires-clause-values : goal.next_operand-requires-clause-values
@@ -12,5 +13,6 @@ unfolding Holds
 next_operand-requires-clause-fits c =
     let l = length-append c.args.values.items (c.args.value ∷ []) in
     let h = c.requires.kept.1.0 in
+    let within = ltb-true (length c.args.values.items) (length (operands h.0)) h.2 in
     let long = ap (λ o. length (operands_at o)) h.1 in
-    rw c.in_ok-values.ensures (omega (arith, l, h.2, long))
+    rw c.in_ok-values.ensures (omega (arith, l, within, long))

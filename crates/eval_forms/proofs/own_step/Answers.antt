@@ -65,8 +65,8 @@ returns-in-Op-clause-safe c =
     let safe = rw c.deref-in-Op.ensures.value at c.op_step-step.ensures.safe in
     (grows-itself w, safe w c.requires.values)
 
-pub returns-in-NotYet-clause-goes : goal.returns-in-NotYet-clause-goes
-returns-in-NotYet-clause-goes c =
+pub returns-clause-goes : goal.returns-clause-goes
+returns-clause-goes c =
     let w = c.args.world.now in
     let f = c.form.result.now in
     let own = subst (λ o. IsOwn o f) c.in-NotYet.is c.in_ok-constant.ensures in
@@ -92,8 +92,8 @@ class_step-requires-clause-all c =
     let long = ap (λ o. length (operands_at o)) (sym c.form.ensures.stored) ∙ c.requires.all in
     rw (c.deref-in-Class-2.ensures.value, c.deref-in-Class.ensures.value) (sym long ∙ class-long c.in-Class.name c.in-Class.bases c.in-Class.names f own)
 
-pub returns-clause-goes : goal.returns-clause-goes
-returns-clause-goes c =
+pub returns-in-Class-clause-goes : goal.returns-in-Class-clause-goes
+returns-in-Class-clause-goes c =
     let w = c.args.world.now in
     let new = c.class_step.new.world in
     let f = c.form.result.now in
