@@ -24,7 +24,8 @@ use py_node::payload::{Form, Function, Payload};
 use py_node::raised::{Cause, Kind, Raised};
 use py_node::refs::{PyObjectRef, PyStrInterned};
 use py_node::task::{
-    Answer, AttributeTask, CallTask, EvalTask, OperatorTask, PyNumberBinaryOp, Step, Task,
+    Answer, AttributeTask, CallTask, EvalTask, OperatorTask, PyNumberBinaryOp, PySetterValue, Step,
+    Task,
 };
 use std::alloc::Global;
 
@@ -388,7 +389,7 @@ fn set_attr_step(name: PyStrInterned, values: &[PyObjectRef]) -> Step<EvalKept>
     match two_of(values) {
         None => missing_operand(),
         Some((target, value)) => Step::Ask(
-            Task::Attribute(AttributeTask::SetAttr(target, name, value)),
+            Task::Attribute(AttributeTask::SetAttr(target, name, PySetterValue::Assign(value))),
             EvalKept::SetDone,
         ),
     }
