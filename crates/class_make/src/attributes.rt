@@ -2,6 +2,7 @@
 
 ghost use Rattle.std.specs.Prelude.{◌≡◌, None, ◌&&◌, not, is_some, IfOk, IfSome};
 ghost use Rattle.py_node.specs.Attributes.{value_of, is_same_name};
+ghost use Rattle.py_node.specs.Known.{known_text};
 ghost use Rattle.plain_machine.specs.World.{class_at};
 ghost use Rattle.class_world.specs.Reading.{Reading, Reads, bindings, datum, plain};
 ghost use Rattle.class_world.specs.Sound.{IsNode, IsName, IsClass, IsOf, home_of, class_in, Holds, AllHold, Grows, of_binding, of_each, of_payload};
