@@ -40,7 +40,7 @@ use Rattle.plain_machine.specs.Plain.{Datum, AnObject, AClass, ANumber, AText, A
 use Rattle.plain_machine.specs.Plain.{EvalJob, DoEval, CallJob, DoCall, DoBody, DoTypeCall, DoNew, DoInit, DoObject, ClassJob, DoMakeClass, DoType}
 use Rattle.plain_machine.specs.Plain.{AttributeJob, DoGetAttr, DoGeneric, DoGenericOpt, DoSetAttr, DoGenericSet, DoTypeGet, DoTypeSet, DoHasAttr, DoSpecial, DoBind, DoLoadMethod, DoInvoke}
 use Rattle.plain_machine.specs.Plain.{DescriptorJob, DoDescrGet, DoDescrSet, DoSuperGet, DoSuperInit, DoSuperCheck}
-use Rattle.plain_machine.specs.Plain.{OperatorJob, DoAdd, DoBinOp1, DoEnter, DoBinary, DoInplaceOp1, DoInplace, DoConcat, DoInplaceAdd, DoInplaceConcat, DoMul, DoRepeat, DoInplaceMul, DoInplaceRepeat, DoEnterPower, DoPower, DoInplacePower, DoUnary, DoInt}
+use Rattle.plain_machine.specs.Plain.{OperatorJob, DoAdd, DoBinOp1, DoEnter, DoBinary, DoInplaceOp1, DoInplace, DoConcat, DoInplaceAdd, DoInplaceConcat, DoMul, DoRepeat, DoInplaceMul, DoInplaceRepeat, DoNativeRepeat, DoEnterPower, DoPower, DoInplacePower, DoUnary, DoInt}
 use Rattle.plain_machine.specs.Plain.{CompareJob, DoCompare, DoCmp, DoRichBool, DoBoolEq, DoIdEq, DoSeqLt, DoSeqGt}
 use Rattle.plain_machine.specs.Plain.{ProtocolJob, DoIsTrue, DoIndex, DoWhole, DoLength, DoHint, DoGetItem, DoSetItem, DoDelItem, DoGetSlice, DoSetSlice, DoDelSlice, DoGetIter, DoNext, DoCollect, DoContains, DoCount, DoFind, DoKeys, DoValues, DoItems}
 use Rattle.plain_machine.specs.Plain.{ObjectJob, DoHash, DoRepr, DoStr, DoFormat, DoDir, DoIsInstance, DoInst, DoIsSubclass, DoSub, DoAbsSub}
@@ -191,6 +191,7 @@ operator_job t (operator.Mul a b) = DoMul a b
 operator_job t (operator.Repeat a n) = DoRepeat a n
 operator_job t (operator.InplaceMul a b) = DoInplaceMul a b
 operator_job t (operator.InplaceRepeat a n) = DoInplaceRepeat a n
+operator_job t (operator.NativeRepeat e a n) = DoNativeRepeat e a n
 operator_job t (operator.EnterPower s a b c) = DoEnterPower s a b c
 operator_job t (operator.Power a b c) = DoPower a b c
 operator_job t (operator.InplacePower a b c) = DoInplacePower a b c

@@ -116,9 +116,10 @@ pub data OperatorJob : Type 0 where
   DoInplaceAdd : PyObjectRef → PyObjectRef → OperatorJob
   DoInplaceConcat : PyObjectRef → PyObjectRef → OperatorJob
   DoMul : PyObjectRef → PyObjectRef → OperatorJob
-  DoRepeat : PyObjectRef → PyObjectRef → OperatorJob
+  DoRepeat : PyObjectRef → ℤ → OperatorJob
   DoInplaceMul : PyObjectRef → PyObjectRef → OperatorJob
-  DoInplaceRepeat : PyObjectRef → PyObjectRef → OperatorJob
+  DoInplaceRepeat : PyObjectRef → ℤ → OperatorJob
+  DoNativeRepeat : NativeEntry → PyObjectRef → ℤ → OperatorJob
   DoEnterPower : SlotEntry → PyObjectRef → PyObjectRef → PyObjectRef → OperatorJob
   DoPower : PyObjectRef → PyObjectRef → PyObjectRef → OperatorJob
   DoInplacePower : PyObjectRef → PyObjectRef → PyObjectRef → OperatorJob
@@ -139,7 +140,7 @@ pub data ProtocolJob : Type 0 where
   DoIndex : PyObjectRef → ProtocolJob
   DoWhole : PyObjectRef → ProtocolJob
   DoLength : PyObjectRef → ProtocolJob
-  DoHint : PyObjectRef → ℤ → ProtocolJob
+  DoHint : PyObjectRef → Option ℤ → ProtocolJob
   DoGetItem : PyObjectRef → PyObjectRef → ProtocolJob
   DoSetItem : PyObjectRef → PyObjectRef → PyObjectRef → ProtocolJob
   DoDelItem : PyObjectRef → PyObjectRef → ProtocolJob

@@ -33,7 +33,7 @@ pub enum ProtocolTask {
     Int(PyObjectRef),
     Length(PyObjectRef),
     /// A length, or what an object says of it, or else the number that is given.
-    Hint(PyObjectRef, i64),
+    Hint(PyObjectRef, Option<i64>),
     GetItem(PyObjectRef, PyObjectRef),
     /// Sets the item of a key to a value.
     SetItem(PyObjectRef, PyObjectRef, PyObjectRef),

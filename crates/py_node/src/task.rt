@@ -213,9 +213,11 @@ pub enum OperatorTask {
     /// The product of numbers, or a sequence repeated.
     Mul(PyObjectRef, PyObjectRef),
     /// Repeats a sequence so many times.
-    Repeat(PyObjectRef, PyObjectRef),
+    Repeat(PyObjectRef, i64),
     InplaceMul(PyObjectRef, PyObjectRef),
-    InplaceRepeat(PyObjectRef, PyObjectRef),
+    InplaceRepeat(PyObjectRef, i64),
+    /// Runs a native that repeats a sequence, so many times.
+    NativeRepeat(NativeEntry, PyObjectRef, i64),
     /// Enters an entry for powers with both operands and a modulus, which may be None.
     EnterPower(SlotEntry, PyObjectRef, PyObjectRef, PyObjectRef),
     /// A power, by a modulus unless that is None.
