@@ -270,7 +270,7 @@ unfolding class-row
 class-later u x bs es vs more text tree [] h = absurd (omega arith)
 class-later u x bs es vs more text tree (k ∷ kw) h = refl
 
--- a form that no request has named
+-- a form that no stage so far has named
 says-later : (vs : List PyObjectRef) (f : Form) → IsLater f → (t : Reading) (u : PlainWorld) (more : Told) → own_say u (form_tree t.text t.tree f) vs more ≡ not_yet u more
 unfolding call-row class-row
 says-later vs (form.Const k) o t u more = absurd o

@@ -83,7 +83,7 @@ Continues e vs = Goes eval_say eval_stands (λ t. record { task = DoEval (t.tree
 abbrev pub ContinuesTree : (Reading → Tree) → List PyObjectRef → World → World → Step EvalKept → Type 0
 ContinuesTree spell vs = Goes eval_say eval_stands (λ t. record { task = DoEval (spell t); told = map answered vs })
 
--- no request has named the form so far
+-- no stage so far has named the form
 abbrev pub IsLater : Form → Type 0
 IsLater (form.Const k) = ⊥
 IsLater (form.Name x) = ⊥

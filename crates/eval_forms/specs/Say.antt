@@ -64,7 +64,7 @@ bind_say w x (Some v) = end (with_binding w x v) (value v)
 abbrev pub func_say : PlainWorld → Text → List Text → Bool → Tree → Row
 func_say w x ps rest e = make w the_function (AFunction x ps rest e None)
 
--- what no request has named so far
+-- what no stage so far has named
 abbrev pub not_yet : PlainWorld → Row
 not_yet w = end w (fault NotImplementedError NotYet)
 
@@ -121,7 +121,7 @@ abbrev pub entry_names : Entries → List Text
 entry_names no_entries = []
 entry_names (entry x e es) = x ∷ entry_names es
 
--- the parts of an expression that are evaluated first, in order. A form that no request has named has none yet
+-- the parts of an expression that are evaluated first, in order. A form that no stage so far has named has none
 abbrev pub operand_trees : Tree → List Tree
 operand_trees (TBind x e) = e ∷ []
 operand_trees (TSetAttr o x e) = o ∷ e ∷ []

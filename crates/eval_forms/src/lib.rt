@@ -206,7 +206,7 @@ pub enum Own {
     Op(Word),
     /// The class's name, how many bases it has, and the names of its entries.
     Class(PyStrInterned, usize, Vec<PyStrInterned>),
-    /// What no request has named so far.
+    /// What no stage so far has named.
     NotYet,
 }
 
@@ -432,7 +432,7 @@ fn add_step(values: &[PyObjectRef]) -> Step<EvalKept>
     }
 }
 
-// What no request has named so far.
+// What no stage so far has named.
 fn not_yet() -> Step<EvalKept>
     ensures { result ≡ Step.End (Err (record { kind = Kind.NotImplementedError; cause = Cause.NotYet })) }
 {
