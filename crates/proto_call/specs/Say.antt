@@ -1,8 +1,8 @@
 -- What the rows of calls say.
 use Rattle.std.specs.Prelude.{ℕ, zero, suc, Bool, true, false, cond, not, eqb, ◌&&◌, ◌||◌, codes, List, [], ◌∷◌, Option, Some, None, is_some, is_none, map}
 use Rattle.py_node.specs.declared.refs.PyObjectRef.{PyObjectRef}
-use Rattle.py_node.specs.declared.raised.Kind.TheVariants.{TypeError, AttributeError, NotImplementedError}
-use Rattle.py_node.specs.declared.raised.Cause.TheVariants.{AbstractMethods, ArgCount, CannotCreate, InitNotNone, NoSpecial, NotCallable, NotYet, SelfType, UnexpectedKeyword, UnsafeNew}
+use Rattle.py_node.specs.declared.raised.Kind.TheVariants.{TypeError, AttributeError}
+use Rattle.py_node.specs.declared.raised.Cause.TheVariants.{AbstractMethods, ArgCount, CannotCreate, InitNotNone, NoSpecial, NotCallable, SelfType, UnexpectedKeyword, UnsafeNew}
 use Rattle.py_node.specs.declared.entry.SlotId.TheVariants.{Call, Init, New}
 use Rattle.py_node.specs.declared.entry.SlotEntry.{SlotEntry}
 use Rattle.py_node.specs.declared.entry.SlotEntry.TheVariants.{Native, Wrapper}
@@ -12,21 +12,21 @@ use Rattle.py_node.specs.declared.entry.ObjectNative.{ObjectNative}
 use Rattle.py_node.specs.declared.entry.ObjectNative.TheVariants as object
 use Rattle.py_node.specs.declared.entry.TypeNative.TheVariants as type
 use Rattle.py_node.specs.declared.entry.CallableNative.TheVariants as callable
-use Rattle.py_node.specs.declared.task.LaterTask.TheVariants as later
 use Rattle.py_node.specs.Attributes.{value_of, with_value}
 use Rattle.py_node.specs.Tree.{Text, Tree}
 use Rattle.py_node.specs.Replies.{Started}
 use Rattle.class_model.specs.Class.{found}
 use Rattle.class_model.specs.Slot.{slot}
 use Rattle.class_model.specs.BuiltIn.{natives_of}
-use Rattle.plain_machine.specs.Plain.{Datum, AnObject, AClass, AFunction, AMethod, ANativeFunction, ABuiltinMethod, AMethodDescriptor, ATuple, PlainWorld, Bindings, DoEval, CallJob, DoCall, DoBody, DoTypeCall, DoNew, DoInit, DoObject, DoSpecial, PlainTask, ToEval, ToAttribute, ToCall, ToLater, Ended, Chose, Said, Asks, Ends}
+use Rattle.plain_machine.specs.Plain.{Datum, AnObject, AClass, AFunction, AMethod, ANativeFunction, ABuiltinMethod, AMethodDescriptor, ATuple, PlainWorld, Bindings, DoEval, CallJob, DoCall, DoBody, DoTypeCall, DoNew, DoInit, DoObject, DoGeneric, DoGenericSet, DoSpecial, PlainTask, ToEval, ToAttribute, ToCall, Ended, Chose, Said, Asks, Ends}
 use Rattle.plain_machine.specs.World.{is_text, datum_at, slot_at, text_keys, with_node, next_node, with_scope, without_scope}
 use Rattle.plain_machine.specs.Objects.{class_object, class_number, is_instance, nearest_built_in}
 use Rattle.plain_machine.specs.Args.{filled}
+use Rattle.plain_machine.specs.Takes.{with_one, with_two, with_three, with_text, native_end}
 use Rattle.plain_machine.specs.Known.{the_object, the_type, the_tuple}
 use Rattle.plain_machine.specs.Native.{native_task}
 use Rattle.plain_machine.specs.Show.{show}
-use Rattle.plain_machine.specs.Row.{Row, start, fork, ask, pass, end, value, done, fault, none, on_value, on_done}
+use Rattle.plain_machine.specs.Row.{Row, start, fork, ask, pass, end, value, done, fault, not_yet, none, on_value, on_done}
 
 abbrev pub is_empty : {A : Type 0} → List A → Bool
 is_empty [] = true
@@ -39,17 +39,22 @@ with_self None args = args
 with_self (Some r) args = r ∷ args
 
 -- what the native entry for calls does with what the object holds: a body runs, a bound function is called with its object first, a native is asked, a class makes an object
-abbrev pub call_native : PlainWorld → NativeEntry → Option Datum → PyObjectRef → List PyObjectRef → Bindings → PlainTask
-call_native w (OfCallable callable.CallFunction) d f args kw = ToCall (DoBody f args kw)
-call_native w (OfCallable callable.CallMethod) (Some (AMethod o g)) f args kw = ToCall (DoCall g (o ∷ args) kw)
-call_native w (OfCallable callable.CallNativeFunction) (Some (ANativeFunction x n o)) f args kw = native_task n (with_self o args) kw
-call_native w (OfCallable callable.CallBuiltinMethod) (Some (ABuiltinMethod x n o)) f args kw = native_task n (o ∷ args) kw
-call_native w (OfCallable callable.CallMethodDescriptor) (Some (AMethodDescriptor c x n flags)) f args kw = native_task n args kw
-call_native w (OfType type.Call) (Some (AClass c)) f args kw = ToCall (DoTypeCall c args kw)
-call_native w _ d f args kw = ToLater later.Native
+abbrev pub call_native : NativeEntry → Option Datum → PyObjectRef → List PyObjectRef → Bindings → Option PlainTask
+call_native (OfCallable callable.CallFunction) d f args kw = Some (ToCall (DoBody f args kw))
+call_native (OfCallable callable.CallMethod) (Some (AMethod o g)) f args kw = Some (ToCall (DoCall g (o ∷ args) kw))
+call_native (OfCallable callable.CallNativeFunction) (Some (ANativeFunction x n o)) f args kw = Some (native_task n (with_self o args) kw)
+call_native (OfCallable callable.CallBuiltinMethod) (Some (ABuiltinMethod x n o)) f args kw = Some (native_task n (o ∷ args) kw)
+call_native (OfCallable callable.CallMethodDescriptor) (Some (AMethodDescriptor c x n flags)) f args kw = Some (native_task n args kw)
+call_native (OfType type.Call) (Some (AClass c)) f args kw = Some (ToCall (DoTypeCall c args kw))
+call_native _ d f args kw = None
+
+-- what is asked, where the native entry is one of these. Others are not there yet
+abbrev pub asked_of_native : PlainWorld → Option PlainTask → Said
+asked_of_native w None = Ends w not_yet
+asked_of_native w (Some task) = pass w task
 
 abbrev pub call_by : PlainWorld → Option SlotEntry → PyObjectRef → List PyObjectRef → Bindings → Said
-call_by w (Some (Native n)) f args kw = pass w (call_native w n (datum_at w f) f args kw)
+call_by w (Some (Native n)) f args kw = asked_of_native w (call_native n (datum_at w f) f args kw)
 call_by w (Some (Wrapper s)) f args kw = pass w (ToAttribute (DoSpecial f (codes "__call__") args kw))
 call_by w _ f args kw = Ends w (fault TypeError NotCallable)
 
@@ -209,18 +214,25 @@ object_init w (o ∷ args) = Ends w (value none)
 
 -- the class alone, and no keyword
 abbrev pub object_init_subclass : PlainWorld → List PyObjectRef → Bindings → Said
-object_init_subclass w (c ∷ []) [] = Ends w (value none)
-object_init_subclass w (c ∷ []) (k ∷ kw) = Ends w (fault TypeError UnexpectedKeyword)
-object_init_subclass w _ kw = Ends w (fault TypeError ArgCount)
+object_init_subclass w args kw = with_one w args kw (λ c. Ends w (value none))
+
+-- an attribute by its name, as objects read and set it
+abbrev pub object_get_attribute : PlainWorld → List PyObjectRef → Bindings → Said
+object_get_attribute w args kw = with_two w args kw (λ o n. with_text w n (λ x. pass w (ToAttribute (DoGeneric o x))))
+
+abbrev pub object_set_attr : PlainWorld → List PyObjectRef → Bindings → Said
+object_set_attr w args kw = with_three w args kw (λ o n v. with_text w n (λ x. pass w (ToAttribute (DoGenericSet o x (Some v)))))
 
 abbrev pub object_by : PlainWorld → ObjectNative → List PyObjectRef → Bindings → Said
 object_by w object.New args kw = object_new w args
 object_by w object.Init args kw = object_init w args
 object_by w object.InitSubclass args kw = object_init_subclass w args kw
-object_by w _ args kw = Ends w (fault NotImplementedError NotYet)
+object_by w object.GetAttribute args kw = object_get_attribute w args kw
+object_by w object.SetAttr args kw = object_set_attr w args kw
+object_by w _ args kw = Ends w not_yet
 
 abbrev pub object_say : PlainWorld → ObjectNative → List PyObjectRef → Bindings → Row
-object_say w n args kw = start (object_by w n args kw) (end w)
+object_say w n args kw = start (object_by w n args kw) (native_end w)
 
 unfoldable pub call_job_say : PlainWorld → CallJob → Row
 call_job_say w (DoCall f args kw) told = call_say w f args kw told
