@@ -20,3 +20,7 @@ pub mod StartSound
 pub mod OwnAttrs
 pub mod ClassText
 pub mod SoundWorld
+pub mod NewNodes
+pub mod DictEntries
+pub mod DictChanges
+pub mod DictReads

@@ -11,3 +11,4 @@ pub mod StartNodes
 pub mod BuiltInAttrs
 pub mod Added
 pub mod NewHeap
+pub mod Keyed

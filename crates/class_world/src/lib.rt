@@ -5,6 +5,8 @@ pub mod args;
 mod attributes_of_built_ins;
 pub mod classes;
 mod definer;
+pub mod dicts;
+mod entries;
 mod heap;
 mod nodes;
 mod numbers;

@@ -1,6 +1,7 @@
 -- The dicts of objects: what stands in one under a text, and how that is set and taken out.
 use Rattle.std.specs.Prelude.{Bool, false, cond, List, [], ◌∷◌, ◌++◌, Option, Some, None, option_and_then}
 use Rattle.py_node.specs.declared.refs.PyObjectRef.{PyObjectRef}
+use Rattle.py_node.specs.Attributes.{value_of}
 use Rattle.py_node.specs.Tree.{Text}
 use Rattle.plain_machine.specs.Plain.{Datum, AText, ADict, PlainWorld}
 use Rattle.plain_machine.specs.Known.{the_str}
@@ -22,28 +23,27 @@ entries_in _ = []
 abbrev pub dict_of : PlainWorld → PyObjectRef → Option PyObjectRef
 dict_of w o = option_and_then (λ n. n.dict) (node_at w o)
 
--- the value of the first key that is a text
-abbrev pub value_under : PlainWorld → Text → Entries → Option PyObjectRef
-value_under w x [] = None
-value_under w x (e ∷ es) = cond (is_text_datum x (datum_at w e.0)) (Some e.1) (value_under w x es)
+-- whether a key is a text
+abbrev pub is_key : PlainWorld → Text → PyObjectRef → Bool
+is_key w x k = is_text_datum x (datum_at w k)
 
 -- the value that a dict has under a text
 abbrev pub value_in : PlainWorld → Text → PyObjectRef → Option PyObjectRef
-value_in w x d = value_under w x (entries_in (datum_at w d))
+value_in w x d = value_of (is_key w x) (entries_in (datum_at w d))
 
 -- the value that an object's own dict has under a text
 abbrev pub own_value : PlainWorld → PyObjectRef → Text → Option PyObjectRef
 own_value w o x = option_and_then (value_in w x) (dict_of w o)
 
--- the entries with another value for a text that is there
-abbrev pub with_value_under : PlainWorld → Text → PyObjectRef → Entries → Entries
-with_value_under w x v [] = []
-with_value_under w x v (e ∷ es) = cond (is_text_datum x (datum_at w e.0)) ((e.0, v) ∷ es) (e ∷ with_value_under w x v es)
+-- the entries with another value for the first key that passes a test
+abbrev pub with_value_for : (PyObjectRef → Bool) → PyObjectRef → Entries → Entries
+with_value_for test v [] = []
+with_value_for test v (e ∷ es) = cond (test e.0) ((e.0, v) ∷ es) (e ∷ with_value_for test v es)
 
--- the entries without the one of a text
-abbrev pub without_under : PlainWorld → Text → Entries → Entries
-without_under w x [] = []
-without_under w x (e ∷ es) = cond (is_text_datum x (datum_at w e.0)) es (e ∷ without_under w x es)
+-- the entries without that of the first key that passes a test
+abbrev pub without_value_for : (PyObjectRef → Bool) → Entries → Entries
+without_value_for test [] = []
+without_value_for test (e ∷ es) = cond (test e.0) es (e ∷ without_value_for test es)
 
 -- a dict with other entries
 abbrev pub with_entries : PlainWorld → PyObjectRef → Entries → PlainWorld
@@ -51,7 +51,7 @@ with_entries w d es = record w { nodes = with_datum_in (λ m. ADict es) w.nodes 
 
 -- a dict with a value for a text: in its place, or else last, with a new text as its key
 abbrev pub set_under : PlainWorld → PyObjectRef → Text → PyObjectRef → Option PyObjectRef → PlainWorld
-set_under w d x v (Some old) = with_entries w d (with_value_under w x v (entries_in (datum_at w d)))
+set_under w d x v (Some old) = with_entries w d (with_value_for (is_key w x) v (entries_in (datum_at w d)))
 set_under w d x v None =
     with_entries (with_node w the_str (AText x)) d (entries_in (datum_at w d) ++ (next_node w the_str, v) ∷ [])
 
@@ -60,4 +60,4 @@ with_value_in w d x v = set_under w d x v (value_in w x d)
 
 -- a dict without its value for a text
 abbrev pub without_value_in : PlainWorld → PyObjectRef → Text → PlainWorld
-without_value_in w d x = with_entries w d (without_under w x (entries_in (datum_at w d)))
+without_value_in w d x = with_entries w d (without_value_for (is_key w x) (entries_in (datum_at w d)))
