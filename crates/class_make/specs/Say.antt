@@ -9,18 +9,17 @@ use Rattle.py_node.specs.declared.entry.NativeEntry.TheVariants.{Getter, Setter}
 use Rattle.py_node.specs.declared.entry.Property.TheVariants as property
 use Rattle.py_node.specs.declared.entry.TypeNative.{TypeNative}
 use Rattle.py_node.specs.declared.entry.TypeNative.TheVariants as type
-use Rattle.py_node.specs.declared.task.LaterTask.TheVariants as later
 use Rattle.py_node.specs.Attributes.{value_of, with_value}
 use Rattle.py_node.specs.BuiltIns.{heap_flags}
 use Rattle.py_node.specs.Tree.{Text}
 use Rattle.class_model.specs.Class.{found_past, is_sub}
 use Rattle.class_model.specs.Slot.{entry}
 use Rattle.class_model.specs.BuiltIn.{natives_of}
-use Rattle.plain_machine.specs.Plain.{Datum, AText, ATuple, ADict, AClassMethod, AGetSet, PlainWorld, Bindings, ClassJob, DoMakeClass, DoType, DoBind, DoCall, DoNew, ToAttribute, ToCall, ToClass, ToLater, Made, Said, Asks, Ends}
+use Rattle.plain_machine.specs.Plain.{Datum, AText, ATuple, ADict, AClassMethod, AGetSet, PlainWorld, Bindings, ClassJob, DoMakeClass, DoType, DoBind, DoCall, DoGetAttr, DoNew, ToAttribute, ToCall, ToClass, Made, Said, Asks, Ends}
 use Rattle.plain_machine.specs.World.{ref, is_text, datum_at, class_at, text_keys, with_node, next_node, with_new_class}
 use Rattle.plain_machine.specs.Objects.{type_object, class_number, special_at, class_has_flag, nearest_built_in, with_definers}
 use Rattle.plain_machine.specs.Known.{the_object, the_type, the_str, the_function, the_getset, the_class_method}
-use Rattle.plain_machine.specs.Row.{Row, start, build, pass, end, value, fault, none, on_value, on_done}
+use Rattle.plain_machine.specs.Row.{Row, start, build, pass, end, value, fault, not_yet, none, on_value, on_done}
 
 abbrev pub is_class : Option ℕ → ℕ → Bool
 is_class None d = false
@@ -110,7 +109,7 @@ hook w class (Some m) = Asks w (Made class ∷ []) (ToAttribute (DoBind m None c
 
 abbrev pub told_of : PlainWorld → ℕ → PyObjectRef → List PyObjectRef → Said
 told_of w c class values =
-    cond (wants_name w values) (Ends w (fault NotImplementedError NotYet)) (hook w class (found_past is_text w.classes c (codes "__init_subclass__")))
+    cond (wants_name w values) (Ends w not_yet) (hook w class (found_past is_text w.classes c (codes "__init_subclass__")))
 
 abbrev pub new_class : PlainWorld → ℕ → Text → ℕ → Bindings → PlainWorld
 new_class w meta name base attrs =
@@ -155,13 +154,13 @@ by_winner w meta (Some c) name base es args kw =
 
 -- a base that is no class is asked for others. More than one base is for later
 abbrev pub by_base : PlainWorld → ℕ → Text → PyObjectRef → Option ℕ → List (PyObjectRef × PyObjectRef) → List PyObjectRef → Bindings → Said
-by_base w meta name b None es args kw = pass w (ToLater later.GetAttr)
+by_base w meta name b None es args kw = pass w (ToAttribute (DoGetAttr b (codes "__mro_entries__")))
 by_base w meta name b (Some c) es args kw = by_winner w meta (winner w meta (class_at w b)) name c es args kw
 
 abbrev pub by_bases : PlainWorld → ℕ → Text → List PyObjectRef → List (PyObjectRef × PyObjectRef) → List PyObjectRef → Bindings → Said
 by_bases w meta name [] es args kw = on_base w meta name the_object es
 by_bases w meta name (b ∷ []) es args kw = by_base w meta name b (class_number (datum_at w b)) es args kw
-by_bases w meta name _ es args kw = Ends w (fault NotImplementedError NotYet)
+by_bases w meta name _ es args kw = Ends w not_yet
 
 abbrev pub has_null : Text → Bool
 has_null [] = false
@@ -224,7 +223,7 @@ type_new w (c ∷ args) kw = type_new_of w (class_number (datum_at w c)) args kw
 
 abbrev pub type_by : PlainWorld → TypeNative → List PyObjectRef → Bindings → Said
 type_by w type.New args kw = type_new w args kw
-type_by w _ args kw = Ends w (fault NotImplementedError NotYet)
+type_by w _ args kw = Ends w not_yet
 
 abbrev pub type_say : PlainWorld → TypeNative → List PyObjectRef → Bindings → Row
 type_say w n args kw = start (type_by w n args kw) (end w)

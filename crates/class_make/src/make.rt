@@ -25,7 +25,7 @@ use py_node::entry::SlotId;
 use py_node::memory::OutOfMemory;
 use py_node::raised::{Cause, Kind, Raised};
 use py_node::refs::{PyObjectRef, PyStrInterned, PyTypeRef};
-use py_node::task::{Answer, Args, CallTask, Keywords, LaterTask, Step, Task};
+use py_node::task::{Answer, Args, AttributeTask, CallTask, Keywords, Step, Task};
 use std::alloc::Global;
 
 /// Three arguments.
@@ -225,7 +225,7 @@ fn by_bases(
             let class = world.class_number(base);
             by_base(world, alloc, meta, base, class, body, call)
         }
-        _ => Ok(refused(Kind::NotImplementedError, Cause::NotYet)),
+        _ => Ok(Step::not_yet()),
     }
 }
 
@@ -251,7 +251,11 @@ fn by_base(
     ensures safe { Leaves of_class_kept world.old world.new result }
 {
     match class {
-        None => Ok(Step::Ask(Task::Later(LaterTask::GetAttr), ClassKept::Pass)),
+        None => {
+            let name = world.intern(alloc, "__mro_entries__")?;
+            let task = AttributeTask::GetAttr(base, name);
+            Ok(Step::Ask(Task::Attribute(task), ClassKept::Pass))
+        }
         Some(class) => {
             let of_base = world.metaclass(base);
             let winner = winner(world, meta, of_base);

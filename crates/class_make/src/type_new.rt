@@ -37,7 +37,7 @@ pub(crate) fn type_native(
 {
     match native {
         TypeNative::New => type_new(world, alloc, args, kw),
-        _ => Ok(refused(Kind::NotImplementedError, Cause::NotYet)),
+        _ => Ok(Step::not_yet()),
     }
 }
 

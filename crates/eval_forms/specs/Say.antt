@@ -75,7 +75,7 @@ op_say w word.Add vs = add_of w (two_of vs)
 -- an attribute is set to the second operand, and the answer is None
 abbrev pub set_attr_say : PlainWorld → Text → Option (PyObjectRef × PyObjectRef) → Row
 set_attr_say w x None = end w (fault TypeError ArgCount)
-set_attr_say w x (Some p) = ask w (ToAttribute (DoSetAttr p.0 x p.1)) (λ r. on_done w r (end w (value none)))
+set_attr_say w x (Some p) = ask w (ToAttribute (DoSetAttr p.0 x (Some p.1))) (λ r. on_done w r (end w (value none)))
 
 -- the first operand is called with the others
 abbrev pub call_say : PlainWorld → List PyObjectRef → Row

@@ -21,7 +21,9 @@ use py_node::memory::OutOfMemory;
 use py_node::payload::{Form, Function, Payload};
 use py_node::raised::{Cause, Kind, Raised};
 use py_node::refs::{PyObjectRef, PyStrInterned};
-use py_node::task::{Answer, AttributeTask, CallTask, EvalTask, OperatorTask, Step, Task};
+use py_node::task::{
+    Answer, AttributeTask, CallTask, EvalTask, OperatorTask, PySetterValue, Step, Task,
+};
 use std::alloc::Global;
 
 /// What a row of an expression keeps while it waits for an answer.
@@ -437,7 +439,7 @@ fn set_attr_step(name: PyStrInterned, values: &[PyObjectRef]) -> Step<EvalKept>
     match two_of(values) {
         None => missing_operand(),
         Some((target, value)) => Step::Ask(
-            Task::Attribute(AttributeTask::SetAttr(target, name, value)),
+            Task::Attribute(AttributeTask::SetAttr(target, name, PySetterValue::Assign(value))),
             EvalKept::SetDone,
         ),
     }

@@ -1,8 +1,7 @@
 // The call of an object.
 
-ghost use Rattle.std.specs.Prelude.{◌≡◌, ◌∷◌, Some, IfOk};
+ghost use Rattle.std.specs.Prelude.{◌≡◌, ◌∷◌, Some, IfOk, option_map};
 ghost use Rattle.py_node.specs.declared.task.CallTask.TheVariants as call;
-ghost use Rattle.plain_machine.specs.Plain.{PlainWorld};
 ghost use Rattle.plain_machine.specs.World.{datum_at};
 ghost use Rattle.class_world.specs.Sound.{AllHold, Holds, IsNode, AreNodes, of_payload, of_option, of_node_ref};
 ghost use Rattle.class_world.specs.Claims.{of_args, of_task};
@@ -19,7 +18,7 @@ use py_node::memory::OutOfMemory;
 use py_node::payload::Payload;
 use py_node::raised::{Cause, Kind};
 use py_node::refs::PyObjectRef;
-use py_node::task::{Args, CallTask, Keywords, LaterTask, Step, Task};
+use py_node::task::{Args, CallTask, Keywords, Step, Task};
 use std::alloc::Global;
 
 /// An object is called as its class's entry for calls says: by a native, or by the special method.
@@ -36,8 +35,10 @@ pub(crate) fn begin_call(
 {
     match world.slot(f, SlotId::Call) {
         Some(SlotEntry::Native(native)) => {
-            let task = native_call(world, alloc, native, f, args, kw)?;
-            Ok(Step::Ask(task, CallKept::Pass))
+            match native_call(world, alloc, native, f, args, kw)? {
+                Some(task) => Ok(Step::Ask(task, CallKept::Pass)),
+                None => Ok(Step::not_yet()),
+            }
         }
         Some(SlotEntry::Wrapper(_)) => {
             let task = special(world, alloc, f, "__call__", args, kw)?;
@@ -47,7 +48,7 @@ pub(crate) fn begin_call(
     }
 }
 
-// What a native entry for calls asks for an object.
+// What a native entry for calls asks for an object, if it is there yet.
 fn native_call(
     world: &World,
     alloc: Global,
@@ -55,10 +56,11 @@ fn native_call(
     f: PyObjectRef,
     args: Args,
     kw: Keywords,
-) -> Result<Task, OutOfMemory>
+) -> Result<Option<Task>, OutOfMemory>
     requires { AllHold world.now (IsNode f ∷ of_args args.items kw.items) }
-    ensures task { IfOk result (λ task. (t : Reading) → task_of t task ≡ call_native (plain t world.now) native (datum_at (plain t world.now) f) f args.items (bindings t kw.items)) }
-    ensures holds { IfOk result (λ task. AllHold world.now (of_task task)) }
+    ensures task { IfOk result (λ o. (t : Reading) → option_map (task_of t) o ≡
+        call_native native (datum_at (plain t world.now) f) f args.items (bindings t kw.items)) }
+    ensures holds { IfOk result (λ o. AllHold world.now (of_option of_task o)) }
 {
     let task = call_held(alloc, native, world.payload(f), f, args, kw)?;
     Ok(task)
@@ -72,40 +74,42 @@ fn call_held(
     f: PyObjectRef,
     args: Args,
     kw: Keywords,
-) -> Result<Task, OutOfMemory>
-    ensures task { IfOk result (λ task. (t : Reading) (u : PlainWorld) → task_of t task ≡ call_native u native (Some (datum t payload.now)) f args.items (bindings t kw.items)) }
-    ensures holds { IfOk result (λ task. (w : World) → AllHold w (IsNode f ∷ of_args args.items kw.items) → AllHold w (of_payload payload.now) → AllHold w (of_task task)) }
+) -> Result<Option<Task>, OutOfMemory>
+    ensures task { IfOk result (λ o. (t : Reading) → option_map (task_of t) o ≡
+        call_native native (Some (datum t payload.now)) f args.items (bindings t kw.items)) }
+    ensures holds { IfOk result (λ o. (w : World) → AllHold w (IsNode f ∷ of_args args.items kw.items) →
+        AllHold w (of_payload payload.now) → AllHold w (of_option of_task o)) }
 {
     match (native, payload) {
         (NativeEntry::OfCallable(CallableNative::CallFunction), _) => {
-            Ok(Task::Call(CallTask::Body(f, args, kw)))
+            Ok(Some(Task::Call(CallTask::Body(f, args, kw))))
         }
         (NativeEntry::OfCallable(CallableNative::CallMethod), Payload::Method(method)) => {
             let args = bound(alloc, method.target, args)?;
-            Ok(Task::Call(CallTask::Call(method.func, args, kw)))
+            Ok(Some(Task::Call(CallTask::Call(method.func, args, kw))))
         }
         (
             NativeEntry::OfCallable(CallableNative::CallNativeFunction),
             Payload::NativeFunction(func),
         ) => {
             let args = with_self(alloc, func.target, args)?;
-            Ok(native_task(func.entry, args, kw))
+            Ok(Some(native_task(func.entry, args, kw)))
         }
         (
             NativeEntry::OfCallable(CallableNative::CallBuiltinMethod),
             Payload::BuiltinMethod(method),
         ) => {
             let args = bound(alloc, method.target, args)?;
-            Ok(native_task(method.entry, args, kw))
+            Ok(Some(native_task(method.entry, args, kw)))
         }
         (
             NativeEntry::OfCallable(CallableNative::CallMethodDescriptor),
             Payload::MethodDescriptor(method),
-        ) => { Ok(native_task(method.entry, args, kw)) }
+        ) => { Ok(Some(native_task(method.entry, args, kw))) }
         (NativeEntry::OfType(TypeNative::Call), Payload::Class(class)) => {
-            Ok(Task::Call(CallTask::TypeCall(*class, args, kw)))
+            Ok(Some(Task::Call(CallTask::TypeCall(*class, args, kw))))
         }
-        _ => Ok(Task::Later(LaterTask::Native)),
+        _ => Ok(None),
     }
 }
 

@@ -59,7 +59,7 @@ fn object_by(
         }
         ObjectNative::Init => Ok(object_init(world, args)),
         ObjectNative::InitSubclass => Ok(object_init_subclass(world, args, kw)),
-        _ => Ok(refused(Kind::NotImplementedError, Cause::NotYet)),
+        _ => Ok(Step::not_yet()),
     }
 }
 

@@ -30,26 +30,26 @@ use Rattle.proto_ops.specs.Say.{operator_say, left_slot, right_slot, is_not_impl
 use Rattle.proto_ops.specs.Rows.{operator_stands, of_operator_kept, joining, entered, AsksSpecial, Begins, Resumes, Sums}
 
 -- a sum that no candidate gave
-pub add-joins : (w : World) (a x : PyObjectRef) (item : Option SlotEntry) → is_not_implemented x ≡ true → ((t : Reading) → Reads t w → slot_at (plain t w) a SeqItem ≡ item) → Resumes (AddRest a) (Ok (Value x)) w w (joining item)
+pub add-joins : (w : World) (a b x : PyObjectRef) (item : Option SlotEntry) → is_not_implemented x ≡ true → ((t : Reading) → Reads t w → slot_at (plain t w) a SeqItem ≡ item) → Resumes (AddRest a b) (Ok (Value x)) w w (joining item a b)
 unfolding operator_say
-add-joins w a x item e h = λ t r. (r, go t (h t r) item refl)
+add-joins w a b x item e h = λ t r. (r, go t (h t r) item refl)
   where
-    row : (u : PlainWorld) (more : Told) → operator_say u (DoAdd a (record { 0 = 0 })) (Answered (value x) ∷ more) ≡ start (joined u (slot_at u a SeqItem)) (end u) more
-    row u more = ap (λ b. cond b (start (joined u (slot_at u a SeqItem)) (end u)) (end u (value x)) more) e
+    row : (u : PlainWorld) (more : Told) → operator_say u (DoAdd a b) (Answered (value x) ∷ more) ≡ start (joined u (slot_at u a SeqItem) a b) (end u) more
+    row u more = ap (λ c. cond c (start (joined u (slot_at u a SeqItem) a b) (end u)) (end u (value x)) more) e
 
-    go : (t : Reading) → slot_at (plain t w) a SeqItem ≡ item → (o : Option SlotEntry) → item ≡ o → Steps operator_say (operator_stands t) t (DoAdd a (record { 0 = 0 })) (Answered (value x) ∷ []) (operator_say (plain t w) (DoAdd a (record { 0 = 0 })) (Answered (value x) ∷ [])) (joining item) w
+    go : (t : Reading) → slot_at (plain t w) a SeqItem ≡ item → (o : Option SlotEntry) → item ≡ o → Steps operator_say (operator_stands t) t (DoAdd a b) (Answered (value x) ∷ []) (operator_say (plain t w) (DoAdd a b) (Answered (value x) ∷ [])) (joining item a b) w
     go t k None q =
-        let said = row (plain t w) [] ∙ ap (λ o. start (joined (plain t w) o) (end (plain t w)) []) (k ∙ q) in
-        subst (λ i. Steps operator_say (operator_stands t) t (DoAdd a (record { 0 = 0 })) (Answered (value x) ∷ []) (operator_say (plain t w) (DoAdd a (record { 0 = 0 })) (Answered (value x) ∷ [])) (joining i) w) (sym q)
-        (subst (λ s. Steps operator_say (operator_stands t) t (DoAdd a (record { 0 = 0 })) (Answered (value x) ∷ []) s (joining None) w) (sym said) (refl, refl))
+        let said = row (plain t w) [] ∙ ap (λ o. start (joined (plain t w) o a b) (end (plain t w)) []) (k ∙ q) in
+        subst (λ i. Steps operator_say (operator_stands t) t (DoAdd a b) (Answered (value x) ∷ []) (operator_say (plain t w) (DoAdd a b) (Answered (value x) ∷ [])) (joining i a b) w) (sym q)
+        (subst (λ s. Steps operator_say (operator_stands t) t (DoAdd a b) (Answered (value x) ∷ []) s (joining None a b) w) (sym said) (refl, refl))
     go t k (Some s) q =
-        let said = row (plain t w) [] ∙ ap (λ o. start (joined (plain t w) o) (end (plain t w)) []) (k ∙ q) in
-        subst (λ i. Steps operator_say (operator_stands t) t (DoAdd a (record { 0 = 0 })) (Answered (value x) ∷ []) (operator_say (plain t w) (DoAdd a (record { 0 = 0 })) (Answered (value x) ∷ [])) (joining i) w) (sym q)
-        (subst (λ v. Steps operator_say (operator_stands t) t (DoAdd a (record { 0 = 0 })) (Answered (value x) ∷ []) v (joining (Some s)) w) (sym said) (refl, refl, record { says = λ u r more. row u (Answered r ∷ more) }))
+        let said = row (plain t w) [] ∙ ap (λ o. start (joined (plain t w) o a b) (end (plain t w)) []) (k ∙ q) in
+        subst (λ i. Steps operator_say (operator_stands t) t (DoAdd a b) (Answered (value x) ∷ []) (operator_say (plain t w) (DoAdd a b) (Answered (value x) ∷ [])) (joining i a b) w) (sym q)
+        (subst (λ v. Steps operator_say (operator_stands t) t (DoAdd a b) (Answered (value x) ∷ []) v (joining (Some s) a b) w) (sym said) (refl, refl, record { says = λ u r more. row u (Answered r ∷ more) }))
 
-pub joining-holds : (w : World) (item : Option SlotEntry) → AllHold w (of_step of_operator_kept (joining item))
-joining-holds w None = tt
-joining-holds w (Some s) = tt
+pub joining-holds : (w : World) (item : Option SlotEntry) (a b : PyObjectRef) → Holds w (IsNode a) → Holds w (IsNode b) → AllHold w (of_step of_operator_kept (joining item a b))
+joining-holds w None a b h k = tt
+joining-holds w (Some s) a b h k = (h, (k, tt))
 
 -- the row of an operator, with the candidates that were read
 abbrev StepsOnce : World → PyNumberBinaryOp → PyObjectRef → PyObjectRef → Reading → List SlotEntry → Step OperatorKept → Type 0

@@ -9,7 +9,7 @@ use Rattle.py_node.specs.declared.task.Answer.TheVariants.{Value}
 use Rattle.py_node.specs.declared.task.OperatorTask.{OperatorTask}
 use Rattle.py_node.specs.declared.task.PyNumberBinaryOp.TheVariants.{Add}
 use Rattle.py_node.specs.declared.task.Step.{Step}
-use Rattle.plain_machine.specs.Plain.{OperatorJob, DoAdd, DoBinOp1, DoEnter, DoInt, PlainTask, Read}
+use Rattle.plain_machine.specs.Plain.{OperatorJob, DoAdd, DoBinOp1, DoEnter, DoInt, PlainWorld, Read, Said}
 use Rattle.py_node.specs.declared.raised.Kind.TheVariants.{TypeError}
 use Rattle.py_node.specs.declared.raised.Cause.TheVariants.{UnsupportedOperand}
 use Rattle.py_node.specs.declared.task.Step.TheVariants.{Ask, End}
@@ -17,8 +17,7 @@ use Rattle.py_node.specs.declared.task.Task.TheVariants as task
 use Rattle.py_node.specs.declared.task.OperatorTask.TheVariants as operator
 use Rattle.py_node.specs.declared.task.AttributeTask.TheVariants as attribute
 use Rattle.py_node.specs.declared.refs.PyStrInterned.{PyStrInterned}
-use Rattle.py_node.specs.declared.task.LaterTask.TheVariants as later
-use Rattle.plain_machine.specs.Row.{pass, fault}
+use Rattle.plain_machine.specs.Row.{fault}
 use Rattle.plain_machine.specs.Rows.{Pending, fresh, given}
 use Rattle.class_world.specs.declared.world.World.{World}
 use Rattle.class_world.specs.Reading.{Reading, operator_job, ended_of}
@@ -37,13 +36,13 @@ left_over (Some s) = s ∷ []
 -- the row that goes on, at each answer, just as the row that the code keeps this for
 abbrev pub operator_stands : Reading → OperatorKept → Pending OperatorJob
 operator_stands t Pass = record { task = DoEnter Unhashable (record { 0 = 0 }) (record { 0 = 0 }); told = [] }
-operator_stands t (AddRest a) = record { task = DoAdd a (record { 0 = 0 }); told = [] }
+operator_stands t (AddRest a b) = record { task = DoAdd a b; told = [] }
 operator_stands t (Candidate next a b) = record { task = DoBinOp1 Add a b; told = Read (Unhashable ∷ left_over next) ∷ [] }
 
 -- what is said of what is kept
 abbrev pub of_operator_kept : OperatorKept → List Claim
 of_operator_kept Pass = []
-of_operator_kept (AddRest a) = IsNode a ∷ []
+of_operator_kept (AddRest a b) = IsNode a ∷ IsNode b ∷ []
 of_operator_kept (Candidate next a b) = IsNode a ∷ IsNode b ∷ []
 
 abbrev pub Begins : OperatorTask → World → World → Step OperatorKept → Type 0
@@ -60,9 +59,9 @@ Sums a b = Goes operator_say operator_stands (λ t. fresh (DoInt int.Add (a ∷ 
 abbrev pub AreBoth : PyObjectRef → PyObjectRef → List PyObjectRef → Type 0
 AreBoth a b vs = (w : World) → Holds w (IsNode a) → Holds w (IsNode b) → Holds w (AreNodes vs)
 
--- the step of an entry is to ask this
-abbrev pub Enters : SlotEntry → PyObjectRef → PyObjectRef → (Reading → PlainTask) → World → World → Step OperatorKept → Type 0
-Enters entry a b task = Follows operator_say operator_stands (λ t. fresh (DoEnter entry a b)) (λ t u. pass u (task t))
+-- the step of an entry is said to be this
+abbrev pub Enters : SlotEntry → PyObjectRef → PyObjectRef → (Reading → PlainWorld → Said) → World → World → Step OperatorKept → Type 0
+Enters entry a b said = Follows operator_say operator_stands (λ t. fresh (DoEnter entry a b)) said
 
 -- a step that asks a special method of an object, with another one
 abbrev pub AsksSpecial : PyStrInterned → PyObjectRef → PyObjectRef → Step OperatorKept → Type 0
@@ -71,9 +70,9 @@ AsksSpecial name object other _ = ⊥
 
 -- the steps of the code, by what was read
 
-abbrev pub joining : Option SlotEntry → Step OperatorKept
-joining None = End (fault TypeError UnsupportedOperand)
-joining (Some s) = Ask (task.Later later.Concat) Pass
+abbrev pub joining : Option SlotEntry → PyObjectRef → PyObjectRef → Step OperatorKept
+joining None a b = End (fault TypeError UnsupportedOperand)
+joining (Some s) a b = Ask (task.Operator (operator.Concat a b)) Pass
 
 abbrev pub entered : PyObjectRef → PyObjectRef → PyObjectRef → List SlotEntry → Step OperatorKept
 entered none a b [] = End (Ok (Value none))

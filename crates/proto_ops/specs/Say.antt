@@ -9,13 +9,12 @@ use Rattle.py_node.specs.declared.entry.SlotEntry.{SlotEntry}
 use Rattle.py_node.specs.declared.entry.SlotEntry.TheVariants.{Native, Wrapper, Unhashable}
 use Rattle.py_node.specs.declared.task.PyNumberBinaryOp.{PyNumberBinaryOp}
 use Rattle.py_node.specs.declared.task.PyNumberBinaryOp.TheVariants as op
-use Rattle.py_node.specs.declared.task.LaterTask.TheVariants as later
-use Rattle.plain_machine.specs.Plain.{ANumber, PlainWorld, Bindings, OperatorJob, DoAdd, DoBinOp1, DoEnter, DoInt, DoSpecial, PlainTask, ToAttribute, ToOperator, ToLater, Said, Asks, Ends}
+use Rattle.plain_machine.specs.Plain.{ANumber, PlainWorld, Bindings, OperatorJob, DoAdd, DoBinOp1, DoEnter, DoConcat, DoInt, DoSpecial, ToAttribute, ToOperator, Said, Ends}
 use Rattle.plain_machine.specs.World.{ref, class_at, datum_at, number_of, slot_at, candidates_at}
 use Rattle.plain_machine.specs.Args.{two_of}
 use Rattle.plain_machine.specs.Known.{the_int}
 use Rattle.plain_machine.specs.Native.{native_task}
-use Rattle.plain_machine.specs.Row.{Row, start, ask, pass, end, value, fault, on_value, make, read_once}
+use Rattle.plain_machine.specs.Row.{Row, start, ask, pass, end, value, fault, not_yet, on_value, make, read_once}
 
 -- the slots of an operator, for its left and its right operand
 abbrev pub left_slot : PyNumberBinaryOp → SlotId
@@ -40,31 +39,32 @@ in_turn w a b (s ∷ ss) =
 abbrev pub binop1_say : PlainWorld → PyNumberBinaryOp → PyObjectRef → PyObjectRef → Row
 binop1_say w o a b = read_once (candidates_at w (left_slot o) (right_slot o) (class_at w a) (class_at w b)) (in_turn w a b)
 
--- the special method that a wrapper stands for: of the left operand, with the right one, or the other way round
-abbrev pub method_task : SlotId → PyObjectRef → PyObjectRef → PlainTask
-method_task Add a b = ToAttribute (DoSpecial a (codes "__add__") (b ∷ []) [])
-method_task RightAdd a b = ToAttribute (DoSpecial b (codes "__radd__") (a ∷ []) [])
-method_task _ a b = ToLater later.Native
+-- the special method that a wrapper stands for: of the left operand, with the right one, or the other way round.
+-- That of another slot is not there yet
+abbrev pub enter_method : PlainWorld → SlotId → PyObjectRef → PyObjectRef → Said
+enter_method w Add a b = pass w (ToAttribute (DoSpecial a (codes "__add__") (b ∷ []) []))
+enter_method w RightAdd a b = pass w (ToAttribute (DoSpecial b (codes "__radd__") (a ∷ []) []))
+enter_method w _ a b = Ends w not_yet
 
--- an entry is entered: a native with both operands, or the special method of an operand. That of a slot of no operator so far is for later
-abbrev pub enter_task : SlotEntry → PyObjectRef → PyObjectRef → PlainTask
-enter_task (Native n) a b = native_task n (a ∷ b ∷ []) []
-enter_task (Wrapper s) a b = method_task s a b
-enter_task Unhashable a b = ToLater later.Native
+-- an entry is entered: a native with both operands, or the special method of an operand
+abbrev pub enter_by : PlainWorld → SlotEntry → PyObjectRef → PyObjectRef → Said
+enter_by w (Native n) a b = pass w (native_task n (a ∷ b ∷ []) [])
+enter_by w (Wrapper s) a b = enter_method w s a b
+enter_by w Unhashable a b = Ends w not_yet
 
 abbrev pub enter_say : PlainWorld → SlotEntry → PyObjectRef → PyObjectRef → Row
-enter_say w s a b = start (pass w (enter_task s a b)) (end w)
+enter_say w s a b = start (enter_by w s a b) (end w)
 
 -- a sequence is joined, and nothing else
-abbrev pub joined : PlainWorld → Option SlotEntry → Said
-joined w None = Ends w (fault TypeError UnsupportedOperand)
-joined w (Some s) = Asks w [] (ToLater later.Concat)
+abbrev pub joined : PlainWorld → Option SlotEntry → PyObjectRef → PyObjectRef → Said
+joined w None a b = Ends w (fault TypeError UnsupportedOperand)
+joined w (Some s) a b = pass w (ToOperator (DoConcat a b))
 
 -- where no candidate serves, sequences are joined
 abbrev pub add_say : PlainWorld → PyObjectRef → PyObjectRef → Row
 add_say w a b =
     ask w (ToOperator (DoBinOp1 op.Add a b)) (λ r. on_value w r (λ x.
-    cond (is_not_implemented x) (start (joined w (slot_at w a SeqItem)) (end w)) (end w (value x))))
+    cond (is_not_implemented x) (start (joined w (slot_at w a SeqItem) a b) (end w)) (end w (value x))))
 
 -- whether a whole number has at most 128 bits with its sign
 abbrev pub fits : ℤ → Bool
@@ -97,3 +97,4 @@ operator_say w (DoAdd a b) told = add_say w a b told
 operator_say w (DoBinOp1 o a b) told = binop1_say w o a b told
 operator_say w (DoEnter s a b) told = enter_say w s a b told
 operator_say w (DoInt n args kw) told = int_say w (two_of args) kw told
+operator_say w _ told = end w not_yet told

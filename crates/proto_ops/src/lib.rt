@@ -6,7 +6,7 @@ ghost use Rattle.class_world.specs.Sound.{AllHold, Holds, IsNode};
 ghost use Rattle.class_world.specs.Claims.{of_operator_task, of_ended, Leaves};
 ghost use Rattle.py_node.specs.declared.task.OperatorTask.TheVariants as operator;
 ghost use Rattle.class_table.specs.Turn.{list_of};
-ghost use Rattle.proto_ops.specs.Say.{total, left_slot, right_slot, is_not_implemented, method_task};
+ghost use Rattle.proto_ops.specs.Say.{total, left_slot, right_slot, is_not_implemented, enter_method};
 ghost use Rattle.plain_machine.specs.Args.{two_of};
 ghost use Rattle.proto_ops.specs.Rows.{Begins, Resumes, Sums, Enters, AsksSpecial, AreBoth, joining, entered, of_operator_kept};
 
@@ -20,7 +20,7 @@ use py_node::payload::Payload;
 use py_node::raised::{Cause, Kind, Raised};
 use py_node::refs::{PyObjectRef, PyStrInterned};
 use py_node::task::{
-    Answer, Args, AttributeTask, Keywords, LaterTask, OperatorTask, PyNumberBinaryOp, Step, Task,
+    Answer, Args, AttributeTask, Keywords, OperatorTask, PyNumberBinaryOp, Step, Task,
 };
 use std::alloc::Global;
 
@@ -29,8 +29,8 @@ use std::alloc::Global;
 pub enum OperatorKept {
     /// The answer is passed on.
     Pass,
-    /// Of a sum: the left operand, for the case that no candidate serves.
-    AddRest(PyObjectRef),
+    /// Of a sum: the operands, for the case that no candidate serves.
+    AddRest(PyObjectRef, PyObjectRef),
     /// The candidate that is left, if any, and the operands.
     Candidate(Option<SlotEntry>, PyObjectRef, PyObjectRef),
 }
@@ -48,11 +48,12 @@ pub fn begin(
     match task {
         OperatorTask::Add(a, b) => Ok(Step::Ask(
             Task::Operator(OperatorTask::BinOp1(PyNumberBinaryOp::Add, a, b)),
-            OperatorKept::AddRest(a),
+            OperatorKept::AddRest(a, b),
         )),
         OperatorTask::BinOp1(op, a, b) => binop1(world, op, a, b),
         OperatorTask::Enter(entry, a, b) => enter(world, alloc, entry, a, b),
         OperatorTask::Int(native, args, kw) => int(world, alloc, native, args, kw),
+        _ => Ok(Step::not_yet()),
     }
 }
 
@@ -69,8 +70,8 @@ pub fn resume(
 {
     match kept {
         OperatorKept::Pass => Ok(Step::End(answer)),
-        OperatorKept::AddRest(a) => match answer {
-            Ok(Answer::Value(x)) => add_rest(world, a, x),
+        OperatorKept::AddRest(a, b) => match answer {
+            Ok(Answer::Value(x)) => add_rest(world, a, b, x),
             other => Ok(Step::End(other)),
         },
         OperatorKept::Candidate(next, a, b) => match answer {
@@ -91,26 +92,31 @@ fn is_not_implemented(object: PyObjectRef) -> bool
 fn add_rest(
     world: &mut World,
     a: PyObjectRef,
+    b: PyObjectRef,
     x: PyObjectRef,
 ) -> Result<Step<OperatorKept>, OutOfMemory>
-    requires kept { Holds world.old (IsNode a) }
+    requires a { Holds world.old (IsNode a) }
+    requires b { Holds world.old (IsNode b) }
     requires answer { Holds world.old (IsNode x) }
-    ensures goes { IfOk result (λ step. Resumes (OperatorKept.AddRest a) (Ok (Answer.Value x)) world.old world.new step) }
+    ensures goes { IfOk result (λ step. Resumes (OperatorKept.AddRest a b) (Ok (Answer.Value x)) world.old world.new step) }
     ensures safe { Leaves of_operator_kept world.old world.new result }
 {
     if !is_not_implemented(x) {
         return Ok(Step::End(Ok(Answer::Value(x))));
     }
-    let step = joining(world.slot(a, SlotId::SeqItem));
+    let step = joining(world.slot(a, SlotId::SeqItem), a, b);
     Ok(step)
 }
 
 // A sequence is joined, and nothing else.
-fn joining(item: Option<SlotEntry>) -> Step<OperatorKept>
-    ensures { result ≡ joining item }
+fn joining(item: Option<SlotEntry>, a: PyObjectRef, b: PyObjectRef) -> Step<OperatorKept>
+    ensures { result ≡ joining item a b }
 {
     match item {
-        Some(_) => Step::Ask(Task::Later(LaterTask::Concat), OperatorKept::Pass),
+        Some(_) => Step::Ask(
+            Task::Operator(OperatorTask::Concat(a, b)),
+            OperatorKept::Pass,
+        ),
         None => Step::End(Err(Raised {
             kind: Kind::TypeError,
             cause: Cause::UnsupportedOperand,
@@ -222,7 +228,7 @@ fn enter(
             Ok(Step::Ask(task, OperatorKept::Pass))
         }
         SlotEntry::Wrapper(slot) => enter_method(world, alloc, slot, a, b),
-        SlotEntry::Unhashable => Ok(Step::Ask(Task::Later(LaterTask::Native), OperatorKept::Pass)),
+        SlotEntry::Unhashable => Ok(Step::not_yet()),
     }
 }
 
@@ -235,7 +241,7 @@ fn enter_method(
     b: PyObjectRef,
 ) -> Result<Step<OperatorKept>, OutOfMemory>
     requires { AllHold world.old (of_operator_task (operator.Enter (SlotEntry.Wrapper slot) a b)) }
-    ensures goes { IfOk result (λ step. Enters (SlotEntry.Wrapper slot) a b (λ t. method_task slot a b) world.old world.new step) }
+    ensures goes { IfOk result (λ step. Enters (SlotEntry.Wrapper slot) a b (λ t u. enter_method u slot a b) world.old world.new step) }
     ensures safe { Leaves of_operator_kept world.old world.new result }
 {
     match slot {
@@ -247,7 +253,7 @@ fn enter_method(
             let name = world.intern(alloc, "__radd__")?;
             special(alloc, name, b, a)
         }
-        _ => Ok(Step::Ask(Task::Later(LaterTask::Native), OperatorKept::Pass)),
+        _ => Ok(Step::not_yet()),
     }
 }
 

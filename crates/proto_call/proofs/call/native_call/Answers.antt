@@ -1,9 +1,8 @@
 use Rattle.std.proofs.Common.{ap, sym, ◌∙◌}
-use Rattle.class_world.specs.Reading.{bindings, plain}
+use Rattle.class_world.specs.Reading.{bindings}
 use Rattle.proto_call.specs.Say.{call_native}
 use Rattle.proto_call.proofs.call.native_call.Goals as goal
 
 pub returns-clause-task : goal.returns-clause-task
 returns-clause-task c = λ t.
-    let w = plain t c.args.world.now in
-    c.in_ok-task.ensures.task t w ∙ ap (λ d. call_native w c.args.native d c.args.f c.args.args.items (bindings t c.args.kw.items)) (sym (c.payload.ensures.reads t))
+    c.in_ok-task.ensures.task t ∙ ap (λ d. call_native c.args.native d c.args.f c.args.args.items (bindings t c.args.kw.items)) (sym (c.payload.ensures.reads t))
