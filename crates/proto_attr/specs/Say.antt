@@ -11,9 +11,11 @@ use Rattle.py_node.specs.declared.entry.NativeEntry.TheVariants.{OfObject, OfTyp
 use Rattle.py_node.specs.declared.entry.ObjectNative.TheVariants as object
 use Rattle.py_node.specs.declared.entry.TypeNative.TheVariants as type
 use Rattle.py_node.specs.Tree.{Text}
+use Rattle.proto_attr.specs.declared.find.Found.{Found}
+use Rattle.proto_attr.specs.declared.find.Found.TheVariants.{Descriptor, Value, Missing}
 use Rattle.class_model.specs.Class.{class_at as class_numbered, found}
 use Rattle.class_model.specs.Slot.{is_heap_at}
-use Rattle.plain_machine.specs.Plain.{AText, PlainWorld, Bindings, AttributeJob, DoGetAttr, DoGeneric, DoGenericOpt, DoTypeGet, DoLoadMethod, DoInvoke, DoSetAttr, DoGenericSet, DoTypeSet, DoSpecial, DoBind, DoDescrGet, DoDescrSet, DoCall}
+use Rattle.plain_machine.specs.Plain.{AText, PlainWorld, Bindings, PlainTask, AttributeJob, DoGetAttr, DoGeneric, DoGenericOpt, DoTypeGet, DoLoadMethod, DoInvoke, DoSetAttr, DoGenericSet, DoTypeSet, DoSpecial, DoBind, DoDescrGet, DoDescrSet, DoCall}
 use Rattle.plain_machine.specs.Plain.{ToAttribute, ToDescriptor, ToCall, AsMaybe, AsFunction, AsAttribute, Ended, Chose, Said, Asks, Ends}
 use Rattle.plain_machine.specs.World.{is_text, datum_at, slot_at, with_node, next_node, with_own_attr}
 use Rattle.plain_machine.specs.Objects.{class_object, type_object, class_number, special_at, is_fast}
@@ -21,13 +23,18 @@ use Rattle.plain_machine.specs.Dicts.{dict_of, value_in, own_value, with_value_i
 use Rattle.plain_machine.specs.Known.{the_str}
 use Rattle.plain_machine.specs.Row.{Row, start, fork, pass, end, value, done, fault, not_yet, is_attribute_error, on_value}
 
--- an object's attribute is set as its class's entry for that says: by a special method, which is given the name
--- as a new text, as classes do, or as objects do
+-- a special method is given a name as a new text
+abbrev pub with_text : PlainWorld → Text → PlainWorld
+with_text w x = with_node w the_str (AText x)
+
+abbrev pub by_name : PlainWorld → PyObjectRef → Text → PlainTask
+by_name w o method = ToAttribute (DoSpecial o method (next_node w the_str ∷ []) [])
+
+-- an object's attribute is set as its class's entry for that says: by a special method, as classes do, or as objects do
 abbrev pub set_by_method : PlainWorld → PyObjectRef → Text → Option PyObjectRef → Said
 set_by_method w o x (Some v) =
-    pass (with_node w the_str (AText x)) (ToAttribute (DoSpecial o (codes "__setattr__") (next_node w the_str ∷ v ∷ []) []))
-set_by_method w o x None =
-    pass (with_node w the_str (AText x)) (ToAttribute (DoSpecial o (codes "__delattr__") (next_node w the_str ∷ []) []))
+    pass (with_text w x) (ToAttribute (DoSpecial o (codes "__setattr__") (next_node w the_str ∷ v ∷ []) []))
+set_by_method w o x None = pass (with_text w x) (by_name w o (codes "__delattr__"))
 
 abbrev pub set_in_class : PlainWorld → Option ℕ → PyObjectRef → Text → Option PyObjectRef → Said
 set_in_class w None o x v = pass w (ToAttribute (DoGenericSet o x v))
@@ -85,12 +92,6 @@ bind_by w (Some e) m o c = pass w (ToDescriptor (DoDescrGet m o (Some c)))
 
 abbrev pub bind_say : PlainWorld → PyObjectRef → Option PyObjectRef → PyObjectRef → Row
 bind_say w m o c = start (bind_by w (slot_at w m DescrGet) m o c) (end w)
-
--- what an attribute's search finds: a descriptor that is asked for the value, a value, or nothing
-pub data Found : Type 0 where
-  Descriptor : PyObjectRef → Found
-  Value : PyObjectRef → Found
-  Missing : Found
 
 -- whether a value is asked for what an attribute gives, and whether it is asked before an object's own dict
 abbrev pub gives : PlainWorld → PyObjectRef → Bool
@@ -152,25 +153,23 @@ type_get_by w c (Some a) (Some z) = cond (is_data w a) (descriptor_get w a (clas
 abbrev pub type_get_say : PlainWorld → ℕ → Text → Row
 type_get_say w c x = start (type_get_by w c (special_at w (class_object w c) x) (found is_text w.classes c x)) (end w)
 
--- an object's attribute is read as its class's entry for that says: by a special method, which is given the name as a new
--- text, as classes do, or as objects do
-abbrev pub get_by_method : PlainWorld → Text → PyObjectRef → Text → ℕ → Said
-get_by_method w method o x way =
-    Asks (with_node w the_str (AText x)) (Chose way ∷ []) (ToAttribute (DoSpecial o method (next_node w the_str ∷ []) []))
+-- an object's attribute is read as its class's entry for that says: by a special method, as classes do, or as objects do
+abbrev pub get_by_method : PlainWorld → PyObjectRef → Text → Said
+get_by_method w o x = Asks (with_text w x) (Chose 1 ∷ []) (by_name w o (codes "__getattribute__"))
 
 abbrev pub get_in_class : PlainWorld → Option ℕ → PyObjectRef → Text → Said
 get_in_class w None o x = Asks w (Chose 0 ∷ []) (ToAttribute (DoGeneric o x))
 get_in_class w (Some c) o x = Asks w (Chose 0 ∷ []) (ToAttribute (DoTypeGet c x))
 
 abbrev pub get_by : PlainWorld → Option SlotEntry → PyObjectRef → Text → Said
-get_by w (Some (Wrapper s)) o x = get_by_method w (codes "__getattribute__") o x 1
+get_by w (Some (Wrapper s)) o x = get_by_method w o x
 get_by w (Some (Native (OfType type.GetAttribute))) o x = get_in_class w (class_number (datum_at w o)) o x
 get_by w _ o x = Asks w (Chose 0 ∷ []) (ToAttribute (DoGeneric o x))
 
 -- a special method that finds no attribute leaves it to `__getattr__`, where there is one
 abbrev pub or_get_attr : PlainWorld → Option PyObjectRef → PyObjectRef → Text → Fault → Row
 or_get_attr w None o x fault = end w (Err fault)
-or_get_attr w (Some m) o x fault = start (pass (with_node w the_str (AText x)) (ToAttribute (DoSpecial o (codes "__getattr__") (next_node w the_str ∷ []) []))) (end w)
+or_get_attr w (Some m) o x fault = start (pass (with_text w x) (by_name w o (codes "__getattr__"))) (end w)
 
 abbrev pub get_rest : PlainWorld → PyObjectRef → Text → ℕ → Ended → Row
 get_rest w o x (suc n) (Err fault) =
@@ -190,10 +189,13 @@ load_found w o (Descriptor a) = descriptor_get w a o
 load_found w o (Value v) = Ends w (as_attribute v)
 load_found w o Missing = Ends w (fault AttributeError NoAttribute)
 
+abbrev pub load_fast : PlainWorld → PyObjectRef → PyObjectRef → Option PyObjectRef → Said
+load_fast w o a None = Ends w (Ok (AsFunction o a))
+load_fast w o a (Some v) = Ends w (as_attribute v)
+
 abbrev pub load_by : PlainWorld → PyObjectRef → Option PyObjectRef → Option PyObjectRef → Said
-load_by w o (Some a) None = cond (is_fast w a) (Ends w (Ok (AsFunction o a))) (load_found w o (of_value w a))
-load_by w o (Some a) (Some v) = load_found w o (cond (is_fast w a) (Value v) (find w (Some a) (Some v)))
 load_by w o None own = load_found w o (find w None own)
+load_by w o (Some a) own = cond (is_fast w a) (load_fast w o a own) (load_found w o (find w (Some a) own))
 
 abbrev pub load : PlainWorld → Option SlotEntry → PyObjectRef → Text → Said
 load w (Some (Native (OfObject object.GetAttribute))) o x = load_by w o (special_at w o x) (own_value w o x)
