@@ -167,13 +167,13 @@ get_by w (Some (Native (OfType type.GetAttribute))) o x = get_in_class w (class_
 get_by w _ o x = Asks w (Chose 0 ∷ []) (ToAttribute (DoGeneric o x))
 
 -- a special method that finds no attribute leaves it to `__getattr__`, where there is one
-abbrev pub or_get_attr : PlainWorld → Option PyObjectRef → PyObjectRef → Text → Fault → Row
-or_get_attr w None o x fault = end w (Err fault)
-or_get_attr w (Some m) o x fault = start (pass (with_text w x) (by_name w o (codes "__getattr__"))) (end w)
+abbrev pub or_get_attr : PlainWorld → Option PyObjectRef → PyObjectRef → Text → Fault → Said
+or_get_attr w None o x fault = Ends w (Err fault)
+or_get_attr w (Some m) o x fault = pass (with_text w x) (by_name w o (codes "__getattr__"))
 
 abbrev pub get_rest : PlainWorld → PyObjectRef → Text → ℕ → Ended → Row
 get_rest w o x (suc n) (Err fault) =
-    cond (is_attribute_error fault.kind) (or_get_attr w (special_at w o (codes "__getattr__")) o x fault) (end w (Err fault))
+    cond (is_attribute_error fault.kind) (start (or_get_attr w (special_at w o (codes "__getattr__")) o x fault) (end w)) (end w (Err fault))
 get_rest w o x _ r = end w r
 
 abbrev pub get_attr_say : PlainWorld → PyObjectRef → Text → Row
