@@ -3,7 +3,7 @@
 
 ghost use Rattle.std.specs.Prelude.{◌≡◌, IfOk};
 ghost use Rattle.class_world.specs.Sound.{AllHold};
-ghost use Rattle.class_world.specs.Claims.{of_descriptor_task, of_ended, of_step, Leaves};
+ghost use Rattle.class_world.specs.Claims.{of_descriptor_task, of_ended, Leaves};
 ghost use Rattle.proto_descr.specs.Rows.{Begins, Resumes, of_descriptor_kept};
 
 mod descriptor;
@@ -39,15 +39,16 @@ pub fn begin(
 
 /// Goes on with a task that was given an answer.
 pub fn resume(
-    world: &World,
+    world: &mut World,
     kept: DescriptorKept,
     answer: Result<Answer, Raised>,
-) -> Step<DescriptorKept>
-    requires { AllHold world.now (of_ended answer) }
-    ensures goes { Resumes kept answer world.now world.now result }
-    ensures safe { AllHold world.now (of_step of_descriptor_kept result) }
+) -> Result<Step<DescriptorKept>, OutOfMemory>
+    requires kept { AllHold world.old (of_descriptor_kept kept) }
+    requires answer { AllHold world.old (of_ended answer) }
+    ensures goes { IfOk result (λ step. Resumes kept answer world.old world.new step) }
+    ensures safe { Leaves of_descriptor_kept world.old world.new result }
 {
     match kept {
-        DescriptorKept::Pass => Step::End(answer),
+        DescriptorKept::Pass => Ok(Step::End(answer)),
     }
 }

@@ -3,44 +3,32 @@ use Rattle.std.proofs.Common.{◌≡◌, [], ◌∷◌, ◌++◌, sym, subst, �
 use Rattle.py_node.specs.declared.raised.Raised.{Raised as Fault}
 use Rattle.py_node.specs.declared.task.Answer.{Answer}
 use Rattle.py_node.specs.declared.task.Task.{Task}
-use Rattle.py_node.specs.declared.task.Task.TheVariants as task
-use Rattle.py_node.specs.declared.task.EvalTask.{EvalTask}
-use Rattle.py_node.specs.declared.task.AttributeTask.{AttributeTask}
-use Rattle.py_node.specs.declared.task.CallTask.{CallTask}
-use Rattle.py_node.specs.declared.task.ClassTask.{ClassTask}
-use Rattle.py_node.specs.declared.task.OperatorTask.{OperatorTask}
-use Rattle.py_node.specs.declared.task.LaterTask.{LaterTask}
 use Rattle.py_node.specs.declared.task.Step.{Step}
 use Rattle.py_node.specs.declared.task.Step.TheVariants.{Ask, End}
-use Rattle.py_node.specs.declared.raised.Kind.TheVariants.{NotImplementedError}
-use Rattle.py_node.specs.declared.raised.Cause.TheVariants.{NotYet}
-use Rattle.plain_machine.specs.Plain.{PlainWorld, PlainTask, ToEval, ToAttribute, ToCall, ToClass, ToOperator, Answered, Told, Said, Asks, Ends, Saying}
-use Rattle.plain_machine.specs.Row.{fault}
+use Rattle.plain_machine.specs.Plain.{PlainWorld, PlainTask, ToEval, ToAttribute, ToDescriptor, ToCall, ToClass, ToOperator, Answered, Told, Said, Asks, Ends, Saying}
+use Rattle.plain_machine.specs.Row.{not_yet}
 use Rattle.plain_machine.specs.Rows.{Pending, Alike, fresh, given}
 use Rattle.class_world.specs.declared.world.World.{World}
-use Rattle.class_world.specs.Reading.{Reading, plain, eval_job, attribute_job, call_job, class_job, operator_job, ended_of}
+use Rattle.class_world.specs.Reading.{Reading, plain, task_of, ended_of}
 use Rattle.class_world.specs.Rows.{Steps, Goes}
-use Rattle.eval_forms.specs.declared.EvalKept.{EvalKept}
 use Rattle.eval_forms.specs.Say.{eval_say}
-use Rattle.eval_forms.specs.Rows.{eval_stands, Begins as EvalBegins, Resumes as EvalResumes}
-use Rattle.proto_attr.specs.declared.AttributeKept.{AttributeKept}
+use Rattle.eval_forms.specs.Rows.{eval_stands}
 use Rattle.proto_attr.specs.Say.{attribute_say}
-use Rattle.proto_attr.specs.Rows.{attribute_stands, Begins as AttributeBegins, Resumes as AttributeResumes}
-use Rattle.proto_call.specs.declared.CallKept.{CallKept}
+use Rattle.proto_attr.specs.Rows.{attribute_stands}
+use Rattle.proto_descr.specs.Say.{descriptor_say}
+use Rattle.proto_descr.specs.Rows.{descriptor_stands}
 use Rattle.proto_call.specs.Say.{call_job_say}
-use Rattle.proto_call.specs.Rows.{call_stands, Begins as CallBegins, Resumes as CallResumes}
-use Rattle.class_make.specs.declared.ClassKept.{ClassKept}
+use Rattle.proto_call.specs.Rows.{call_stands}
 use Rattle.class_make.specs.Say.{class_job_say}
-use Rattle.class_make.specs.Rows.{class_stands, Begins as ClassBegins, Resumes as ClassResumes}
-use Rattle.proto_ops.specs.declared.OperatorKept.{OperatorKept}
+use Rattle.class_make.specs.Rows.{class_stands}
 use Rattle.proto_ops.specs.Say.{operator_say}
-use Rattle.proto_ops.specs.Rows.{operator_stands, Begins as OperatorBegins, Resumes as OperatorResumes}
+use Rattle.proto_ops.specs.Rows.{operator_stands}
 use Rattle.vm_eval.specs.declared.stack.Kept.{Kept}
-use Rattle.vm_eval.specs.declared.stack.Kept.TheVariants.{ForEval, ForAttribute, ForCall, ForClass, ForOperator}
+use Rattle.vm_eval.specs.declared.stack.Kept.TheVariants.{ForEval, ForAttribute, ForDescriptor, ForCall, ForClass, ForOperator}
 use Rattle.vm_eval.specs.Say.{say, stands, among, step_among, Begins, Resumes}
 
 -- a group of rows, among all
-record Among {J K : Type 0} (group : Saying J) (held : Reading → K → Pending J) (to : J → PlainTask) (for : K → Kept) : Type 0 where
+pub record Among {J K : Type 0} (group : Saying J) (held : Reading → K → Pending J) (to : J → PlainTask) (for : K → Kept) : Type 0 where
   says : (w : PlainWorld) (j : J) (told : Told) → say w (to j) told ≡ group w j told
   keeps : (t : Reading) (k : K) → stands t (for k) ≡ among to (held t k)
 
@@ -62,84 +50,46 @@ module _ {J K : Type 0} (group : Saying J) (held : Reading → K → Pending J) 
         (steps-among t (p t).task (p t).told (group (plain t old) (p t).task (p t).told) step new (h t reads).1),
   )
 
-  resumes-among : (kept : K) (r : Result Answer Fault) (old new : World) (step : Step K) → Goes group held (λ t. given (held t kept) (ended_of r)) old new step → Goes say stands (λ t. given (stands t (for kept)) (ended_of r)) old new (step_among for step)
-  resumes-among kept r old new step h = λ t reads.
+  kept-among : (kept : K) (r : Result Answer Fault) (old new : World) (step : Step K) → Goes group held (λ t. given (held t kept) (ended_of r)) old new step → Goes say stands (λ t. given (stands t (for kept)) (ended_of r)) old new (step_among for step)
+  kept-among kept r old new step h = λ t reads.
       let all = goes-among (λ t. given (held t kept) (ended_of r)) old new step h t reads in (
         all.0,
         subst (λ (q : Pending PlainTask). Steps say (stands t) t q.task (q.told ++ Answered (ended_of r) ∷ []) (say (plain t old) q.task (q.told ++ Answered (ended_of r) ∷ [])) (step_among for step) new) (sym (g.keeps t kept)) all.1,
       )
 
-eval-group : Among eval_say eval_stands ToEval ForEval
+  -- a task of the group begins so among all
+  pub begins-among : (job : Reading → J) (old new : World) (step : Step K) (next : Step Kept) → next ≡ step_among for step → Goes group held (λ t. fresh (job t)) old new step → Goes say stands (λ t. fresh (to (job t))) old new next
+  begins-among job old new step next same h = subst (Goes say stands (λ t. fresh (to (job t))) old new) (sym same) (goes-among (λ t. fresh (job t)) old new step h)
+
+  -- and what is kept of it goes on so
+  pub resumes-among : (full : Kept) (kept : K) (r : Result Answer Fault) (old new : World) (step : Step K) (next : Step Kept) → full ≡ for kept → next ≡ step_among for step → Goes group held (λ t. given (held t kept) (ended_of r)) old new step → Resumes full r old new next
+  resumes-among full kept r old new step next is same h =
+      subst (λ full. Resumes full r old new next) (sym is) (subst (Resumes (for kept) r old new) (sym same) (kept-among kept r old new step h))
+
+pub eval-group : Among eval_say eval_stands ToEval ForEval
 unfolding say stands
 eval-group = record { says = λ w j told. refl; keeps = λ t k. refl }
 
-attribute-group : Among attribute_say attribute_stands ToAttribute ForAttribute
+pub attribute-group : Among attribute_say attribute_stands ToAttribute ForAttribute
 unfolding say stands
 attribute-group = record { says = λ w j told. refl; keeps = λ t k. refl }
 
-call-group : Among call_job_say call_stands ToCall ForCall
+pub descriptor-group : Among descriptor_say descriptor_stands ToDescriptor ForDescriptor
+unfolding say stands
+descriptor-group = record { says = λ w j told. refl; keeps = λ t k. refl }
+
+pub call-group : Among call_job_say call_stands ToCall ForCall
 unfolding say stands
 call-group = record { says = λ w j told. refl; keeps = λ t k. refl }
 
-class-group : Among class_job_say class_stands ToClass ForClass
+pub class-group : Among class_job_say class_stands ToClass ForClass
 unfolding say stands
 class-group = record { says = λ w j told. refl; keeps = λ t k. refl }
 
-operator-group : Among operator_say operator_stands ToOperator ForOperator
+pub operator-group : Among operator_say operator_stands ToOperator ForOperator
 unfolding say stands
 operator-group = record { says = λ w j told. refl; keeps = λ t k. refl }
 
-pub eval-begins : (full : Task) (job : EvalTask) (old new : World) (step : Step EvalKept) (next : Step Kept) → full ≡ task.Eval job → next ≡ step_among ForEval step → EvalBegins job old new step → Begins full old new next
-eval-begins full job old new step next is same h =
-    subst (λ full. Begins full old new next) (sym is) (
-    subst (Begins (task.Eval job) old new) (sym same) (goes-among eval_say eval_stands ToEval ForEval eval-group (λ t. fresh (eval_job t job)) old new step h))
-
-pub eval-resumes : (full : Kept) (kept : EvalKept) (r : Result Answer Fault) (old new : World) (step : Step EvalKept) (next : Step Kept) → full ≡ ForEval kept → next ≡ step_among ForEval step → EvalResumes kept r old new step → Resumes full r old new next
-eval-resumes full kept r old new step next is same h =
-    subst (λ full. Resumes full r old new next) (sym is) (
-    subst (Resumes (ForEval kept) r old new) (sym same) (resumes-among eval_say eval_stands ToEval ForEval eval-group kept r old new step h))
-
-pub attribute-begins : (full : Task) (job : AttributeTask) (old new : World) (step : Step AttributeKept) (next : Step Kept) → full ≡ task.Attribute job → next ≡ step_among ForAttribute step → AttributeBegins job old new step → Begins full old new next
-attribute-begins full job old new step next is same h =
-    subst (λ full. Begins full old new next) (sym is) (
-    subst (Begins (task.Attribute job) old new) (sym same) (goes-among attribute_say attribute_stands ToAttribute ForAttribute attribute-group (λ t. fresh (attribute_job t job)) old new step h))
-
-pub attribute-resumes : (full : Kept) (kept : AttributeKept) (r : Result Answer Fault) (old new : World) (step : Step AttributeKept) (next : Step Kept) → full ≡ ForAttribute kept → next ≡ step_among ForAttribute step → AttributeResumes kept r old new step → Resumes full r old new next
-attribute-resumes full kept r old new step next is same h =
-    subst (λ full. Resumes full r old new next) (sym is) (
-    subst (Resumes (ForAttribute kept) r old new) (sym same) (resumes-among attribute_say attribute_stands ToAttribute ForAttribute attribute-group kept r old new step h))
-
-pub call-begins : (full : Task) (job : CallTask) (old new : World) (step : Step CallKept) (next : Step Kept) → full ≡ task.Call job → next ≡ step_among ForCall step → CallBegins job old new step → Begins full old new next
-call-begins full job old new step next is same h =
-    subst (λ full. Begins full old new next) (sym is) (
-    subst (Begins (task.Call job) old new) (sym same) (goes-among call_job_say call_stands ToCall ForCall call-group (λ t. fresh (call_job t job)) old new step h))
-
-pub call-resumes : (full : Kept) (kept : CallKept) (r : Result Answer Fault) (old new : World) (step : Step CallKept) (next : Step Kept) → full ≡ ForCall kept → next ≡ step_among ForCall step → CallResumes kept r old new step → Resumes full r old new next
-call-resumes full kept r old new step next is same h =
-    subst (λ full. Resumes full r old new next) (sym is) (
-    subst (Resumes (ForCall kept) r old new) (sym same) (resumes-among call_job_say call_stands ToCall ForCall call-group kept r old new step h))
-
-pub class-begins : (full : Task) (job : ClassTask) (old new : World) (step : Step ClassKept) (next : Step Kept) → full ≡ task.Class job → next ≡ step_among ForClass step → ClassBegins job old new step → Begins full old new next
-class-begins full job old new step next is same h =
-    subst (λ full. Begins full old new next) (sym is) (
-    subst (Begins (task.Class job) old new) (sym same) (goes-among class_job_say class_stands ToClass ForClass class-group (λ t. fresh (class_job t job)) old new step h))
-
-pub class-resumes : (full : Kept) (kept : ClassKept) (r : Result Answer Fault) (old new : World) (step : Step ClassKept) (next : Step Kept) → full ≡ ForClass kept → next ≡ step_among ForClass step → ClassResumes kept r old new step → Resumes full r old new next
-class-resumes full kept r old new step next is same h =
-    subst (λ full. Resumes full r old new next) (sym is) (
-    subst (Resumes (ForClass kept) r old new) (sym same) (resumes-among class_job_say class_stands ToClass ForClass class-group kept r old new step h))
-
-pub operator-begins : (full : Task) (job : OperatorTask) (old new : World) (step : Step OperatorKept) (next : Step Kept) → full ≡ task.Operator job → next ≡ step_among ForOperator step → OperatorBegins job old new step → Begins full old new next
-operator-begins full job old new step next is same h =
-    subst (λ full. Begins full old new next) (sym is) (
-    subst (Begins (task.Operator job) old new) (sym same) (goes-among operator_say operator_stands ToOperator ForOperator operator-group (λ t. fresh (operator_job t job)) old new step h))
-
-pub operator-resumes : (full : Kept) (kept : OperatorKept) (r : Result Answer Fault) (old new : World) (step : Step OperatorKept) (next : Step Kept) → full ≡ ForOperator kept → next ≡ step_among ForOperator step → OperatorResumes kept r old new step → Resumes full r old new next
-operator-resumes full kept r old new step next is same h =
-    subst (λ full. Resumes full r old new next) (sym is) (
-    subst (Resumes (ForOperator kept) r old new) (sym same) (resumes-among operator_say operator_stands ToOperator ForOperator operator-group kept r old new step h))
-
--- what no stage so far has named
-pub later-begins : (full : Task) (job : LaterTask) (w : World) → full ≡ task.Later job → Begins full w w (End (fault NotImplementedError NotYet))
-unfolding say
-later-begins full job w is = subst (λ full. Begins full w w (End (fault NotImplementedError NotYet))) (sym is) (λ t r. (r, (refl, refl)))
+-- a task whose row is not there yet ends at once
+pub not-yet-begins : (full : Task) (w : World) → ((t : Reading) (u : PlainWorld) → say u (task_of t full) [] ≡ Ends u not_yet) → Begins full w w (End not_yet)
+not-yet-begins full w h = λ t r. (r, subst (λ said. Steps say (stands t) t (task_of t full) [] said (End not_yet) w) (sym (h t (plain t w))) (refl, refl))

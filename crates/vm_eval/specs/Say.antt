@@ -1,14 +1,12 @@
 -- The rows of all groups.
 use Rattle.std.specs.Prelude.{ℕ, List, Result}
 use Rattle.py_node.specs.declared.raised.Raised.{Raised as Fault}
-use Rattle.py_node.specs.declared.raised.Kind.TheVariants.{NotImplementedError}
-use Rattle.py_node.specs.declared.raised.Cause.TheVariants.{NotYet}
 use Rattle.py_node.specs.declared.task.Answer.{Answer}
 use Rattle.py_node.specs.declared.task.Task.{Task}
 use Rattle.py_node.specs.declared.task.Step.{Step}
 use Rattle.py_node.specs.declared.task.Step.TheVariants.{Ask, End}
-use Rattle.plain_machine.specs.Plain.{PlainTask, ToEval, ToAttribute, ToCall, ToClass, ToOperator, ToLater, Saying}
-use Rattle.plain_machine.specs.Row.{end, fault}
+use Rattle.plain_machine.specs.Plain.{PlainTask, ToEval, ToAttribute, ToDescriptor, ToCall, ToClass, ToOperator, ToCompare, ToProtocol, ToObject, ToNative, Saying}
+use Rattle.plain_machine.specs.Row.{end, not_yet}
 use Rattle.plain_machine.specs.Rows.{Pending, fresh, given}
 use Rattle.class_world.specs.declared.world.World.{World}
 use Rattle.class_world.specs.Reading.{Reading, task_of, ended_of}
@@ -18,6 +16,8 @@ use Rattle.eval_forms.specs.Say.{eval_say}
 use Rattle.eval_forms.specs.Rows.{eval_stands, of_eval_kept}
 use Rattle.proto_attr.specs.Say.{attribute_say}
 use Rattle.proto_attr.specs.Rows.{attribute_stands, of_attribute_kept}
+use Rattle.proto_descr.specs.Say.{descriptor_say}
+use Rattle.proto_descr.specs.Rows.{descriptor_stands, of_descriptor_kept}
 use Rattle.proto_call.specs.Say.{call_job_say}
 use Rattle.proto_call.specs.Rows.{call_stands, of_call_kept, bodies_of}
 use Rattle.class_make.specs.Say.{class_job_say}
@@ -25,16 +25,20 @@ use Rattle.class_make.specs.Rows.{class_stands, of_class_kept}
 use Rattle.proto_ops.specs.Say.{operator_say}
 use Rattle.proto_ops.specs.Rows.{operator_stands, of_operator_kept}
 use Rattle.vm_eval.specs.declared.stack.Kept.{Kept}
-use Rattle.vm_eval.specs.declared.stack.Kept.TheVariants.{ForEval, ForAttribute, ForCall, ForClass, ForOperator}
+use Rattle.vm_eval.specs.declared.stack.Kept.TheVariants.{ForEval, ForAttribute, ForDescriptor, ForCall, ForClass, ForOperator}
 
--- what a task's row says, by the group that the task is in. What no stage so far has named ends with NotYet
+-- what a task's row says, by the group that the task is in. A group without rows, and a native of no group, is not there yet
 unfoldable pub say : Saying PlainTask
 say w (ToEval job) = eval_say w job
 say w (ToAttribute job) = attribute_say w job
+say w (ToDescriptor job) = descriptor_say w job
 say w (ToCall job) = call_job_say w job
 say w (ToClass job) = class_job_say w job
 say w (ToOperator job) = operator_say w job
-say w (ToLater job) = end w (fault NotImplementedError NotYet)
+say w (ToCompare job) = end w not_yet
+say w (ToProtocol job) = end w not_yet
+say w (ToObject job) = end w not_yet
+say w (ToNative n args kw) = end w not_yet
 
 -- a row of a group, among all rows
 abbrev pub among : {J : Type 0} → (J → PlainTask) → Pending J → Pending PlainTask
@@ -48,6 +52,7 @@ step_among for (End r) = End r
 unfoldable pub stands : Reading → Kept → Pending PlainTask
 stands t (ForEval kept) = among ToEval (eval_stands t kept)
 stands t (ForAttribute kept) = among ToAttribute (attribute_stands t kept)
+stands t (ForDescriptor kept) = among ToDescriptor (descriptor_stands t kept)
 stands t (ForCall kept) = among ToCall (call_stands t kept)
 stands t (ForClass kept) = among ToClass (class_stands t kept)
 stands t (ForOperator kept) = among ToOperator (operator_stands t kept)
@@ -61,6 +66,7 @@ Resumes kept r = Goes say stands (λ t. given (stands t kept) (ended_of r))
 abbrev pub of_kept : Kept → List Claim
 of_kept (ForEval kept) = of_eval_kept kept
 of_kept (ForAttribute kept) = of_attribute_kept kept
+of_kept (ForDescriptor kept) = of_descriptor_kept kept
 of_kept (ForCall kept) = of_call_kept kept
 of_kept (ForClass kept) = of_class_kept kept
 of_kept (ForOperator kept) = of_operator_kept kept

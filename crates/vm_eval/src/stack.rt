@@ -5,6 +5,7 @@ ghost use Rattle.class_world.specs.Sound.{AllHold, Lasts, of_each};
 ghost use Rattle.class_world.specs.Claims.{of_task, of_ended, of_step, left_open, LeavesOpen};
 ghost use Rattle.eval_forms.specs.Rows.{of_eval_kept};
 ghost use Rattle.proto_attr.specs.Rows.{of_attribute_kept};
+ghost use Rattle.proto_descr.specs.Rows.{of_descriptor_kept};
 ghost use Rattle.proto_call.specs.Rows.{of_call_kept, bodies_of};
 ghost use Rattle.class_make.specs.Rows.{of_class_kept};
 ghost use Rattle.proto_ops.specs.Rows.{of_operator_kept};
@@ -16,6 +17,7 @@ use class_world::world::World;
 use eval_forms::EvalKept;
 use proto_attr::AttributeKept;
 use proto_call::CallKept;
+use proto_descr::DescriptorKept;
 use proto_ops::OperatorKept;
 use py_node::memory::OutOfMemory;
 use py_node::raised::{Cause, Kind, Raised};
@@ -30,6 +32,7 @@ pub(crate) const DEPTH: usize = 1000;
 pub enum Kept {
     ForEval(EvalKept),
     ForAttribute(AttributeKept),
+    ForDescriptor(DescriptorKept),
     ForCall(CallKept),
     ForClass(ClassKept),
     ForOperator(OperatorKept),
@@ -57,6 +60,10 @@ fn begin(world: &mut World, alloc: Global, task: Task) -> Result<Step<Kept>, Out
             let step = proto_attr::begin(world, alloc, task)?;
             Ok(of_attribute(step))
         }
+        Task::Descriptor(task) => {
+            let step = proto_descr::begin(world, alloc, task)?;
+            Ok(of_descriptor(step))
+        }
         Task::Call(task) => {
             let step = proto_call::begin(world, alloc, task)?;
             Ok(of_call(step))
@@ -69,10 +76,10 @@ fn begin(world: &mut World, alloc: Global, task: Task) -> Result<Step<Kept>, Out
             let step = proto_ops::begin(world, alloc, task)?;
             Ok(of_operator(step))
         }
-        Task::Later(_) => Ok(Step::End(Err(Raised {
-            kind: Kind::NotImplementedError,
-            cause: Cause::NotYet,
-        }))),
+        Task::Compare(_) => Ok(Step::not_yet()),
+        Task::Protocol(_) => Ok(Step::not_yet()),
+        Task::Object(_) => Ok(Step::not_yet()),
+        Task::Native(_, _, _) => Ok(Step::not_yet()),
     }
 }
 
@@ -96,6 +103,10 @@ fn resume(
         Kept::ForAttribute(kept) => {
             let step = proto_attr::resume(world, alloc, kept, answer)?;
             Ok(of_attribute(step))
+        }
+        Kept::ForDescriptor(kept) => {
+            let step = proto_descr::resume(world, kept, answer)?;
+            Ok(of_descriptor(step))
         }
         Kept::ForCall(kept) => {
             let step = proto_call::resume(world, alloc, kept, answer)?;
@@ -132,6 +143,18 @@ fn of_attribute(step: Step<AttributeKept>) -> Step<Kept>
 {
     match step {
         Step::Ask(task, kept) => Step::Ask(task, Kept::ForAttribute(kept)),
+        Step::End(answer) => Step::End(answer),
+    }
+}
+
+// A step of a descriptor, among all steps.
+fn of_descriptor(step: Step<DescriptorKept>) -> Step<Kept>
+    ensures step { result ≡ step_among Kept.ForDescriptor step }
+    ensures says { of_step of_kept result ≡ of_step of_descriptor_kept step }
+    ensures opens { left_open bodies_in result ≡ 0 }
+{
+    match step {
+        Step::Ask(task, kept) => Step::Ask(task, Kept::ForDescriptor(kept)),
         Step::End(answer) => Step::End(answer),
     }
 }

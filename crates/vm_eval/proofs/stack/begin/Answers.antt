@@ -1,53 +1,96 @@
 use Rattle.std.proofs.Common.{refl}
+use Rattle.py_node.specs.declared.task.Task.TheVariants as task
+use Rattle.class_world.specs.Reading.{eval_job, attribute_job, descriptor_job, call_job, class_job, operator_job}
 use Rattle.class_world.proofs.Leaves.{leaves-among, leaves-open}
-use Rattle.eval_forms.specs.Rows.{of_eval_kept}
-use Rattle.proto_attr.specs.Rows.{of_attribute_kept}
-use Rattle.proto_call.specs.Rows.{of_call_kept, bodies_of}
-use Rattle.class_make.specs.Rows.{of_class_kept}
-use Rattle.proto_ops.specs.Rows.{of_operator_kept}
-use Rattle.vm_eval.specs.Say.{of_kept, bodies_in}
-use Rattle.vm_eval.proofs.Groups.{eval-begins, attribute-begins, call-begins, class-begins, operator-begins, later-begins}
+use Rattle.eval_forms.specs.Say.{eval_say}
+use Rattle.eval_forms.specs.Rows.{eval_stands, of_eval_kept}
+use Rattle.proto_attr.specs.Say.{attribute_say}
+use Rattle.proto_attr.specs.Rows.{attribute_stands, of_attribute_kept}
+use Rattle.proto_descr.specs.Say.{descriptor_say}
+use Rattle.proto_descr.specs.Rows.{descriptor_stands, of_descriptor_kept}
+use Rattle.proto_call.specs.Say.{call_job_say}
+use Rattle.proto_call.specs.Rows.{call_stands, of_call_kept, bodies_of}
+use Rattle.class_make.specs.Say.{class_job_say}
+use Rattle.class_make.specs.Rows.{class_stands, of_class_kept}
+use Rattle.proto_ops.specs.Say.{operator_say}
+use Rattle.proto_ops.specs.Rows.{operator_stands, of_operator_kept}
+use Rattle.plain_machine.specs.Plain.{ToEval, ToAttribute, ToDescriptor, ToCall, ToClass, ToOperator}
+use Rattle.vm_eval.specs.declared.stack.Kept.TheVariants.{ForEval, ForAttribute, ForDescriptor, ForCall, ForClass, ForOperator}
+use Rattle.vm_eval.specs.Say.{say, of_kept, bodies_in}
+use Rattle.vm_eval.proofs.Groups.{begins-among, not-yet-begins, eval-group, attribute-group, descriptor-group, call-group, class-group, operator-group}
 use Rattle.vm_eval.proofs.stack.begin.Goals as goal
 
-pub returns-in_ok-step-in-Eval-clause-goes : goal.returns-in_ok-step-in-Eval-clause-goes
-returns-in_ok-step-in-Eval-clause-goes c =
-    eval-begins c.args.task c.in-Eval.task _ _ c.in_ok-step-in-Eval.step c.of_eval.result c.in-Eval.is c.of_eval.ensures.step c.in_ok-step-in-Eval.ensures.goes
+pub returns-in-Eval-clause-goes : goal.returns-in-Eval-clause-goes
+returns-in-Eval-clause-goes c =
+    let step = c.in_ok-step-in-Eval in
+    rw c.in-Eval.is (begins-among eval_say eval_stands ToEval ForEval eval-group (λ t. eval_job t c.in-Eval.task) _ _ step.step c.of_eval.result c.of_eval.ensures.step step.ensures.goes)
 
-pub returns-in_ok-step-in-Attribute-clause-goes : goal.returns-in_ok-step-in-Attribute-clause-goes
-returns-in_ok-step-in-Attribute-clause-goes c =
-    attribute-begins c.args.task c.in-Attribute.task _ _ c.in_ok-step-in-Attribute.step c.of_attribute.result c.in-Attribute.is c.of_attribute.ensures.step c.in_ok-step-in-Attribute.ensures.goes
+pub returns-in-Attribute-clause-goes : goal.returns-in-Attribute-clause-goes
+returns-in-Attribute-clause-goes c =
+    let step = c.in_ok-step-in-Attribute in
+    rw c.in-Attribute.is (begins-among attribute_say attribute_stands ToAttribute ForAttribute attribute-group (λ t. attribute_job t c.in-Attribute.task) _ _ step.step c.of_attribute.result c.of_attribute.ensures.step step.ensures.goes)
 
-pub returns-in_ok-step-in-Call-clause-goes : goal.returns-in_ok-step-in-Call-clause-goes
-returns-in_ok-step-in-Call-clause-goes c =
-    call-begins c.args.task c.in-Call.task _ _ c.in_ok-step-in-Call.step c.of_call.result c.in-Call.is c.of_call.ensures.step c.in_ok-step-in-Call.ensures.goes
+pub returns-in-Descriptor-clause-goes : goal.returns-in-Descriptor-clause-goes
+returns-in-Descriptor-clause-goes c =
+    let step = c.in_ok-step-in-Descriptor in
+    rw c.in-Descriptor.is (begins-among descriptor_say descriptor_stands ToDescriptor ForDescriptor descriptor-group (λ t. descriptor_job t c.in-Descriptor.task) _ _ step.step c.of_descriptor.result c.of_descriptor.ensures.step step.ensures.goes)
 
-pub returns-in_ok-step-in-Class-clause-goes : goal.returns-in_ok-step-in-Class-clause-goes
-returns-in_ok-step-in-Class-clause-goes c =
-    class-begins c.args.task c.in-Class.task _ _ c.in_ok-step-in-Class.step c.of_class.result c.in-Class.is c.of_class.ensures.step c.in_ok-step-in-Class.ensures.goes
+pub returns-in-Call-clause-goes : goal.returns-in-Call-clause-goes
+returns-in-Call-clause-goes c =
+    let step = c.in_ok-step-in-Call in
+    rw c.in-Call.is (begins-among call_job_say call_stands ToCall ForCall call-group (λ t. call_job t c.in-Call.task) _ _ step.step c.of_call.result c.of_call.ensures.step step.ensures.goes)
 
-pub returns-in_ok-step-in-Operator-clause-goes : goal.returns-in_ok-step-in-Operator-clause-goes
-returns-in_ok-step-in-Operator-clause-goes c =
-    operator-begins c.args.task c.in-Operator.task _ _ c.in_ok-step-in-Operator.step c.of_operator.result c.in-Operator.is c.of_operator.ensures.step c.in_ok-step-in-Operator.ensures.goes
+pub returns-in-Class-clause-goes : goal.returns-in-Class-clause-goes
+returns-in-Class-clause-goes c =
+    let step = c.in_ok-step-in-Class in
+    rw c.in-Class.is (begins-among class_job_say class_stands ToClass ForClass class-group (λ t. class_job t c.in-Class.task) _ _ step.step c.of_class.result c.of_class.ensures.step step.ensures.goes)
 
-pub returns-in-Later-clause-goes : goal.returns-in-Later-clause-goes
-returns-in-Later-clause-goes c = later-begins c.args.task c.in-Later.field-0 c.args.world.now c.in-Later.is
+pub returns-in-Operator-clause-goes : goal.returns-in-Operator-clause-goes
+returns-in-Operator-clause-goes c =
+    let step = c.in_ok-step-in-Operator in
+    rw c.in-Operator.is (begins-among operator_say operator_stands ToOperator ForOperator operator-group (λ t. operator_job t c.in-Operator.task) _ _ step.step c.of_operator.result c.of_operator.ensures.step step.ensures.goes)
 
-pub returns-in_ok-step-in-Eval-clause-safe : goal.returns-in_ok-step-in-Eval-clause-safe
-returns-in_ok-step-in-Eval-clause-safe c =
+pub returns-in-Compare-clause-goes : goal.returns-in-Compare-clause-goes
+unfolding say
+returns-in-Compare-clause-goes c =
+    rw (c.in-Compare.is, c.not_yet.ensures) (not-yet-begins (task.Compare c.in-Compare.field-0) c.args.world.now (λ t u. refl))
+
+pub returns-in-Protocol-clause-goes : goal.returns-in-Protocol-clause-goes
+unfolding say
+returns-in-Protocol-clause-goes c =
+    rw (c.in-Protocol.is, c.not_yet-in-Protocol.ensures) (not-yet-begins (task.Protocol c.in-Protocol.field-0) c.args.world.now (λ t u. refl))
+
+pub returns-in-Object-clause-goes : goal.returns-in-Object-clause-goes
+unfolding say
+returns-in-Object-clause-goes c =
+    rw (c.in-Object.is, c.not_yet-in-Object.ensures) (not-yet-begins (task.Object c.in-Object.field-0) c.args.world.now (λ t u. refl))
+
+pub returns-clause-goes : goal.returns-clause-goes
+unfolding say
+returns-clause-goes c =
+    let entry = c.in-Native.field-0 in
+    rw (c.in-Native.is, c.not_yet-in-Native.ensures) (not-yet-begins (task.Native entry c.in-Native.field-1 c.in-Native.field-2) c.args.world.now (λ t u. refl))
+
+pub returns-in-Eval-clause-safe : goal.returns-in-Eval-clause-safe
+returns-in-Eval-clause-safe c =
     leaves-among of_kept bodies_in of_eval_kept 0 _ _ c.in_ok-step-in-Eval.step c.of_eval.result refl c.of_eval.ensures.says c.of_eval.ensures.opens c.in_ok-step-in-Eval.ensures.safe
 
-pub returns-in_ok-step-in-Attribute-clause-safe : goal.returns-in_ok-step-in-Attribute-clause-safe
-returns-in_ok-step-in-Attribute-clause-safe c =
+pub returns-in-Attribute-clause-safe : goal.returns-in-Attribute-clause-safe
+returns-in-Attribute-clause-safe c =
     leaves-among of_kept bodies_in of_attribute_kept 0 _ _ c.in_ok-step-in-Attribute.step c.of_attribute.result refl c.of_attribute.ensures.says c.of_attribute.ensures.opens c.in_ok-step-in-Attribute.ensures.safe
 
-pub returns-in_ok-step-in-Class-clause-safe : goal.returns-in_ok-step-in-Class-clause-safe
-returns-in_ok-step-in-Class-clause-safe c =
+pub returns-in-Descriptor-clause-safe : goal.returns-in-Descriptor-clause-safe
+returns-in-Descriptor-clause-safe c =
+    leaves-among of_kept bodies_in of_descriptor_kept 0 _ _ c.in_ok-step-in-Descriptor.step c.of_descriptor.result refl c.of_descriptor.ensures.says c.of_descriptor.ensures.opens c.in_ok-step-in-Descriptor.ensures.safe
+
+pub returns-in-Class-clause-safe : goal.returns-in-Class-clause-safe
+returns-in-Class-clause-safe c =
     leaves-among of_kept bodies_in of_class_kept 0 _ _ c.in_ok-step-in-Class.step c.of_class.result refl c.of_class.ensures.says c.of_class.ensures.opens c.in_ok-step-in-Class.ensures.safe
 
-pub returns-in_ok-step-in-Operator-clause-safe : goal.returns-in_ok-step-in-Operator-clause-safe
-returns-in_ok-step-in-Operator-clause-safe c =
+pub returns-in-Operator-clause-safe : goal.returns-in-Operator-clause-safe
+returns-in-Operator-clause-safe c =
     leaves-among of_kept bodies_in of_operator_kept 0 _ _ c.in_ok-step-in-Operator.step c.of_operator.result refl c.of_operator.ensures.says c.of_operator.ensures.opens c.in_ok-step-in-Operator.ensures.safe
 
-pub returns-in_ok-step-in-Call-clause-safe : goal.returns-in_ok-step-in-Call-clause-safe
-returns-in_ok-step-in-Call-clause-safe c =
+pub returns-in-Call-clause-safe : goal.returns-in-Call-clause-safe
+returns-in-Call-clause-safe c =
     leaves-open of_kept bodies_in of_call_kept bodies_of 0 0 _ _ c.in_ok-step-in-Call.step c.of_call.result refl c.of_call.ensures.says c.of_call.ensures.opens c.in_ok-step-in-Call.ensures.safe

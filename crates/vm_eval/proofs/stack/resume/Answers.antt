@@ -1,33 +1,52 @@
 use Rattle.std.proofs.Common.{ap}
 use Rattle.class_world.proofs.Leaves.{leaves-among, leaves-open}
-use Rattle.eval_forms.specs.Rows.{of_eval_kept}
-use Rattle.proto_attr.specs.Rows.{of_attribute_kept}
-use Rattle.proto_call.specs.Rows.{of_call_kept, bodies_of}
-use Rattle.class_make.specs.Rows.{of_class_kept}
-use Rattle.proto_ops.specs.Rows.{of_operator_kept}
+use Rattle.eval_forms.specs.Say.{eval_say}
+use Rattle.eval_forms.specs.Rows.{eval_stands, of_eval_kept}
+use Rattle.proto_attr.specs.Say.{attribute_say}
+use Rattle.proto_attr.specs.Rows.{attribute_stands, of_attribute_kept}
+use Rattle.proto_descr.specs.Say.{descriptor_say}
+use Rattle.proto_descr.specs.Rows.{descriptor_stands, of_descriptor_kept}
+use Rattle.proto_call.specs.Say.{call_job_say}
+use Rattle.proto_call.specs.Rows.{call_stands, of_call_kept, bodies_of}
+use Rattle.class_make.specs.Say.{class_job_say}
+use Rattle.class_make.specs.Rows.{class_stands, of_class_kept}
+use Rattle.proto_ops.specs.Say.{operator_say}
+use Rattle.proto_ops.specs.Rows.{operator_stands, of_operator_kept}
+use Rattle.plain_machine.specs.Plain.{ToEval, ToAttribute, ToDescriptor, ToCall, ToClass, ToOperator}
+use Rattle.vm_eval.specs.declared.stack.Kept.TheVariants.{ForEval, ForAttribute, ForDescriptor, ForCall, ForClass, ForOperator}
 use Rattle.vm_eval.specs.Say.{of_kept, bodies_in}
-use Rattle.vm_eval.proofs.Groups.{eval-resumes, attribute-resumes, call-resumes, class-resumes, operator-resumes}
+use Rattle.vm_eval.proofs.Groups.{resumes-among, eval-group, attribute-group, descriptor-group, call-group, class-group, operator-group}
 use Rattle.vm_eval.proofs.stack.resume.Goals as goal
 
 pub returns-in_ok-step-in-ForEval-clause-goes : goal.returns-in_ok-step-in-ForEval-clause-goes
 returns-in_ok-step-in-ForEval-clause-goes c =
-    eval-resumes c.args.kept c.in-ForEval.kept c.args.answer _ _ c.in_ok-step-in-ForEval.step c.of_eval.result c.in-ForEval.is c.of_eval.ensures.step c.in_ok-step-in-ForEval.ensures.goes
+    let step = c.in_ok-step-in-ForEval in
+    resumes-among eval_say eval_stands ToEval ForEval eval-group c.args.kept c.in-ForEval.kept c.args.answer _ _ step.step c.of_eval.result c.in-ForEval.is c.of_eval.ensures.step step.ensures.goes
 
 pub returns-in_ok-step-in-ForAttribute-clause-goes : goal.returns-in_ok-step-in-ForAttribute-clause-goes
 returns-in_ok-step-in-ForAttribute-clause-goes c =
-    attribute-resumes c.args.kept c.in-ForAttribute.kept c.args.answer _ _ c.in_ok-step-in-ForAttribute.step c.of_attribute.result c.in-ForAttribute.is c.of_attribute.ensures.step c.in_ok-step-in-ForAttribute.ensures.goes
+    let step = c.in_ok-step-in-ForAttribute in
+    resumes-among attribute_say attribute_stands ToAttribute ForAttribute attribute-group c.args.kept c.in-ForAttribute.kept c.args.answer _ _ step.step c.of_attribute.result c.in-ForAttribute.is c.of_attribute.ensures.step step.ensures.goes
+
+pub returns-in_ok-step-in-ForDescriptor-clause-goes : goal.returns-in_ok-step-in-ForDescriptor-clause-goes
+returns-in_ok-step-in-ForDescriptor-clause-goes c =
+    let step = c.in_ok-step-in-ForDescriptor in
+    resumes-among descriptor_say descriptor_stands ToDescriptor ForDescriptor descriptor-group c.args.kept c.in-ForDescriptor.kept c.args.answer _ _ step.step c.of_descriptor.result c.in-ForDescriptor.is c.of_descriptor.ensures.step step.ensures.goes
 
 pub returns-in_ok-step-in-ForCall-clause-goes : goal.returns-in_ok-step-in-ForCall-clause-goes
 returns-in_ok-step-in-ForCall-clause-goes c =
-    call-resumes c.args.kept c.in-ForCall.kept c.args.answer _ _ c.in_ok-step-in-ForCall.step c.of_call.result c.in-ForCall.is c.of_call.ensures.step c.in_ok-step-in-ForCall.ensures.goes
+    let step = c.in_ok-step-in-ForCall in
+    resumes-among call_job_say call_stands ToCall ForCall call-group c.args.kept c.in-ForCall.kept c.args.answer _ _ step.step c.of_call.result c.in-ForCall.is c.of_call.ensures.step step.ensures.goes
 
 pub returns-in_ok-step-in-ForClass-clause-goes : goal.returns-in_ok-step-in-ForClass-clause-goes
 returns-in_ok-step-in-ForClass-clause-goes c =
-    class-resumes c.args.kept c.in-ForClass.kept c.args.answer _ _ c.in_ok-step-in-ForClass.step c.of_class.result c.in-ForClass.is c.of_class.ensures.step c.in_ok-step-in-ForClass.ensures.goes
+    let step = c.in_ok-step-in-ForClass in
+    resumes-among class_job_say class_stands ToClass ForClass class-group c.args.kept c.in-ForClass.kept c.args.answer _ _ step.step c.of_class.result c.in-ForClass.is c.of_class.ensures.step step.ensures.goes
 
 pub returns-in_ok-step-in-ForOperator-clause-goes : goal.returns-in_ok-step-in-ForOperator-clause-goes
 returns-in_ok-step-in-ForOperator-clause-goes c =
-    operator-resumes c.args.kept c.in-ForOperator.kept c.args.answer _ _ c.in_ok-step-in-ForOperator.step c.of_operator.result c.in-ForOperator.is c.of_operator.ensures.step c.in_ok-step-in-ForOperator.ensures.goes
+    let step = c.in_ok-step-in-ForOperator in
+    resumes-among operator_say operator_stands ToOperator ForOperator operator-group c.args.kept c.in-ForOperator.kept c.args.answer _ _ step.step c.of_operator.result c.in-ForOperator.is c.of_operator.ensures.step step.ensures.goes
 
 pub returns-in_ok-step-in-ForEval-clause-safe : goal.returns-in_ok-step-in-ForEval-clause-safe
 returns-in_ok-step-in-ForEval-clause-safe c =
@@ -36,6 +55,10 @@ returns-in_ok-step-in-ForEval-clause-safe c =
 pub returns-in_ok-step-in-ForAttribute-clause-safe : goal.returns-in_ok-step-in-ForAttribute-clause-safe
 returns-in_ok-step-in-ForAttribute-clause-safe c =
     leaves-among of_kept bodies_in of_attribute_kept (bodies_in c.args.kept) _ _ c.in_ok-step-in-ForAttribute.step c.of_attribute.result (ap bodies_in c.in-ForAttribute.is) c.of_attribute.ensures.says c.of_attribute.ensures.opens c.in_ok-step-in-ForAttribute.ensures.safe
+
+pub returns-in_ok-step-in-ForDescriptor-clause-safe : goal.returns-in_ok-step-in-ForDescriptor-clause-safe
+returns-in_ok-step-in-ForDescriptor-clause-safe c =
+    leaves-among of_kept bodies_in of_descriptor_kept (bodies_in c.args.kept) _ _ c.in_ok-step-in-ForDescriptor.step c.of_descriptor.result (ap bodies_in c.in-ForDescriptor.is) c.of_descriptor.ensures.says c.of_descriptor.ensures.opens c.in_ok-step-in-ForDescriptor.ensures.safe
 
 pub returns-in_ok-step-in-ForClass-clause-safe : goal.returns-in_ok-step-in-ForClass-clause-safe
 returns-in_ok-step-in-ForClass-clause-safe c =
