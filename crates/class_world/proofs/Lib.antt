@@ -24,3 +24,4 @@ pub mod NewNodes
 pub mod DictEntries
 pub mod DictChanges
 pub mod DictReads
+pub mod Items

@@ -16,6 +16,7 @@ pub mod scope;
 pub mod show;
 mod start;
 pub mod store;
+pub mod takes;
 #[cfg(test)]
 mod tests;
 mod variables;
