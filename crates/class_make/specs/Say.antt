@@ -15,10 +15,11 @@ use Rattle.py_node.specs.Tree.{Text}
 use Rattle.class_model.specs.Class.{found_past, is_sub}
 use Rattle.class_model.specs.Slot.{entry}
 use Rattle.class_model.specs.BuiltIn.{natives_of}
-use Rattle.plain_machine.specs.Plain.{Datum, AText, ATuple, ADict, AClassMethod, AGetSet, PlainWorld, Bindings, ClassJob, DoMakeClass, DoType, DoBind, DoCall, DoGetAttr, DoNew, ToAttribute, ToCall, ToClass, Made, Said, Asks, Ends}
+use Rattle.plain_machine.specs.Plain.{Datum, AText, ATuple, ADict, AClassMethod, AGetSet, PlainWorld, Bindings, ClassJob, DoMakeClass, DoType, DoBind, DoCall, DoGetAttr, DoTypeGet, DoTypeSet, DoNew, ToAttribute, ToCall, ToClass, Made, Said, Asks, Ends}
 use Rattle.plain_machine.specs.World.{ref, is_text, datum_at, class_at, text_keys, with_node, next_node, with_new_class}
 use Rattle.plain_machine.specs.Objects.{type_object, class_number, special_at, class_has_flag, nearest_built_in, with_definers}
 use Rattle.plain_machine.specs.Known.{the_object, the_type, the_str, the_function, the_getset, the_class_method}
+use Rattle.plain_machine.specs.Takes.{with_two, with_three, with_text, native_end}
 use Rattle.plain_machine.specs.Row.{Row, start, build, pass, end, value, fault, not_yet, none, on_value, on_done}
 
 abbrev pub is_class : Option ℕ → ℕ → Bool
@@ -221,12 +222,32 @@ abbrev pub type_new : PlainWorld → List PyObjectRef → Bindings → Said
 type_new w [] kw = Ends w (fault TypeError ArgCount)
 type_new w (c ∷ args) kw = type_new_of w (class_number (datum_at w c)) args kw
 
+-- the first argument must be a class
+abbrev pub class_in : PlainWorld → Option ℕ → (ℕ → Said) → Said
+class_in w None go = Ends w (fault TypeError SelfType)
+class_in w (Some c) go = go c
+
+abbrev pub with_self : PlainWorld → List PyObjectRef → (ℕ → Said) → Said
+with_self w [] go = Ends w (fault TypeError ArgCount)
+with_self w (o ∷ args) go = class_in w (class_number (datum_at w o)) go
+
+-- an attribute by its name, as classes read and set it
+abbrev pub type_get_attribute : PlainWorld → List PyObjectRef → Bindings → Said
+type_get_attribute w args kw =
+    with_self w args (λ c. with_two w args kw (λ o n. with_text w n (λ x. pass w (ToAttribute (DoTypeGet c x)))))
+
+abbrev pub type_set_attr : PlainWorld → List PyObjectRef → Bindings → Said
+type_set_attr w args kw =
+    with_self w args (λ c. with_three w args kw (λ o n v. with_text w n (λ x. pass w (ToAttribute (DoTypeSet c x (Some v))))))
+
 abbrev pub type_by : PlainWorld → TypeNative → List PyObjectRef → Bindings → Said
 type_by w type.New args kw = type_new w args kw
+type_by w type.GetAttribute args kw = type_get_attribute w args kw
+type_by w type.SetAttr args kw = type_set_attr w args kw
 type_by w _ args kw = Ends w not_yet
 
 abbrev pub type_say : PlainWorld → TypeNative → List PyObjectRef → Bindings → Row
-type_say w n args kw = start (type_by w n args kw) (end w)
+type_say w n args kw = start (type_by w n args kw) (native_end w)
 
 unfoldable pub class_job_say : PlainWorld → ClassJob → Row
 class_job_say w (DoMakeClass c args kw) told = make_class_say w c args kw told
