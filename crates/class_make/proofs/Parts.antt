@@ -5,7 +5,6 @@ use Rattle.py_node.specs.declared.memory.OutOfMemory.{OutOfMemory}
 use Rattle.py_node.specs.declared.refs.PyObjectRef.{PyObjectRef}
 use Rattle.py_node.specs.declared.entry.SlotId.TheVariants.{New}
 use Rattle.py_node.specs.declared.entry.TypeNative.{TypeNative}
-use Rattle.py_node.specs.declared.entry.TypeNative.TheVariants as type
 use Rattle.py_node.specs.declared.raised.Kind.TheVariants.{TypeError, ValueError}
 use Rattle.py_node.specs.declared.raised.Cause.TheVariants.{NotBaseType, NullInName, TypeArgs}
 use Rattle.py_node.specs.declared.task.Step.{Step}
@@ -24,7 +23,7 @@ use Rattle.class_world.specs.Rows.{Steps, Goes}
 use Rattle.class_world.specs.Sound.{IsNode, AreNodes, Holds}
 use Rattle.class_world.proofs.Claims.{node-in}
 use Rattle.class_make.specs.declared.ClassKept.{ClassKept}
-use Rattle.class_make.specs.Say.{class_job_say, by_base, by_bases, by_one, by_parts, by_winner, dict_of, from_three, has_null, namespace, on_base, one_of, text_of, three_of, tuple_of, type_new, type_new_of, with_namespace, winner}
+use Rattle.class_make.specs.Say.{class_job_say, by_base, by_bases, by_one, by_parts, by_winner, dict_of, from_three, has_null, namespace, on_base, one_of, text_of, three_of, tuple_of, type_by, type_new, type_new_of, with_namespace, winner}
 use Rattle.class_make.specs.Rows.{Bound, Makes, Types, class_stands}
 
 pub base-read : (u v : PlainWorld) (meta : ℕ) (name : Text) (base : ℕ) (es ds : List (PyObjectRef × PyObjectRef)) (o : Option Bindings) → v ≡ u → class_has_flag u (2 ^ 10) (Some base) ≡ true → namespace u ds ≡ o → ds ≡ es → with_namespace v meta name base o ≡ on_base u meta name base es
@@ -98,11 +97,11 @@ makes-begin meta args kw o old new (Ok step) e h = λ t q.
     let k = h meta args t q in
     (k.0, subst (λ o. Steps class_job_say (class_stands t) t (DoMakeClass meta args (bindings t kw)) [] (by_one (plain t old) meta o args (bindings t kw)) step new) (e ∙ sym (one-read t args kw)) k.1)
 
-pub types-begin : (n : TypeNative) (args : List PyObjectRef) (kw : Bound) (old new : World) (r : Result (Step ClassKept) OutOfMemory) → n ≡ type.New → IfOk r (λ step. Types (λ t u. type_new u args (bindings t kw)) old new step) → IfOk r (λ step. Goes class_job_say class_stands (λ t. fresh (DoType n args (bindings t kw))) old new step)
+pub types-begin : (n m : TypeNative) (args : List PyObjectRef) (kw : Bound) (old new : World) (r : Result (Step ClassKept) OutOfMemory) → n ≡ m → IfOk r (λ step. Types (λ t u. type_by u m args (bindings t kw)) old new step) → IfOk r (λ step. Goes class_job_say class_stands (λ t. fresh (DoType n args (bindings t kw))) old new step)
 unfolding class_job_say
-types-begin n args kw old new (Err x) e h = tt
-types-begin n args kw old new (Ok step) e h =
-    subst (λ n. Goes class_job_say class_stands (λ t. fresh (DoType n args (bindings t kw))) old new step) (sym e) (λ t q. h type.New args kw t q)
+types-begin n m args kw old new (Err x) e h = tt
+types-begin n m args kw old new (Ok step) e h =
+    subst (λ n. Goes class_job_say class_stands (λ t. fresh (DoType n args (bindings t kw))) old new step) (sym e) (λ t q. h m args kw t q)
 
 -- the first argument, and the rest
 pub rest-nodes : (w : Held) (rs : List PyObjectRef) → Holds w (AreNodes rs) → Holds w (AreNodes (drop 1 rs))

@@ -4,10 +4,11 @@ use Rattle.py_node.specs.declared.raised.Raised.{Raised as Fault}
 use Rattle.py_node.specs.declared.refs.PyObjectRef.{PyObjectRef}
 use Rattle.py_node.specs.declared.refs.PyStrInterned.{PyStrInterned}
 use Rattle.py_node.specs.declared.entry.TypeNative.{TypeNative}
+use Rattle.py_node.specs.declared.entry.TypeNative.TheVariants.{New}
 use Rattle.py_node.specs.declared.task.Answer.{Answer}
 use Rattle.py_node.specs.declared.task.ClassTask.{ClassTask}
 use Rattle.py_node.specs.declared.task.Step.{Step}
-use Rattle.plain_machine.specs.Plain.{PlainWorld, ClassJob, DoMakeClass, DoType, Answered, Made, Said}
+use Rattle.plain_machine.specs.Plain.{PlainWorld, ClassJob, DoMakeClass, DoType, Answered, Chose, Made, Said}
 use Rattle.plain_machine.specs.Row.{value}
 use Rattle.plain_machine.specs.Rows.{Pending, fresh, given}
 use Rattle.class_world.specs.declared.world.World.{World}
@@ -15,18 +16,22 @@ use Rattle.class_world.specs.Reading.{Reading, Reads, bindings, class_job, plain
 use Rattle.class_world.specs.Rows.{Follows, Goes}
 use Rattle.class_world.specs.Sound.{Claim, IsNode, of_binding, of_each}
 use Rattle.class_make.specs.declared.ClassKept.{ClassKept}
-use Rattle.class_make.specs.declared.ClassKept.TheVariants.{Pass, AfterBind, AfterHook}
+use Rattle.class_make.specs.declared.ClassKept.TheVariants.{Pass, Native, NoClass, AfterBind, AfterHook}
 use Rattle.class_make.specs.Say.{Space, class_job_say}
 
 -- the row that goes on, at each answer, just as the row that the code keeps this for
 abbrev pub class_stands : Reading → ClassKept → Pending ClassJob
 class_stands t Pass = record { task = DoMakeClass 0 [] []; told = [] }
+class_stands t Native = record { task = DoType New [] []; told = [] }
+class_stands t NoClass = record { task = DoMakeClass 0 [] []; told = Chose 0 ∷ [] }
 class_stands t (AfterBind class kw) = record { task = DoMakeClass 0 [] (bindings t kw.items); told = Made class ∷ [] }
 class_stands t (AfterHook class) = record { task = DoMakeClass 0 [] []; told = Made class ∷ (Answered (value class) ∷ []) }
 
 -- what is said of what is kept
 abbrev pub of_class_kept : ClassKept → List Claim
 of_class_kept Pass = []
+of_class_kept Native = []
+of_class_kept NoClass = []
 of_class_kept (AfterBind class kw) = IsNode class ∷ of_each of_binding kw.items
 of_class_kept (AfterHook class) = IsNode class ∷ []
 

@@ -1,9 +1,9 @@
 -- What the rows of the creation of classes say.
-use Rattle.std.specs.Prelude.{ℕ, ◌^◌, Bool, false, cond, not, eqb, ◌&&◌, ◌||◌, List, [], ◌∷◌, Option, Some, None, is_some, map, length, filter, Err}
+use Rattle.std.specs.Prelude.{ℕ, ◌^◌, Bool, false, cond, not, eqb, ◌&&◌, ◌||◌, codes, List, [], ◌∷◌, Option, Some, None, is_some, map, length, filter, Ok, Err}
 use Rattle.py_node.specs.declared.refs.PyObjectRef.{PyObjectRef}
 use Rattle.py_node.specs.declared.raised.Raised.{Raised as Fault}
 use Rattle.py_node.specs.declared.raised.Kind.TheVariants.{TypeError, ValueError, NotImplementedError}
-use Rattle.py_node.specs.declared.raised.Cause.TheVariants.{ArgCount, MetaclassConflict, NamespaceKey, NotBaseType, NotYet, NullInName, QualnameType, SelfType, TypeArgs, TypeArgTypes, UnsafeNew}
+use Rattle.py_node.specs.declared.raised.Cause.TheVariants.{ArgCount, BasesNotTypes, MetaclassConflict, MroEntries, NamespaceKey, NotBaseType, NotYet, NullInName, QualnameType, SelfType, TypeArgs, TypeArgTypes, UnsafeNew}
 use Rattle.py_node.specs.declared.entry.SlotId.TheVariants.{New}
 use Rattle.py_node.specs.declared.entry.NativeEntry.TheVariants.{Getter, Setter}
 use Rattle.py_node.specs.declared.entry.Property.TheVariants as property
@@ -17,11 +17,12 @@ use Rattle.py_node.specs.Known.{known_text}
 use Rattle.class_model.specs.Class.{found_past, is_sub}
 use Rattle.class_model.specs.Slot.{entry}
 use Rattle.class_model.specs.BuiltIn.{natives_of}
-use Rattle.plain_machine.specs.Plain.{Datum, AText, ATuple, ADict, AClassMethod, AGetSet, PlainWorld, Bindings, ClassJob, DoMakeClass, DoType, DoBind, DoCall, DoGetAttr, DoNew, ToAttribute, ToCall, ToClass, Made, Said, Asks, Ends}
+use Rattle.plain_machine.specs.Plain.{Datum, AText, ATuple, ADict, AClassMethod, AGetSet, PlainWorld, Bindings, ClassJob, DoMakeClass, DoType, DoBind, DoCall, DoGetAttr, DoTypeGet, DoTypeSet, DoNew, ToAttribute, ToCall, ToClass, Answered, Chose, Made, Ended, Said, Asks, Ends}
 use Rattle.plain_machine.specs.World.{ref, is_text, datum_at, class_at, text_keys, with_node, next_node, with_new_class}
 use Rattle.plain_machine.specs.Objects.{type_object, class_number, special_at, class_has_flag, nearest_built_in, with_definers}
 use Rattle.plain_machine.specs.Known.{the_object, the_type, the_str, the_function, the_getset, the_class_method}
-use Rattle.plain_machine.specs.Row.{Row, start, build, pass, end, value, fault, not_yet, none, on_value, on_done}
+use Rattle.plain_machine.specs.Takes.{with_two, with_three, with_text, native_end}
+use Rattle.plain_machine.specs.Row.{Row, start, build, pass, end, value, fault, not_yet, none, is_attribute_error, on_value, on_done}
 
 abbrev pub is_class : Option ℕ → ℕ → Bool
 is_class None d = false
@@ -154,9 +155,9 @@ by_winner w meta None name base es args kw = Ends w (fault TypeError MetaclassCo
 by_winner w meta (Some c) name base es args kw =
     cond (not (eqb c meta) && is_some (entry text_keys natives_of w.classes c New)) (pass w (ToCall (DoNew c c args kw))) (on_base w c name base es)
 
--- a base that is no class is asked for others. More than one base is for later
+-- a base that is no class is asked for others
 abbrev pub by_base : PlainWorld → ℕ → Text → PyObjectRef → Option ℕ → List (PyObjectRef × PyObjectRef) → List PyObjectRef → Bindings → Said
-by_base w meta name b None es args kw = pass w (ToAttribute (DoGetAttr b (known_text known.MroEntries)))
+by_base w meta name b None es args kw = Asks w (Chose 0 ∷ []) (ToAttribute (DoGetAttr b (codes "__mro_entries__")))
 by_base w meta name b (Some c) es args kw = by_winner w meta (winner w meta (class_at w b)) name c es args kw
 
 abbrev pub by_bases : PlainWorld → ℕ → Text → List PyObjectRef → List (PyObjectRef × PyObjectRef) → List PyObjectRef → Bindings → Said
@@ -206,11 +207,20 @@ make_class_by w meta args kw = by_one w meta (one_of args kw) args kw
 abbrev pub without_metaclass : Bindings → Bindings
 without_metaclass kw = filter (λ k. not (is_text k.0 (known_text known.Metaclass))) kw
 
+-- a base that is no class and names others is refused, and so is one that does not
+abbrev pub no_class : PlainWorld → Ended → Row
+no_class w (Ok a) = end w (fault TypeError MroEntries)
+no_class w (Err x) = end w (cond (is_attribute_error x.kind) (fault TypeError BasesNotTypes) (Err x))
+
+abbrev pub or_no_class : PlainWorld → Row → Row
+or_no_class w row (Chose way ∷ (Answered r ∷ more)) = no_class w r more
+or_no_class w row told = row told
+
 -- the bound hook is called, and then the class is the answer
 abbrev pub make_class_say : PlainWorld → ℕ → List PyObjectRef → Bindings → Row
 make_class_say w meta args kw =
-    build w (make_class_by w meta args kw) (λ class r. on_value w r (λ b.
-    start (pass w (ToCall (DoCall b [] (without_metaclass kw)))) (λ s. on_done w s (end w (value class)))))
+    or_no_class w (build w (make_class_by w meta args kw) (λ class r. on_value w r (λ b.
+    start (pass w (ToCall (DoCall b [] (without_metaclass kw)))) (λ s. on_done w s (end w (value class))))))
 
 -- the native that makes the objects of `type`
 
@@ -223,12 +233,32 @@ abbrev pub type_new : PlainWorld → List PyObjectRef → Bindings → Said
 type_new w [] kw = Ends w (fault TypeError ArgCount)
 type_new w (c ∷ args) kw = type_new_of w (class_number (datum_at w c)) args kw
 
+-- the first argument must be a class
+abbrev pub class_in : PlainWorld → Option ℕ → (ℕ → Said) → Said
+class_in w None go = Ends w (fault TypeError SelfType)
+class_in w (Some c) go = go c
+
+abbrev pub with_self : PlainWorld → List PyObjectRef → (ℕ → Said) → Said
+with_self w [] go = Ends w (fault TypeError ArgCount)
+with_self w (o ∷ args) go = class_in w (class_number (datum_at w o)) go
+
+-- an attribute by its name, as classes read and set it
+abbrev pub type_get_attribute : PlainWorld → List PyObjectRef → Bindings → Said
+type_get_attribute w args kw =
+    with_self w args (λ c. with_two w args kw (λ o n. with_text w n (λ x. pass w (ToAttribute (DoTypeGet c x)))))
+
+abbrev pub type_set_attr : PlainWorld → List PyObjectRef → Bindings → Said
+type_set_attr w args kw =
+    with_self w args (λ c. with_three w args kw (λ o n v. with_text w n (λ x. pass w (ToAttribute (DoTypeSet c x (Some v))))))
+
 abbrev pub type_by : PlainWorld → TypeNative → List PyObjectRef → Bindings → Said
 type_by w type.New args kw = type_new w args kw
+type_by w type.GetAttribute args kw = type_get_attribute w args kw
+type_by w type.SetAttr args kw = type_set_attr w args kw
 type_by w _ args kw = Ends w not_yet
 
 abbrev pub type_say : PlainWorld → TypeNative → List PyObjectRef → Bindings → Row
-type_say w n args kw = start (type_by w n args kw) (end w)
+type_say w n args kw = start (type_by w n args kw) (native_end w)
 
 unfoldable pub class_job_say : PlainWorld → ClassJob → Row
 class_job_say w (DoMakeClass c args kw) told = make_class_say w c args kw told

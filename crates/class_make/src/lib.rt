@@ -10,10 +10,12 @@ mod attributes;
 mod hook;
 mod make;
 mod namespace;
+mod type_attributes;
 mod type_new;
 
 use crate::hook::{bound, called};
-use crate::make::make_class;
+use crate::make::{make_class, no_class};
+use crate::type_attributes::native_end;
 use crate::type_new::type_native;
 use class_world::world::World;
 use py_node::memory::OutOfMemory;
@@ -27,6 +29,10 @@ use std::alloc::Global;
 pub enum ClassKept {
     /// The answer is passed on.
     Pass,
+    /// The answer is that of a native: where there is no object, it is None.
+    Native,
+    /// A base that is no class is asked for others.
+    NoClass,
     /// The class, and the keywords that it was made with: `__init_subclass__` is being bound to it.
     AfterBind(PyObjectRef, Keywords),
     /// The class: `__init_subclass__` is being called.
@@ -63,6 +69,8 @@ pub fn resume(
 {
     match kept {
         ClassKept::Pass => Ok(Step::End(answer)),
+        ClassKept::Native => Ok(native_end(world, answer)),
+        ClassKept::NoClass => Ok(no_class(world, answer)),
         ClassKept::AfterBind(class, kw) => bound(world, alloc, class, kw, answer),
         ClassKept::AfterHook(class) => {
             let step = called(world, class, answer);

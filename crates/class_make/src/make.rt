@@ -6,12 +6,12 @@ ghost use Rattle.class_model.specs.BuiltIn.{natives_of};
 ghost use Rattle.class_model.specs.Slot.{entry};
 ghost use Rattle.plain_machine.specs.World.{text_keys};
 ghost use Rattle.py_node.specs.declared.built_in.BuiltIn.TheVariants.{TypeType};
-ghost use Rattle.class_world.specs.Claims.{of_class_task, of_args, Leaves};
+ghost use Rattle.class_world.specs.Claims.{of_class_task, of_args, of_ended, of_step, Leaves};
 ghost use Rattle.class_world.specs.Reading.{Reading, Reads, bindings, plain};
 ghost use Rattle.class_world.specs.Sound.{IsNode, AreNodes, IsClass, IsOf, CanBeBase, Holding, Holds, AllHold, of_binding, of_class_ref, of_each, of_option};
 ghost use Rattle.class_make.specs.Say.{by_base, by_bases, by_one, by_parts, by_winner, from_three, has_null, on_base, one_of, three_of, with_namespace, winner};
 ghost use Rattle.plain_machine.specs.Known.{the_type};
-ghost use Rattle.class_make.specs.Rows.{Begins, Makes, of_class_kept};
+ghost use Rattle.class_make.specs.Rows.{Begins, Resumes, Makes, of_class_kept};
 ghost use Rattle.py_node.specs.declared.task.ClassTask.TheVariants as class_task;
 
 use crate::ClassKept;
@@ -255,13 +255,28 @@ fn by_base(
         None => {
             let name = world.known(Known::MroEntries);
             let task = AttributeTask::GetAttr(base, name);
-            Ok(Step::Ask(Task::Attribute(task), ClassKept::Pass))
+            Ok(Step::Ask(Task::Attribute(task), ClassKept::NoClass))
         }
         Some(class) => {
             let of_base = world.metaclass(base);
             let winner = winner(world, meta, of_base);
             by_winner(world, alloc, meta, winner, class, body, call)
         }
+    }
+}
+
+/// A base that is no class and names others is refused, and so is one that does not.
+pub(crate) fn no_class(world: &World, answer: Result<Answer, Raised>) -> Step<ClassKept>
+    requires { AllHold world.now (of_ended answer) }
+    ensures goes { Resumes ClassKept.NoClass answer world.now world.now result }
+    ensures safe { AllHold world.now (of_step of_class_kept result) }
+{
+    match answer {
+        Ok(_others) => refused(Kind::TypeError, Cause::MroEntries),
+        Err(raised) => match raised.kind {
+            Kind::AttributeError => refused(Kind::TypeError, Cause::BasesNotTypes),
+            _ => Step::End(Err(raised)),
+        },
     }
 }
 

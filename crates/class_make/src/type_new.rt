@@ -13,6 +13,7 @@ ghost use Rattle.py_node.specs.declared.task.ClassTask.TheVariants as class_task
 
 use crate::ClassKept;
 use crate::make::refused;
+use crate::type_attributes::{type_get_attribute, type_set_attr};
 use class_world::args::copy_args;
 use class_world::world::World;
 use py_node::built_in::BuiltIn;
@@ -37,6 +38,8 @@ pub(crate) fn type_native(
 {
     match native {
         TypeNative::New => type_new(world, alloc, args, kw),
+        TypeNative::GetAttribute => type_get_attribute(world, alloc, args, kw),
+        TypeNative::SetAttr => type_set_attr(world, alloc, args, kw),
         _ => Ok(Step::not_yet()),
     }
 }
@@ -78,7 +81,7 @@ fn type_new_of(world: &World, class: Option<PyTypeRef>, args: Args, kw: Keywords
             }
             Step::Ask(
                 Task::Class(ClassTask::MakeClass(class, args, kw)),
-                ClassKept::Pass,
+                ClassKept::Native,
             )
         }
     }

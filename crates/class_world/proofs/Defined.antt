@@ -16,12 +16,12 @@ use Rattle.class_world.proofs.Claims.{all-grow, all-append, all-first, all-rest,
 use Rattle.class_world.proofs.Growth.{Lasting, lasting, like-itself, grows, grows-lasts}
 use Rattle.class_world.proofs.Changes.{fixed-grow, built_in-grow}
 
-set-length : {A : Type 0} (xs : List A) (n : ℕ) (x : A) → length (slice_set xs n x) ≡ length xs
+pub set-length : {A : Type 0} (xs : List A) (n : ℕ) (x : A) → length (slice_set xs n x) ≡ length xs
 set-length [] n x = refl
 set-length (y ∷ xs) zero x = refl
 set-length (y ∷ xs) (suc n) x = ap suc (set-length xs n x)
 
-each-set : {A : Type 0} (w : Held) (of : A → List Claim) (xs : List A) (n : ℕ) (x : A) → AllHold w (of_each of xs) → AllHold w (of x) → AllHold w (of_each of (slice_set xs n x))
+pub each-set : {A : Type 0} (w : Held) (of : A → List Claim) (xs : List A) (n : ℕ) (x : A) → AllHold w (of_each of xs) → AllHold w (of x) → AllHold w (of_each of (slice_set xs n x))
 each-set w of [] n x h k = h
 each-set w of (y ∷ xs) zero x h k = all-append w (of x) _ k (all-rest w (of y) _ h)
 each-set w of (y ∷ xs) (suc n) x h k = all-append w (of y) _ (all-first w (of y) _ h) (each-set w of xs n x (all-rest w (of y) _ h) k)
@@ -94,7 +94,7 @@ nodes-read t c (m ∷ ns) zero n l e =
 nodes-read t c (m ∷ ns) (suc i) n l e = ap (λ ms. node_of t m ∷ ms) (nodes-read t c ns i n (omega arith) e)
 
 -- another node in its place that tells the same
-stays-set : (ns : List StoredNode) (i : ℕ) (n new : StoredNode) → n ≡ get_or ns i n → lasting new.payload ≡ lasting n.payload → (m : ℕ) (x : StoredNode) → slice_get ns m ≡ Some x → (y : StoredNode) × (slice_get (slice_set ns i new) m ≡ Some y) × (lasting y.payload ≡ lasting x.payload)
+pub stays-set : (ns : List StoredNode) (i : ℕ) (n new : StoredNode) → n ≡ get_or ns i n → lasting new.payload ≡ lasting n.payload → (m : ℕ) (x : StoredNode) → slice_get ns m ≡ Some x → (y : StoredNode) × (slice_get (slice_set ns i new) m ≡ Some y) × (lasting y.payload ≡ lasting x.payload)
 stays-set [] i n new e q m x k = cc
 stays-set (z ∷ ns) zero n new e q zero x k = let same : z ≡ x = cc in (new, refl, q ∙ ap (λ (y : StoredNode). lasting y.payload) (e ∙ same))
 stays-set (z ∷ ns) zero n new e q (suc m) x k = (x, k, refl)
@@ -102,7 +102,7 @@ stays-set (z ∷ ns) (suc i) n new e q zero x k = (x, k, refl)
 stays-set (z ∷ ns) (suc i) n new e q (suc m) x k = stays-set ns i n new e q m x k
 
 -- and stands for no other class
-class-set : (ns : List StoredNode) (i : ℕ) (n new : StoredNode) → n ≡ get_or ns i n → class_in new.payload ≡ class_in n.payload → (m d : ℕ) → held_class (slice_set ns i new) (record { 0 = m }) ≡ Some d → held_class ns (record { 0 = m }) ≡ Some d
+pub class-set : (ns : List StoredNode) (i : ℕ) (n new : StoredNode) → n ≡ get_or ns i n → class_in new.payload ≡ class_in n.payload → (m d : ℕ) → held_class (slice_set ns i new) (record { 0 = m }) ≡ Some d → held_class ns (record { 0 = m }) ≡ Some d
 class-set [] i n new e q m d k = k
 class-set (z ∷ ns) zero n new e q zero d k = ap (λ (y : StoredNode). class_in y.payload) (sym e) ∙ sym q ∙ k
 class-set (z ∷ ns) zero n new e q (suc m) d k = k

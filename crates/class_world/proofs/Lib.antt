@@ -18,3 +18,8 @@ pub mod Defined
 pub mod StartSound
 pub mod ClassText
 pub mod SoundWorld
+pub mod NewNodes
+pub mod DictEntries
+pub mod DictChanges
+pub mod DictReads
+pub mod Items

@@ -10,3 +10,4 @@ pub mod Rows
 pub mod StartNodes
 pub mod Added
 pub mod NewHeap
+pub mod Keyed

@@ -13,3 +13,5 @@ pub mod Change
 pub mod Conditions
 pub mod Native
 pub mod Sound
+pub mod Dicts
+pub mod Takes

@@ -1,9 +1,9 @@
 -- The words that rows are written in.
-use Rattle.std.specs.Prelude.{ℕ, List, [], ◌∷◌, Option, Some, None, Result, Ok, Err}
+use Rattle.std.specs.Prelude.{ℕ, Bool, true, false, List, [], ◌∷◌, Option, Some, None, Result, Ok, Err}
 use Rattle.py_node.specs.declared.refs.PyObjectRef.{PyObjectRef}
 use Rattle.py_node.specs.declared.raised.Raised.{Raised as Fault}
 use Rattle.py_node.specs.declared.raised.Kind.{Kind}
-use Rattle.py_node.specs.declared.raised.Kind.TheVariants.{NotImplementedError}
+use Rattle.py_node.specs.declared.raised.Kind.TheVariants.{AttributeError, NotImplementedError}
 use Rattle.py_node.specs.declared.raised.Cause.{Cause}
 use Rattle.py_node.specs.declared.raised.Cause.TheVariants.{NotYet}
 use Rattle.py_node.specs.declared.entry.SlotEntry.{SlotEntry}
@@ -57,6 +57,11 @@ fault kind cause = Err (record { kind = kind; cause = cause })
 -- how a row ends that is not there yet
 abbrev pub not_yet : {A : Type 0} → Result A Fault
 not_yet = fault NotImplementedError NotYet
+
+-- whether a fault is an AttributeError
+abbrev pub is_attribute_error : Kind → Bool
+is_attribute_error AttributeError = true
+is_attribute_error _ = false
 
 -- goes on with an object. A row that gets any other answer ends with it
 abbrev pub on_value : PlainWorld → Ended → (PyObjectRef → Row) → Row

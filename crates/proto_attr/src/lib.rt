@@ -2,19 +2,32 @@
 // `resume`.
 #![tactic(auto, unfolding(crate::specs::Say::attribute_say))]
 
-ghost use Rattle.std.specs.Prelude.{◌≡◌, IfOk};
+ghost use Rattle.std.specs.Prelude.{◌≡◌, Some, IfOk};
+ghost use Rattle.plain_machine.specs.Plain.{PlainWorld, Told, Ends};
+ghost use Rattle.plain_machine.specs.Row.{end, on_value};
+ghost use Rattle.class_world.specs.Held.{Held};
+ghost use Rattle.class_world.specs.Reading.{ended_of};
+ghost use Rattle.proto_attr.specs.Say.{maybe, as_attribute};
 ghost use Rattle.class_world.specs.Sound.{AllHold};
 ghost use Rattle.class_world.specs.Claims.{of_attribute_task, of_ended, Leaves};
 ghost use Rattle.proto_attr.specs.Rows.{Begins, Resumes, of_attribute_kept};
 
 mod binding;
+mod class_get;
+pub mod find;
+mod generic;
+mod get_attr;
+mod load;
+mod named;
+mod object_set;
 mod setting;
 mod special;
 
 use class_world::world::World;
 use py_node::memory::OutOfMemory;
 use py_node::raised::Raised;
-use py_node::task::{Answer, Args, AttributeTask, CallTask, Keywords, Step, Task};
+use py_node::refs::{PyObjectRef, PyStrInterned};
+use py_node::task::{Answer, Args, AttributeTask, CallTask, Keywords, PyMethod, Step, Task};
 use std::alloc::Global;
 
 /// What a row of an attribute keeps while it waits for an answer.
@@ -22,6 +35,12 @@ use std::alloc::Global;
 pub enum AttributeKept {
     /// The answer is passed on.
     Pass,
+    /// Of a special method that reads an attribute: the object and the name.
+    GetAttr(PyObjectRef, PyStrInterned),
+    /// The answer is passed on as an object that there is.
+    Maybe,
+    /// The answer is passed on as a method that was loaded.
+    Method,
     /// Of a special method that was bound: the arguments and keywords of the call that follows.
     AfterBind(Args, Keywords),
 }
@@ -37,16 +56,22 @@ pub fn begin(
     ensures safe { Leaves of_attribute_kept world.old world.new result }
 {
     match task {
+        AttributeTask::GetAttr(o, name) => get_attr::get_attr(world, alloc, o, name),
+        AttributeTask::Generic(o, name) => Ok(generic::generic(world, o, name)),
+        AttributeTask::GenericOpt(o, name, dict) => Ok(generic::generic_opt(world, o, name, dict)),
+        AttributeTask::TypeGet(class, name) => Ok(class_get::type_get(world, class, name)),
+        AttributeTask::LoadMethod(o, name) => Ok(load::load_method(world, o, name)),
+        AttributeTask::Invoke(method, args, kw) => load::invoke(world, alloc, method, args, kw),
+        AttributeTask::GenericSet(o, name, value) => {
+            object_set::generic_set(world, alloc, o, name, value)
+        }
         AttributeTask::SetAttr(o, name, value) => setting::set_attr(world, alloc, o, name, value),
         AttributeTask::TypeSet(class, name, value) => setting::type_set(world, class, name, value),
         AttributeTask::Special(o, name, args, kw) => {
             special::special(world, alloc, o, name, args, kw)
         }
-        AttributeTask::Bind(m, o, class) => {
-            let step = binding::bind(world, m, o, class);
-            Ok(step)
-        }
-        _ => Ok(Step::not_yet()),
+        AttributeTask::Bind(m, o, class) => Ok(binding::bind(world, m, o, class)),
+        AttributeTask::HasAttr(_, _) => Ok(Step::not_yet()),
     }
 }
 
@@ -64,6 +89,9 @@ pub fn resume(
 {
     match kept {
         AttributeKept::Pass => Ok(Step::End(answer)),
+        AttributeKept::GetAttr(o, name) => get_attr::or_get_attr(world, alloc, o, name, answer),
+        AttributeKept::Maybe => Ok(Step::End(maybe(answer))),
+        AttributeKept::Method => Ok(Step::End(method(answer))),
         AttributeKept::AfterBind(args, kw) => match answer {
             Ok(Answer::Value(bound)) => {
                 let task = Task::Call(CallTask::Call(bound, args, kw));
@@ -71,5 +99,29 @@ pub fn resume(
             }
             other => Ok(Step::End(other)),
         },
+    }
+}
+
+// An object is answered as one that there is.
+fn maybe(answer: Result<Answer, Raised>) -> Result<Answer, Raised>
+    ensures answer { (w : PlainWorld) (told : Told) →
+        on_value w (ended_of answer) (λ v. end w (maybe (Some v))) told ≡ Ends w (ended_of result) }
+    ensures holds { (w : Held) → AllHold w (of_ended answer) → AllHold w (of_ended result) }
+{
+    match answer {
+        Ok(Answer::Value(value)) => Ok(Answer::Maybe(Some(value))),
+        other => other,
+    }
+}
+
+// An object is answered as a method that was loaded.
+fn method(answer: Result<Answer, Raised>) -> Result<Answer, Raised>
+    ensures answer { (w : PlainWorld) (told : Told) →
+        on_value w (ended_of answer) (λ v. end w (as_attribute v)) told ≡ Ends w (ended_of result) }
+    ensures holds { (w : Held) → AllHold w (of_ended answer) → AllHold w (of_ended result) }
+{
+    match answer {
+        Ok(Answer::Value(value)) => Ok(Answer::Method(PyMethod::Attribute(value))),
+        other => other,
     }
 }

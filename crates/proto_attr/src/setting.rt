@@ -50,7 +50,7 @@ pub(crate) fn set_attr(
 }
 
 // A task is asked, and its answer passed on.
-fn asked(task: AttributeTask) -> Step<AttributeKept>
+pub(crate) fn asked(task: AttributeTask) -> Step<AttributeKept>
     ensures { result ≡ Step.Ask (Task.Attribute task) AttributeKept.Pass }
 {
     Step::Ask(Task::Attribute(task), AttributeKept::Pass)
@@ -149,7 +149,7 @@ fn refused(cause: Cause) -> Step<AttributeKept>
 }
 
 // A value that was found, where it is one that sets attributes.
-fn setter(world: &World, found: Option<PyObjectRef>) -> Option<PyObjectRef>
+pub(crate) fn setter(world: &World, found: Option<PyObjectRef>) -> Option<PyObjectRef>
     requires { AllHold world.now (of_option of_node_ref found) }
     ensures setter { (t : Reading) → Reads t world.now → setter (plain t world.now) found ≡ result }
     ensures node { AllHold world.now (of_option of_node_ref result) }

@@ -48,7 +48,11 @@ pub(crate) fn special(
 }
 
 // The arguments with an object before them.
-fn bound(alloc: Global, object: PyObjectRef, args: &[PyObjectRef]) -> Result<Args, OutOfMemory>
+pub(crate) fn bound(
+    alloc: Global,
+    object: PyObjectRef,
+    args: &[PyObjectRef],
+) -> Result<Args, OutOfMemory>
     ensures items { IfOk result (λ v. v.items ≡ object ∷ args.now) }
     ensures holds { IfOk result (λ v. (w : World) → Holds w (IsNode object) → Holds w (AreNodes args.now) → Holds w (AreNodes v.items)) }
 {

@@ -3,8 +3,8 @@ use Rattle.std.proofs.Common.{◌≡◌, ℕ, zero, suc, ◌<◌, List, ◌∷�
 use Rattle.py_node.specs.declared.refs.PyObjectRef.{PyObjectRef}
 use Rattle.py_node.specs.declared.task.Step.{Step}
 use Rattle.py_node.specs.declared.memory.OutOfMemory.{OutOfMemory}
-use Rattle.plain_machine.specs.Plain.{PlainWorld, CallJob, Said}
-use Rattle.plain_machine.specs.Rows.{Pending}
+use Rattle.plain_machine.specs.Plain.{PlainWorld, CallJob, DoObject, Said}
+use Rattle.plain_machine.specs.Rows.{Pending, fresh}
 use Rattle.class_world.specs.declared.world.World.{World}
 use Rattle.class_world.specs.Held.{Held}
 use Rattle.class_world.specs.Reading.{Reading, Reads, plain}
@@ -12,7 +12,7 @@ use Rattle.class_world.specs.Rows.{Steps, Follows}
 use Rattle.class_world.specs.Sound.{IsNode, AreNodes, Holds}
 use Rattle.proto_call.specs.declared.CallKept.{CallKept}
 use Rattle.proto_call.specs.Say.{call_job_say}
-use Rattle.proto_call.specs.Rows.{call_stands, Closes}
+use Rattle.proto_call.specs.Rows.{call_stands, Closes, Does}
 
 -- a decision by the value that was read is one by what the plain world has
 pub by-read : {A : Type 0} (p : Reading → Pending CallJob) (F : Reading → PlainWorld → A → Said) (read : Reading → PlainWorld → A) (value : A) (old new : World) (step : Step CallKept) → ((t : Reading) → Reads t old → read t (plain t old) ≡ value) → Follows call_job_say call_stands p (λ t u. F t u value) old new step → Follows call_job_say call_stands p (λ t u. F t u (read t u)) old new step
@@ -26,10 +26,13 @@ from-same p F old mid new step same reads f = λ t q.
     let h = f t q in
     (reads t h.0, subst (λ u. Steps call_job_say (call_stands t) t (p t).task (p t).told (F t u) step new) (same t) h.1)
 
--- and so for a row that ends so, or finds no memory
-pub closes-after : (F : Reading → PlainWorld → Said) (old mid new : World) (r : Result (Step CallKept) OutOfMemory) → ((t : Reading) → Reads t mid → Reads t old) → ((t : Reading) → plain t mid ≡ plain t old) → IfOk r (λ step. Closes F mid new step) → IfOk r (λ step. Closes F old new step)
-closes-after F old mid new (Ok step) reads same h = λ p. from-same p F old mid new step same reads (h p)
-closes-after F old mid new (Err e) reads same h = tt
+-- what a native of `object` does that ends so
+pub does-after : (F : Reading → PlainWorld → Said) (old mid new : World) (r : Result (Step CallKept) OutOfMemory) → ((t : Reading) → Reads t mid → Reads t old) → ((t : Reading) → plain t mid ≡ plain t old) → IfOk r (λ step. Closes F mid new step) → IfOk r (λ step. Does F old new step)
+does-after F old mid new (Ok step) reads same h = λ n args kw. from-same (λ t. fresh (DoObject n args (kw t))) F old mid new step same reads (h (λ t. fresh (DoObject n args (kw t))))
+does-after F old mid new (Err e) reads same h = tt
+
+pub does : (F : Reading → PlainWorld → Said) (old new : World) (step : Step CallKept) → Closes F old new step → Does F old new step
+does F old new step h = λ n args kw. h (λ t. fresh (DoObject n args (kw t)))
 
 pub first-node : (w : Held) (r : PyObjectRef) (rs : List PyObjectRef) → Holds w (IsNode r) → Holds w (AreNodes rs) → Holds w (AreNodes (r ∷ rs))
 unfolding Holds

@@ -1,11 +1,14 @@
 -- What the contracts of the rows of calls say.
 use Rattle.std.specs.Prelude.{◌≡◌, ℕ, List, [], ◌∷◌, Result, IfOk}
 use Rattle.py_node.specs.declared.memory.OutOfMemory.{OutOfMemory}
+use Rattle.py_node.specs.declared.entry.ObjectNative.{ObjectNative}
+use Rattle.py_node.specs.declared.entry.ObjectNative.TheVariants.{New}
+use Rattle.py_node.specs.declared.refs.PyObjectRef.{PyObjectRef}
 use Rattle.py_node.specs.declared.raised.Raised.{Raised as Fault}
 use Rattle.py_node.specs.declared.task.Answer.{Answer}
 use Rattle.py_node.specs.declared.task.CallTask.{CallTask}
 use Rattle.py_node.specs.declared.task.Step.{Step}
-use Rattle.plain_machine.specs.Plain.{PlainWorld, CallJob, DoCall, DoBody, DoTypeCall, DoInit, Answered, Chose, Said}
+use Rattle.plain_machine.specs.Plain.{PlainWorld, CallJob, DoCall, DoBody, DoTypeCall, DoInit, DoObject, Bindings, Answered, Chose, Said}
 use Rattle.plain_machine.specs.World.{ref}
 use Rattle.plain_machine.specs.Row.{value}
 use Rattle.plain_machine.specs.Rows.{Pending, fresh, given}
@@ -16,12 +19,13 @@ use Rattle.class_world.specs.Held.{Held}
 use Rattle.class_world.specs.Sound.{Claim, IsNode, IsClass, AllHold, Grows}
 use Rattle.class_world.specs.Claims.{of_args, of_step, left_open}
 use Rattle.proto_call.specs.declared.CallKept.{CallKept}
-use Rattle.proto_call.specs.declared.CallKept.TheVariants.{Pass, Scope, AfterNew, AfterInit, AfterSpecialInit}
+use Rattle.proto_call.specs.declared.CallKept.TheVariants.{Pass, Native, Scope, AfterNew, AfterInit, AfterSpecialInit}
 use Rattle.proto_call.specs.Say.{call_job_say}
 
 -- the row that goes on, at each answer, just as the row that the code keeps this for
 abbrev pub call_stands : Reading → CallKept → Pending CallJob
 call_stands t Pass = record { task = DoCall (ref 0) [] []; told = [] }
+call_stands t Native = record { task = DoObject New [] []; told = [] }
 call_stands t Scope = record { task = DoBody (ref 0) [] []; told = [] }
 call_stands t (AfterNew c args kw) = record { task = DoTypeCall c.0 args.items (bindings t kw.items); told = [] }
 call_stands t (AfterInit o) = record { task = DoTypeCall 0 [] []; told = Answered (value o) ∷ [] }
@@ -30,6 +34,7 @@ call_stands t AfterSpecialInit = record { task = DoInit (ref 0) [] []; told = Ch
 -- what is said of what is kept
 abbrev pub of_call_kept : CallKept → List Claim
 of_call_kept Pass = []
+of_call_kept Native = []
 of_call_kept Scope = []
 of_call_kept (AfterNew c args kw) = IsClass c.0 ∷ of_args args.items kw.items
 of_call_kept (AfterInit o) = IsNode o ∷ []
@@ -65,3 +70,8 @@ Continues kept r = Follows call_job_say call_stands (λ t. given (call_stands t 
 -- any row ends as is decided so
 abbrev pub Closes : (Reading → PlainWorld → Said) → World → World → Step CallKept → Type 0
 Closes said old new step = (p : Reading → Pending CallJob) → Follows call_job_say call_stands p said old new step
+
+-- any native of `object` does so
+abbrev pub Does : (Reading → PlainWorld → Said) → World → World → Step CallKept → Type 0
+Does said old new step =
+    (n : ObjectNative) (args : List PyObjectRef) (kw : Reading → Bindings) → Follows call_job_say call_stands (λ t. fresh (DoObject n args (kw t))) said old new step

@@ -20,10 +20,11 @@ use Rattle.py_node.specs.Known.{known_text}
 use Rattle.class_model.specs.Class.{found}
 use Rattle.class_model.specs.Slot.{slot}
 use Rattle.class_model.specs.BuiltIn.{natives_of}
-use Rattle.plain_machine.specs.Plain.{Datum, AnObject, AClass, AFunction, AMethod, ANativeFunction, ABuiltinMethod, AMethodDescriptor, ATuple, PlainWorld, Bindings, DoEval, CallJob, DoCall, DoBody, DoTypeCall, DoNew, DoInit, DoObject, DoSpecial, PlainTask, ToEval, ToAttribute, ToCall, Ended, Chose, Said, Asks, Ends}
+use Rattle.plain_machine.specs.Plain.{Datum, AnObject, AClass, AFunction, AMethod, ANativeFunction, ABuiltinMethod, AMethodDescriptor, ATuple, PlainWorld, Bindings, DoEval, CallJob, DoCall, DoBody, DoTypeCall, DoNew, DoInit, DoObject, DoGeneric, DoGenericSet, DoSpecial, PlainTask, ToEval, ToAttribute, ToCall, Ended, Chose, Said, Asks, Ends}
 use Rattle.plain_machine.specs.World.{is_text, datum_at, slot_at, text_keys, with_node, next_node, with_scope, without_scope}
 use Rattle.plain_machine.specs.Objects.{class_object, class_number, is_instance, nearest_built_in}
 use Rattle.plain_machine.specs.Args.{filled}
+use Rattle.plain_machine.specs.Takes.{with_one, with_two, with_three, with_text, native_end}
 use Rattle.plain_machine.specs.Known.{the_object, the_type, the_tuple}
 use Rattle.plain_machine.specs.Native.{native_task}
 use Rattle.plain_machine.specs.Show.{show}
@@ -215,18 +216,25 @@ object_init w (o ∷ args) = Ends w (value none)
 
 -- the class alone, and no keyword
 abbrev pub object_init_subclass : PlainWorld → List PyObjectRef → Bindings → Said
-object_init_subclass w (c ∷ []) [] = Ends w (value none)
-object_init_subclass w (c ∷ []) (k ∷ kw) = Ends w (fault TypeError UnexpectedKeyword)
-object_init_subclass w _ kw = Ends w (fault TypeError ArgCount)
+object_init_subclass w args kw = with_one w args kw (λ c. Ends w (value none))
+
+-- an attribute by its name, as objects read and set it
+abbrev pub object_get_attribute : PlainWorld → List PyObjectRef → Bindings → Said
+object_get_attribute w args kw = with_two w args kw (λ o n. with_text w n (λ x. pass w (ToAttribute (DoGeneric o x))))
+
+abbrev pub object_set_attr : PlainWorld → List PyObjectRef → Bindings → Said
+object_set_attr w args kw = with_three w args kw (λ o n v. with_text w n (λ x. pass w (ToAttribute (DoGenericSet o x (Some v)))))
 
 abbrev pub object_by : PlainWorld → ObjectNative → List PyObjectRef → Bindings → Said
 object_by w object.New args kw = object_new w args
 object_by w object.Init args kw = object_init w args
 object_by w object.InitSubclass args kw = object_init_subclass w args kw
+object_by w object.GetAttribute args kw = object_get_attribute w args kw
+object_by w object.SetAttr args kw = object_set_attr w args kw
 object_by w _ args kw = Ends w not_yet
 
 abbrev pub object_say : PlainWorld → ObjectNative → List PyObjectRef → Bindings → Row
-object_say w n args kw = start (object_by w n args kw) (end w)
+object_say w n args kw = start (object_by w n args kw) (native_end w)
 
 unfoldable pub call_job_say : PlainWorld → CallJob → Row
 call_job_say w (DoCall f args kw) told = call_say w f args kw told

@@ -10,7 +10,7 @@ use crate::body::begin_body;
 use crate::call::begin_call;
 use crate::create::{begin_new, begin_type_call, resume_type_call};
 use crate::init::{begin_init, resume_init};
-use crate::object::begin_object;
+use crate::object::{begin_object, native_end};
 use class_world::world::World;
 use py_node::memory::OutOfMemory;
 use py_node::raised::Raised;
@@ -31,6 +31,8 @@ mod parameters;
 pub enum CallKept {
     /// The answer is passed on.
     Pass,
+    /// The answer is that of a native: where there is no object, it is None.
+    Native,
     /// A body runs: its scope is taken away at its end.
     Scope,
     /// The call of a class waits for the object: the class, the arguments and the keywords.
@@ -75,6 +77,7 @@ pub fn resume(
 {
     match kept {
         CallKept::Pass => Ok(Step::End(answer)),
+        CallKept::Native => Ok(native_end(world, answer)),
         CallKept::Scope => {
             world.close_scope();
             Ok(Step::End(answer))

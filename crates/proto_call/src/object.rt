@@ -6,23 +6,24 @@ ghost use Rattle.plain_machine.specs.World.{is_text, datum_at};
 ghost use Rattle.class_model.specs.Class.{found};
 ghost use Rattle.py_node.specs.declared.built_in.BuiltIn.TheVariants.{Object};
 ghost use Rattle.class_world.specs.Sound.{AllHold, Holds, Grows, IsNode, IsClass, IsOf, AreNodes, of_option, of_node_ref, of_class_ref};
-ghost use Rattle.class_world.specs.Claims.{of_args};
+ghost use Rattle.class_world.specs.Claims.{of_args, of_ended};
 ghost use Rattle.class_world.specs.Reading.{Reading, Reads, bindings, datum, plain};
-ghost use Rattle.proto_call.specs.Say.{object_by, object_new, object_init, object_init_subclass, new_of_class, created, unless_abstract, is_abstract, has_items};
+ghost use Rattle.proto_call.specs.Say.{object_by, object_new, object_init, object_init_subclass, object_get_attribute, object_set_attr, new_of_class, created, unless_abstract, is_abstract, has_items};
 ghost use Rattle.plain_machine.specs.Known.{the_object};
-ghost use Rattle.proto_call.specs.Rows.{Begins, Closes, OpensNone, LeavesNone};
+ghost use Rattle.proto_call.specs.Rows.{Begins, Resumes, Closes, Does, OpensNone, LeavesNone};
 
 use crate::CallKept;
 use crate::asked::refused;
+use class_world::takes::{one, three, two};
 use class_world::world::{Fixed, World};
 use py_node::built_in::BuiltIn;
 use py_node::entry::ObjectNative;
 use py_node::known::Known;
 use py_node::memory::OutOfMemory;
 use py_node::payload::Payload;
-use py_node::raised::{Cause, Kind};
+use py_node::raised::{Cause, Kind, Raised};
 use py_node::refs::{PyObjectRef, PyStrInterned, PyTypeRef};
-use py_node::task::{Answer, Args, Keywords, Step};
+use py_node::task::{Answer, Args, AttributeTask, Keywords, PySetterValue, Step, Task};
 use std::alloc::Global;
 
 /// A native of `object`.
@@ -50,13 +51,16 @@ fn object_by(
     kw: &[(PyStrInterned, PyObjectRef)],
 ) -> Result<Step<CallKept>, OutOfMemory>
     requires { Holds world.old (AreNodes args.now) }
-    ensures goes { IfOk result (λ step. Closes (λ t u. object_by u native args.now (bindings t kw.now)) world.old world.new step) }
+    ensures goes { IfOk result (λ step. Does (λ t u. object_by u native args.now (bindings t kw.now))
+        world.old world.new step) }
     ensures safe { LeavesNone world.old world.new result }
 {
     match native {
         ObjectNative::New => object_new(world, alloc, args),
         ObjectNative::Init => Ok(object_init(world, args)),
         ObjectNative::InitSubclass => Ok(object_init_subclass(world, args, kw)),
+        ObjectNative::GetAttribute => object_get_attribute(world, alloc, args, kw),
+        ObjectNative::SetAttr => object_set_attr(world, alloc, args, kw),
         _ => Ok(Step::not_yet()),
     }
 }
@@ -125,7 +129,7 @@ fn object_init(world: &World, args: &[PyObjectRef]) -> Step<CallKept>
     }
 }
 
-// What is done for a new class by default: it is the only argument, with no keyword.
+// What is done for a new class by default: nothing.
 fn object_init_subclass(
     world: &World,
     args: &[PyObjectRef],
@@ -134,14 +138,72 @@ fn object_init_subclass(
     ensures goes { Closes (λ t u. object_init_subclass u args.now (bindings t kw.now)) world.now world.now result }
     ensures safe { OpensNone world.now result }
 {
-    match args {
-        [_] => {
-            if kw.is_empty() {
-                Step::End(Ok(Answer::Value(world.fixed(Fixed::None))))
-            } else {
-                refused(Kind::TypeError, Cause::UnexpectedKeyword)
+    match one(args, kw) {
+        Err(raised) => Step::End(Err(raised)),
+        Ok(_class) => Step::End(Ok(Answer::Value(world.fixed(Fixed::None)))),
+    }
+}
+
+// An attribute by its name, as objects read it.
+fn object_get_attribute(
+    world: &mut World,
+    alloc: Global,
+    args: &[PyObjectRef],
+    kw: &[(PyStrInterned, PyObjectRef)],
+) -> Result<Step<CallKept>, OutOfMemory>
+    requires { Holds world.old (AreNodes args.now) }
+    ensures goes { IfOk result (λ step. Does (λ t u. object_get_attribute u args.now (bindings t kw.now))
+        world.old world.new step) }
+    ensures safe { LeavesNone world.old world.new result }
+{
+    match two(args, kw) {
+        Err(raised) => Ok(Step::End(Err(raised))),
+        Ok((o, name)) => match world.name_in(alloc, name)? {
+            Err(raised) => Ok(Step::End(Err(raised))),
+            Ok(name) => Ok(asked(AttributeTask::Generic(o, name))),
+        },
+    }
+}
+
+// An attribute by its name, as objects set it.
+fn object_set_attr(
+    world: &mut World,
+    alloc: Global,
+    args: &[PyObjectRef],
+    kw: &[(PyStrInterned, PyObjectRef)],
+) -> Result<Step<CallKept>, OutOfMemory>
+    requires { Holds world.old (AreNodes args.now) }
+    ensures goes { IfOk result (λ step. Does (λ t u. object_set_attr u args.now (bindings t kw.now))
+        world.old world.new step) }
+    ensures safe { LeavesNone world.old world.new result }
+{
+    match three(args, kw) {
+        Err(raised) => Ok(Step::End(Err(raised))),
+        Ok((o, name, value)) => match world.name_in(alloc, name)? {
+            Err(raised) => Ok(Step::End(Err(raised))),
+            Ok(name) => {
+                let value = PySetterValue::Assign(value);
+                Ok(asked(AttributeTask::GenericSet(o, name, value)))
             }
-        }
-        _ => refused(Kind::TypeError, Cause::ArgCount),
+        },
+    }
+}
+
+// A task is asked. Where it gives no object, the native answers None.
+fn asked(task: AttributeTask) -> Step<CallKept>
+    ensures { result ≡ Step.Ask (Task.Attribute task) CallKept.Native }
+{
+    Step::Ask(Task::Attribute(task), CallKept::Native)
+}
+
+// What a native answers that asked a task.
+pub(crate) fn native_end(world: &World, answer: Result<Answer, Raised>) -> Step<CallKept>
+    requires { AllHold world.now (of_ended answer) }
+    ensures goes { Resumes CallKept.Native answer world.now world.now result }
+    ensures safe { OpensNone world.now result }
+{
+    match answer {
+        Ok(Answer::Done) => Step::End(Ok(Answer::Value(world.fixed(Fixed::None)))),
+        other => Step::End(other),
     }
 }

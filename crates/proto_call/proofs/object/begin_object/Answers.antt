@@ -1,5 +1,3 @@
-use Rattle.plain_machine.specs.Plain.{DoObject}
-use Rattle.plain_machine.specs.Rows.{fresh}
 use Rattle.class_world.specs.Reading.{bindings}
 use Rattle.proto_call.specs.Say.{call_job_say}
 use Rattle.proto_call.proofs.object.begin_object.Goals as goal
@@ -8,4 +6,4 @@ pub returns-clause-goes : goal.returns-clause-goes
 unfolding call_job_say
 returns-clause-goes c =
     let goes = rw (c.deref.ensures.value, c.deref-2.ensures.value) at c.in_ok-step.ensures.goes in
-    goes (λ t. fresh (DoObject c.args.native c.args.args.items (bindings t c.args.kw.items)))
+    goes c.args.native c.args.args.items (λ t. bindings t c.args.kw.items)

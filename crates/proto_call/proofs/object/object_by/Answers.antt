@@ -1,18 +1,34 @@
-use Rattle.std.proofs.Common.{IfOk, sym, subst}
+use Rattle.std.proofs.Common.{IfOk, refl, sym, subst}
 use Rattle.class_world.specs.Reading.{bindings}
-use Rattle.proto_call.specs.Say.{object_by, object_new}
-use Rattle.proto_call.specs.Rows.{Closes}
-use Rattle.proto_call.proofs.Decide.{closes-after}
+use Rattle.proto_call.specs.Say.{object_by, object_new, object_init, object_init_subclass}
+use Rattle.proto_call.specs.Rows.{Does}
+use Rattle.proto_call.proofs.Decide.{does-after, does}
 use Rattle.proto_call.proofs.object.object_by.Goals as goal
 
 pub returns-in-New-clause-goes : goal.returns-in-New-clause-goes
 returns-in-New-clause-goes c =
-    subst (λ n. IfOk c.object_new.result (λ step. Closes (λ t u. object_by u n c.args.args.now (bindings t c.args.kw.now)) c.args.world.now c.object_new.new.world step)) (sym c.in-New.is) c.object_new.ensures.goes
+    let old = c.args.world.now in
+    subst (λ n. IfOk c.object_new.result (λ step. Does (λ t u. object_by u n c.args.args.now (bindings t c.args.kw.now)) old c.object_new.new.world step)) (sym c.in-New.is)
+    (does-after (λ t u. object_new u c.args.args.now) old old c.object_new.new.world c.object_new.result (λ t r. r) (λ t. refl) c.object_new.ensures.goes)
 
 pub returns-in-Init-clause-goes : goal.returns-in-Init-clause-goes
 returns-in-Init-clause-goes c =
-    subst (λ n. Closes (λ t u. object_by u n c.args.args.now (bindings t c.args.kw.now)) c.args.world.now c.args.world.now c.object_init.result) (sym c.in-Init.is) c.object_init.ensures.goes
+    let now = c.args.world.now in
+    subst (λ n. Does (λ t u. object_by u n c.args.args.now (bindings t c.args.kw.now)) now now c.object_init.result) (sym c.in-Init.is)
+    (does (λ t u. object_init u c.args.args.now) now now c.object_init.result c.object_init.ensures.goes)
 
 pub returns-in-InitSubclass-clause-goes : goal.returns-in-InitSubclass-clause-goes
 returns-in-InitSubclass-clause-goes c =
-    subst (λ n. Closes (λ t u. object_by u n c.args.args.now (bindings t c.args.kw.now)) c.args.world.now c.args.world.now c.object_init_subclass.result) (sym c.in-InitSubclass.is) c.object_init_subclass.ensures.goes
+    let now = c.args.world.now in
+    subst (λ n. Does (λ t u. object_by u n c.args.args.now (bindings t c.args.kw.now)) now now c.object_init_subclass.result) (sym c.in-InitSubclass.is)
+    (does (λ t u. object_init_subclass u c.args.args.now (bindings t c.args.kw.now)) now now c.object_init_subclass.result c.object_init_subclass.ensures.goes)
+
+pub returns-in-GetAttribute-clause-goes : goal.returns-in-GetAttribute-clause-goes
+returns-in-GetAttribute-clause-goes c =
+    let f = c.object_get_attribute in
+    subst (λ n. IfOk f.result (λ step. Does (λ t u. object_by u n c.args.args.now (bindings t c.args.kw.now)) c.args.world.now f.new.world step)) (sym c.in-GetAttribute.is) f.ensures.goes
+
+pub returns-in-SetAttr-clause-goes : goal.returns-in-SetAttr-clause-goes
+returns-in-SetAttr-clause-goes c =
+    let f = c.object_set_attr in
+    subst (λ n. IfOk f.result (λ step. Does (λ t u. object_by u n c.args.args.now (bindings t c.args.kw.now)) c.args.world.now f.new.world step)) (sym c.in-SetAttr.is) f.ensures.goes

@@ -1,7 +1,6 @@
-use Rattle.std.proofs.Common.{◌≡◌, Some, ap, ◌∙◌, arith}
+use Rattle.std.proofs.Common.{◌≡◌, Some, ap, arith}
 use Rattle.py_node.specs.BuiltIns.{place_of}
 use Rattle.py_node.specs.declared.built_in.BuiltIn.TheVariants.{Object}
-use Rattle.py_node.specs.declared.refs.PyTypeRef.{PyTypeRef}
 use Rattle.proto_call.proofs.object.object_new.Goals as goal
 
 pub make_node-requires-clause-of : goal.make_node-requires-clause-of

@@ -1,0 +1,45 @@
+use Rattle.std.proofs.Common.{sym, ap, ◌∙◌, subst}
+use Rattle.class_world.specs.contracts.world.World.{the_view}
+use Rattle.class_world.specs.Keyed.{entries_of, of_entries}
+use Rattle.class_world.specs.Sound.{Holds, AllHold, IsNode}
+use Rattle.class_world.proofs.Claims.{got, opened-one}
+use Rattle.class_world.proofs.DictChanges.{entries-seen, held-hold, no-entries}
+use Rattle.class_world.proofs.world.World.entries.Goals as goal
+
+pub index-requires : goal.index-requires
+unfolding Holds
+index-requires c = rw c.self.inside.nodes.ok.0 (opened-one (the_view c.self.inside) c.args.self.now (IsNode c.args.dict) c.self.view_is c.requires)
+
+pub returns-in-Dict-clause-same : goal.returns-in-Dict-clause-same
+unfolding Holds
+returns-in-Dict-clause-same c =
+    let w = the_view c.self.inside in
+    let here = opened-one w c.args.self.now (IsNode c.args.dict) c.self.view_is c.requires in
+    let e = got w.nodes c.args.dict.0 c.index.result.now here c.index.ensures in
+    entries-seen w c.args.self.now c.args.dict c.index.result.now c.self.view_is e ∙ ap entries_of c.in-Dict.is ∙ sym c.deref.ensures.value
+
+pub returns-in-Dict-clause-holds : goal.returns-in-Dict-clause-holds
+unfolding Holds
+returns-in-Dict-clause-holds c =
+    let w = the_view c.self.inside in
+    let here = opened-one w c.args.self.now (IsNode c.args.dict) c.self.view_is c.requires in
+    let e = got w.nodes c.args.dict.0 c.index.result.now here c.index.ensures in
+    let same = entries-seen w c.args.self.now c.args.dict c.index.result.now c.self.view_is e ∙ ap entries_of c.in-Dict.is ∙ sym c.deref.ensures.value in
+    subst (λ es. AllHold c.args.self.now (of_entries es)) same (held-hold w c.args.self.now c.args.dict c.index.result.now c.self.view_is e c.self.invariant)
+
+pub returns-in_default-clause-same : goal.returns-in_default-clause-same
+unfolding Holds
+returns-in_default-clause-same c =
+    let w = the_view c.self.inside in
+    let here = opened-one w c.args.self.now (IsNode c.args.dict) c.self.view_is c.requires in
+    let e = got w.nodes c.args.dict.0 c.index.result.now here c.index.ensures in
+    entries-seen w c.args.self.now c.args.dict c.index.result.now c.self.view_is e ∙ no-entries c.index.result.now.payload c.in_default.not-Dict
+
+pub returns-in_default-clause-holds : goal.returns-in_default-clause-holds
+unfolding Holds
+returns-in_default-clause-holds c =
+    let w = the_view c.self.inside in
+    let here = opened-one w c.args.self.now (IsNode c.args.dict) c.self.view_is c.requires in
+    let e = got w.nodes c.args.dict.0 c.index.result.now here c.index.ensures in
+    let same = entries-seen w c.args.self.now c.args.dict c.index.result.now c.self.view_is e ∙ no-entries c.index.result.now.payload c.in_default.not-Dict in
+    subst (λ es. AllHold c.args.self.now (of_entries es)) same (held-hold w c.args.self.now c.args.dict c.index.result.now c.self.view_is e c.self.invariant)

@@ -1,0 +1,63 @@
+-- The dicts of objects: what stands in one under a text, and how that is set and taken out.
+use Rattle.std.specs.Prelude.{Bool, false, cond, List, [], ◌∷◌, ◌++◌, Option, Some, None, option_and_then}
+use Rattle.py_node.specs.declared.refs.PyObjectRef.{PyObjectRef}
+use Rattle.py_node.specs.Attributes.{value_of}
+use Rattle.py_node.specs.Tree.{Text}
+use Rattle.plain_machine.specs.Plain.{Datum, AText, ADict, PlainWorld}
+use Rattle.plain_machine.specs.Known.{the_str}
+use Rattle.plain_machine.specs.World.{is_text, node_at, datum_at, with_node, next_node}
+use Rattle.plain_machine.specs.Objects.{with_datum_in}
+
+abbrev pub Entries : Type 0
+Entries = List (PyObjectRef × PyObjectRef)
+
+abbrev pub is_text_datum : Text → Option Datum → Bool
+is_text_datum x (Some (AText y)) = is_text y x
+is_text_datum x _ = false
+
+abbrev pub entries_in : Option Datum → Entries
+entries_in (Some (ADict es)) = es
+entries_in _ = []
+
+-- the node of an object's dict
+abbrev pub dict_of : PlainWorld → PyObjectRef → Option PyObjectRef
+dict_of w o = option_and_then (λ n. n.dict) (node_at w o)
+
+-- whether a key is a text
+abbrev pub is_key : PlainWorld → Text → PyObjectRef → Bool
+is_key w x k = is_text_datum x (datum_at w k)
+
+-- the value that a dict has under a text
+abbrev pub value_in : PlainWorld → Text → PyObjectRef → Option PyObjectRef
+value_in w x d = value_of (is_key w x) (entries_in (datum_at w d))
+
+-- the value that an object's own dict has under a text
+abbrev pub own_value : PlainWorld → PyObjectRef → Text → Option PyObjectRef
+own_value w o x = option_and_then (value_in w x) (dict_of w o)
+
+-- the entries with another value for the first key that passes a test
+abbrev pub with_value_for : (PyObjectRef → Bool) → PyObjectRef → Entries → Entries
+with_value_for test v [] = []
+with_value_for test v (e ∷ es) = cond (test e.0) ((e.0, v) ∷ es) (e ∷ with_value_for test v es)
+
+-- the entries without that of the first key that passes a test
+abbrev pub without_value_for : (PyObjectRef → Bool) → Entries → Entries
+without_value_for test [] = []
+without_value_for test (e ∷ es) = cond (test e.0) es (e ∷ without_value_for test es)
+
+-- a dict with other entries
+abbrev pub with_entries : PlainWorld → PyObjectRef → Entries → PlainWorld
+with_entries w d es = record w { nodes = with_datum_in (λ m. ADict es) w.nodes d.0 }
+
+-- a dict with a value for a text: in its place, or else last, with a new text as its key
+abbrev pub set_under : PlainWorld → PyObjectRef → Text → PyObjectRef → Option PyObjectRef → PlainWorld
+set_under w d x v (Some old) = with_entries w d (with_value_for (is_key w x) v (entries_in (datum_at w d)))
+set_under w d x v None =
+    with_entries (with_node w the_str (AText x)) d (entries_in (datum_at w d) ++ (next_node w the_str, v) ∷ [])
+
+abbrev pub with_value_in : PlainWorld → PyObjectRef → Text → PyObjectRef → PlainWorld
+with_value_in w d x v = set_under w d x v (value_in w x d)
+
+-- a dict without its value for a text
+abbrev pub without_value_in : PlainWorld → PyObjectRef → Text → PlainWorld
+without_value_in w d x = with_entries w d (without_value_for (is_key w x) (entries_in (datum_at w d)))

@@ -1,0 +1,37 @@
+use Rattle.std.proofs.Common.{◌≡◌, Some, None, Err, refl, sym, ap, ◌∙◌, subst}
+use Rattle.py_node.specs.declared.known.Known.TheVariants as known
+use Rattle.py_node.specs.Known.{known_text}
+use Rattle.py_node.specs.declared.task.Step.TheVariants.{Ask, End}
+use Rattle.plain_machine.specs.Plain.{DoGetAttr}
+use Rattle.plain_machine.specs.Objects.{special_at}
+use Rattle.class_world.specs.Reading.{plain, spelled}
+use Rattle.class_world.specs.Rows.{Steps}
+use Rattle.proto_attr.specs.declared.AttributeKept.TheVariants.{Pass}
+use Rattle.proto_attr.specs.Say.{attribute_say, or_get_attr, by_name}
+use Rattle.proto_attr.specs.Rows.{attribute_stands}
+use Rattle.proto_attr.proofs.OrGetAttr.{told, get-attr-said, get-attr-passed}
+use Rattle.proto_attr.proofs.get_attr.by_get_attr.Goals as goal
+
+pub returns-in-None-clause-goes : goal.returns-in-None-clause-goes
+returns-in-None-clause-goes c = λ t r.
+    let o = c.args.o in
+    let x = spelled t c.args.name in
+    let fault = c.args.fault in
+    let u = plain t c.args.world.now in
+    let found : special_at u o (known_text known.GetAttr) ≡ None = ap (special_at u o) (sym (c.known-method.ensures.spelled t r)) ∙ c.in-None.ensures.found t r in
+    let said = get-attr-said o x fault c.requires.kind u ∙ ap (λ s. or_get_attr u s o x fault) found in
+    (r, subst (λ s. Steps attribute_say (attribute_stands t) t (DoGetAttr o x) (told o x fault c.requires.kind) s (End (Err fault)) c.args.world.now) (sym said) (refl, refl))
+
+pub returns-in_ok-task-in-Some-clause-goes : goal.returns-in_ok-task-in-Some-clause-goes
+returns-in_ok-task-in-Some-clause-goes c = λ t r.
+    let o = c.args.o in
+    let x = spelled t c.args.name in
+    let fault = c.args.fault in
+    let k = c.in_ok-task-in-Some.ensures in
+    let mid = k.reads t r in
+    let u = plain t c.args.world.now in
+    let method = c.known-method.ensures.spelled t mid in
+    let found : special_at u o (known_text known.GetAttr) ≡ Some c.in-Some.field-0 = ap (special_at u o) (sym method) ∙ c.in-Some.ensures.found t mid in
+    let said = get-attr-said o x fault c.requires.kind u ∙ ap (λ s. or_get_attr u s o x fault) found in
+    let task = k.task t r ∙ ap (by_name u o) method in
+    (mid, subst (λ s. Steps attribute_say (attribute_stands t) t (DoGetAttr o x) (told o x fault c.requires.kind) s (Ask c.in_ok-task-in-Some.task Pass) c.by_name.new.world) (sym said) (task, k.made t r, get-attr-passed o x fault c.requires.kind))

@@ -1,0 +1,107 @@
+// How an object's attribute is read.
+#![tactic(auto, unfolding(crate::specs::Say::attribute_say))]
+
+ghost use Rattle.std.specs.Prelude.{◌≡◌, ◌∷◌, [], Err, IfOk};
+ghost use Rattle.class_world.specs.Sound.{AllHold, IsName, IsNode};
+ghost use Rattle.class_world.specs.Claims.{of_attribute_task, of_ended, Leaves};
+ghost use Rattle.class_world.specs.Reading.{spelled};
+ghost use Rattle.py_node.specs.declared.task.AttributeTask.TheVariants as attribute;
+ghost use Rattle.proto_attr.specs.declared.AttributeKept.TheVariants as kept;
+ghost use Rattle.proto_attr.specs.Say.{get_by_method};
+ghost use Rattle.proto_attr.specs.Rows.{Begins, Starts, Resumes, of_attribute_kept};
+
+use crate::AttributeKept;
+use crate::named::by_name;
+use crate::setting::asked;
+use class_world::world::World;
+use py_node::entry::{NativeEntry, SlotEntry, SlotId, TypeNative};
+use py_node::memory::OutOfMemory;
+use py_node::raised::{Kind, Raised};
+use py_node::refs::{PyObjectRef, PyStrInterned};
+use py_node::task::{Answer, AttributeTask, Step};
+use std::alloc::Global;
+
+// An object's attribute is read as its class's entry for that says.
+pub(crate) fn get_attr(
+    world: &mut World,
+    alloc: Global,
+    o: PyObjectRef,
+    name: PyStrInterned,
+) -> Result<Step<AttributeKept>, OutOfMemory>
+    requires { AllHold world.old (of_attribute_task (attribute.GetAttr o name)) }
+    ensures goes { IfOk result (λ step. Begins (attribute.GetAttr o name) world.old world.new step) }
+    ensures safe { Leaves of_attribute_kept world.old world.new result }
+{
+    match world.slot(o, SlotId::Getattro) {
+        Some(SlotEntry::Wrapper(_)) => get_by_method(world, alloc, o, name),
+        Some(SlotEntry::Native(NativeEntry::OfType(TypeNative::GetAttribute))) => {
+            match world.class_number(o) {
+                None => Ok(asked(AttributeTask::Generic(o, name))),
+                Some(class) => Ok(asked(AttributeTask::TypeGet(class, name))),
+            }
+        }
+        _ => Ok(asked(AttributeTask::Generic(o, name))),
+    }
+}
+
+// A special method reads the attribute.
+fn get_by_method(
+    world: &mut World,
+    alloc: Global,
+    o: PyObjectRef,
+    name: PyStrInterned,
+) -> Result<Step<AttributeKept>, OutOfMemory>
+    requires { AllHold world.old (of_attribute_task (attribute.GetAttr o name)) }
+    ensures goes { IfOk result (λ step. Starts (attribute.GetAttr o name)
+        (λ t w. get_by_method w o (spelled t name)) world.old world.new step) }
+    ensures safe { Leaves of_attribute_kept world.old world.new result }
+{
+    let method = world.intern(alloc, "__getattribute__")?;
+    let task = by_name(world, alloc, o, method, name)?;
+    Ok(Step::Ask(task, AttributeKept::GetAttr(o, name)))
+}
+
+// What a special method that reads attributes answered. Where it found none, `__getattr__` is asked.
+pub(crate) fn or_get_attr(
+    world: &mut World,
+    alloc: Global,
+    o: PyObjectRef,
+    name: PyStrInterned,
+    answer: Result<Answer, Raised>,
+) -> Result<Step<AttributeKept>, OutOfMemory>
+    requires kept { AllHold world.old (of_attribute_kept (kept.GetAttr o name)) }
+    requires answer { AllHold world.old (of_ended answer) }
+    ensures goes { IfOk result (λ step. Resumes (kept.GetAttr o name) answer world.old world.new step) }
+    ensures safe { Leaves of_attribute_kept world.old world.new result }
+{
+    match answer {
+        Ok(answer) => Ok(Step::End(Ok(answer))),
+        Err(fault) => match fault.kind {
+            Kind::AttributeError => by_get_attr(world, alloc, o, name, fault),
+            _ => Ok(Step::End(Err(fault))),
+        },
+    }
+}
+
+// `__getattr__` is asked, where the object's class has it.
+fn by_get_attr(
+    world: &mut World,
+    alloc: Global,
+    o: PyObjectRef,
+    name: PyStrInterned,
+    fault: Raised,
+) -> Result<Step<AttributeKept>, OutOfMemory>
+    requires kept { AllHold world.old (of_attribute_kept (kept.GetAttr o name)) }
+    requires kind { fault.kind ≡ Kind.AttributeError }
+    ensures goes { IfOk result (λ step. Resumes (kept.GetAttr o name) (Err fault) world.old world.new step) }
+    ensures safe { Leaves of_attribute_kept world.old world.new result }
+{
+    let method = world.intern(alloc, "__getattr__")?;
+    match world.special(o, method) {
+        None => Ok(Step::End(Err(fault))),
+        Some(_) => {
+            let task = by_name(world, alloc, o, method, name)?;
+            Ok(Step::Ask(task, AttributeKept::Pass))
+        }
+    }
+}

@@ -1,0 +1,74 @@
+// How objects set and take out attributes.
+#![tactic(auto, unfolding(crate::specs::Say::attribute_say))]
+
+ghost use Rattle.std.specs.Prelude.{IfOk};
+ghost use Rattle.class_world.specs.Sound.{AllHold};
+ghost use Rattle.class_world.specs.Claims.{of_attribute_task, Leaves};
+ghost use Rattle.class_world.specs.Reading.{spelled, setter_value};
+ghost use Rattle.plain_machine.specs.Dicts.{dict_of, own_value};
+ghost use Rattle.py_node.specs.declared.task.AttributeTask.TheVariants as attribute;
+ghost use Rattle.proto_attr.specs.Say.{set_in_dict};
+ghost use Rattle.proto_attr.specs.Rows.{Begins, Starts, of_attribute_kept};
+
+use crate::AttributeKept;
+use crate::generic::no_attribute;
+use crate::setting::setter;
+use class_world::world::World;
+use py_node::memory::OutOfMemory;
+use py_node::refs::{PyObjectRef, PyStrInterned};
+use py_node::task::{Answer, DescriptorTask, PySetterValue, Step, Task};
+use std::alloc::Global;
+
+// An object's attribute is set or taken out by what its class has under the name, or else in its dict.
+pub(crate) fn generic_set(
+    world: &mut World,
+    alloc: Global,
+    o: PyObjectRef,
+    name: PyStrInterned,
+    value: PySetterValue,
+) -> Result<Step<AttributeKept>, OutOfMemory>
+    requires { AllHold world.old (of_attribute_task (attribute.GenericSet o name value)) }
+    ensures goes { IfOk result (λ step. Begins (attribute.GenericSet o name value) world.old world.new step) }
+    ensures safe { Leaves of_attribute_kept world.old world.new result }
+{
+    let found = world.special(o, name);
+    match setter(world, found) {
+        None => set_in_dict(world, alloc, o, name, value),
+        Some(setter) => {
+            let task = DescriptorTask::DescrSet(setter, o, value);
+            Ok(Step::Ask(Task::Descriptor(task), AttributeKept::Pass))
+        }
+    }
+}
+
+// The object's dict gets the value, or loses the one that it has.
+fn set_in_dict(
+    world: &mut World,
+    alloc: Global,
+    o: PyObjectRef,
+    name: PyStrInterned,
+    value: PySetterValue,
+) -> Result<Step<AttributeKept>, OutOfMemory>
+    requires { AllHold world.old (of_attribute_task (attribute.GenericSet o name value)) }
+    ensures goes { IfOk result (λ step. Starts (attribute.GenericSet o name value)
+        (λ t w. set_in_dict w (dict_of w o) (spelled t name) (setter_value value) (own_value w o (spelled t name)))
+        world.old world.new step) }
+    ensures safe { Leaves of_attribute_kept world.old world.new result }
+{
+    let Some(dict) = world.dict_of(o) else {
+        return Ok(no_attribute());
+    };
+    match value {
+        PySetterValue::Assign(value) => {
+            world.set_value_in(alloc, dict, name, value)?;
+            Ok(Step::End(Ok(Answer::Done)))
+        }
+        PySetterValue::Delete => match world.own_value(o, name) {
+            None => Ok(no_attribute()),
+            Some(_) => {
+                world.take_value_out(dict, name);
+                Ok(Step::End(Ok(Answer::Done)))
+            }
+        },
+    }
+}
