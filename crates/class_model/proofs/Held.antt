@@ -64,7 +64,7 @@ without-fewer x [] = omega arith
 without-fewer x (m ∷ ms) =
     elim (eqb m x) as (λ b. length (cond (not b) (m ∷ without x ms) (without x ms)) ≤ suc (length ms)) [ true ↦ omega (arith, without-fewer x ms) | false ↦ omega (arith, without-fewer x ms) ]
 
-length-without : (x : ℕ) (ms : List ℕ) → Holds ms x → length (without x ms) < length ms
+pub length-without : (x : ℕ) (ms : List ℕ) → Holds ms x → length (without x ms) < length ms
 length-without x [] h = absurd h
 length-without x (m ∷ ms) (inl e) = rw (eq-eqb m x e) (omega (arith, without-fewer x ms))
 length-without x (m ∷ ms) (inr h) =

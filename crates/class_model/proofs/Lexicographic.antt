@@ -36,7 +36,7 @@ passed (x ∷ xs) (y ∷ ys) (z ∷ zs) e f = from_ahead x z xs zs (join (to_ahe
     join (inr a) (inl b) rest = inl (omega (arith, a.0))
     join (inr a) (inr b) rest = inr (a.0 ∙ b.0, rest a.1 b.1)
 
-other_way : (xs ys : List ℕ) → is_lexicographic xs ys ≡ false → is_lexicographic ys xs ≡ true
+pub other_way : (xs ys : List ℕ) → is_lexicographic xs ys ≡ false → is_lexicographic ys xs ≡ true
 unfolding Ahead
 other_way [] ys e = cc
 other_way (x ∷ xs) [] e = refl

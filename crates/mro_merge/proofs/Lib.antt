@@ -1,0 +1,12 @@
+pub mod Struck
+pub mod Merged
+pub mod LeastMerge
+pub mod Steps
+pub mod Mapped
+pub mod Linearised
+pub mod Repeats
+pub mod Precedence
+pub mod Bases
+pub mod Heads
+pub mod Classes
+pub mod Resolved

@@ -1,0 +1,4 @@
+pub mod Merge
+pub mod Lists
+pub mod Faults
+pub mod Steps

@@ -1,0 +1,84 @@
+-- What a merge of linearisations is.
+use Rattle.std.specs.Prelude.{◌≡◌, ℕ, false, List, [], ◌∷◌, ◌++◌, Some, None, IsTrue}
+use Rattle.std.specs.List.{flat_map}
+use Rattle.class_model.specs.Order.{Holds, Distinct, Subsequence, BeginsWith, unique, ranks, is_lexicographic, least_order}
+use Rattle.class_model.specs.Change.{breaks_precedence}
+
+-- all members of some lists
+abbrev pub members : List (List ℕ) → List ℕ
+members ls = flat_map (λ l. l) ls
+
+abbrev pub heads : List (List ℕ) → List ℕ
+heads [] = []
+heads ([] ∷ ls) = heads ls
+heads ((x ∷ l) ∷ ls) = x ∷ heads ls
+
+-- the lists, and as the last one their heads, each once
+abbrev pub with_heads : List (List ℕ) → List (List ℕ)
+with_heads ls = ls ++ unique (heads ls) ∷ []
+
+-- no repeats, nothing but the lists' members, and each list in its order (so that it holds them all)
+pub record IsMerge (ls : List (List ℕ)) (xs : List ℕ) : Type 0 where
+  pub distinct : Distinct xs
+  pub members_only : (x : ℕ) → Holds xs x → Holds (members ls) x
+  pub keeps : (l : List ℕ) → Holds ls l → Subsequence l xs
+
+-- of all merges, it has the least list of ranks
+pub record IsLeastMerge (ls : List (List ℕ)) (xs : List ℕ) : Type 0 where
+  pub merge : IsMerge ls xs
+  pub least : (ys : List ℕ) → IsMerge ls ys → IsTrue (is_lexicographic (ranks ls xs) (ranks ls ys))
+
+abbrev pub HasNoMerge : List (List ℕ) → Type 0
+HasNoMerge ls = (xs : List ℕ) → IsMerge ls xs → ⊥
+
+-- merges with the same ranks are the same
+abbrev pub DifferByRanks : List (List ℕ) → Type 0
+DifferByRanks ls = (xs ys : List ℕ) → IsMerge ls xs → IsMerge ls ys → ranks ls xs ≡ ranks ls ys → xs ≡ ys
+
+-- none of the lists is empty or has repeats
+abbrev pub AreLines : List (List ℕ) → Type 0
+AreLines [] = Unit {0}
+AreLines ([] ∷ ls) = ⊥
+AreLines ((x ∷ l) ∷ ls) = Distinct (x ∷ l) × AreLines ls
+
+-- one such list for each base, which begins with it
+abbrev pub AreLinesOf : List ℕ → List (List ℕ) → Type 0
+AreLinesOf [] [] = Unit {0}
+AreLinesOf [] (l ∷ ls) = ⊥
+AreLinesOf (b ∷ bs) [] = ⊥
+AreLinesOf (b ∷ bs) (l ∷ ls) = BeginsWith b l × Distinct l × AreLinesOf bs ls
+
+-- it is in none of the lists
+abbrev pub IsApart : ℕ → List (List ℕ) → Type 0
+IsApart c ls = (l : List ℕ) → Holds ls l → Holds l c → ⊥
+
+-- it stands before its place, up to which nothing else stands twice
+pub record IsFirstRepeat (xs : List ℕ) (x : ℕ) : Type 0 where
+  pub before : List ℕ
+  pub after : List ℕ
+  pub split : xs ≡ before ++ x ∷ after
+  pub distinct : Distinct before
+  pub again : Holds before x
+
+-- no head stands past the head of a later list, and still the lists have no merge
+pub record IsConflict (ls : List (List ℕ)) : Type 0 where
+  pub kept : breaks_precedence (heads ls) ls ≡ false
+  pub none : HasNoMerge (with_heads ls)
+
+-- the bases differ, and one stands past the head of a later one's line
+pub record IsBrokenPrecedence (bases : List ℕ) (lines : List (List ℕ)) : Type 0 where
+  pub distinct : Distinct bases
+  pub broken : IsTrue (breaks_precedence bases lines)
+
+-- the bases differ, none stands past the head of a later one's line, and still the lines have no merge
+pub record IsOrderConflict (bases : List ℕ) (lines : List (List ℕ)) : Type 0 where
+  pub distinct : Distinct bases
+  pub conflict : IsConflict lines
+
+-- any class that is in none of the lines has, with these bases, itself and then the list as its least order
+abbrev pub IsRest : List ℕ → List (List ℕ) → List ℕ → Type 0
+IsRest bases lines xs = (c : ℕ) → IsApart c lines → least_order c bases lines ≡ Some (c ∷ xs)
+
+-- any such class has no order
+abbrev pub HasNoOrder : List ℕ → List (List ℕ) → Type 0
+HasNoOrder bases lines = (c : ℕ) → IsApart c lines → least_order c bases lines ≡ None

@@ -1,0 +1,28 @@
+// Why lists have no merge.
+
+use py_node::memory::OutOfMemory;
+use py_node::refs::PyTypeRef;
+use thiserror::Error;
+
+/// Why the bases of a class have no order.
+#[derive(Clone, Copy, PartialEq, Eq, Debug, Error)]
+pub enum MroFault {
+    /// A base stands twice: of such bases the one whose second place comes first.
+    #[error("duplicate base class")]
+    DuplicateBase(PyTypeRef),
+    /// A base stands past the head of a later base's list.
+    #[error("the order of the bases differs from that of a base's linearisation")]
+    LocalPrecedence,
+    /// No list keeps the order of all.
+    #[error("no consistent order")]
+    MroConflict,
+    /// Memory could not be had.
+    #[error("out of memory")]
+    OutOfMemory,
+}
+
+impl From<OutOfMemory> for MroFault {
+    fn from(_: OutOfMemory) -> MroFault {
+        MroFault::OutOfMemory
+    }
+}
