@@ -1,25 +1,17 @@
--- A class with one base.
-use Rattle.std.proofs.Common.{◌≡◌, ℕ, ◌≤◌, List, [], ◌∷◌, length, Some, None, Bool, true, false, cond, refl, ap, subst, arith, rules}
-use Rattle.std.specs.Prelude.{slice_get}
+-- The bases of a class that a script makes.
+use Rattle.std.proofs.Common.{◌≡◌, ℕ, List, [], ◌∷◌, Some}
 use Rattle.py_node.specs.declared.refs.PyTypeRef.{PyTypeRef}
-use Rattle.class_table.specs.Keys.{numbers}
-use Rattle.std.specs.Prelude.{IsTrue, not}
-use Rattle.py_node.specs.declared.raised.Cause.TheVariants.{NotBaseType}
-use Rattle.class_model.specs.Class.{Classes, class_at, is_class}
-use Rattle.class_table.specs.Refused.{AreThere, is_base_at, refused_bases, lacks_base}
+use Rattle.py_node.specs.declared.refs.PyStrInterned.{PyStrInterned}
+use Rattle.class_model.specs.Class.{Classes}
+use Rattle.class_model.specs.Layout.{best_of}
+use Rattle.class_table.specs.New.{IsBelow, IsBest}
+use Rattle.class_table.specs.Refused.{AreThere}
 
-pub only : (items : List PyTypeRef) (b : PyTypeRef) → length items ≤ 1 → slice_get items 0 ≡ Some b → items ≡ b ∷ []
-only [] b l e = cc
-only (c ∷ []) b l e = let s : c ≡ b = cc in ap (λ x. x ∷ []) s
-only (c ∷ (d ∷ items)) b l e = absurd (omega arith)
+-- where there is a best base, there are bases
+pub below-best : (t : Classes PyStrInterned) (n : ℕ) (bs : List ℕ) (b : ℕ) → AreThere t bs → best_of t bs ≡ Some b → IsBelow t n bs
+below-best t n [] b l e = cc
+below-best t n (c ∷ bs) b l e = l
 
-pub only-below : {K : Type 0} (t : Classes K) (items : List PyTypeRef) (b : PyTypeRef) → items ≡ b ∷ [] → AreThere t (numbers items) → is_class t b.0 ≡ true
-only-below t items b e h = let P : List PyTypeRef → Type 0 = λ bs. AreThere t (numbers bs) in (subst P e h).0
-
-lacks-one : {K : Type 0} (t : Classes K) (b : ℕ) (bs : List ℕ) (v : Bool) → is_base_at (class_at t b) ≡ v → (cond v None (Some NotBaseType) ≡ Some NotBaseType → IsTrue (not v)) × (IsTrue (not v) → cond v None (Some NotBaseType) ≡ Some NotBaseType)
-lacks-one t b bs true e = (λ h. cc, λ h. absurd (search (rules, h)))
-lacks-one t b bs false e = (λ h. search rules, λ h. refl)
-
-pub lacks-both : {K : Type 0} (t : Classes K) (bs : List ℕ) → (refused_bases t bs ≡ Some NotBaseType → IsTrue (lacks_base t bs)) × (IsTrue (lacks_base t bs) → refused_bases t bs ≡ Some NotBaseType)
-lacks-both t [] = (λ h. cc, λ h. absurd (search (rules, h)))
-lacks-both t (b ∷ bs) = lacks-one t b bs (is_base_at (class_at t b)) refl
+pub is-best : (t : Classes PyStrInterned) (bs : List ℕ) (b : PyTypeRef) → best_of t bs ≡ Some b.0 → IsBest t bs (Some b)
+is-best t [] b e = cc
+is-best t (c ∷ bs) b e = e

@@ -5,6 +5,10 @@ pub mod Along
 pub mod Refreshed
 pub mod Distinct
 pub mod Changed
+pub mod Bests
+pub mod Orders
+pub mod Noted
+pub mod Single
 pub mod Pushed
 pub mod AsKept
 pub mod Heaps

@@ -15,7 +15,7 @@ ghost use Rattle.class_model.specs.Change.{with_class, with_class_attr};
 ghost use Rattle.class_table.specs.Keys.{numbers, number_of, table_keys};
 ghost use Rattle.class_table.specs.Kept.{plain};
 ghost use Rattle.class_table.specs.New.{IsBelow, class_of_new};
-ghost use Rattle.class_table.specs.Refused.{refusal, refused_bases, refused_attr, lacks_base, AreThere, heap_class};
+ghost use Rattle.class_table.specs.Refused.{refusal, refused_bases, refused_attr, WithMemory, IsEarly, AreThere, heap_class};
 ghost use Rattle.class_table.specs.Turn.{list_of};
 
 use crate::add::add;
@@ -123,13 +123,19 @@ impl ClassTable {
         alloc: Global,
         new: NewClass,
     ) -> Result<PyTypeRef, OutOfMemory>
-        requires base { IsBelow self.old new.number.0 new.base }
+        requires below { IsBelow self.old new.number.0 (numbers new.bases.items) }
+        requires one { length new.bases.items ≤ 1 }
         requires fresh { limit self.old ≤ new.number.0 }
         ensures number { IfOk result (λ c. c ≡ new.number) }
         ensures added { OnOk result (self.new ≡ with_class self.old (class_of_new new)) }
         ensures err { OnErr result (self.new ≡ self.old) }
     {
-        add(&mut self.classes, alloc, new)
+        let best = new.bases.first().copied();
+        match add(&mut self.classes, alloc, new, best) {
+            Ok(number) => Ok(number),
+            Err(ClassFault::OutOfMemory) => Err(OutOfMemory),
+            Err(ClassFault::Refused(_)) => unreachable!(),
+        }
     }
 
     /// A class that a script makes: with the name, the bases, the attributes and the members. Where
@@ -145,12 +151,10 @@ impl ClassTable {
     ) -> Result<PyTypeRef, ClassFault>
         requires bases { AreThere self.old (numbers bases.items) }
         requires fresh { limit self.old ≤ number.0 }
-        requires one { length bases.items ≤ 1 }
         ensures number { IfOk result (λ c. c ≡ number) }
         ensures added { OnOk result (self.new ≡ with_class self.old (heap_class name.now number.0 (numbers bases.items) attrs members.items)) }
-        ensures refused { refusal result ≡ refused_bases self.old (numbers bases.items) }
-        ensures empty { (refusal result ≡ Some EmptyBases) ↔ (numbers bases.items ≡ []) }
-        ensures base { (refusal result ≡ Some NotBaseType) ↔ IsTrue (lacks_base self.old (numbers bases.items)) }
+        ensures early { IsEarly self.old (numbers bases.items) (refusal result) }
+        ensures refused { WithMemory result (refusal result ≡ refused_bases self.old (numbers bases.items)) }
         ensures err { OnErr result (self.new ≡ self.old) }
     {
         add_heap(
