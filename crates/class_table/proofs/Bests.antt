@@ -52,7 +52,7 @@ module _ {K : Type 0} (t : Classes K) where
       go (Err c) more e = cc
 
   module _ (ok : AreSound t) where
-    found : (c : ℕ) → is_class t c ≡ true → (d : ℕ) × (solid t c ≡ Some d) × (is_sub t d d ≡ true)
+    pub found : (c : ℕ) → is_class t c ≡ true → (d : ℕ) × (solid t c ≡ Some d) × (is_sub t d d ≡ true)
     found c l =
         let s = some-of (solid t c) (ok.solid c l) in
         let line = some-of (lin t c) (ok.order c l) in

@@ -1,9 +1,11 @@
--- The bases of a class that a script makes.
-use Rattle.std.proofs.Common.{◌≡◌, ℕ, List, [], ◌∷◌, Some}
+-- The bases of a class that is made, as the code reads them.
+use Rattle.std.proofs.Common.{◌≡◌, ℕ, zero, suc, ◌<◌, ◌≤◌, ◌-◌, true, List, [], ◌∷◌, length, get_or, take, drop, Some, refl, sym, ap, arith}
 use Rattle.py_node.specs.declared.refs.PyTypeRef.{PyTypeRef}
 use Rattle.py_node.specs.declared.refs.PyStrInterned.{PyStrInterned}
-use Rattle.class_model.specs.Class.{Classes}
-use Rattle.class_model.specs.Layout.{best_of}
+use Rattle.class_model.specs.Class.{Classes, is_class, is_sub}
+use Rattle.class_model.specs.Layout.{solid, best_of}
+use Rattle.class_model.proofs.Solid.{best-one_some}
+use Rattle.class_table.specs.Keys.{numbers}
 use Rattle.class_table.specs.New.{IsBelow, IsBest}
 use Rattle.class_table.specs.Refused.{AreThere}
 
@@ -15,3 +17,28 @@ below-best t n (c ∷ bs) b l e = l
 pub is-best : (t : Classes PyStrInterned) (bs : List ℕ) (b : PyTypeRef) → best_of t bs ≡ Some b.0 → IsBest t bs (Some b)
 is-best t [] b e = cc
 is-best t (c ∷ bs) b e = e
+
+take-whole : {A : Type 0} (xs : List A) (n : ℕ) → length xs ≤ n → take n xs ≡ xs
+take-whole [] zero h = refl
+take-whole [] (suc n) h = refl
+take-whole (x ∷ xs) zero h = absurd (omega arith)
+take-whole (x ∷ xs) (suc n) h = ap (λ ys. x ∷ ys) (take-whole xs n (omega arith))
+
+-- the first, and the others
+pub first-others : (bases : List PyTypeRef) → 1 ≤ length bases → numbers bases ≡ (get_or bases 0 (record { 0 = 0 })).0 ∷ numbers (take (length bases - 1) (drop 1 bases))
+first-others [] h = absurd (omega arith)
+first-others (b ∷ bases) h = ap (λ ys. b.0 ∷ numbers ys) (sym (take-whole bases (suc (length bases) - 1) (omega arith)))
+
+pub fewer-others : (bases : List PyTypeRef) → 1 ≤ length bases → length (take (length bases - 1) (drop 1 bases)) < length bases
+fewer-others [] h = absurd (omega arith)
+fewer-others (b ∷ bases) h = let e = ap (λ (ys : List PyTypeRef). length ys) (take-whole bases (suc (length bases) - 1) (omega arith)) in omega (arith, e)
+
+pub none-of : (bases : List PyTypeRef) → length bases < 1 → numbers bases ≡ []
+none-of [] h = refl
+none-of (b ∷ bases) h = absurd (omega arith)
+
+-- the only one of at most one is the best
+pub only-best : (t : Classes PyStrInterned) (solids : (c : ℕ) → is_class t c ≡ true → (d : ℕ) × (solid t c ≡ Some d) × (is_sub t d d ≡ true)) (bases : List PyTypeRef) → length bases ≤ 1 → AreThere t (numbers bases) → 1 ≤ length bases → IsBest t (numbers bases) (Some (get_or bases 0 (record { 0 = 0 })))
+only-best t solids [] l h m = absurd (omega arith)
+only-best t solids (b ∷ []) l h m = let s = solids b.0 h.0 in best-one_some t (solid t) b.0 s.0 s.1 s.2
+only-best t solids (b ∷ c ∷ bases) l h m = absurd (omega arith)

@@ -1,11 +1,12 @@
 -- A class that is noted in each of its bases.
-use Rattle.std.proofs.Common.{◌≡◌, ℕ, zero, suc, Bool, true, false, cond, ◌||◌, List, [], ◌∷◌, ◌++◌, map, length, get_or, set, ◌<◌, Option, Some, None, inl, inr, refl, sym, ap, ◌∙◌, arith}
-use Rattle.std.specs.Prelude.{slice_get, eqb, option_map}
-use Rattle.std.proofs.lemmas.Bool.{eq-eqb, ne_eqb, cases_eq, cases_lt}
-use Rattle.std.proofs.lemmas.List.{append-nil, length-map}
+use Rattle.std.proofs.Common.{◌≡◌, ℕ, zero, suc, true, false, cond, ◌||◌, List, [], ◌∷◌, ◌++◌, get_or, set, ◌<◌, Option, Some, None, inl, inr, refl, sym, ap, ◌∙◌, arith}
+use Rattle.std.specs.Prelude.{slice_get, option_map}
+use Rattle.std.proofs.lemmas.Bool.{eq-eqb, ne_eqb, cases_eq, cases_lt, false_from_ne_true}
+use Rattle.std.proofs.lemmas.List.{append-nil}
 use Rattle.std.proofs.lemmas.Option.{slice_get-map, get_or_from_slice_get}
-use Rattle.class_model.specs.Order.{has}
+use Rattle.class_model.specs.Order.{has, Distinct}
 use Rattle.class_model.specs.Numbers.{is_ascending}
+use Rattle.class_model.proofs.Tests.{Decides-has}
 use Rattle.class_table.specs.Kept.{Kept, class_of, number_at, plain}
 use Rattle.class_table.specs.Made.{noted}
 use Rattle.class_table.proofs.Found.{number-get, ascends}
@@ -101,3 +102,26 @@ was bs n kept i x e = go (slice_get kept i) refl (sym (slice_get-map (noting bs 
     go : (o : Option Kept) → slice_get kept i ≡ o → option_map (noting bs n) o ≡ Some x → (old : Kept) × (slice_get kept i ≡ Some old) × (noting bs n old ≡ x)
     go None h e = cc
     go (Some k) h e = (k, h, cc)
+
+-- a class that was noted in one base is taken off it
+pub forgotten : (b : ℕ) (classes : List Kept) → is_ascending (plain classes) ≡ true → (at : ℕ) → number_at classes at ≡ Some b → (d new : Kept) → ((m : ℕ) (ys : List ℕ) → (get_or classes at d).subclasses ≡ ys ++ m ∷ [] → new ≡ record (get_or classes at d) { subclasses = ys }) → (n : ℕ) (kept : List Kept) → classes ≡ noted (b ∷ []) n kept → set classes at new ≡ kept
+forgotten b classes up at of d new says n kept e =
+    let r = number-get classes at b of in
+    let is : get_or classes at d ≡ r.0 = get_or_from_slice_get classes at r.0 d r.1 in
+    let w = was (b ∷ []) n kept at r.0 (ap (λ ys. slice_get ys at) (sym e) ∙ r.1) in
+    let num : w.0.number ≡ b = ap (λ (z : Kept). z.number) w.2 ∙ r.2 in
+    let kept-up : is_ascending (plain kept) ≡ true = ap is_ascending (sym (plain-noted (b ∷ []) n kept)) ∙ ap (λ ys. is_ascending (plain ys)) (sym e) ∙ up in
+    let kept-at : number_at kept at ≡ Some b = ap (option_map (λ (z : Kept). z.number)) w.1 ∙ ap Some num in
+    let subs : r.0.subclasses ≡ w.0.subclasses ++ n ∷ [] = ap (λ (z : Kept). z.subclasses) (sym w.2) ∙ ap (λ v. w.0.subclasses ++ cond (v || false) (n ∷ []) []) (eq-eqb b w.0.number (sym num)) in
+    let back : new ≡ w.0 = says n w.0.subclasses (ap (λ (z : Kept). z.subclasses) is ∙ subs) ∙ ap (λ (z : Kept). record z { subclasses = w.0.subclasses }) (is ∙ sym w.2) in
+    ap (λ ys. set ys at new) (e ∙ sym (noted-at b n kept kept-up at kept-at w.0 w.1 num))
+    ∙ ap (set (set kept at (record w.0 { subclasses = w.0.subclasses ++ n ∷ [] })) at) back
+    ∙ taken-back kept at (record w.0 { subclasses = w.0.subclasses ++ n ∷ [] }) w.0 w.1
+
+-- in all bases of a list
+pub noted-all : (b n : ℕ) (bs : List ℕ) (kept mid new : List Kept) → Distinct (b ∷ bs) → mid ≡ noted (b ∷ []) n kept → new ≡ noted bs n mid → new ≡ noted (b ∷ bs) n kept
+noted-all b n bs kept mid new d e f =
+    f ∙ ap (noted bs n) e ∙ noted-both b bs n kept (false_from_ne_true (has bs b) (λ q. d.0 ((Decides-has bs b).0 q)))
+
+pub plain-mid : (b n : ℕ) (kept mid : List Kept) → mid ≡ noted (b ∷ []) n kept → plain mid ≡ plain kept
+plain-mid b n kept mid e = ap plain e ∙ plain-noted (b ∷ []) n kept

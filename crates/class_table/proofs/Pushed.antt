@@ -1,5 +1,5 @@
 -- One more class, with what follows from its bases.
-use Rattle.std.proofs.Common.{◌≡◌, ℕ, ◌<◌, ◌≤◌, List, [], ◌∷◌, ◌++◌, length, get_or, set, Option, Some, None, IfSome, true, false, cond, not, ◌||◌, inl, inr, refl, sym, ap, subst, ◌∙◌, arith, rules}
+use Rattle.std.proofs.Common.{◌≡◌, ℕ, ◌<◌, ◌≤◌, List, [], ◌∷◌, ◌++◌, length, get_or, set, Option, Some, None, IfSome, true, cond, not, ◌||◌, inl, inr, refl, sym, ap, subst, ◌∙◌, arith}
 use Rattle.std.specs.Prelude.{slice_get, option_and_then, is_some, nat_lt, eqb}
 use Rattle.std.proofs.lemmas.List.{length-append, length-map, map-append, get_or_push}
 use Rattle.std.proofs.lemmas.Bool.{eq-eqb, ne_eqb, lt-ltb}
@@ -23,7 +23,7 @@ use Rattle.class_model.proofs.Solid.{first_best-held, base-push, solid-push}
 use Rattle.class_model.proofs.Made.{solid-made, sound-made}
 use Rattle.class_model.proofs.Lines.{bases-distinct, lin-value, best-value, solid-value}
 use Rattle.class_table.specs.Keys.{table_keys, number_of}
-use Rattle.class_table.specs.Kept.{Kept, IsHere, class_of, plain}
+use Rattle.class_table.specs.Kept.{Kept, class_of, plain}
 use Rattle.class_table.specs.Coherent.{HasLines, IsCoherent}
 use Rattle.class_table.specs.Patch.{settled}
 use Rattle.class_table.specs.New.{IsBelow, IsBest}

@@ -1,11 +1,10 @@
 -- At most one base is never refused for its order.
-use Rattle.std.proofs.Common.{◌≡◌, ℕ, ◌≤◌, true, List, [], ◌∷◌, map, length, Some, None, cond, refl, ap, ◌∙◌, arith}
+use Rattle.std.proofs.Common.{◌≡◌, ℕ, ◌≤◌, true, List, [], ◌∷◌, length, Some, None, cond, ap, ◌∙◌, arith}
 use Rattle.std.specs.Prelude.{is_some, option_and_then}
-use Rattle.class_model.specs.Order.{all_some, least_order}
+use Rattle.class_model.specs.Order.{all_some}
 use Rattle.class_model.specs.Class.{Classes, is_class, lin}
 use Rattle.class_model.specs.Numbers.{limit}
 use Rattle.class_model.specs.Change.{order_cause}
-use Rattle.class_model.specs.Sound.{AreSound}
 use Rattle.class_model.proofs.Numbers.{some-of}
 use Rattle.class_model.proofs.OneBase.{least_order-one_base, least_order-no_base}
 use Rattle.class_model.proofs.Rule.{lin-begins, lin-distinct, lin-below}

@@ -1,5 +1,5 @@
 -- What is got from the bases of a class, a base at a time. No public contract names these.
-use Rattle.std.specs.Prelude.{◌≡◌, ℕ, ◌≤◌, Bool, true, false, cond, List, [], ◌∷◌, map, Option, Some, None, option_and_then, option_map, Result, Ok, Err}
+use Rattle.std.specs.Prelude.{◌≡◌, ℕ, ◌≤◌, Bool, false, cond, List, [], ◌∷◌, map, Option, Some, None, option_and_then, Result, Ok, Err}
 use Rattle.py_node.specs.declared.raised.Cause.{Cause}
 use Rattle.py_node.specs.declared.raised.Cause.TheVariants as causes
 use Rattle.py_node.specs.declared.refs.PyTypeRef.{PyTypeRef}

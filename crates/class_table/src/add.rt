@@ -139,7 +139,10 @@ fn note_in(classes: &mut [Stored], base: PyTypeRef, number: PyTypeRef) -> Result
     ensures err { OnErr result (classes.new ≡ classes.old) }
 {
     let at = place(classes, base);
-    classes[at].add_subclass(number)
+    match classes[at].add_subclass(number) {
+        Ok(()) => Ok(()),
+        Err(error) => Err(error),
+    }
 }
 
 // Takes the last direct subclass off one that is there.
@@ -160,19 +163,17 @@ fn note(classes: &mut [Stored], bases: &[PyTypeRef], number: PyTypeRef) -> Resul
     ensures ok { OnOk result (classes.new ≡ noted (numbers bases.now) number.0 classes.old) }
     ensures err { OnErr result (classes.new ≡ classes.old) }
 {
-    if bases.is_empty() {
-        return Ok(());
-    }
-    let base = bases[0];
-    match note_in(classes, base, number) {
-        Ok(()) => {}
-        Err(error) => return Err(error),
-    }
-    match note(classes, &bases[1..], number) {
-        Ok(()) => Ok(()),
-        Err(error) => {
-            forget_in(classes, base);
-            Err(error)
+    match bases {
+        [] => Ok(()),
+        [base, rest @ ..] => {
+            note_in(classes, *base, number)?;
+            match note(classes, rest, number) {
+                Ok(()) => Ok(()),
+                Err(error) => {
+                    forget_in(classes, *base);
+                    Err(error)
+                }
+            }
         }
     }
 }

@@ -1,6 +1,6 @@
 // What a class gets from its bases: the best of them, and its linearisation.
 
-ghost use Rattle.std.specs.Prelude.{◌≡◌, ◌≤◌, true, Some, map, IfOk, IfSome, option_and_then};
+ghost use Rattle.std.specs.Prelude.{◌≡◌, ◌≤◌, true, length, Some, map, IfOk, IfSome, option_and_then};
 ghost use Rattle.class_model.specs.Class.{class_at, is_class, lin};
 ghost use Rattle.class_model.specs.Numbers.{is_ascending, limit};
 ghost use Rattle.class_model.specs.Layout.{solid, best_of};
@@ -145,6 +145,19 @@ pub(crate) fn best_base(classes: &[Stored], bases: &[PyTypeRef]) -> Result<PyTyp
         Err(cause) => Err(cause),
         Ok(None) => Err(Cause::EmptyBases),
         Ok(Some(best)) => Ok(best),
+    }
+}
+
+// The best of at most one base.
+pub(crate) fn only(classes: &[Stored], bases: &[PyTypeRef]) -> Option<PyTypeRef>
+    requires coherent { IsCoherent classes.now }
+    requires there { AreThere (plain classes.now) (numbers bases.now) }
+    requires one { length bases.now ≤ 1 }
+    ensures { IsBest (plain classes.now) (numbers bases.now) result }
+{
+    match bases {
+        [] => None,
+        [base, ..] => Some(*base),
     }
 }
 

@@ -22,6 +22,7 @@ use crate::add::add;
 use crate::candidates::{Candidates, in_turn, without_same};
 use crate::fault::ClassFault;
 use crate::heap::{add_heap, set_heap};
+use crate::inherit::{may_derive, only};
 use crate::place::{find, number_in, stored_at, takes};
 use crate::put::put_in;
 use crate::read::{own_entry, read, value_along, value_past};
@@ -130,7 +131,7 @@ impl ClassTable {
         ensures added { OnOk result (self.new ≡ with_class self.old (class_of_new new)) }
         ensures err { OnErr result (self.new ≡ self.old) }
     {
-        let best = new.bases.first().copied();
+        let best = only(&self.classes, &new.bases);
         match add(&mut self.classes, alloc, new, best) {
             Ok(number) => Ok(number),
             Err(ClassFault::OutOfMemory) => Err(OutOfMemory),
@@ -138,8 +139,19 @@ impl ClassTable {
         }
     }
 
-    /// A class that a script makes: with the name, the bases, the attributes and the members. Where
-    /// it is refused or memory runs out, the table stays as it was.
+    /// Whether a script may make a class with these bases, or why not.
+    pub fn may_derive(&self, alloc: Global, bases: &[PyTypeRef]) -> Result<(), ClassFault>
+        requires { AreThere self.now (numbers bases.now) }
+        ensures early { IsEarly self.now (numbers bases.now) (refusal result) }
+        ensures refused { WithMemory result (refusal result ≡ refused_bases self.now (numbers bases.now)) }
+    {
+        may_derive(&self.classes, alloc, bases)
+    }
+
+    /// A class that a script makes: with the name, the bases, the attributes and the members. It is
+    /// refused for the first of these causes: it has no base; base by base, one may have no subclasses or
+    /// its layout conflicts with those before it; a base stands twice; the bases have no order. Where it is
+    /// refused or memory runs out, the table stays as it was.
     pub fn new_heap(
         &mut self,
         alloc: Global,

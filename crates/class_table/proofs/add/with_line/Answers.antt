@@ -1,4 +1,4 @@
-use Rattle.std.proofs.Common.{Some, List, Option, refl, sym, ap, cond, ◌||◌, not, ◌∙◌}
+use Rattle.std.proofs.Common.{Some, List, refl, sym, ap, cond, ◌||◌, not, ◌∙◌}
 use Rattle.std.specs.Prelude.{nat_lt}
 use Rattle.class_model.specs.Layout.{built_ins, is_empty}
 use Rattle.py_node.specs.declared.refs.PyStrInterned.{PyStrInterned}

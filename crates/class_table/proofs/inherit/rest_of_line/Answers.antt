@@ -1,4 +1,4 @@
-use Rattle.std.proofs.Common.{Ok, Err, List, Result, ◌≡◌, sym, ap, subst}
+use Rattle.std.proofs.Common.{Ok, Err, Result, ◌≡◌, sym, subst}
 use Rattle.std.specs.Global.{Vec}
 use Rattle.py_node.specs.declared.refs.PyTypeRef.{PyTypeRef}
 use Rattle.mro_merge.specs.Lists.{rows}
@@ -10,7 +10,7 @@ use Rattle.class_table.proofs.Orders.{lines-of, follows-of, refused-of}
 use Rattle.class_table.proofs.inherit.rest_of_line.Goals as goal
 
 pub resolve_mro-requires : goal.resolve_mro-requires
-resolve_mro-requires c = lines-of (plain c.args.classes.now) (numbers c.args.bases.now) (rows c.in-Ok.lines.items) c.in-Ok.ensures
+resolve_mro-requires c = record { lines = lines-of (plain c.args.classes.now) (numbers c.args.bases.now) (rows c.in-Ok.lines.items) c.in-Ok.ensures }
 
 pub returns-in-Ok-resolve_mro-clause-rest : goal.returns-in-Ok-resolve_mro-clause-rest
 returns-in-Ok-resolve_mro-clause-rest c =
