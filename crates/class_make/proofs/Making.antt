@@ -1,5 +1,5 @@
 -- The steps of the making of a class.
-use Rattle.std.proofs.Common.{◌≡◌, ℕ, zero, suc, ◌<◌, Bool, true, false, cond, List, [], ◌∷◌, ◌++◌, length, take, get_or, Option, Some, None, Result, Ok, Err, IfOk, refl, sym, ap, ◌∙◌, subst, arith, map, filter, not, codes}
+use Rattle.std.proofs.Common.{◌≡◌, ℕ, zero, suc, ◌<◌, Bool, true, false, cond, List, [], ◌∷◌, ◌++◌, length, take, get_or, Option, Some, None, Result, Ok, Err, IfOk, refl, sym, ap, ◌∙◌, subst, arith, map, filter, not}
 use Rattle.std.specs.Prelude.{is_some, slice_get}
 use Rattle.py_node.specs.declared.memory.OutOfMemory.{OutOfMemory}
 use Rattle.py_node.specs.declared.raised.Raised.{Raised as Fault}
@@ -14,6 +14,8 @@ use Rattle.py_node.specs.Attributes.{value_of, is_same_name}
 use Rattle.py_node.specs.BuiltIns.{heap_flags}
 use Rattle.py_node.specs.Tree.{Text}
 use Rattle.class_model.specs.Class.{found_past}
+use Rattle.py_node.specs.declared.known.Known.TheVariants as known
+use Rattle.py_node.specs.Known.{known_text}
 use Rattle.plain_machine.specs.Plain.{Datum, AText, PlainWorld, Bindings, DoMakeClass, Said, Ends}
 use Rattle.plain_machine.specs.Row.{fault}
 use Rattle.plain_machine.specs.World.{ref, is_text, datum_at, with_new_class}
@@ -109,17 +111,17 @@ map-got f (y ∷ xs) zero x e = let same : y ≡ x = cc in ap (λ z. f z ∷ [])
 map-got f (y ∷ xs) (suc i) x e = ap (λ zs. f y ∷ zs) (map-got f xs i x e)
 
 -- why a class is refused, as it was read
-pub refusal-read : (t : Reading) (u v : PlainWorld) (bs : Bound) (x : PyStrInterned) (o : Option PyObjectRef) (a b : Bool) (r : Option Fault) → v ≡ u → has_name (bindings t bs) (codes "__slots__") ≡ a → t.text x.0 ≡ codes "__qualname__" → o ≡ value_of (λ k. is_same_name k x) bs → is_text_at v o ≡ b → r ≡ refusal_by a b → refusal (u, bindings t bs) ≡ r
+pub refusal-read : (t : Reading) (u v : PlainWorld) (bs : Bound) (x : PyStrInterned) (o : Option PyObjectRef) (a b : Bool) (r : Option Fault) → v ≡ u → has_name (bindings t bs) (known_text known.Slots) ≡ a → t.text x.0 ≡ known_text known.Qualname → o ≡ value_of (λ k. is_same_name k x) bs → is_text_at v o ≡ b → r ≡ refusal_by a b → refusal (u, bindings t bs) ≡ r
 unfolding refusal
 refusal-read t u v bs x o a b r e f g h k l =
-    let value : value_of (λ y. is_text y (codes "__qualname__")) (bindings t bs) ≡ o = has-read t bs x (codes "__qualname__") g ∙ sym h in
-    let named : is_text_at u (value_of (λ y. is_text y (codes "__qualname__")) (bindings t bs)) ≡ b = (λ i. is_text_at (sym e i) (value i)) ∙ k in
+    let value : value_of (λ y. is_text y (known_text known.Qualname)) (bindings t bs) ≡ o = has-read t bs x (known_text known.Qualname) g ∙ sym h in
+    let named : is_text_at u (value_of (λ y. is_text y (known_text known.Qualname)) (bindings t bs)) ≡ b = (λ i. is_text_at (sym e i) (value i)) ∙ k in
     (λ i. refusal_by (f i) (named i)) ∙ sym l
 
 -- a class that is not refused has a qualified name that is allowed
 pub named-allowed : (u : PlainWorld) (bs : Bindings) → refusal (u, bs) ≡ None → refused_name u (qualified bs) ≡ None
 unfolding refusal
-named-allowed u bs e = by-name (has_name bs (codes "__slots__")) (value_of (λ y. is_text y (codes "__qualname__")) bs) e
+named-allowed u bs e = by-name (has_name bs (known_text known.Slots)) (value_of (λ y. is_text y (known_text known.Qualname)) bs) e
   where
     by-datum : (d : Option Datum) → refusal_by false (is_some (text_of d)) ≡ None → cond (holds_text d) None (Some QualnameType) ≡ None
     by-datum (Some (AText x)) e = refl
@@ -152,9 +154,9 @@ made-new u v w why meta name base bs c node us vs none made set eu ev ec en =
     (λ i. told_of (all i) (ec i) (en i) (ev i)) ∙ ap (λ o. made_unless o meta name base (u, bs)) (sym none)
 
 -- no value wants to know its name, and this is what those past the class have for it
-pub told-hook : (u v w : PlainWorld) (c : ℕ) (node : PyObjectRef) (values : List PyObjectRef) (x y : Text) (m : Option PyObjectRef) → v ≡ u → w ≡ v → x ≡ codes "__set_name__" → y ≡ codes "__init_subclass__" → some_has v x values ≡ false → found_past is_text w.classes c y ≡ m → hook w node m ≡ told_of u c node values
+pub told-hook : (u v w : PlainWorld) (c : ℕ) (node : PyObjectRef) (values : List PyObjectRef) (x y : Text) (m : Option PyObjectRef) → v ≡ u → w ≡ v → x ≡ known_text known.SetName → y ≡ known_text known.InitSubclass → some_has v x values ≡ false → found_past is_text w.classes c y ≡ m → hook w node m ≡ told_of u c node values
 told-hook u v w c node values x y m e f g h k l =
     let here : w ≡ u = f ∙ e in
-    let wants : some_has u (codes "__set_name__") values ≡ false = (λ i. some_has (sym e i) (sym g i) values) ∙ k in
-    let past : found_past is_text u.classes c (codes "__init_subclass__") ≡ m = (λ i. found_past is_text (sym here i).classes c (sym h i)) ∙ l in
-    (λ i. hook (here i) node (sym past i)) ∙ sym (ap (λ b. cond b (Ends u (fault NotImplementedError NotYet)) (hook u node (found_past is_text u.classes c (codes "__init_subclass__")))) wants)
+    let wants : some_has u (known_text known.SetName) values ≡ false = (λ i. some_has (sym e i) (sym g i) values) ∙ k in
+    let past : found_past is_text u.classes c (known_text known.InitSubclass) ≡ m = (λ i. found_past is_text (sym here i).classes c (sym h i)) ∙ l in
+    (λ i. hook (here i) node (sym past i)) ∙ sym (ap (λ b. cond b (Ends u (fault NotImplementedError NotYet)) (hook u node (found_past is_text u.classes c (known_text known.InitSubclass)))) wants)

@@ -1,5 +1,5 @@
 -- The attributes of a class to be, as a reading has them.
-use Rattle.std.proofs.Common.{◌≡◌, ℕ, zero, suc, ◌<◌, true, false, cond, List, [], ◌∷◌, Option, Some, sym, ap, ◌∙◌, subst, codes, not, length, get_or, drop, drop-cons, arith, map}
+use Rattle.std.proofs.Common.{◌≡◌, ℕ, zero, suc, ◌<◌, true, false, cond, List, [], ◌∷◌, Option, Some, sym, ap, ◌∙◌, subst, not, length, get_or, drop, drop-cons, arith, map}
 use Rattle.std.specs.Prelude.{◌&&◌, is_some, option_map, IfSome}
 use Rattle.py_node.specs.declared.refs.PyObjectRef.{PyObjectRef}
 use Rattle.py_node.specs.declared.refs.PyStrInterned.{PyStrInterned}
@@ -7,6 +7,8 @@ use Rattle.py_node.specs.declared.entry.NativeEntry.TheVariants.{Getter, Setter}
 use Rattle.py_node.specs.declared.entry.Property.TheVariants as property
 use Rattle.py_node.specs.Attributes.{value_of, with_value, is_same_name}
 use Rattle.py_node.specs.Tree.{Text}
+use Rattle.py_node.specs.declared.known.Known.TheVariants as known
+use Rattle.py_node.specs.Known.{known_text}
 use Rattle.plain_machine.specs.Plain.{Datum, AText, AClassMethod, AGetSet, PlainWorld}
 use Rattle.plain_machine.specs.World.{is_text, class_at, datum_at, with_node, next_node}
 use Rattle.plain_machine.specs.Row.{none}
@@ -46,12 +48,12 @@ module _ (t : Reading) where
   give-new s u bs x c d h k =
       k ∙ sym (ap (λ b. cond b (u, bindings t bs) (put (u, bindings t bs) (t.text x.0) c d)) (ap is_some (value-read t bs x) ∙ h))
 
-  pub dict-given : (s : Space) (u v : PlainWorld) (bs : Bound) (x : PyStrInterned) (c o : ℕ) → s ≡ give (v, bindings t bs) (t.text x.0) c (AGetSet o (t.text x.0) (Some (Getter property.InstanceDict)) (Some (Setter property.InstanceDict))) → v ≡ u → t.text x.0 ≡ codes "__dict__" → c ≡ 15 → o ≡ 0 → s ≡ give_dict (u, bindings t bs)
+  pub dict-given : (s : Space) (u v : PlainWorld) (bs : Bound) (x : PyStrInterned) (c o : ℕ) → s ≡ give (v, bindings t bs) (t.text x.0) c (AGetSet o (t.text x.0) (Some (Getter property.InstanceDict)) (Some (Setter property.InstanceDict))) → v ≡ u → t.text x.0 ≡ known_text known.Dict → c ≡ 15 → o ≡ 0 → s ≡ give_dict (u, bindings t bs)
   unfolding give_dict
   dict-given s u v bs x c o h e f k m =
       h ∙ (λ i. give (e i, bindings t bs) (f i) (k i) (AGetSet (m i) (f i) (Some (Getter property.InstanceDict)) (Some (Setter property.InstanceDict))))
 
-  pub qualified : (s : Space) (u v : PlainWorld) (bs : Bound) (x : PyStrInterned) (c : ℕ) (name text : Text) → s ≡ give (v, bindings t bs) (t.text x.0) c (AText text) → v ≡ u → t.text x.0 ≡ codes "__qualname__" → c ≡ 6 → text ≡ name → s ≡ qualify name (u, bindings t bs)
+  pub qualified : (s : Space) (u v : PlainWorld) (bs : Bound) (x : PyStrInterned) (c : ℕ) (name text : Text) → s ≡ give (v, bindings t bs) (t.text x.0) c (AText text) → v ≡ u → t.text x.0 ≡ known_text known.Qualname → c ≡ 6 → text ≡ name → s ≡ qualify name (u, bindings t bs)
   unfolding qualify
   qualified s u v bs x c name text h e f k m = h ∙ (λ i. give (e i, bindings t bs) (f i) (k i) (AText (m i)))
 
@@ -71,27 +73,27 @@ module _ (t : Reading) where
       let i : s ≡ wrap_value (u, bindings t bs) text o = h ∙ (λ i. wrap_value (e i, bindings t bs) (f i) o) in
       i ∙ ap (wrap_value (u, bindings t bs) text) (k ∙ sym (has-read bs x text f))
 
-  unhash-read : (bs : Bound) (e h : PyStrInterned) → t.text e.0 ≡ codes "__eq__" → t.text h.0 ≡ codes "__hash__" → has_name (bindings t bs) (codes "__eq__") && not (has_name (bindings t bs) (codes "__hash__")) ≡ is_some (value_of (λ k. is_same_name k e) bs) && not (is_some (value_of (λ k. is_same_name k h) bs))
+  unhash-read : (bs : Bound) (e h : PyStrInterned) → t.text e.0 ≡ known_text known.Eq → t.text h.0 ≡ known_text known.Hash → has_name (bindings t bs) (known_text known.Eq) && not (has_name (bindings t bs) (known_text known.Hash)) ≡ is_some (value_of (λ k. is_same_name k e) bs) && not (is_some (value_of (λ k. is_same_name k h) bs))
   unhash-read bs e h f g =
-      let a = ap is_some (has-read bs e (codes "__eq__") f) in
-      let b = ap is_some (has-read bs h (codes "__hash__") g) in
+      let a = ap is_some (has-read bs e (known_text known.Eq) f) in
+      let b = ap is_some (has-read bs h (known_text known.Hash) g) in
       λ i. a i && not (b i)
 
-  pub unhash-kept : (u v : PlainWorld) (bs : Bound) (e h : PyStrInterned) → v ≡ u → t.text e.0 ≡ codes "__eq__" → t.text h.0 ≡ codes "__hash__" → is_some (value_of (λ k. is_same_name k e) bs) && not (is_some (value_of (λ k. is_same_name k h) bs)) ≡ false → ◌≡◌ {A = Space} (v, bindings t bs) (unhash (u, bindings t bs))
+  pub unhash-kept : (u v : PlainWorld) (bs : Bound) (e h : PyStrInterned) → v ≡ u → t.text e.0 ≡ known_text known.Eq → t.text h.0 ≡ known_text known.Hash → is_some (value_of (λ k. is_same_name k e) bs) && not (is_some (value_of (λ k. is_same_name k h) bs)) ≡ false → ◌≡◌ {A = Space} (v, bindings t bs) (unhash (u, bindings t bs))
   unfolding unhash
   unhash-kept u v bs e h same f g k =
       let s : Space = (u, bindings t bs) in
       let there : ◌≡◌ {A = Space} (v, bindings t bs) (u, bindings t bs) = λ i. (same i, bindings t bs) in
-      there ∙ sym (ap (λ b. cond b (s.0, with_value is_text s.1 (codes "__hash__") none) s) (unhash-read bs e h f g ∙ k))
+      there ∙ sym (ap (λ b. cond b (s.0, with_value is_text s.1 (known_text known.Hash) none) s) (unhash-read bs e h f g ∙ k))
 
-  pub unhash-new : (u v : PlainWorld) (bs cs : Bound) (e h : PyStrInterned) (r : PyObjectRef) → v ≡ u → t.text e.0 ≡ codes "__eq__" → t.text h.0 ≡ codes "__hash__" → is_some (value_of (λ k. is_same_name k e) bs) && not (is_some (value_of (λ k. is_same_name k h) bs)) ≡ true → r.0 ≡ 23 → cs ≡ with_value is_same_name bs h r → ◌≡◌ {A = Space} (v, bindings t cs) (unhash (u, bindings t bs))
+  pub unhash-new : (u v : PlainWorld) (bs cs : Bound) (e h : PyStrInterned) (r : PyObjectRef) → v ≡ u → t.text e.0 ≡ known_text known.Eq → t.text h.0 ≡ known_text known.Hash → is_some (value_of (λ k. is_same_name k e) bs) && not (is_some (value_of (λ k. is_same_name k h) bs)) ≡ true → r.0 ≡ 23 → cs ≡ with_value is_same_name bs h r → ◌≡◌ {A = Space} (v, bindings t cs) (unhash (u, bindings t bs))
   unfolding unhash
   unhash-new u v bs cs e h r same f g k z m =
       let s : Space = (u, bindings t bs) in
-      let ends : bindings t cs ≡ with_value is_text (bindings t bs) (codes "__hash__") none =
-      sym (named-read bs cs h (codes "__hash__") r g m) ∙ ap (λ (n : ℕ). with_value is_text (bindings t bs) (codes "__hash__") (record { 0 = n })) z in
-      let there : ◌≡◌ {A = Space} (v, bindings t cs) (u, with_value is_text (bindings t bs) (codes "__hash__") none) = λ i. (same i, ends i) in
-      there ∙ sym (ap (λ b. cond b (s.0, with_value is_text s.1 (codes "__hash__") none) s) (unhash-read bs e h f g ∙ k))
+      let ends : bindings t cs ≡ with_value is_text (bindings t bs) (known_text known.Hash) none =
+      sym (named-read bs cs h (known_text known.Hash) r g m) ∙ ap (λ (n : ℕ). with_value is_text (bindings t bs) (known_text known.Hash) (record { 0 = n })) z in
+      let there : ◌≡◌ {A = Space} (v, bindings t cs) (u, with_value is_text (bindings t bs) (known_text known.Hash) none) = λ i. (same i, ends i) in
+      there ∙ sym (ap (λ b. cond b (s.0, with_value is_text s.1 (known_text known.Hash) none) s) (unhash-read bs e h f g ∙ k))
 
 module _ (old new : Held) where
   -- attributes with one more name

@@ -1,5 +1,5 @@
 -- What the rows of the creation of classes say.
-use Rattle.std.specs.Prelude.{ℕ, ◌^◌, Bool, false, cond, not, eqb, ◌&&◌, ◌||◌, codes, List, [], ◌∷◌, Option, Some, None, is_some, map, length, filter, Err}
+use Rattle.std.specs.Prelude.{ℕ, ◌^◌, Bool, false, cond, not, eqb, ◌&&◌, ◌||◌, List, [], ◌∷◌, Option, Some, None, is_some, map, length, filter, Err}
 use Rattle.py_node.specs.declared.refs.PyObjectRef.{PyObjectRef}
 use Rattle.py_node.specs.declared.raised.Raised.{Raised as Fault}
 use Rattle.py_node.specs.declared.raised.Kind.TheVariants.{TypeError, ValueError, NotImplementedError}
@@ -16,6 +16,8 @@ use Rattle.py_node.specs.Tree.{Text}
 use Rattle.class_model.specs.Class.{found_past, is_sub}
 use Rattle.class_model.specs.Slot.{entry}
 use Rattle.class_model.specs.BuiltIn.{natives_of}
+use Rattle.py_node.specs.declared.known.Known.TheVariants as known
+use Rattle.py_node.specs.Known.{known_text}
 use Rattle.plain_machine.specs.Plain.{Datum, AText, ATuple, ADict, AClassMethod, AGetSet, PlainWorld, Bindings, ClassJob, DoMakeClass, DoType, DoBind, DoCall, DoNew, ToAttribute, ToCall, ToClass, ToLater, Made, Said, Asks, Ends}
 use Rattle.plain_machine.specs.World.{ref, is_text, datum_at, class_at, text_keys, with_node, next_node, with_new_class}
 use Rattle.plain_machine.specs.Objects.{type_object, class_number, special_at, class_has_flag, nearest_built_in, with_definers}
@@ -71,19 +73,19 @@ wrap x s = wrap_value s x (value_of (λ y. is_text y x) s.1)
 
 -- the qualified name is the name, where none is given
 unfoldable pub qualify : Text → Space → Space
-qualify name s = give s (codes "__qualname__") the_str (AText name)
+qualify name s = give s (known_text known.Qualname) the_str (AText name)
 
 -- objects that are compared by a method of their own have no hash, unless one is given
 unfoldable pub unhash : Space → Space
-unhash s = cond (has_name s.1 (codes "__eq__") && not (has_name s.1 (codes "__hash__"))) (s.0, with_value is_text s.1 (codes "__hash__") none) s
+unhash s = cond (has_name s.1 (known_text known.Eq) && not (has_name s.1 (known_text known.Hash))) (s.0, with_value is_text s.1 (known_text known.Hash) none) s
 
 -- the attribute that reads and sets an object's dict
 unfoldable pub give_dict : Space → Space
 give_dict s =
-    give s (codes "__dict__") the_getset (AGetSet the_object (codes "__dict__") (Some (Getter property.InstanceDict)) (Some (Setter property.InstanceDict)))
+    give s (known_text known.Dict) the_getset (AGetSet the_object (known_text known.Dict) (Some (Getter property.InstanceDict)) (Some (Setter property.InstanceDict)))
 
 unfoldable pub completed : Text → Space → Space
-completed name s = give_dict (unhash (qualify name (wrap (codes "__class_getitem__") (wrap (codes "__init_subclass__") s))))
+completed name s = give_dict (unhash (qualify name (wrap (known_text known.ClassGetitem) (wrap (known_text known.InitSubclass) s))))
 
 -- the class is made, and then told of
 
@@ -98,7 +100,7 @@ some_has w x (r ∷ rs) = is_some (special_at w r x) || some_has w x rs
 
 -- whether a value wants to know the name under which its class has it
 abbrev pub wants_name : PlainWorld → List PyObjectRef → Bool
-wants_name w rs = some_has w (codes "__set_name__") rs
+wants_name w rs = some_has w (known_text known.SetName) rs
 
 abbrev pub values_of : {K : Type 0} → List (K × PyObjectRef) → List PyObjectRef
 values_of attrs = map (λ a. a.1) attrs
@@ -110,7 +112,7 @@ hook w class (Some m) = Asks w (Made class ∷ []) (ToAttribute (DoBind m None c
 
 abbrev pub told_of : PlainWorld → ℕ → PyObjectRef → List PyObjectRef → Said
 told_of w c class values =
-    cond (wants_name w values) (Ends w (fault NotImplementedError NotYet)) (hook w class (found_past is_text w.classes c (codes "__init_subclass__")))
+    cond (wants_name w values) (Ends w (fault NotImplementedError NotYet)) (hook w class (found_past is_text w.classes c (known_text known.InitSubclass)))
 
 abbrev pub new_class : PlainWorld → ℕ → Text → ℕ → Bindings → PlainWorld
 new_class w meta name base attrs =
@@ -123,7 +125,7 @@ refusal_by has_slots is_named =
 
 unfoldable pub refusal : Space → Option Fault
 refusal s =
-    refusal_by (has_name s.1 (codes "__slots__")) (is_text_at s.0 (value_of (λ y. is_text y (codes "__qualname__")) s.1))
+    refusal_by (has_name s.1 (known_text known.Slots)) (is_text_at s.0 (value_of (λ y. is_text y (known_text known.Qualname)) s.1))
 
 unfoldable pub made_unless : Option Fault → ℕ → Text → ℕ → Space → Said
 made_unless (Some x) meta name base s = Ends s.0 (Err x)
@@ -203,7 +205,7 @@ make_class_by w meta args kw = by_one w meta (one_of args kw) args kw
 
 -- the metaclass of a class is no keyword of the hook
 abbrev pub without_metaclass : Bindings → Bindings
-without_metaclass kw = filter (λ k. not (is_text k.0 (codes "metaclass"))) kw
+without_metaclass kw = filter (λ k. not (is_text k.0 (known_text known.Metaclass))) kw
 
 -- the bound hook is called, and then the class is the answer
 abbrev pub make_class_say : PlainWorld → ℕ → List PyObjectRef → Bindings → Row

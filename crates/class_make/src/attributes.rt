@@ -2,6 +2,7 @@
 
 ghost use Rattle.std.specs.Prelude.{◌≡◌, None, ◌&&◌, not, is_some, IfOk, IfSome};
 ghost use Rattle.py_node.specs.Attributes.{value_of, is_same_name};
+ghost use Rattle.py_node.specs.Known.{known_text};
 ghost use Rattle.plain_machine.specs.World.{class_at};
 ghost use Rattle.class_world.specs.Reading.{Reading, Reads, bindings, datum, plain};
 ghost use Rattle.class_world.specs.Sound.{IsNode, IsName, IsClass, IsOf, home_of, class_in, Holds, AllHold, Grows, of_binding, of_each, of_payload};
@@ -13,6 +14,7 @@ use class_world::world::{Fixed, World};
 use py_node::attributes::PyAttributes;
 use py_node::built_in::BuiltIn;
 use py_node::entry::{NativeEntry, Property};
+use py_node::known::Known;
 use py_node::memory::OutOfMemory;
 use py_node::payload::{GetSet, Payload};
 use py_node::refs::{PyObjectRef, PyStrInterned, PyTypeRef};
@@ -32,10 +34,10 @@ pub(crate) fn completed(
     ensures reads { (t : Reading) → Reads t world.new → Reads t world.old }
     ensures grows { Grows world.old world.new }
 {
-    let told = wrap(world, alloc, "__init_subclass__", attrs)?;
-    let wrapped = wrap(world, alloc, "__class_getitem__", told)?;
+    let told = wrap(world, alloc, Known::InitSubclass, attrs)?;
+    let wrapped = wrap(world, alloc, Known::ClassGetitem, told)?;
     let qualified = qualify(world, alloc, name, wrapped)?;
-    let unhashed = unhash(world, alloc, qualified)?;
+    let unhashed = unhash(world, qualified)?;
     let all = give_dict(world, alloc, unhashed)?;
     Ok(all)
 }
@@ -44,18 +46,18 @@ pub(crate) fn completed(
 fn wrap(
     world: &mut World,
     alloc: Global,
-    text: &str,
+    name: Known,
     attrs: PyAttributes,
 ) -> Result<PyAttributes, OutOfMemory>
     requires { AllHold world.old (of_each of_binding attrs) }
-    ensures becomes { IfOk result (λ a. Becomes (λ t. wrap text.now) world.old attrs world.new a) }
+    ensures becomes { IfOk result (λ a. Becomes (λ t. wrap (known_text name)) world.old attrs world.new a) }
     ensures holds { IfOk result (λ a. AllHold world.new (of_each of_binding a)) }
     ensures reads { (t : Reading) → Reads t world.new → Reads t world.old }
     ensures grows { Grows world.old world.new }
 {
-    let name = world.intern(alloc, text)?;
-    let value = attrs.get(name);
-    let more = wrap_value(world, alloc, name, value, attrs)?;
+    let key = world.known(name);
+    let value = attrs.get(key);
+    let more = wrap_value(world, alloc, key, value, attrs)?;
     Ok(more)
 }
 
@@ -120,7 +122,7 @@ fn qualify(
     ensures reads { (t : Reading) → Reads t world.new → Reads t world.old }
     ensures grows { Grows world.old world.new }
 {
-    let qualname = world.intern(alloc, "__qualname__")?;
+    let qualname = world.known(Known::Qualname);
     let text = String::from_str(alloc, name)?;
     let class = world.built_in(BuiltIn::Str);
     let more = give(world, alloc, qualname, class, Payload::Text(text), attrs)?;
@@ -128,20 +130,13 @@ fn qualify(
 }
 
 // Objects that are compared by a method of their own have no hash, unless one is given.
-fn unhash(
-    world: &mut World,
-    alloc: Global,
-    attrs: PyAttributes,
-) -> Result<PyAttributes, OutOfMemory>
-    requires { AllHold world.old (of_each of_binding attrs) }
-    ensures becomes { IfOk result (λ a. Becomes (λ t. unhash) world.old attrs world.new a) }
-    ensures holds { IfOk result (λ a. AllHold world.new (of_each of_binding a)) }
-    ensures reads { (t : Reading) → Reads t world.new → Reads t world.old }
-    ensures grows { Grows world.old world.new }
+fn unhash(world: &World, attrs: PyAttributes) -> Result<PyAttributes, OutOfMemory>
+    requires { AllHold world.now (of_each of_binding attrs) }
+    ensures becomes { IfOk result (λ a. Becomes (λ t. unhash) world.now attrs world.now a) }
+    ensures holds { IfOk result (λ a. AllHold world.now (of_each of_binding a)) }
 {
-    let eq = world.intern(alloc, "__eq__")?;
-    let hash = world.intern(alloc, "__hash__")?;
-    if !is_unhashed(&attrs, eq, hash) {
+    let hash = world.known(Known::Hash);
+    if !is_unhashed(&attrs, world.known(Known::Eq), hash) {
         return Ok(attrs);
     }
     let none = world.fixed(Fixed::None);
@@ -169,7 +164,7 @@ fn give_dict(
     ensures reads { (t : Reading) → Reads t world.new → Reads t world.old }
     ensures grows { Grows world.old world.new }
 {
-    let name = world.intern(alloc, "__dict__")?;
+    let name = world.known(Known::Dict);
     let dict = GetSet {
         class: world.built_in(BuiltIn::Object),
         name,
@@ -237,17 +232,8 @@ fn put(
 }
 
 /// Whether the attributes have a name.
-pub(crate) fn has_name(
-    world: &mut World,
-    alloc: Global,
-    attrs: &PyAttributes,
-    text: &str,
-) -> Result<bool, OutOfMemory>
-    ensures has { IfOk result (λ b. (t : Reading) → Reads t world.new → has_name (bindings t attrs.now) text.now ≡ b) }
-    ensures same { (t : Reading) → plain t world.new ≡ plain t world.old }
-    ensures reads { (t : Reading) → Reads t world.new → Reads t world.old }
-    ensures grows { Grows world.old world.new }
+pub(crate) fn has_name(world: &World, attrs: &PyAttributes, name: Known) -> bool
+    ensures { (t : Reading) → Reads t world.now → has_name (bindings t attrs.now) (known_text name) ≡ result }
 {
-    let name = world.intern(alloc, text)?;
-    Ok(attrs.contains(name))
+    attrs.contains(world.known(name))
 }

@@ -19,6 +19,7 @@ use crate::namespace::text_at;
 use class_table::fault::ClassFault;
 use class_world::world::World;
 use py_node::attributes::PyAttributes;
+use py_node::known::Known;
 use py_node::memory::OutOfMemory;
 use py_node::payload::Payload;
 use py_node::raised::{Cause, Kind, Raised};
@@ -57,18 +58,15 @@ pub(crate) fn made(
 
 // Why a class cannot have the attributes, if it cannot.
 fn refusal(
-    world: &mut World,
+    world: &World,
     alloc: Global,
     attrs: &PyAttributes,
 ) -> Result<Option<Raised>, OutOfMemory>
-    requires { AllHold world.old (of_each of_binding attrs.now) }
-    ensures why { IfOk result (λ o. (t : Reading) → Reads t world.new → refusal (plain t world.old, bindings t attrs.now) ≡ o) }
-    ensures same { (t : Reading) → plain t world.new ≡ plain t world.old }
-    ensures reads { (t : Reading) → Reads t world.new → Reads t world.old }
-    ensures grows { Grows world.old world.new }
+    requires { AllHold world.now (of_each of_binding attrs.now) }
+    ensures { IfOk result (λ o. (t : Reading) → Reads t world.now → refusal (plain t world.now, bindings t attrs.now) ≡ o) }
 {
-    let has_slots = has_name(world, alloc, attrs, "__slots__")?;
-    let qualname = world.intern(alloc, "__qualname__")?;
+    let has_slots = has_name(world, attrs, Known::Slots);
+    let qualname = world.known(Known::Qualname);
     let is_named = is_text_at(world, alloc, attrs.get(qualname))?;
     let refusal = refusal_by(has_slots, is_named);
     Ok(refusal)
@@ -139,7 +137,7 @@ fn made_unless(
             let class = new_class(world, alloc, meta, name.as_str(), base, attrs)?;
             let node = world.class_node(class);
             define_all(world, class, &values);
-            told_of(world, alloc, class, node, &values, kw)
+            told_of(world, class, node, &values, kw)
         }
     }
 }
@@ -214,29 +212,27 @@ fn wrapped_function(world: &World, value: PyObjectRef) -> PyObjectRef
 
 // A class is told of, unless a value wants to know its name.
 fn told_of(
-    world: &mut World,
-    alloc: Global,
+    world: &World,
     class: PyTypeRef,
     node: PyObjectRef,
     values: &[PyObjectRef],
     kw: Keywords,
 ) -> Result<Step<ClassKept>, OutOfMemory>
-    requires class { Holds world.old (IsClass class.0) }
-    requires node { Holds world.old (IsNode node) }
-    requires values { Holds world.old (AreNodes values.now) }
-    requires kw { AllHold world.old (of_each of_binding kw.items) }
-    ensures goes { IfOk result (λ step. Makes kw.items (λ t u. told_of u class.0 node values.now) world.old world.new step) }
-    ensures safe { Leaves of_class_kept world.old world.new result }
+    requires class { Holds world.now (IsClass class.0) }
+    requires node { Holds world.now (IsNode node) }
+    requires values { Holds world.now (AreNodes values.now) }
+    requires kw { AllHold world.now (of_each of_binding kw.items) }
+    ensures goes { IfOk result (λ step. Makes kw.items (λ t u. told_of u class.0 node values.now) world.now world.now step) }
+    ensures safe { Leaves of_class_kept world.now world.now result }
 {
-    let set_name = world.intern(alloc, "__set_name__")?;
+    let set_name = world.known(Known::SetName);
     if some_has(world, set_name, values) {
         return Ok(Step::End(Err(Raised {
             kind: Kind::NotImplementedError,
             cause: Cause::NotYet,
         })));
     }
-    let init_subclass = world.intern(alloc, "__init_subclass__")?;
-    let method = world.class_attr_past(class, init_subclass);
+    let method = world.class_attr_past(class, world.known(Known::InitSubclass));
     let step = hook(world, node, method, kw);
     Ok(step)
 }
@@ -299,19 +295,19 @@ pub(crate) fn bound(
 
 // Calls the bound hook.
 fn call_hook(
-    world: &mut World,
+    world: &World,
     alloc: Global,
     class: PyObjectRef,
     kw: Keywords,
     method: PyObjectRef,
 ) -> Result<Step<ClassKept>, OutOfMemory>
-    requires class { Holds world.old (IsNode class) }
-    requires kw { AllHold world.old (of_each of_binding kw.items) }
-    requires method { Holds world.old (IsNode method) }
-    ensures goes { IfOk result (λ step. Resumes (ClassKept.AfterBind class kw) (Ok (answer.Value method)) world.old world.new step) }
-    ensures safe { Leaves of_class_kept world.old world.new result }
+    requires class { Holds world.now (IsNode class) }
+    requires kw { AllHold world.now (of_each of_binding kw.items) }
+    requires method { Holds world.now (IsNode method) }
+    ensures goes { IfOk result (λ step. Resumes (ClassKept.AfterBind class kw) (Ok (answer.Value method)) world.now world.now step) }
+    ensures safe { Leaves of_class_kept world.now world.now result }
 {
-    let metaclass = world.intern(alloc, "metaclass")?;
+    let metaclass = world.known(Known::Metaclass);
     let kw = without(alloc, metaclass, &kw)?;
     Ok(Step::Ask(
         Task::Call(CallTask::Call(method, Vec::new(alloc), kw)),

@@ -69,7 +69,7 @@ classes-sound w ks k h a s =
     let new = record w { classes = ks } in
     let more = classes-grow w ks k in
     let go = all-grow w new more in
-    record { forms = go _ s.forms; below = s.below; nodes = go _ s.nodes; classes = go _ h; vars = go _ s.vars; scopes = go _ s.scopes; fixed = fixed-grow w new s.fixed (grows-lasts w new more); built_in = built_in-grow w new s.built_in (grows-lasts w new more); own = λ b. more.still _ (s.own b); standing = λ d e. more.still _ (a d e); itself = s.itself; apart = s.apart; scopes_apart = s.scopes_apart; special = s.special }
+    record { forms = go _ s.forms; below = s.below; nodes = go _ s.nodes; classes = go _ h; vars = go _ s.vars; scopes = go _ s.scopes; fixed = fixed-grow w new s.fixed (grows-lasts w new more); built_in = built_in-grow w new s.built_in (grows-lasts w new more); own = λ b. more.still _ (s.own b); standing = λ d e. more.still _ (a d e); itself = s.itself; apart = s.apart; scopes_apart = s.scopes_apart; known = s.known }
 
 -- an attribute is set, or memory ran out and nothing changed
 module _ {A E : Type 0} (w : Held) (c : ℕ) (x : PyStrInterned) (r : PyObjectRef) (ks : HeldClasses) where
@@ -183,7 +183,7 @@ module _ (w : Held) (meta : PyTypeRef) (k : Class PyStrInterned) where
           itself = itself;
           apart = s.apart;
           scopes_apart = s.scopes_apart;
-          special = s.special;
+          known = s.known;
         }
 
   pub made-read : (now : Held) (c : PyTypeRef) → w ≡ now → k.number ≡ c.0 → (t : Reading) → plain t (class_made c) ≡ with_new_class (plain t now) meta.0 (rekeyed (spelled t) k)

@@ -9,7 +9,9 @@ use Rattle.py_node.specs.declared.refs.PyStrInterned.{PyStrInterned}
 use Rattle.py_node.specs.declared.refs.PyTypeRef.{PyTypeRef}
 use Rattle.py_node.specs.declared.entry.SlotId.{SlotId}
 use Rattle.py_node.specs.declared.entry.SlotEntry.{SlotEntry}
-use Rattle.py_node.specs.Slots.{all_slots, special_names}
+use Rattle.py_node.specs.declared.known.Known.{Known}
+use Rattle.py_node.specs.Known.{known_texts}
+use Rattle.py_node.specs.Slots.{all_slots}
 use Rattle.py_node.specs.Tree.{Text}
 use Rattle.reply_text.specs.Escapes.{escaped}
 use Rattle.reply_text.specs.Lines.{joined, end_of_line}
@@ -24,9 +26,9 @@ use Rattle.plain_machine.specs.World.{text_keys, or_empty}
 use Rattle.plain_machine.specs.ClassText.{slot_words, own_words, name_at, names_along, class_text, heap_text, classes_text}
 use Rattle.class_world.specs.Held.{Held}
 use Rattle.class_world.specs.Reading.{Reading, Reads, spelled, plain}
-use Rattle.class_world.proofs.Look.{special-read}
+use Rattle.class_world.proofs.Look.{known-read}
 
-module _ {K L : Type 0} (f : K → L) (keys : Keys K) (others : Keys L) (agree : (a b : K) → others.same (f a) (f b) ≡ keys.same a b) (special : (k : ℕ) → k < 70 → others.special k ≡ f (keys.special k)) (t : Classes K) where
+module _ {K L : Type 0} (f : K → L) (keys : Keys K) (others : Keys L) (agree : (a b : K) → others.same (f a) (f b) ≡ keys.same a b) (special : (k : Known) → others.special k ≡ f (keys.special k)) (t : Classes K) where
   name-renamed : (c : ℕ) → name_at (renamed f t) c ≡ name_at t c
   name-renamed c = at-renamed f (λ o. or_empty (option_map (λ (k : Class L). k.name) o)) (λ o. or_empty (option_map (λ (k : Class K). k.name) o)) refl (λ k. refl) t c
 
@@ -60,10 +62,10 @@ module _ {K L : Type 0} (f : K → L) (keys : Keys K) (others : Keys L) (agree :
   text-renamed = ap (flat_map (heap_text others (renamed f t))) (numbers-renamed f t) ∙ all-renamed (numbers_of t)
 
 -- what is written by numbers is the text of the plain world's classes
-pub text-seen : (w : Held) (t : Reading) → ((n : ℕ) (x : List ℕ) → slice_get special_names n ≡ Some x → slice_get w.names n ≡ Some x) → Reads t w → classes_text (plain t w) ≡ flat_map (heap_text table_keys w.classes) (numbers_of w.classes)
+pub text-seen : (w : Held) (t : Reading) → ((n : ℕ) (x : List ℕ) → slice_get known_texts n ≡ Some x → slice_get w.names n ≡ Some x) → Reads t w → classes_text (plain t w) ≡ flat_map (heap_text table_keys w.classes) (numbers_of w.classes)
 unfolding plain classes_text
 text-seen w t s r =
-    text-renamed (spelled t) table_keys text_keys (λ a b. t.same a.0 b.0) (special-read w t s r) w.classes
+    text-renamed (spelled t) table_keys text_keys (λ a b. t.same a.0 b.0) (known-read w t s r) w.classes
 
 -- the names of the first ones, when all were taken
 pub names-end : (t : Classes PyStrInterned) (line : List PyTypeRef) (i : ℕ) → length line ≤ i → map (λ c. name_at t c.0) (take i line) ≡ map (name_at t) (numbers line)

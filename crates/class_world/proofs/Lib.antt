@@ -8,7 +8,6 @@ pub mod Apart
 pub mod Added
 pub mod Bound
 pub mod Filled
-pub mod Named
 pub mod OfClasses
 pub mod ClassChanges
 pub mod Look
@@ -17,6 +16,5 @@ pub mod Stored
 pub mod Shown
 pub mod Defined
 pub mod StartSound
-pub mod OwnAttrs
 pub mod ClassText
 pub mod SoundWorld

@@ -8,13 +8,16 @@ use Rattle.py_node.specs.declared.refs.PyStrInterned.{PyStrInterned}
 use Rattle.std.specs.Prelude.{◌==◌}
 use Rattle.std.specs.Int.RustNames.{bit_and}
 use Rattle.py_node.specs.declared.entry.SlotId.{SlotId}
-use Rattle.py_node.specs.Slots.{special_names}
+use Rattle.py_node.specs.declared.known.Known.{Known}
+use Rattle.py_node.specs.Known.{known_texts, known_text, number_of}
+use Rattle.py_node.proofs.KnownNames.{below, known-count}
+use Rattle.std.proofs.lemmas.Option.{slice_get-get_or, slice_get_within}
 use Rattle.class_model.specs.Class.{Class, class_at, has_flag, renamed}
 use Rattle.class_model.specs.Slot.{entry, slot, candidates_of}
 use Rattle.class_model.specs.BuiltIn.{natives_of}
 use Rattle.class_model.proofs.Renamed.{at-renamed, entry-renamed, slot-renamed, candidates_of-renamed}
 use Rattle.class_table.specs.Keys.{table_keys}
-use Rattle.plain_machine.specs.World.{node_at, has_dict, flag_in, text_keys, or_empty}
+use Rattle.plain_machine.specs.World.{node_at, has_dict, flag_in, text_keys}
 use Rattle.plain_machine.specs.Known.{the_dict}
 use Rattle.class_world.specs.Held.{Held}
 use Rattle.class_world.specs.Reading.{Reading, Reads, form_tree, node_of, spelled, plain}
@@ -73,26 +76,27 @@ flags-read ks c flags flag e = go (class_at ks c) e
     go None e = cc
     go (Some k) e = let same : k.flags ≡ flags = cc in ap (λ n. bit_and n flag == flag) same
 
--- the special names are read as they are
-pub special-read : (w : Held) (t : Reading) → ((n : ℕ) (x : List ℕ) → slice_get special_names n ≡ Some x → slice_get w.names n ≡ Some x) → Reads t w → (k : ℕ) → k < 70 → text_keys.special k ≡ t.text k
-unfolding special_names
-special-read w t s r k l = go (slice_get special_names k) refl
-  where
-    within : (xs : List (List ℕ)) (n : ℕ) → n < length xs → (x : List ℕ) × (slice_get xs n ≡ Some x)
-    within [] n h = absurd (omega arith)
-    within (x ∷ xs) zero h = (x, refl)
-    within (x ∷ xs) (suc n) h = within xs n (omega arith)
+-- each known name stands at its number
+pub known-stands : (x : Known) → slice_get known_texts (number_of x) ≡ Some (known_text x)
+unfolding known_text
+known-stands x = let b = below x in slice_get-get_or known_texts (number_of x) [] (subst (λ n. number_of x < n) (sym known-count) b)
 
-    go : (o : Option (List ℕ)) → slice_get special_names k ≡ o → text_keys.special k ≡ t.text k
-    go None e = let x = within special_names k l in cc (x.1)
-    go (Some x) e = ap or_empty e ∙ sym (r.names k x (s k x e))
+-- the known names are read as they are
+pub known-read : (w : Held) (t : Reading) → ((n : ℕ) (x : List ℕ) → slice_get known_texts n ≡ Some x → slice_get w.names n ≡ Some x) → Reads t w → (x : Known) → known_text x ≡ t.text (number_of x)
+known-read w t s r x = sym (r.names (number_of x) (known_text x) (s (number_of x) (known_text x) (known-stands x)))
+
+-- and they are names of the world
+pub known-within : (w : Held) → ((n : ℕ) (x : List ℕ) → slice_get known_texts n ≡ Some x → slice_get w.names n ≡ Some x) → (x : Known) (r : PyStrInterned) → r ≡ record { 0 = number_of x } → r.0 < length w.names
+known-within w s x r e =
+    let l = slice_get_within w.names (number_of x) (known_text x) (s (number_of x) (known_text x) (known-stands x)) in
+    subst (λ (n : PyStrInterned). n.0 < length w.names) (sym e) l
 
 pub entry-seen : (w now : Held) (c : ℕ) (s : SlotId) → w ≡ now → Sound w → (t : Reading) → Reads t now → entry text_keys natives_of (plain t now).classes c s ≡ entry table_keys natives_of w.classes c s
 unfolding plain
 entry-seen w now c s v sound t r =
     let reads = subst (λ w. Reads t w) (sym v) r in
     subst (λ u. entry text_keys natives_of (plain t u).classes c s ≡ entry table_keys natives_of w.classes c s) v
-    (entry-renamed (spelled t) table_keys text_keys (λ a b. t.same a.0 b.0) (special-read w t sound.special reads) natives_of w.classes c s)
+    (entry-renamed (spelled t) table_keys text_keys (λ a b. t.same a.0 b.0) (known-read w t sound.known reads) natives_of w.classes c s)
 
 -- slots and candidates are read alike by texts and by numbers
 pub slot-seen : (w now : Held) (c : ℕ) (s : SlotId) → w ≡ now → Sound w → (t : Reading) → Reads t now → slot text_keys natives_of (plain t now).classes c s ≡ slot table_keys natives_of w.classes c s
@@ -100,11 +104,11 @@ unfolding plain
 slot-seen w now c s v sound t r =
     let reads = subst (λ w. Reads t w) (sym v) r in
     subst (λ u. slot text_keys natives_of (plain t u).classes c s ≡ slot table_keys natives_of w.classes c s) v
-    (slot-renamed (spelled t) table_keys text_keys (λ a b. t.same a.0 b.0) (special-read w t sound.special reads) natives_of w.classes c s)
+    (slot-renamed (spelled t) table_keys text_keys (λ a b. t.same a.0 b.0) (known-read w t sound.known reads) natives_of w.classes c s)
 
 pub candidates-seen : (w now : Held) (left right : SlotId) (c d : ℕ) → w ≡ now → Sound w → (t : Reading) → Reads t now → candidates_of text_keys natives_of (plain t now).classes left right c d ≡ candidates_of table_keys natives_of w.classes left right c d
 unfolding plain
 candidates-seen w now left right c d v sound t r =
     let reads = subst (λ w. Reads t w) (sym v) r in
     subst (λ u. candidates_of text_keys natives_of (plain t u).classes left right c d ≡ candidates_of table_keys natives_of w.classes left right c d) v
-    (candidates_of-renamed (spelled t) table_keys text_keys (λ a b. t.same a.0 b.0) (special-read w t sound.special reads) natives_of w.classes left right c d)
+    (candidates_of-renamed (spelled t) table_keys text_keys (λ a b. t.same a.0 b.0) (known-read w t sound.known reads) natives_of w.classes left right c d)

@@ -9,7 +9,7 @@ use Rattle.py_node.specs.declared.built_in.BuiltIn.TheVariants as built_in
 use Rattle.plain_machine.specs.Sound.{holds_as, held_by}
 use Rattle.py_node.specs.BuiltIns.{place_of, base_of, all_built_ins}
 use Rattle.class_model.specs.Order.{linear, least_order, arrangements, all_arrangements}
-use Rattle.py_node.specs.Slots.{special_names}
+use Rattle.py_node.specs.Known.{known_texts}
 use Rattle.class_model.specs.Class.{Class, class_at, is_class, has_flag, renamed}
 use Rattle.class_model.specs.Start.{built_class}
 use Rattle.plain_machine.specs.Start.{class_node as plain_class_node, fixed_nodes as plain_fixed_nodes, bare}
@@ -55,9 +55,9 @@ module _ (w : Held) where
       let below = ltb-true (place_of b) n both.0 in
       (omega (arith, below, k), ((λ i d l. absurd (omega arith)), all-append w (of_dict (has_flag (2 ^ 40) (built b)) ++ []) _ (all-append w (of_dict (has_flag (2 ^ 40) (built b))) [] (dict-holds (has_flag (2 ^ 40) (built b)) l) tt) (classes-hold n bs both.1 l k)))
 
--- the world of the special names, the built-in classes and their nodes
+-- the world of the names that are known, the built-in classes and their nodes
 abbrev pub started : Held
-started = record { names = special_names; forms = []; nodes = start_nodes; classes = map built all_built_ins; vars = []; scopes = []; calls = [] }
+started = record { names = known_texts; forms = []; nodes = start_nodes; classes = map built all_built_ins; vars = []; scopes = []; calls = [] }
 
 -- by computing each linearisation
 started-own : (b : BuiltIn) → held_by started.classes (place_of b) ≡ Some (holds_as b)
@@ -175,7 +175,7 @@ started-sound = record {
   scopes_apart = λ i d l. absurd (omega arith);
   standing = λ c e. places-stand 0 all_built_ins refl c e;
   itself = λ n c e. let p = classes-itself 0 all_built_ins refl n c e in omega arith;
-  special = λ n x e. e;
+  known = λ n x e. e;
 }
 
 module _ (t : Reading) where

@@ -8,6 +8,5 @@ pub mod Bound
 pub mod Claims
 pub mod Rows
 pub mod StartNodes
-pub mod BuiltInAttrs
 pub mod Added
 pub mod NewHeap

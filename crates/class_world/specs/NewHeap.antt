@@ -1,6 +1,6 @@
 -- Classes that scripts make.
 use Rattle.std.specs.Option.{option_or}
-use Rattle.std.specs.Prelude.{ℕ, Bool, true, false, cond, codes, List, map, Option, Some, None}
+use Rattle.std.specs.Prelude.{ℕ, Bool, true, false, cond, List, map, Option, Some, None}
 use Rattle.py_node.specs.declared.raised.Cause.{Cause}
 use Rattle.py_node.specs.declared.raised.Cause.TheVariants.{QualnameType}
 use Rattle.py_node.specs.declared.refs.PyObjectRef.{PyObjectRef}
@@ -12,6 +12,8 @@ use Rattle.py_node.specs.Tree.{Text}
 use Rattle.class_model.specs.Class.{Class}
 use Rattle.class_table.specs.Keys.{numbers}
 use Rattle.class_table.specs.Refused.{refused_bases}
+use Rattle.py_node.specs.declared.known.Known.TheVariants.{Qualname}
+use Rattle.py_node.specs.Known.{known_text}
 use Rattle.plain_machine.specs.Plain.{Datum, AText, Bindings, PlainWorld}
 use Rattle.plain_machine.specs.World.{is_text, datum_at}
 use Rattle.class_world.specs.Reading.{Reading, spelled, bindings}
@@ -23,7 +25,7 @@ holds_text _ = false
 
 -- the qualified name that attributes give
 abbrev pub qualified : Bindings → Option PyObjectRef
-qualified attrs = value_of (λ y. is_text y (codes "__qualname__")) attrs
+qualified attrs = value_of (λ y. is_text y (known_text Qualname)) attrs
 
 -- why a class may not have a qualified name
 abbrev pub refused_name : PlainWorld → Option PyObjectRef → Option Cause

@@ -10,7 +10,7 @@ use Rattle.py_node.specs.declared.payload.Payload.TheVariants as payload
 use Rattle.py_node.specs.declared.payload.Form.{Form}
 use Rattle.py_node.specs.declared.payload.Form.TheVariants as form
 use Rattle.py_node.specs.Attributes.{value_of, is_same_name, AreNamesDistinct}
-use Rattle.py_node.specs.Slots.{special_names}
+use Rattle.py_node.specs.Known.{known_texts}
 use Rattle.py_node.specs.declared.built_in.BuiltIn.{BuiltIn}
 use Rattle.py_node.specs.declared.built_in.BuiltIn.TheVariants as built_in
 use Rattle.py_node.specs.BuiltIns.{place_of}
@@ -209,7 +209,7 @@ of_dict false = []
 abbrev pub of_class : Class PyStrInterned → List Claim
 of_class k = IsNode (record { 0 = k.number }) ∷ AreNames k.members ∷ of_dict (has_flag (2 ^ 40) k) ++ of_each of_binding k.attrs
 
--- all that the world says is so, the parts of each expression stand before it, and the special names come first
+-- all that the world says is so, the parts of each expression stand before it, and the names that are known come first
 pub record Sound (w : Held) : Type 0 where
   pub forms : AllHold w (of_each of_form w.forms)
   pub below : AreBelow w.forms
@@ -228,4 +228,4 @@ pub record Sound (w : Held) : Type 0 where
   pub built_in : (c : ℕ) → c < 23 → is_class w.classes c ≡ true
   -- and the objects of each hold what they should
   pub own : (b : BuiltIn) → Holds w (IsOf (place_of b) (holds_as b))
-  pub special : (n : ℕ) (x : List ℕ) → slice_get special_names n ≡ Some x → slice_get w.names n ≡ Some x
+  pub known : (n : ℕ) (x : List ℕ) → slice_get known_texts n ≡ Some x → slice_get w.names n ≡ Some x

@@ -18,6 +18,7 @@ use class_table::table::ClassTable;
 use py_node::entry::{SlotEntry, SlotId};
 use py_node::memory::OutOfMemory;
 use py_node::refs::PyTypeRef;
+use py_node::slots::{Sort, slots};
 use reply_text::class::{push_class_head, push_class_member, push_end, push_slot, push_slots_head};
 
 /// Adds the lines of each class that a script made.
@@ -91,7 +92,7 @@ fn push_slots(
     ensures { OnOk result (out.new.items ≡ out.old.items ++ slots_head name.now ++ flat_map slot_word (own_words table_keys classes.now class.0 all_slots) ++ end_of_line) }
 {
     push_slots_head(out, name)?;
-    push_own_slots(out, classes, class, every_slot())?;
+    push_own_slots(out, classes, class, slots())?;
     push_end(out)
 }
 
@@ -117,13 +118,13 @@ fn push_own_slots(
     out: &mut Vec<u8>,
     classes: &ClassTable,
     class: PyTypeRef,
-    slots: &[SlotId],
+    rows: &[(SlotId, &str, Sort)],
 ) -> Result<(), OutOfMemory>
     requires { is_class classes.now class.0 ≡ true }
-    ensures { OnOk result (out.new.items ≡ out.old.items ++ flat_map slot_word (own_words table_keys classes.now class.0 slots.now)) }
+    ensures { OnOk result (out.new.items ≡ out.old.items ++ flat_map slot_word (own_words table_keys classes.now class.0 (map (λ r. r.0) rows.now))) }
 {
-    for slot in slots {
-        push_own_slot(out, *slot, classes.own_slot(class, *slot))?;
+    for row in rows {
+        push_own_slot(out, row.0, classes.own_slot(class, row.0))?;
     }
     Ok(())
 }
@@ -141,12 +142,4 @@ fn push_own_slot(
         Some(SlotEntry::Unhashable) => push_slot(out, "hash!"),
         Some(SlotEntry::Native(_) | SlotEntry::Wrapper(_)) => push_slot(out, slot.name()),
     }
-}
-
-// All slots, in order.
-#[tactic(auto, unfolding(py_node::specs::Slots::all_slots))]
-fn every_slot() -> &'static [SlotId]
-    ensures { result.now ≡ all_slots }
-{
-    &SlotId::ALL
 }

@@ -16,6 +16,7 @@ use crate::definer::define;
 use crate::world::World;
 use class_table::fault::ClassFault;
 use py_node::attributes::PyAttributes;
+use py_node::known::Known;
 use py_node::memory::OutOfMemory;
 use py_node::payload::{Node, Payload};
 use py_node::raised::Cause;
@@ -144,16 +145,13 @@ impl World {
         }
     }
 
-    // The qualified name that attributes give. Where no text has that name, none of them does.
+    // The qualified name that attributes give.
     fn qualified(&self, attrs: &PyAttributes) -> Option<PyObjectRef>
         requires { AllHold self.now (of_each of_binding attrs.now) }
         ensures value { (t : Reading) → Reads t self.now → qualified (bindings t attrs.now) ≡ result }
         ensures node { IfSome result (λ r. Holds self.now (IsNode r)) }
     {
-        match self.names.interned_str("__qualname__") {
-            None => None,
-            Some(name) => attrs.get(name),
-        }
+        attrs.get(self.known(Known::Qualname))
     }
 
     // Whether an object holds a text.

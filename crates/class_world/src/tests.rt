@@ -7,6 +7,7 @@ use crate::world::{Fixed, World};
 use class_table::fault::ClassFault;
 use py_node::attributes::PyAttributes;
 use py_node::built_in::BuiltIn;
+use py_node::known::Known;
 use py_node::memory::OutOfMemory;
 use py_node::raised::Cause;
 use py_node::refs::{PyObjectRef, PyStrInterned, PyTypeRef};
@@ -37,7 +38,7 @@ fn refusal(
     requires bases { AllHold world.old (of_each of_class_ref bases.items) }
     requires one { length bases.items ≤ 1 }
 {
-    let name = world.intern(alloc, "__qualname__")?;
+    let name = world.known(Known::Qualname);
     let qualname = world.fixed(qualname);
     let mut attrs = PyAttributes::new(alloc);
     attrs.insert(name, qualname)?;

@@ -2,7 +2,7 @@
 
 ghost use Rattle.std.specs.Prelude.{◌≡◌, ◌<◌, ◌-◌, ℕ, suc, List, map, length, take, is_some, Some, None, IfOk, OnOk, OnErr, IfSome, IsTrue, slice_get, string_bytes};
 ghost use Rattle.py_node.specs.Replies.{started_of};
-ghost use Rattle.py_node.specs.Slots.{special_names};
+ghost use Rattle.py_node.specs.Known.{known_texts, known_text};
 ghost use Rattle.plain_machine.specs.Start.{bare, start};
 ghost use Rattle.plain_machine.specs.World.{with_node, next_node, has_dict, at_depth, without_calls, class_at, datum_at, number_of, variable, with_binding, with_scope, without_scope};
 ghost use Rattle.plain_machine.specs.Known.{the_dict};
@@ -22,11 +22,12 @@ use crate::nodes::add_object;
 use crate::scope::Scope;
 use crate::start::start_nodes;
 use crate::variables::{bind_in, value_in};
-use class_table::start::special_names;
+use class_table::start::known_names;
 use class_table::table::ClassTable;
 use py_node::attributes::PyAttributes;
 use py_node::built_in::BuiltIn;
 use py_node::flags::PyTypeFlags;
+use py_node::known::Known;
 use py_node::memory::OutOfMemory;
 use py_node::names::Names;
 use py_node::payload::{Form, Node, Payload};
@@ -88,15 +89,15 @@ impl Model for World {
 
 #[tactic(auto, unfolding(crate::specs::Reading::plain))]
 impl World {
-    /// The world of a new machine: the special names, the built-in classes with their nodes and their
+    /// The world of a new machine: the names that are known, the built-in classes with their nodes and their
     /// own attributes, and None, NotImplemented, False and True.
     pub fn new(alloc: Global) -> Result<World, OutOfMemory>
         ensures start { IfOk result (λ w. (t : Reading) → Reads t w → plain t w ≡ start) }
-        ensures known { IfOk result (λ w. (n : ℕ) (x : List ℕ) → slice_get special_names n ≡ Some x → slice_get w.names n ≡ Some x) }
+        ensures known { IfOk result (λ w. (n : ℕ) (x : List ℕ) → slice_get known_texts n ≡ Some x → slice_get w.names n ≡ Some x) }
     {
         let mut world = World::bare(alloc)?;
         add_own_attrs(&mut world, alloc)?;
-        world.knows_special_names();
+        world.knows_names();
         Ok(world)
     }
 
@@ -104,7 +105,7 @@ impl World {
     fn bare(alloc: Global) -> Result<World, OutOfMemory>
         ensures { IfOk result (λ w. (t : Reading) → plain t w ≡ bare) }
     {
-        let names = special_names(alloc)?;
+        let names = known_names(alloc)?;
         let nodes = start_nodes(alloc)?;
         let classes = ClassTable::new(alloc)?;
         Ok(World {
@@ -118,9 +119,9 @@ impl World {
         })
     }
 
-    // The special names have their numbers.
-    fn knows_special_names(&self)
-        ensures { (n : ℕ) (x : List ℕ) → slice_get special_names n ≡ Some x → slice_get self.now.names n ≡ Some x }
+    // The names that are known have their numbers.
+    fn knows_names(&self)
+        ensures { (n : ℕ) (x : List ℕ) → slice_get known_texts n ≡ Some x → slice_get self.now.names n ≡ Some x }
     {
         let _names = &self.names;
     }
@@ -133,10 +134,10 @@ impl World {
         let _forms = self.forms.len();
     }
 
-    /// The classes, by themselves. They name special methods by the first numbers of names.
+    /// The classes, by themselves. They name special methods by the numbers of known names.
     pub fn classes(&self) -> &ClassTable
         ensures same { result.now ≡ self.now.classes }
-        ensures special { (n : ℕ) (x : List ℕ) → slice_get special_names n ≡ Some x → slice_get self.now.names n ≡ Some x }
+        ensures known { (n : ℕ) (x : List ℕ) → slice_get known_texts n ≡ Some x → slice_get self.now.names n ≡ Some x }
     {
         &self.classes
     }
@@ -294,6 +295,15 @@ impl World {
         ensures dict { IsTrue result → Holds self.now (IsClass the_dict) }
     {
         self.classes.flags(class).has_feature(PyTypeFlags::HAS_DICT)
+    }
+
+    /// A name that every world knows.
+    pub fn known(&self, name: Known) -> PyStrInterned
+        ensures spelled { (t : Reading) → Reads t self.now → t.text result.0 ≡ known_text name }
+        ensures holds { Holds self.now (IsName result) }
+    {
+        let _names = &self.names;
+        name.interned()
     }
 
     /// The name of a text, which may be new.

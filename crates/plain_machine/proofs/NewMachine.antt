@@ -10,31 +10,32 @@ use Rattle.py_node.specs.declared.entry.CallableNative.TheVariants as callable
 use Rattle.py_node.specs.declared.entry.SlotEntry.{SlotEntry}
 use Rattle.py_node.specs.declared.entry.SlotEntry.TheVariants.{Native}
 use Rattle.py_node.specs.BuiltIns.{place_of, name_of, base_of, flags_of, all_built_ins}
-use Rattle.py_node.specs.Slots.{place_of as slot_place, special_names, all_slots, sort_of, names_of}
+use Rattle.py_node.specs.Slots.{place_of as slot_place, all_slots, slot_sorts, sort_of, slot_names, names_of}
+use Rattle.py_node.specs.Known.{known_text, known_texts, number_of}
+use Rattle.py_node.specs.OwnAttrs.{own_attrs}
 use Rattle.class_model.specs.Order.{linear, least_order, all_arrangements, arrangements}
 use Rattle.class_model.specs.Class.{found}
 use Rattle.class_model.specs.Slot.{slot}
 use Rattle.class_model.specs.BuiltIn.{natives_of}
 use Rattle.plain_machine.specs.World.{ref, is_text, text_keys}
-use Rattle.plain_machine.specs.BuiltInAttrs.{object_attrs, type_attrs, other_attrs, built_in_attrs}
-use Rattle.plain_machine.specs.Start.{start}
+use Rattle.plain_machine.specs.Start.{with_attr, start}
 
 -- 23 classes, 4 fixed objects and 51 attributes
 nodes-counted : length start.nodes ≡ 78
-unfolding start object_attrs type_attrs other_attrs built_in_attrs all_built_ins place_of flags_of
+unfolding start with_attr own_attrs known_text known_texts number_of all_built_ins place_of flags_of
 nodes-counted = refl
 
 found-by-type : found is_text start.classes 1 (codes "__init_subclass__") ≡ Some (ref 44)
-unfolding linear least_order all_arrangements arrangements start object_attrs type_attrs other_attrs built_in_attrs all_built_ins place_of name_of base_of flags_of
+unfolding linear least_order all_arrangements arrangements start with_attr own_attrs known_text known_texts number_of all_built_ins place_of name_of base_of flags_of
 found-by-type = refl
 
 abbrev slot_in : ℕ → SlotId → Option SlotEntry
 slot_in c s = slot text_keys natives_of start.classes c s
 
 slots-of-type : (slot_in 1 Call ≡ Some (Native (OfType type.Call))) × (slot_in 1 New ≡ Some (Native (OfType type.New))) × (slot_in 1 Repr ≡ Some (Native (OfType type.Repr))) × (slot_in 1 Init ≡ Some (Native (OfObject object.Init))) × (slot_in 1 Hash ≡ Some (Native (OfObject object.Hash)))
-unfolding linear least_order all_arrangements arrangements start object_attrs type_attrs other_attrs built_in_attrs all_built_ins place_of name_of base_of flags_of natives_of sort_of slot_place all_slots special_names names_of
+unfolding linear least_order all_arrangements arrangements start with_attr own_attrs known_text known_texts number_of all_built_ins place_of name_of base_of flags_of natives_of sort_of slot_sorts slot_place all_slots slot_names names_of
 slots-of-type = (refl, refl, refl, refl, refl)
 
 slots-of-others : (slot_in 0 Call ≡ None) × (slot_in 5 Add ≡ Some (Native (OfInt int.Add))) × (slot_in 5 RightAdd ≡ Some (Native (OfInt int.Add))) × (slot_in 10 DescrGet ≡ Some (Native (OfCallable callable.GetFunction))) × (slot_in 15 DescrSet ≡ None) × (slot_in 8 Iter ≡ None)
-unfolding linear least_order all_arrangements arrangements start object_attrs type_attrs other_attrs built_in_attrs all_built_ins place_of name_of base_of flags_of natives_of sort_of slot_place all_slots special_names names_of
+unfolding linear least_order all_arrangements arrangements start with_attr own_attrs known_text known_texts number_of all_built_ins place_of name_of base_of flags_of natives_of sort_of slot_sorts slot_place all_slots slot_names names_of
 slots-of-others = (refl, refl, refl, refl, refl, refl)

@@ -7,7 +7,6 @@ pub mod ClassText
 pub mod Row
 pub mod Answer
 pub mod Rows
-pub mod BuiltInAttrs
 pub mod Start
 pub mod Objects
 pub mod Change

@@ -1,15 +1,19 @@
 -- The world of a new machine: a node for each built-in class, then None, NotImplemented, False and True, and then a node for each own attribute of a built-in class.
-use Rattle.std.specs.Prelude.{ℕ, pos, List, [], ◌∷◌, ◌++◌, Some, None, map}
+use Rattle.std.specs.Prelude.{ℕ, pos, List, [], ◌∷◌, ◌++◌, Some, None, map, fold}
 use Rattle.py_node.specs.declared.built_in.BuiltIn.{BuiltIn}
 use Rattle.py_node.specs.declared.built_in.BuiltIn.TheVariants as built_in
 use Rattle.py_node.specs.declared.entry.NativeEntry.TheVariants.{Getter, Setter, NewWrapper}
+use Rattle.py_node.specs.declared.known.Known.{Known}
+use Rattle.py_node.specs.declared.own_attrs.Attr.{Attr}
+use Rattle.py_node.specs.declared.own_attrs.Attr.TheVariants.{New, Method, ClassMethod, ReadOnly, Settable}
 use Rattle.py_node.specs.BuiltIns.{place_of, all_built_ins}
+use Rattle.py_node.specs.Known.{known_text}
+use Rattle.py_node.specs.OwnAttrs.{own_attrs}
 use Rattle.py_node.specs.Tree.{Text}
 use Rattle.class_model.specs.Start.{built_in_classes}
 use Rattle.plain_machine.specs.Known.{the_type}
 use Rattle.plain_machine.specs.Plain.{Datum, AnObject, AClass, ANumber, ANativeFunction, AMethodDescriptor, AGetSet, no_members, Node, PlainWorld}
 use Rattle.plain_machine.specs.World.{ref, with_node, next_node, with_own_attr}
-use Rattle.plain_machine.specs.BuiltInAttrs.{Attr, New, Method, ClassMethod, ReadOnly, Settable, BuiltInAttr, built_in_attrs}
 
 abbrev pub simple_node : ℕ → Datum → Node
 simple_node c d = record { class = c; dict = None; members = no_members; datum = d }
@@ -42,15 +46,14 @@ attr_datum c x (ReadOnly p) = AGetSet c x (Some (Getter p)) None
 attr_datum c x (Settable p) = AGetSet c x (Some (Getter p)) (Some (Setter p))
 
 -- a new node for an attribute, under its name in its class
-abbrev pub with_attr : PlainWorld → BuiltInAttr → PlainWorld
-with_attr w a =
-    let c = place_of (attr_class a.attr) in
-    with_own_attr (with_node w c (attr_datum (place_of a.class) a.name a.attr)) (place_of a.class) a.name (next_node w c)
+unfoldable pub with_attr : BuiltIn → PlainWorld → Known × Attr → PlainWorld
+with_attr b w a =
+    let c = place_of (attr_class a.1) in
+    with_own_attr (with_node w c (attr_datum (place_of b) (known_text a.0) a.1)) (place_of b) (known_text a.0) (next_node w c)
 
--- the same for each of some, in order
-abbrev pub with_attrs : PlainWorld → List BuiltInAttr → PlainWorld
-with_attrs w [] = w
-with_attrs w (a ∷ more) = with_attrs (with_attr w a) more
+-- the own attributes of a class, in order
+abbrev pub with_attrs : PlainWorld → BuiltIn → PlainWorld
+with_attrs w b = fold (with_attr b) w (own_attrs b)
 
 unfoldable pub start : PlainWorld
-start = with_attrs bare built_in_attrs
+start = fold with_attrs bare all_built_ins

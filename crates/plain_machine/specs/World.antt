@@ -5,7 +5,7 @@ use Rattle.py_node.specs.declared.refs.PyObjectRef.{PyObjectRef}
 use Rattle.py_node.specs.declared.entry.SlotId.{SlotId}
 use Rattle.py_node.specs.declared.entry.SlotEntry.{SlotEntry}
 use Rattle.py_node.specs.Attributes.{value_of, with_value}
-use Rattle.py_node.specs.Slots.{special_names}
+use Rattle.py_node.specs.Known.{known_text}
 use Rattle.py_node.specs.Tree.{Text}
 use Rattle.py_node.specs.Replies.{Started}
 use Rattle.class_model.specs.Class.{class_at as class_numbered, Class, has_flag}
@@ -25,7 +25,7 @@ or_empty (Some x) = x
 
 -- the plain world's classes name their attributes by texts
 abbrev pub text_keys : Keys Text
-text_keys = record { same = is_text; special = λ k. or_empty (slice_get special_names k) }
+text_keys = record { same = is_text; special = known_text }
 
 -- a node by its number
 abbrev pub ref : ℕ → PyObjectRef

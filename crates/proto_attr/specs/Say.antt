@@ -1,5 +1,5 @@
 -- What the rows of attributes, special methods and descriptors say.
-use Rattle.std.specs.Prelude.{ℕ, zero, suc, Bool, cond, not, eqb, ◌&&◌, false, codes, List, [], ◌∷◌, Option, Some, None, is_some}
+use Rattle.std.specs.Prelude.{ℕ, zero, suc, Bool, cond, not, eqb, ◌&&◌, false, List, [], ◌∷◌, Option, Some, None, is_some}
 use Rattle.py_node.specs.declared.refs.PyObjectRef.{PyObjectRef}
 use Rattle.py_node.specs.declared.raised.Kind.TheVariants.{TypeError, AttributeError}
 use Rattle.py_node.specs.declared.raised.Cause.TheVariants.{ImmutableType, NeedsType, NoSpecial}
@@ -12,6 +12,8 @@ use Rattle.py_node.specs.declared.entry.ObjectNative.TheVariants as object
 use Rattle.py_node.specs.declared.entry.TypeNative.TheVariants as type
 use Rattle.py_node.specs.declared.entry.CallableNative.TheVariants as callable
 use Rattle.py_node.specs.declared.task.LaterTask.TheVariants as later
+use Rattle.py_node.specs.declared.known.Known.TheVariants as known
+use Rattle.py_node.specs.Known.{known_text}
 use Rattle.py_node.specs.Tree.{Text}
 use Rattle.class_model.specs.Class.{class_at as class_numbered}
 use Rattle.class_model.specs.Slot.{is_heap_at}
@@ -28,7 +30,7 @@ set_in_class w (Some c) x v = pass w (ToAttribute (DoTypeSet c x v))
 
 abbrev pub set_by : PlainWorld → Option SlotEntry → PyObjectRef → Text → PyObjectRef → Said
 set_by w (Some (Wrapper s)) o x v =
-    pass (with_node w the_str (AText x)) (ToAttribute (DoSpecial o (codes "__setattr__") (next_node w the_str ∷ v ∷ []) []))
+    pass (with_node w the_str (AText x)) (ToAttribute (DoSpecial o (known_text known.SetAttr) (next_node w the_str ∷ v ∷ []) []))
 set_by w (Some (Native (OfObject object.SetAttr))) o x v = pass w (ToLater later.GenericSet)
 set_by w (Some (Native (OfType type.SetAttr))) o x v = set_in_class w (class_number (datum_at w o)) x v
 set_by w _ o x v = pass w (ToLater later.Native)
@@ -124,7 +126,7 @@ native_get w _ m o c = Ends w (value m)
 -- what a descriptor gives, as its class's entry for that says
 abbrev pub descr_get_by : PlainWorld → Option SlotEntry → PyObjectRef → Option PyObjectRef → Option PyObjectRef → Said
 descr_get_by w None m o c = Ends w (value m)
-descr_get_by w (Some (Wrapper s)) m o c = pass w (ToAttribute (DoSpecial m (codes "__get__") (or_none o ∷ or_none c ∷ []) []))
+descr_get_by w (Some (Wrapper s)) m o c = pass w (ToAttribute (DoSpecial m (known_text known.Get) (or_none o ∷ or_none c ∷ []) []))
 descr_get_by w (Some (Native (OfCallable callable.GetFunction))) m o c = function_get w m o (class_of_option w c)
 descr_get_by w (Some (Native (OfCallable callable.GetMethodDescriptor))) m o c = native_get w (datum_at w m) m o c
 descr_get_by w (Some e) m o c = pass w (ToLater later.DescrGet)

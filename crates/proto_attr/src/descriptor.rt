@@ -21,6 +21,7 @@ use class_world::world::{Fixed, World};
 use py_node::built_in::BuiltIn;
 use py_node::entry::{CallableNative, NativeEntry, SlotEntry, SlotId};
 use py_node::flags::PyMethodFlags;
+use py_node::known::Known;
 use py_node::memory::OutOfMemory;
 use py_node::payload::{BoundMethod, BuiltinMethod, MethodDescriptor, Payload};
 use py_node::raised::{Cause, Kind, Raised};
@@ -77,19 +78,19 @@ fn get_of_native(
 
 // A special method is asked, and is given None for what is missing.
 fn get_by_method(
-    world: &mut World,
+    world: &World,
     alloc: Global,
     m: PyObjectRef,
     o: Option<PyObjectRef>,
     class: Option<PyObjectRef>,
 ) -> Result<Step<AttributeKept>, OutOfMemory>
-    requires { AllHold world.old (of_attribute_task (attribute.DescrGet m o class)) }
-    ensures goes { IfOk result (λ step. Starts (attribute.DescrGet m o class) (λ t w. descr_get_by w (Some (SlotEntry.Wrapper SlotId.DescrGet)) m o class) world.old world.new step) }
-    ensures safe { Leaves of_attribute_kept world.old world.new result }
+    requires { AllHold world.now (of_attribute_task (attribute.DescrGet m o class)) }
+    ensures goes { IfOk result (λ step. Starts (attribute.DescrGet m o class) (λ t w. descr_get_by w (Some (SlotEntry.Wrapper SlotId.DescrGet)) m o class) world.now world.now step) }
+    ensures safe { Leaves of_attribute_kept world.now world.now result }
 {
     let object = or_none(world, o);
     let class = or_none(world, class);
-    let method = world.intern(alloc, "__get__")?;
+    let method = world.known(Known::Get);
     let args = both(alloc, object, class)?;
     let task = AttributeTask::Special(m, method, args, Vec::new(alloc));
     Ok(Step::Ask(Task::Attribute(task), AttributeKept::Pass))

@@ -18,6 +18,7 @@ use class_table::fault::ClassFault;
 use class_world::world::World;
 use py_node::built_in::BuiltIn;
 use py_node::entry::{NativeEntry, ObjectNative, SlotEntry, SlotId, TypeNative};
+use py_node::known::Known;
 use py_node::memory::OutOfMemory;
 use py_node::payload::Payload;
 use py_node::raised::{Kind, Raised};
@@ -77,7 +78,7 @@ fn set_by_method(
     let text = world.spelling(alloc, name)?;
     let class = world.built_in(BuiltIn::Str);
     let node = world.make_node(alloc, class, Payload::Text(text))?;
-    let method = world.intern(alloc, "__setattr__")?;
+    let method = world.known(Known::SetAttr);
     let args = both(alloc, node, value)?;
     let task = AttributeTask::Special(o, method, args, Vec::new(alloc));
     Ok(Step::Ask(Task::Attribute(task), AttributeKept::Pass))

@@ -1,5 +1,5 @@
 -- What the rows of calls say.
-use Rattle.std.specs.Prelude.{ℕ, zero, suc, Bool, true, false, cond, not, eqb, ◌&&◌, ◌||◌, codes, List, [], ◌∷◌, Option, Some, None, is_some, is_none, map}
+use Rattle.std.specs.Prelude.{ℕ, zero, suc, Bool, true, false, cond, not, eqb, ◌&&◌, ◌||◌, List, [], ◌∷◌, Option, Some, None, is_some, is_none, map}
 use Rattle.py_node.specs.declared.refs.PyObjectRef.{PyObjectRef}
 use Rattle.py_node.specs.declared.raised.Kind.TheVariants.{TypeError, AttributeError, NotImplementedError}
 use Rattle.py_node.specs.declared.raised.Cause.TheVariants.{AbstractMethods, ArgCount, CannotCreate, InitNotNone, NoSpecial, NotCallable, NotYet, SelfType, UnexpectedKeyword, UnsafeNew}
@@ -19,6 +19,8 @@ use Rattle.py_node.specs.Replies.{Started}
 use Rattle.class_model.specs.Class.{found}
 use Rattle.class_model.specs.Slot.{slot}
 use Rattle.class_model.specs.BuiltIn.{natives_of}
+use Rattle.py_node.specs.declared.known.Known.TheVariants as known
+use Rattle.py_node.specs.Known.{known_text}
 use Rattle.plain_machine.specs.Plain.{Datum, AnObject, AClass, AFunction, AMethod, ANativeFunction, ABuiltinMethod, AMethodDescriptor, ATuple, PlainWorld, Bindings, DoEval, CallJob, DoCall, DoBody, DoTypeCall, DoNew, DoInit, DoObject, DoSpecial, PlainTask, ToEval, ToAttribute, ToCall, ToLater, Ended, Chose, Said, Asks, Ends}
 use Rattle.plain_machine.specs.World.{is_text, datum_at, slot_at, text_keys, with_node, next_node, with_scope, without_scope}
 use Rattle.plain_machine.specs.Objects.{class_object, class_number, is_instance, nearest_built_in}
@@ -50,7 +52,7 @@ call_native w _ d f args kw = ToLater later.Native
 
 abbrev pub call_by : PlainWorld → Option SlotEntry → PyObjectRef → List PyObjectRef → Bindings → Said
 call_by w (Some (Native n)) f args kw = pass w (call_native w n (datum_at w f) f args kw)
-call_by w (Some (Wrapper s)) f args kw = pass w (ToAttribute (DoSpecial f (codes "__call__") args kw))
+call_by w (Some (Wrapper s)) f args kw = pass w (ToAttribute (DoSpecial f (known_text known.Call) args kw))
 call_by w _ f args kw = Ends w (fault TypeError NotCallable)
 
 abbrev pub call_say : PlainWorld → PyObjectRef → List PyObjectRef → Bindings → Row
@@ -153,7 +155,7 @@ new_found w (Some f) c args kw = pass w (ToCall (DoCall f (class_object w c ∷ 
 
 abbrev pub new_by : PlainWorld → Option SlotEntry → ℕ → List PyObjectRef → Bindings → Said
 new_by w (Some (Native n)) c args kw = pass w (native_task n (class_object w c ∷ args) kw)
-new_by w (Some (Wrapper s)) c args kw = new_found w (found is_text w.classes c (codes "__new__")) c args kw
+new_by w (Some (Wrapper s)) c args kw = new_found w (found is_text w.classes c (known_text known.New)) c args kw
 new_by w _ c args kw = Ends w (fault TypeError CannotCreate)
 
 abbrev pub new_say : PlainWorld → ℕ → ℕ → List PyObjectRef → Bindings → Row
@@ -163,7 +165,7 @@ new_say w k c args kw = start (new_by w (slot text_keys natives_of w.classes k N
 
 abbrev pub init_by : PlainWorld → Option SlotEntry → PyObjectRef → List PyObjectRef → Bindings → Said
 init_by w (Some (Native n)) o args kw = Asks w (Chose 0 ∷ []) (native_task n (o ∷ args) kw)
-init_by w (Some (Wrapper s)) o args kw = Asks w (Chose 1 ∷ []) (ToAttribute (DoSpecial o (codes "__init__") args kw))
+init_by w (Some (Wrapper s)) o args kw = Asks w (Chose 1 ∷ []) (ToAttribute (DoSpecial o (known_text known.Init) args kw))
 init_by w _ o args kw = Ends w done
 
 -- a method that initialises must give None
@@ -192,7 +194,7 @@ unless_abstract w false c = Ends (with_node w c AnObject) (value (next_node w c)
 abbrev pub created : PlainWorld → Option ℕ → ℕ → Said
 created w None c = Ends w (fault TypeError UnsafeNew)
 created w (Some b) c =
-    cond (not (eqb b the_object)) (Ends w (fault TypeError UnsafeNew)) (unless_abstract w (is_abstract w (found is_text w.classes c (codes "__abstractmethods__"))) c)
+    cond (not (eqb b the_object)) (Ends w (fault TypeError UnsafeNew)) (unless_abstract w (is_abstract w (found is_text w.classes c (known_text known.Abstractmethods))) c)
 
 abbrev pub new_of_class : PlainWorld → Option ℕ → Said
 new_of_class w None = Ends w (fault TypeError SelfType)

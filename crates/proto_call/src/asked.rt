@@ -1,14 +1,16 @@
 // What several rows ask, and how they refuse.
 
 ghost use Rattle.std.specs.Prelude.{◌≡◌, ◌∷◌, IfOk};
+ghost use Rattle.py_node.specs.Known.{known_text};
 ghost use Rattle.plain_machine.specs.Plain.{ToAttribute, DoSpecial};
-ghost use Rattle.class_world.specs.Sound.{AllHold, Holds, Grows, IsNode, AreNodes};
+ghost use Rattle.class_world.specs.Sound.{AllHold, Holds, IsNode, AreNodes};
 ghost use Rattle.class_world.specs.Claims.{of_args, of_task};
-ghost use Rattle.class_world.specs.Reading.{Reading, Reads, bindings, plain, task_of};
+ghost use Rattle.class_world.specs.Reading.{Reading, Reads, bindings, task_of};
 
 use crate::CallKept;
 use class_world::args::with_first;
 use class_world::world::World;
+use py_node::known::Known;
 use py_node::memory::OutOfMemory;
 use py_node::raised::{Cause, Kind, Raised};
 use py_node::refs::PyObjectRef;
@@ -26,22 +28,17 @@ pub(crate) fn bound(alloc: Global, object: PyObjectRef, args: Args) -> Result<Ar
 
 /// The call of an object's special method.
 pub(crate) fn special(
-    world: &mut World,
-    alloc: Global,
+    world: &World,
     object: PyObjectRef,
-    name: &str,
+    name: Known,
     args: Args,
     kw: Keywords,
-) -> Result<Task, OutOfMemory>
-    requires { AllHold world.old (IsNode object ∷ of_args args.items kw.items) }
-    ensures task { IfOk result (λ task. (t : Reading) → Reads t world.new → task_of t task ≡ ToAttribute (DoSpecial object name.now args.items (bindings t kw.items))) }
-    ensures same { (t : Reading) → plain t world.new ≡ plain t world.old }
-    ensures reads { (t : Reading) → Reads t world.new → Reads t world.old }
-    ensures grows { Grows world.old world.new }
-    ensures holds { IfOk result (λ task. AllHold world.new (of_task task)) }
+) -> Task
+    requires { AllHold world.now (IsNode object ∷ of_args args.items kw.items) }
+    ensures task { (t : Reading) → Reads t world.now → task_of t result ≡ ToAttribute (DoSpecial object (known_text name) args.items (bindings t kw.items)) }
+    ensures holds { AllHold world.now (of_task result) }
 {
-    let name = world.intern(alloc, name)?;
-    Ok(Task::Attribute(AttributeTask::Special(object, name, args, kw)))
+    Task::Attribute(AttributeTask::Special(object, world.known(name), args, kw))
 }
 
 /// A fault of a call.

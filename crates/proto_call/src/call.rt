@@ -15,6 +15,7 @@ use crate::asked::{bound, refused, special};
 use class_world::args::native_task;
 use class_world::world::World;
 use py_node::entry::{CallableNative, NativeEntry, SlotEntry, SlotId, TypeNative};
+use py_node::known::Known;
 use py_node::memory::OutOfMemory;
 use py_node::payload::Payload;
 use py_node::raised::{Cause, Kind};
@@ -40,7 +41,7 @@ pub(crate) fn begin_call(
             Ok(Step::Ask(task, CallKept::Pass))
         }
         Some(SlotEntry::Wrapper(_)) => {
-            let task = special(world, alloc, f, "__call__", args, kw)?;
+            let task = special(world, f, Known::Call, args, kw);
             Ok(Step::Ask(task, CallKept::Pass))
         }
         _ => Ok(refused(Kind::TypeError, Cause::NotCallable)),

@@ -17,6 +17,7 @@ use class_world::args::{copy_args, copy_keywords, native_task};
 use class_world::world::World;
 use py_node::built_in::BuiltIn;
 use py_node::entry::{SlotEntry, SlotId};
+use py_node::known::Known;
 use py_node::memory::OutOfMemory;
 use py_node::raised::{Cause, Kind};
 use py_node::refs::{PyObjectRef, PyStrInterned, PyTypeRef};
@@ -120,7 +121,7 @@ pub(crate) fn begin_new(
 
 // An object is made by an entry: a native, or the method of that name.
 fn new_by(
-    world: &mut World,
+    world: &World,
     alloc: Global,
     entry: Option<SlotEntry>,
     by: PyTypeRef,
@@ -128,9 +129,9 @@ fn new_by(
     args: Args,
     kw: Keywords,
 ) -> Result<Step<CallKept>, OutOfMemory>
-    requires { AllHold world.old (IsClass class.0 ∷ of_args args.items kw.items) }
-    ensures goes { IfOk result (λ step. Decides (call.New by class args kw) (λ t u. new_by u entry class.0 args.items (bindings t kw.items)) world.old world.new step) }
-    ensures safe { LeavesNone world.old world.new result }
+    requires { AllHold world.now (IsClass class.0 ∷ of_args args.items kw.items) }
+    ensures goes { IfOk result (λ step. Decides (call.New by class args kw) (λ t u. new_by u entry class.0 args.items (bindings t kw.items)) world.now world.now step) }
+    ensures safe { LeavesNone world.now world.now result }
 {
     match entry {
         Some(SlotEntry::Native(native)) => {
@@ -138,8 +139,7 @@ fn new_by(
             Ok(Step::Ask(native_task(native, args, kw), CallKept::Pass))
         }
         Some(SlotEntry::Wrapper(_)) => {
-            let name = world.intern(alloc, "__new__")?;
-            let method = world.class_attr(class, name);
+            let method = world.class_attr(class, world.known(Known::New));
             new_found(world, alloc, method, by, class, args, kw)
         }
         _ => Ok(refused(Kind::TypeError, Cause::CannotCreate)),

@@ -11,6 +11,7 @@ use crate::asked::{bound, refused, special};
 use class_world::args::native_task;
 use class_world::world::{Fixed, World};
 use py_node::entry::{SlotEntry, SlotId};
+use py_node::known::Known;
 use py_node::memory::OutOfMemory;
 use py_node::raised::{Cause, Kind};
 use py_node::refs::PyObjectRef;
@@ -20,15 +21,15 @@ use std::alloc::Global;
 /// An object is initialised as its class's entry for that says, if there is one: by a native, or by the
 /// special method.
 pub(crate) fn begin_init(
-    world: &mut World,
+    world: &World,
     alloc: Global,
     object: PyObjectRef,
     args: Args,
     kw: Keywords,
 ) -> Result<Step<CallKept>, OutOfMemory>
-    requires { AllHold world.old (IsNode object ∷ of_args args.items kw.items) }
-    ensures goes { IfOk result (λ step. Begins (call.Init object args kw) world.old world.new step) }
-    ensures safe { LeavesNone world.old world.new result }
+    requires { AllHold world.now (IsNode object ∷ of_args args.items kw.items) }
+    ensures goes { IfOk result (λ step. Begins (call.Init object args kw) world.now world.now step) }
+    ensures safe { LeavesNone world.now world.now result }
 {
     match world.slot(object, SlotId::Init) {
         Some(SlotEntry::Native(native)) => {
@@ -36,7 +37,7 @@ pub(crate) fn begin_init(
             Ok(Step::Ask(native_task(native, args, kw), CallKept::Pass))
         }
         Some(SlotEntry::Wrapper(_)) => {
-            let task = special(world, alloc, object, "__init__", args, kw)?;
+            let task = special(world, object, Known::Init, args, kw);
             Ok(Step::Ask(task, CallKept::AfterSpecialInit))
         }
         _ => Ok(Step::End(Ok(Answer::Done))),

@@ -1,6 +1,6 @@
 // The natives of `object`.
 
-ghost use Rattle.std.specs.Prelude.{◌≡◌, Some, IfOk, codes, option_map};
+ghost use Rattle.std.specs.Prelude.{◌≡◌, Some, IfOk, option_map};
 ghost use Rattle.py_node.specs.declared.task.CallTask.TheVariants as call;
 ghost use Rattle.plain_machine.specs.World.{is_text, datum_at};
 ghost use Rattle.class_model.specs.Class.{found};
@@ -17,6 +17,7 @@ use crate::asked::refused;
 use class_world::world::{Fixed, World};
 use py_node::built_in::BuiltIn;
 use py_node::entry::ObjectNative;
+use py_node::known::Known;
 use py_node::memory::OutOfMemory;
 use py_node::payload::Payload;
 use py_node::raised::{Cause, Kind};
@@ -53,10 +54,7 @@ fn object_by(
     ensures safe { LeavesNone world.old world.new result }
 {
     match native {
-        ObjectNative::New => {
-            let name = world.intern(alloc, "__abstractmethods__")?;
-            object_new(world, alloc, name, args)
-        }
+        ObjectNative::New => object_new(world, alloc, args),
         ObjectNative::Init => Ok(object_init(world, args)),
         ObjectNative::InitSubclass => Ok(object_init_subclass(world, args, kw)),
         _ => Ok(refused(Kind::NotImplementedError, Cause::NotYet)),
@@ -69,11 +67,9 @@ fn object_by(
 fn object_new(
     world: &mut World,
     alloc: Global,
-    name: PyStrInterned,
     args: &[PyObjectRef],
 ) -> Result<Step<CallKept>, OutOfMemory>
-    requires args { Holds world.old (AreNodes args.now) }
-    requires name { (t : Reading) → Reads t world.old → t.text name.0 ≡ codes "__abstractmethods__" }
+    requires { Holds world.old (AreNodes args.now) }
     ensures goes { IfOk result (λ step. Closes (λ t u. object_new u args.now) world.old world.new step) }
     ensures safe { LeavesNone world.old world.new result }
 {
@@ -89,7 +85,8 @@ fn object_new(
     if built_in.0 != BuiltIn::Object.class().0 {
         return Ok(refused(Kind::TypeError, Cause::UnsafeNew));
     }
-    if is_abstract(world, world.class_attr(class, name)) {
+    let methods = world.class_attr(class, world.known(Known::Abstractmethods));
+    if is_abstract(world, methods) {
         return Ok(refused(Kind::TypeError, Cause::AbstractMethods));
     }
     let node = world.make_node(alloc, class, Payload::Object)?;

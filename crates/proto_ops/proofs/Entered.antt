@@ -8,6 +8,7 @@ use Rattle.py_node.specs.declared.task.PyNumberBinaryOp.{PyNumberBinaryOp}
 use Rattle.py_node.specs.declared.task.OperatorTask.TheVariants as operator
 use Rattle.plain_machine.specs.Plain.{PlainWorld, DoAdd, DoBinOp1, DoInt, ANumber, Answered, Told, Ends}
 use Rattle.plain_machine.specs.World.{class_at, datum_at, number_of, with_node, next_node, slot_at, candidates_at}
+use Rattle.py_node.specs.Operators.{operator_row}
 use Rattle.plain_machine.specs.Row.{value, end, start, read_once}
 use Rattle.class_world.specs.declared.world.World.{World}
 use Rattle.class_world.specs.Reading.{Reading, Reads, plain}
@@ -26,8 +27,8 @@ use Rattle.class_world.proofs.Claims.{no-nodes, more-nodes, all-append}
 use Rattle.class_table.specs.Turn.{list_both}
 use Rattle.proto_ops.specs.declared.OperatorKept.{OperatorKept}
 use Rattle.proto_ops.specs.declared.OperatorKept.TheVariants.{Pass, AddRest}
-use Rattle.proto_ops.specs.Say.{operator_say, left_slot, right_slot, is_not_implemented, joined, in_turn, sum_say, int_or_fault, total}
-use Rattle.proto_ops.specs.Rows.{operator_stands, of_operator_kept, joining, entered, AsksSpecial, Begins, Resumes, Sums}
+use Rattle.proto_ops.specs.Say.{operator_say, is_not_implemented, joined, in_turn, sum_say, int_or_fault, total}
+use Rattle.proto_ops.specs.Rows.{operator_stands, of_operator_kept, joining, entered, Begins, Resumes, Sums}
 
 -- a sum that no candidate gave
 pub add-joins : (w : World) (a x : PyObjectRef) (item : Option SlotEntry) → is_not_implemented x ≡ true → ((t : Reading) → Reads t w → slot_at (plain t w) a SeqItem ≡ item) → Resumes (AddRest a) (Ok (Value x)) w w (joining item)
@@ -63,7 +64,7 @@ binop1-step w o none a b t None (Some s) e = (refl, refl, record { says = λ u r
 binop1-step w o none a b t (Some s) (Some v) e = (refl, refl, record { says = λ u r more. refl })
 
 -- the first candidate is entered
-pub binop1-enters : (w : World) (o : PyNumberBinaryOp) (none a b : PyObjectRef) (f g : Option SlotEntry) → none.0 ≡ 24 → ((t : Reading) → Reads t w → candidates_at (plain t w) (left_slot o) (right_slot o) (class_at (plain t w) a) (class_at (plain t w) b) ≡ list_both f g) → Begins (operator.BinOp1 o a b) w w (entered none a b (list_both f g))
+pub binop1-enters : (w : World) (o : PyNumberBinaryOp) (none a b : PyObjectRef) (f g : Option SlotEntry) → none.0 ≡ 24 → ((t : Reading) → Reads t w → candidates_at (plain t w) (operator_row o).1 (operator_row o).2 (class_at (plain t w) a) (class_at (plain t w) b) ≡ list_both f g) → Begins (operator.BinOp1 o a b) w w (entered none a b (list_both f g))
 unfolding operator_say
 binop1-enters w o none a b f g e h = λ t r. (r, subst (λ cs. StepsOnce w o a b t cs (entered none a b (list_both f g))) (sym (h t r)) (binop1-step w o none a b t f g e))
 
@@ -80,15 +81,3 @@ sum-made w new a b r x y z hx hy f made number reads = λ t q.
     let said : sum_say u (number_of (datum_at u a)) (number_of (datum_at u b)) [] ≡ Ends (with_node u 4 (ANumber z)) (value (next_node u 4)) =
     ap (λ m. sum_say u m (number_of (datum_at u b)) []) (hx t) ∙ ap (λ m. sum_say u (Some x) m []) (hy t) ∙ ap (λ o. int_or_fault u o []) f in
     (reads t q, subst (λ s. Steps operator_say (operator_stands t) t (DoInt int.Add (a ∷ b ∷ []) []) [] s (End (Ok (Value r))) new) (sym said) (ap value (number t), made t))
-
--- a special method that is asked says of numbers only what held before
-pub special-leaves : (old new : World) (name : PyStrInterned) (object other : PyObjectRef) (r : Result (Step OperatorKept) OutOfMemory) → Grows old new → Holds new (IsName name) → Holds old (IsNode object) → Holds old (IsNode other) → IfOk r (λ step. AsksSpecial name object other step) → Leaves of_operator_kept old new r
-unfolding Holds
-special-leaves old new name object other (Err e) g n a b h = (g, tt)
-special-leaves old new name object other (Ok (Ask (task.Attribute (attribute.Special o x args kw)) Pass)) g n a b h =
-    let here = subst (λ r. Holds new (IsNode r)) (sym h.0) (g.still (IsNode object) a) in
-    let named = subst (λ x. Holds new (IsName x)) (sym h.1) n in
-    let there = subst (λ vs. Holds new (AreNodes vs)) (sym h.2) (more-nodes new [] other (no-nodes new) (g.still (IsNode other) b)) in
-    let keys = subst (λ ks. AllHold new (of_each of_binding ks)) (sym h.3) tt in
-    (g, (here, (named, (there, all-append new (of_each of_binding kw.items) [] keys tt))))
-special-leaves old new name object other (Ok step) g n a b h = absurd h

@@ -9,20 +9,18 @@ use Rattle.py_node.specs.declared.task.Answer.TheVariants.{Value}
 use Rattle.py_node.specs.declared.task.OperatorTask.{OperatorTask}
 use Rattle.py_node.specs.declared.task.PyNumberBinaryOp.TheVariants.{Add}
 use Rattle.py_node.specs.declared.task.Step.{Step}
-use Rattle.plain_machine.specs.Plain.{OperatorJob, DoAdd, DoBinOp1, DoEnter, DoInt, PlainTask, Read}
+use Rattle.plain_machine.specs.Plain.{OperatorJob, DoAdd, DoBinOp1, DoEnter, DoInt, Read}
 use Rattle.py_node.specs.declared.raised.Kind.TheVariants.{TypeError}
 use Rattle.py_node.specs.declared.raised.Cause.TheVariants.{UnsupportedOperand}
 use Rattle.py_node.specs.declared.task.Step.TheVariants.{Ask, End}
 use Rattle.py_node.specs.declared.task.Task.TheVariants as task
 use Rattle.py_node.specs.declared.task.OperatorTask.TheVariants as operator
-use Rattle.py_node.specs.declared.task.AttributeTask.TheVariants as attribute
-use Rattle.py_node.specs.declared.refs.PyStrInterned.{PyStrInterned}
 use Rattle.py_node.specs.declared.task.LaterTask.TheVariants as later
-use Rattle.plain_machine.specs.Row.{pass, fault}
+use Rattle.plain_machine.specs.Row.{fault}
 use Rattle.plain_machine.specs.Rows.{Pending, fresh, given}
 use Rattle.class_world.specs.declared.world.World.{World}
 use Rattle.class_world.specs.Reading.{Reading, operator_job, ended_of}
-use Rattle.class_world.specs.Rows.{Follows, Goes}
+use Rattle.class_world.specs.Rows.{Goes}
 use Rattle.class_world.specs.Sound.{Claim, IsNode, AreNodes, Holds}
 use Rattle.py_node.specs.declared.entry.IntNative.TheVariants as int
 use Rattle.proto_ops.specs.declared.OperatorKept.{OperatorKept}
@@ -59,15 +57,6 @@ Sums a b = Goes operator_say operator_stands (λ t. fresh (DoInt int.Add (a ∷ 
 -- the nodes are nodes where these two are
 abbrev pub AreBoth : PyObjectRef → PyObjectRef → List PyObjectRef → Type 0
 AreBoth a b vs = (w : World) → Holds w (IsNode a) → Holds w (IsNode b) → Holds w (AreNodes vs)
-
--- the step of an entry is to ask this
-abbrev pub Enters : SlotEntry → PyObjectRef → PyObjectRef → (Reading → PlainTask) → World → World → Step OperatorKept → Type 0
-Enters entry a b task = Follows operator_say operator_stands (λ t. fresh (DoEnter entry a b)) (λ t u. pass u (task t))
-
--- a step that asks a special method of an object, with another one
-abbrev pub AsksSpecial : PyStrInterned → PyObjectRef → PyObjectRef → Step OperatorKept → Type 0
-AsksSpecial name object other (Ask (task.Attribute (attribute.Special o x args kw)) Pass) = (o ≡ object) × (x ≡ name) × (args.items ≡ other ∷ []) × (kw.items ≡ [])
-AsksSpecial name object other _ = ⊥
 
 -- the steps of the code, by what was read
 

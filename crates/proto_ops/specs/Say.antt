@@ -1,28 +1,25 @@
 -- What the rows of operators say.
-use Rattle.std.specs.Prelude.{◌^◌, ℤ, pos, negsuc, ◌+ℤ◌, codes, Bool, cond, eqb, List, [], ◌∷◌, Option, Some, None, nat_lt}
+use Rattle.std.specs.Prelude.{◌^◌, ℤ, pos, negsuc, ◌+ℤ◌, Bool, cond, eqb, List, [], ◌∷◌, Option, Some, None, nat_lt}
 use Rattle.py_node.specs.declared.refs.PyObjectRef.{PyObjectRef}
 use Rattle.py_node.specs.declared.raised.Kind.TheVariants.{TypeError, OverflowError}
 use Rattle.py_node.specs.declared.raised.Cause.TheVariants.{UnsupportedOperand, IntRange, ArgCount, UnexpectedKeyword}
 use Rattle.py_node.specs.declared.entry.SlotId.{SlotId}
-use Rattle.py_node.specs.declared.entry.SlotId.TheVariants.{Add, RightAdd, SeqItem}
+use Rattle.py_node.specs.declared.entry.SlotId.TheVariants.{SeqItem}
 use Rattle.py_node.specs.declared.entry.SlotEntry.{SlotEntry}
 use Rattle.py_node.specs.declared.entry.SlotEntry.TheVariants.{Native, Wrapper, Unhashable}
 use Rattle.py_node.specs.declared.task.PyNumberBinaryOp.{PyNumberBinaryOp}
 use Rattle.py_node.specs.declared.task.PyNumberBinaryOp.TheVariants as op
 use Rattle.py_node.specs.declared.task.LaterTask.TheVariants as later
+use Rattle.py_node.specs.declared.known.Known.{Known}
+use Rattle.py_node.specs.Known.{known_text}
+use Rattle.py_node.specs.Slots.{names_of}
+use Rattle.py_node.specs.Operators.{operator_row, is_reflected}
 use Rattle.plain_machine.specs.Plain.{ANumber, PlainWorld, Bindings, OperatorJob, DoAdd, DoBinOp1, DoEnter, DoInt, DoSpecial, PlainTask, ToAttribute, ToOperator, ToLater, Said, Asks, Ends}
 use Rattle.plain_machine.specs.World.{ref, class_at, datum_at, number_of, slot_at, candidates_at}
 use Rattle.plain_machine.specs.Args.{two_of}
 use Rattle.plain_machine.specs.Known.{the_int}
 use Rattle.plain_machine.specs.Native.{native_task}
 use Rattle.plain_machine.specs.Row.{Row, start, ask, pass, end, value, fault, on_value, make, read_once}
-
--- the slots of an operator, for its left and its right operand
-abbrev pub left_slot : PyNumberBinaryOp → SlotId
-left_slot op.Add = Add
-
-abbrev pub right_slot : PyNumberBinaryOp → SlotId
-right_slot op.Add = RightAdd
 
 -- NotImplemented: the operator is not for these operands
 abbrev pub not_implemented : PyObjectRef
@@ -38,15 +35,22 @@ in_turn w a b (s ∷ ss) =
     ask w (ToOperator (DoEnter s a b)) (λ r. on_value w r (λ x. cond (is_not_implemented x) (in_turn w a b ss) (end w (value x))))
 
 abbrev pub binop1_say : PlainWorld → PyNumberBinaryOp → PyObjectRef → PyObjectRef → Row
-binop1_say w o a b = read_once (candidates_at w (left_slot o) (right_slot o) (class_at w a) (class_at w b)) (in_turn w a b)
+binop1_say w o a b = read_once (candidates_at w (operator_row o).1 (operator_row o).2 (class_at w a) (class_at w b)) (in_turn w a b)
 
--- the special method that a wrapper stands for: of the left operand, with the right one, or the other way round
+-- the operands in the order in which a method takes them: the reflected one is that of the right operand
+abbrev pub in_order : Bool → PyObjectRef → PyObjectRef → PyObjectRef × PyObjectRef
+in_order reflected a b = cond reflected (b, a) (a, b)
+
+-- the special method of a first name. There may be none, which is for later
+abbrev pub method_of : List Known → PyObjectRef × PyObjectRef → PlainTask
+method_of [] p = ToLater later.Native
+method_of (x ∷ xs) p = ToAttribute (DoSpecial p.0 (known_text x) (p.1 ∷ []) [])
+
+-- the special method that a wrapper stands for: that of its slot's first name
 abbrev pub method_task : SlotId → PyObjectRef → PyObjectRef → PlainTask
-method_task Add a b = ToAttribute (DoSpecial a (codes "__add__") (b ∷ []) [])
-method_task RightAdd a b = ToAttribute (DoSpecial b (codes "__radd__") (a ∷ []) [])
-method_task _ a b = ToLater later.Native
+method_task s a b = method_of (names_of s) (in_order (is_reflected s) a b)
 
--- an entry is entered: a native with both operands, or the special method of an operand. That of a slot of no operator so far is for later
+-- an entry is entered: a native with both operands, or the special method of an operand
 abbrev pub enter_task : SlotEntry → PyObjectRef → PyObjectRef → PlainTask
 enter_task (Native n) a b = native_task n (a ∷ b ∷ []) []
 enter_task (Wrapper s) a b = method_task s a b

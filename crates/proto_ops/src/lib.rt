@@ -2,13 +2,13 @@
 #![tactic(auto, unfolding(crate::specs::Say::operator_say))]
 
 ghost use Rattle.std.specs.Prelude.{◌≡◌, [], ◌∷◌, IfOk};
-ghost use Rattle.class_world.specs.Sound.{AllHold, Holds, IsNode};
+ghost use Rattle.class_world.specs.Sound.{AllHold, Holds, IsNode, AreNodes};
 ghost use Rattle.class_world.specs.Claims.{of_operator_task, of_ended, Leaves};
 ghost use Rattle.py_node.specs.declared.task.OperatorTask.TheVariants as operator;
 ghost use Rattle.class_table.specs.Turn.{list_of};
-ghost use Rattle.proto_ops.specs.Say.{total, left_slot, right_slot, is_not_implemented, method_task};
+ghost use Rattle.proto_ops.specs.Say.{total, in_order, is_not_implemented};
 ghost use Rattle.plain_machine.specs.Args.{two_of};
-ghost use Rattle.proto_ops.specs.Rows.{Begins, Resumes, Sums, Enters, AsksSpecial, AreBoth, joining, entered, of_operator_kept};
+ghost use Rattle.proto_ops.specs.Rows.{Begins, Resumes, Sums, AreBoth, joining, entered, of_operator_kept};
 
 use class_table::candidates::Candidates;
 use class_world::args::{native_task, two_of};
@@ -18,7 +18,7 @@ use py_node::entry::{IntNative, SlotEntry, SlotId};
 use py_node::memory::OutOfMemory;
 use py_node::payload::Payload;
 use py_node::raised::{Cause, Kind, Raised};
-use py_node::refs::{PyObjectRef, PyStrInterned};
+use py_node::refs::PyObjectRef;
 use py_node::task::{
     Answer, Args, AttributeTask, Keywords, LaterTask, OperatorTask, PyNumberBinaryOp, Step, Task,
 };
@@ -155,7 +155,7 @@ fn binop1(
     ensures goes { IfOk result (λ step. Begins (operator.BinOp1 op a b) world.old world.new step) }
     ensures safe { Leaves of_operator_kept world.old world.new result }
 {
-    let candidates = world.candidates(left_slot(op), right_slot(op), a, b);
+    let candidates = world.candidates(op.left_slot(), op.right_slot(), a, b);
     let none = world.fixed(Fixed::NotImplemented);
     let step = enter_first(candidates, none, a, b);
     Ok(step)
@@ -185,35 +185,17 @@ fn enter_first(
     }
 }
 
-// The slot of an operator for its left operand.
-fn left_slot(op: PyNumberBinaryOp) -> SlotId
-    ensures { result ≡ left_slot op }
-{
-    match op {
-        PyNumberBinaryOp::Add => SlotId::Add,
-    }
-}
-
-// The slot of an operator for its right operand.
-fn right_slot(op: PyNumberBinaryOp) -> SlotId
-    ensures { result ≡ right_slot op }
-{
-    match op {
-        PyNumberBinaryOp::Add => SlotId::RightAdd,
-    }
-}
-
 // An entry is entered with both operands.
 fn enter(
-    world: &mut World,
+    world: &World,
     alloc: Global,
     entry: SlotEntry,
     a: PyObjectRef,
     b: PyObjectRef,
 ) -> Result<Step<OperatorKept>, OutOfMemory>
-    requires { AllHold world.old (of_operator_task (operator.Enter entry a b)) }
-    ensures goes { IfOk result (λ step. Begins (operator.Enter entry a b) world.old world.new step) }
-    ensures safe { Leaves of_operator_kept world.old world.new result }
+    requires { AllHold world.now (of_operator_task (operator.Enter entry a b)) }
+    ensures goes { IfOk result (λ step. Begins (operator.Enter entry a b) world.now world.now step) }
+    ensures safe { Leaves of_operator_kept world.now world.now result }
 {
     match entry {
         SlotEntry::Native(native) => {
@@ -226,43 +208,42 @@ fn enter(
     }
 }
 
-// The special method that a wrapper stands for.
+// The special method that a wrapper stands for: that of its slot's first name.
 fn enter_method(
-    world: &mut World,
+    world: &World,
     alloc: Global,
     slot: SlotId,
     a: PyObjectRef,
     b: PyObjectRef,
 ) -> Result<Step<OperatorKept>, OutOfMemory>
-    requires { AllHold world.old (of_operator_task (operator.Enter (SlotEntry.Wrapper slot) a b)) }
-    ensures goes { IfOk result (λ step. Enters (SlotEntry.Wrapper slot) a b (λ t. method_task slot a b) world.old world.new step) }
-    ensures safe { Leaves of_operator_kept world.old world.new result }
+    requires { AllHold world.now (of_operator_task (operator.Enter (SlotEntry.Wrapper slot) a b)) }
+    ensures goes { IfOk result (λ step. Begins (operator.Enter (SlotEntry.Wrapper slot) a b) world.now world.now step) }
+    ensures safe { Leaves of_operator_kept world.now world.now result }
 {
-    match slot {
-        SlotId::Add => {
-            let name = world.intern(alloc, "__add__")?;
-            special(alloc, name, a, b)
-        }
-        SlotId::RightAdd => {
-            let name = world.intern(alloc, "__radd__")?;
-            special(alloc, name, b, a)
-        }
-        _ => Ok(Step::Ask(Task::Later(LaterTask::Native), OperatorKept::Pass)),
-    }
+    let [name, ..] = slot.special_names() else {
+        return Ok(Step::Ask(Task::Later(LaterTask::Native), OperatorKept::Pass));
+    };
+    let (object, other) = in_order(slot.is_reflected(), a, b);
+    let args = alone(alloc, other)?;
+    let task = AttributeTask::Special(object, world.known(*name), args, Vec::new(alloc));
+    Ok(Step::Ask(Task::Attribute(task), OperatorKept::Pass))
 }
 
-// A special method of an object, with another one.
-fn special(
-    alloc: Global,
-    name: PyStrInterned,
-    object: PyObjectRef,
-    other: PyObjectRef,
-) -> Result<Step<OperatorKept>, OutOfMemory>
-    ensures { IfOk result (λ step. AsksSpecial name object other step) }
+// The operands in the order in which a method takes them: the reflected one is that of the right operand.
+fn in_order(reflected: bool, a: PyObjectRef, b: PyObjectRef) -> (PyObjectRef, PyObjectRef)
+    ensures order { result ≡ in_order reflected a b }
+    ensures first { (w : World) → Holds w (IsNode a) → Holds w (IsNode b) → Holds w (IsNode result.0) }
+    ensures second { (w : World) → Holds w (IsNode a) → Holds w (IsNode b) → Holds w (IsNode result.1) }
 {
-    let args = vec![in alloc; other]?;
-    let task = AttributeTask::Special(object, name, args, Vec::new(alloc));
-    Ok(Step::Ask(Task::Attribute(task), OperatorKept::Pass))
+    if reflected { (b, a) } else { (a, b) }
+}
+
+// One argument.
+fn alone(alloc: Global, a: PyObjectRef) -> Result<Args, OutOfMemory>
+    ensures items { IfOk result (λ v. v.items ≡ a ∷ []) }
+    ensures holds { IfOk result (λ v. (w : World) → Holds w (IsNode a) → Holds w (AreNodes v.items)) }
+{
+    Ok(vec![in alloc; a]?)
 }
 
 // Two arguments.

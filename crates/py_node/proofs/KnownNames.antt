@@ -1,11 +1,11 @@
 -- The table of names has a row for each name, at its place, and no text stands twice.
-use Rattle.std.proofs.Common.{◌≡◌, ◌<◌, true, refl, nat_lt}
+use Rattle.std.proofs.Common.{◌≡◌, ◌<◌, true, length, refl, nat_lt}
 use Rattle.std.specs.Prelude.{slice_get, Some, option_map}
 use borrow.Author.Tests.{ltb-true}
 use Rattle.py_node.specs.declared.known.Known.{Known}
 use Rattle.py_node.specs.declared.known.Known.TheVariants.{Add}
 use Rattle.py_node.specs.declared.known.TheConstants.{KNOWN}
-use Rattle.py_node.specs.Known.{number_of}
+use Rattle.py_node.specs.Known.{known_texts, number_of}
 
 below-test : (x : Known) → nat_lt (number_of x) 130 ≡ true
 unfolding number_of
@@ -20,3 +20,7 @@ in-place : (x : Known) → option_map (λ r. r.0) (slice_get KNOWN (number_of x)
 unfolding number_of
 in-place Add = refl
 in-place _ = refl
+
+pub known-count : length known_texts ≡ 130
+unfolding known_texts
+known-count = refl

@@ -8,3 +8,4 @@ pub mod Attributes
 pub mod Texts
 pub mod Known
 pub mod Operators
+pub mod OwnAttrs

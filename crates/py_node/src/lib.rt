@@ -11,6 +11,7 @@ pub mod known;
 pub mod memory;
 pub mod names;
 pub mod operator;
+pub mod own_attrs;
 pub mod payload;
 pub mod raised;
 pub mod refs;

@@ -1,8 +1,11 @@
-use Rattle.std.proofs.Common.{◌∙◌, ap, codes, refl, [], ◌∷◌}
+use Rattle.std.proofs.Common.{◌∙◌, ap, refl, [], ◌∷◌}
+use Rattle.py_node.specs.declared.known.Known.TheVariants.{Metaclass}
+use Rattle.py_node.specs.Known.{known_text}
 use Rattle.plain_machine.specs.Plain.{DoCall, ToCall}
 use Rattle.class_world.specs.Reading.{bindings}
 use Rattle.class_world.specs.Sound.{IsNode, AllHold, of_binding, of_each}
-use Rattle.class_world.proofs.Claims.{all-grow, all-append, no-nodes}
+use Rattle.class_world.proofs.Growth.{grows-itself}
+use Rattle.class_world.proofs.Claims.{all-append, no-nodes}
 use Rattle.class_make.specs.Say.{class_job_say}
 use Rattle.class_make.proofs.Making.{without-read, filter-holds}
 use Rattle.class_make.proofs.hook.call_hook.Goals as goal
@@ -10,15 +13,13 @@ use Rattle.class_make.proofs.hook.call_hook.Goals as goal
 pub returns-clause-goes : goal.returns-clause-goes
 unfolding class_job_say
 returns-clause-goes c = λ t r.
-    let e = c.in_ok-metaclass.ensures in
     let kept = rw c.deref.ensures.value at c.in_ok-kw.ensures in
-    let rest = ap (bindings t) kept ∙ without-read t c.args.kw.items c.in_ok-metaclass.metaclass (codes "metaclass") (e.spelled t r) in
-    (e.reads t r, (λ i. ToCall (DoCall c.args.method (c.new.ensures.items i) (rest i)), e.same t, record { says = λ w s more. refl }))
+    let rest = ap (bindings t) kept ∙ without-read t c.args.kw.items c.known-metaclass.result (known_text Metaclass) (c.known-metaclass.ensures.spelled t r) in
+    (r, (λ i. ToCall (DoCall c.args.method (c.new.ensures.items i) (rest i)), refl, record { says = λ w s more. refl }))
 
 pub returns-clause-safe : goal.returns-clause-safe
 returns-clause-safe c =
-    let e = c.in_ok-metaclass.ensures in
-    let w = c.intern.new.self in
+    let w = c.args.world.now in
     let kept = rw c.deref.ensures.value at c.in_ok-kw.ensures in
-    let names : AllHold w (of_each of_binding c.in_ok-kw.kw.items) = rw kept (filter-holds w c.args.kw.items c.in_ok-metaclass.metaclass (all-grow _ w e.grows _ c.requires.kw)) in
-    (e.grows, (e.grows.still (IsNode c.args.method) c.requires.method, (rw c.new.ensures.items (no-nodes w), all-append w (of_each of_binding c.in_ok-kw.kw.items) (IsNode c.args.class ∷ []) names (e.grows.still (IsNode c.args.class) c.requires.class, tt))))
+    let names : AllHold w (of_each of_binding c.in_ok-kw.kw.items) = rw kept (filter-holds w c.args.kw.items c.known-metaclass.result c.requires.kw) in
+    (grows-itself w, (c.requires.method, (rw c.new.ensures.items (no-nodes w), all-append w (of_each of_binding c.in_ok-kw.kw.items) (IsNode c.args.class ∷ []) names (c.requires.class, tt))))

@@ -24,7 +24,7 @@ pub returns-in_ok-class-in-None-clause-goes : goal.returns-in_ok-class-in-None-c
 returns-in_ok-class-in-None-clause-goes c =
     let e = c.in_ok-class-in-None.ensures in
     let old = c.args.world.now in
-    goes-from c.args.kw.items (λ t u. made_unless c.args.why c.args.plan.meta.0 (string_bytes c.args.plan.name) c.args.plan.base.0 (u, bindings t c.args.plan.attrs)) (λ t u. told_of u c.in_ok-class-in-None.class.0 c.class_node-node.result c.deref-in-None.result.now) old c.define_all.new.world c.told_of.new.world c.told_of.result (λ t r.
+    goes-from c.args.kw.items (λ t u. made_unless c.args.why c.args.plan.meta.0 (string_bytes c.args.plan.name) c.args.plan.base.0 (u, bindings t c.args.plan.attrs)) (λ t u. told_of u c.in_ok-class-in-None.class.0 c.class_node-node.result c.deref-in-None.result.now) old c.define_all.new.world c.define_all.new.world c.told_of.result (λ t r.
     (e.reads t (c.define_all.ensures.reads t r), made-new (plain t old) (plain t c.new_class.new.world) (plain t c.define_all.new.world) c.args.why c.args.plan.meta.0 (string_bytes c.args.plan.name) c.args.plan.base.0 (bindings t c.args.plan.attrs) c.in_ok-class-in-None.class.0 c.class_node-node.result c.deref.result.now c.deref-in-None.result.now c.in-None.is (e.made t ∙ ap (λ x. new_class (plain t old) c.args.plan.meta.0 x c.args.plan.base.0 (bindings t c.args.plan.attrs)) c.as_str.ensures.value) (c.define_all.ensures.set t) (c.deref.ensures.value ∙ c.in_ok-values-in-None.ensures ∙ sym (values-read t c.args.plan.attrs)) (c.deref-in-None.ensures.value ∙ c.in_ok-values-in-None.ensures ∙ sym (values-read t c.args.plan.attrs)) (e.number t) (c.class_node-node.ensures.reads ∙ ap ref (e.number t))))
     c.told_of.ensures.goes
 

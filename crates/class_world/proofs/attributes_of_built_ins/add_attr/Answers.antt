@@ -4,4 +4,4 @@ use Rattle.class_model.proofs.Names.{place-first}
 use Rattle.class_world.proofs.attributes_of_built_ins.add_attr.Goals as goal
 
 pub put_class_attr-requires-clause-first : goal.put_class_attr-requires-clause-first
-put_class_attr-requires-clause-first c = subst (λ n. n < built_ins) (sym c.built_in-class.ensures.place) (place-first c.args.attr.class)
+put_class_attr-requires-clause-first c = subst (λ n. n < built_ins) (sym c.built_in-holder.ensures.place) (place-first c.args.class)

@@ -5,11 +5,9 @@ use Rattle.proto_call.specs.Rows.{Closes}
 use Rattle.proto_call.proofs.Decide.{closes-after}
 use Rattle.proto_call.proofs.object.object_by.Goals as goal
 
-pub returns-in_ok-name-in-New-clause-goes : goal.returns-in_ok-name-in-New-clause-goes
-returns-in_ok-name-in-New-clause-goes c =
-    let old = c.args.world.now in
-    subst (λ n. IfOk c.object_new.result (λ step. Closes (λ t u. object_by u n c.args.args.now (bindings t c.args.kw.now)) old c.object_new.new.world step)) (sym c.in-New.is)
-    (closes-after (λ t u. object_new u c.args.args.now) old c.intern.new.self c.object_new.new.world c.object_new.result c.intern.ensures.reads c.intern.ensures.same c.object_new.ensures.goes)
+pub returns-in-New-clause-goes : goal.returns-in-New-clause-goes
+returns-in-New-clause-goes c =
+    subst (λ n. IfOk c.object_new.result (λ step. Closes (λ t u. object_by u n c.args.args.now (bindings t c.args.kw.now)) c.args.world.now c.object_new.new.world step)) (sym c.in-New.is) c.object_new.ensures.goes
 
 pub returns-in-Init-clause-goes : goal.returns-in-Init-clause-goes
 returns-in-Init-clause-goes c =

@@ -1,4 +1,4 @@
 use Rattle.class_world.proofs.world.World.classes.Goals as goal
 
-pub returns-clause-special : goal.returns-clause-special
-returns-clause-special c = rw (← c.self.view_is) c.self.invariant.special
+pub returns-clause-known : goal.returns-clause-known
+returns-clause-known c = rw (← c.self.view_is) c.self.invariant.known

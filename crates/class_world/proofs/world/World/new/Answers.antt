@@ -1,8 +1,8 @@
-use Rattle.std.proofs.Common.{ap, ◌∙◌}
-use Rattle.plain_machine.specs.BuiltInAttrs.{built_in_attrs}
+use Rattle.std.proofs.Common.{ap, fold, ◌∙◌}
 use Rattle.plain_machine.specs.Start.{start, with_attrs}
+use Rattle.py_node.specs.BuiltIns.{all_built_ins}
 use Rattle.class_world.proofs.world.World.new.Goals as goal
 
 pub returns-clause-start : goal.returns-clause-start
 unfolding start
-returns-clause-start c = λ t r. c.in_ok-add_own_attrs.ensures.added t r ∙ ap (λ w. with_attrs w built_in_attrs) (c.in_ok-world.ensures t)
+returns-clause-start c = λ t r. c.in_ok-add_own_attrs.ensures.added t r ∙ ap (λ w. fold with_attrs w all_built_ins) (c.in_ok-world.ensures t)
