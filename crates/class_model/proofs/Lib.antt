@@ -19,5 +19,6 @@ pub mod Kept
 pub mod Made
 pub mod Best
 pub mod Lines
+pub mod Layouts
 pub mod Failing
 mod Checks

@@ -26,7 +26,7 @@ lines-same f g (b ∷ bs) h =
     let r = lines-same f g bs (λ x k. h x (inr k)) in
     cc (a, r)
 
-subsequence-distinct : (bs xs : List ℕ) → Subsequence bs xs → Distinct xs → Distinct bs
+pub subsequence-distinct : (bs xs : List ℕ) → Subsequence bs xs → Distinct xs → Distinct bs
 subsequence-distinct [] xs s d = tt
 subsequence-distinct (b ∷ bs) [] s d = absurd s
 subsequence-distinct (b ∷ bs) (x ∷ xs) (inl p) d =
