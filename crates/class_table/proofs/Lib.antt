@@ -9,6 +9,7 @@ pub mod Bests
 pub mod Orders
 pub mod Noted
 pub mod Single
+pub mod Renames
 pub mod Pushed
 pub mod AsKept
 pub mod Heaps
