@@ -1,6 +1,5 @@
-use Rattle.std.proofs.Common.{◌∙◌, ◌∷◌, [], ap, length, sym, string_bytes}
-use Rattle.py_node.specs.BuiltIns.{heap_flags}
-use Rattle.plain_machine.specs.World.{ref, with_new_class}
+use Rattle.std.proofs.Common.{◌∙◌, ap, sym, string_bytes}
+use Rattle.plain_machine.specs.World.{ref}
 use Rattle.class_world.specs.Reading.{plain, bindings}
 use Rattle.class_world.proofs.Growth.{grows-on}
 use Rattle.class_world.proofs.Claims.{all-grow}
