@@ -4,7 +4,7 @@ use Rattle.std.specs.Prelude.{is_some, slice_get}
 use Rattle.py_node.specs.declared.memory.OutOfMemory.{OutOfMemory}
 use Rattle.py_node.specs.declared.raised.Raised.{Raised as Fault}
 use Rattle.py_node.specs.declared.raised.Kind.TheVariants.{NotImplementedError}
-use Rattle.py_node.specs.declared.raised.Cause.TheVariants.{NotBaseType, NotYet, QualnameType}
+use Rattle.py_node.specs.declared.raised.Cause.TheVariants.{NotYet, QualnameType}
 use Rattle.py_node.specs.declared.raised.Cause.{Cause}
 use Rattle.py_node.specs.declared.refs.PyObjectRef.{PyObjectRef}
 use Rattle.py_node.specs.declared.refs.PyStrInterned.{PyStrInterned}
@@ -13,7 +13,7 @@ use Rattle.py_node.specs.declared.task.Step.{Step}
 use Rattle.py_node.specs.Attributes.{value_of, is_same_name}
 use Rattle.py_node.specs.BuiltIns.{heap_flags}
 use Rattle.py_node.specs.Tree.{Text}
-use Rattle.class_model.specs.Class.{found_past}
+use Rattle.class_model.specs.Class.{class_at, found_past}
 use Rattle.py_node.specs.declared.known.Known.TheVariants as known
 use Rattle.py_node.specs.Known.{known_text}
 use Rattle.plain_machine.specs.Plain.{Datum, AText, PlainWorld, Bindings, DoMakeClass, Said, Ends}
@@ -25,9 +25,11 @@ use Rattle.class_world.specs.declared.world.World.{World}
 use Rattle.class_world.specs.Reading.{Reading, Reads, bindings, plain}
 use Rattle.class_world.specs.Rows.{Steps}
 use Rattle.class_world.specs.NewHeap.{holds_text, qualified, refused_name, refused_heap}
-use Rattle.class_world.proofs.OfClasses.{bases-seen}
+use Rattle.class_world.proofs.OfClasses.{class-seen}
 use Rattle.class_table.specs.Keys.{numbers}
-use Rattle.class_table.specs.Refused.{refused_bases}
+use Rattle.class_table.specs.Refused.{is_base_at, refused_bases}
+use Rattle.class_table.proofs.Single.{one-allowed}
+use Rattle.plain_machine.specs.Sound.{IsSound}
 use Rattle.std.specs.Option.{option_or}
 use Rattle.class_world.specs.Sound.{CanBeBase, IsNode, AreNodes, Holds, AllHold, Grows, of_binding, of_each}
 use Rattle.class_world.specs.Claims.{Leaves}
@@ -134,10 +136,11 @@ named-allowed u bs e = by-name (has_name bs (known_text known.Slots)) (value_of 
     by-name false (Some r) e = by-datum (datum_at u r) e
 
 -- and where its base can be one, the world doesn't refuse it
-pub never-refused : (w : World) (t : Reading) (b : PyTypeRef) (bases : List PyTypeRef) (bs : Bindings) (cause : Cause) → Some cause ≡ refused_heap (plain t w) (numbers bases) bs → bases ≡ b ∷ [] → Holds w (CanBeBase b.0) → refused_name (plain t w) (qualified bs) ≡ None → ⊥
+pub never-refused : (w : World) (t : Reading) (b : PyTypeRef) (bases : List PyTypeRef) (bs : Bindings) (cause : Cause) → Some cause ≡ refused_heap (plain t w) (numbers bases) bs → bases ≡ b ∷ [] → IsSound (plain t w) → Holds w (CanBeBase b.0) → refused_name (plain t w) (qualified bs) ≡ None → ⊥
 unfolding Holds
-never-refused w t b bases bs cause e one can named =
-    let allowed : refused_bases (plain t w).classes (numbers bases) ≡ None = bases-seen w w refl t (numbers bases) ∙ ap (λ bs. refused_bases w.classes (numbers bs)) one ∙ ap (λ q. cond q None (Some NotBaseType)) can in
+never-refused w t b bases bs cause e one sound can named =
+    let may : is_base_at (class_at (plain t w).classes b.0) ≡ true = class-seen w w refl t is_base_at is_base_at refl (λ k. refl) b.0 ∙ can in
+    let allowed : refused_bases (plain t w).classes (numbers bases) ≡ None = ap (λ bs. refused_bases (plain t w).classes (numbers bs)) one ∙ one-allowed (plain t w).classes b.0 sound.classes.order may in
     let none : Some cause ≡ None = e ∙ ap (λ o. option_or o (refused_name (plain t w) (qualified bs))) allowed ∙ named in
     cc
 

@@ -164,6 +164,7 @@ fn new_class(
     ensures class { IfOk result (λ c. Holds world.new (IsClass c.0)) }
 {
     world.readable();
+    world.sound();
     let bases = vec![in alloc; base]?;
     match world.new_heap(alloc, name, bases, attrs, Vec::new(alloc), meta) {
         Ok(class) => Ok(class),

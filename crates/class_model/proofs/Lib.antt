@@ -17,5 +17,8 @@ pub mod Renamed
 pub mod Sound
 pub mod Kept
 pub mod Made
+pub mod Best
+pub mod Lines
+pub mod Layouts
 pub mod Failing
 mod Checks

@@ -63,7 +63,7 @@ module _ {K : Type 0} (t : Classes K) (k : Class K) (ok : AreSound t) where
   abbrev more : Classes K
   more = with_class t k
 
-  lined : (c : ℕ) → is_class t c ≡ true → (line : List ℕ) × (lin t c ≡ Some line)
+  pub lined : (c : ℕ) → is_class t c ≡ true → (line : List ℕ) × (lin t c ≡ Some line)
   lined c l = some-of (lin t c) (ok.order c l)
 
   -- what is so of the classes that were there
@@ -78,7 +78,7 @@ module _ {K : Type 0} (t : Classes K) (k : Class K) (ok : AreSound t) where
   is_sub-made b c l = ap (is_along c) (lin-made b l)
 
   -- the solid class is found as deep as before
-  deep : (m c : ℕ) → length t ≤ m → is_class t c ≡ true → solid_within more m c ≡ solid t c
+  pub deep : (m c : ℕ) → length t ≤ m → is_class t c ≡ true → solid_within more m c ≡ solid t c
   deep m c d l =
       let r = lined c l in
       sym (solid_within-grows t more (λ x. is_class t x ≡ true) (λ x bs b p e h. ok.there x b bs e h) (λ x p. sym (bases_of-before t k x p)) (λ x p. sym (lin-made x p)) (λ x p. sym (is_solid-push t k x p)) (length t) m c r.0 d r.1 l)
@@ -86,7 +86,7 @@ module _ {K : Type 0} (t : Classes K) (k : Class K) (ok : AreSound t) where
   size : length more ≡ suc (length t)
   size = omega (arith, length-append t (k ∷ []))
 
-  solid-old : (c : ℕ) → is_class t c ≡ true → solid more c ≡ solid t c
+  pub solid-old : (c : ℕ) → is_class t c ≡ true → solid more c ≡ solid t c
   solid-old c l = deep (length more) c (omega (arith, size)) l
 
   base-old : (c : ℕ) → is_class t c ≡ true → base more c ≡ base t c
@@ -115,13 +115,13 @@ module _ {K : Type 0} (t : Classes K) (k : Class K) (ok : AreSound t) where
     inside : (c : ℕ) (bs : List ℕ) → bases_of more c ≡ Some bs → is_class more c ≡ true
     inside c bs e = ap is_some (bases_of-get more c bs e).1
 
-    last-bases : (bs : List ℕ) → bases_of more k.number ≡ Some bs → k.bases ≡ bs
+    pub last-bases : (bs : List ℕ) → bases_of more k.number ≡ Some bs → k.bases ≡ bs
     last-bases bs e = let h = bases_of-last t k fresh k.bases refl in cc
 
-    base-last : base more k.number ≡ first_best more (solid more) k.bases k.bases
+    pub base-last : base more k.number ≡ first_best more (solid more) k.bases k.bases
     base-last = ap (option_and_then (best_of more)) (bases_of-last t k fresh k.bases refl)
 
-    solid-last : solid more k.number ≡ cond (is_solid more k.number) (Some k.number) (option_and_then (solid_within more (length t)) (first_best more (solid_within more (length t)) k.bases k.bases))
+    pub solid-last : solid more k.number ≡ cond (is_solid more k.number) (Some k.number) (option_and_then (solid_within more (length t)) (first_best more (solid_within more (length t)) k.bases k.bases))
     unfolding solid_within
     solid-last =
         let f = solid_within more (length t) in

@@ -11,11 +11,11 @@ use Rattle.py_node.specs.Slots.{names_of, all_slots, sort_of}
 use Rattle.class_model.specs.Order.{has, linear}
 use Rattle.class_model.specs.Class.{Class, Classes, class_at, bases_of, lin, is_along, is_sub, own_of, along, found_by, found, past_first, found_past, subclasses, rekeyed, renamed}
 use Rattle.class_model.specs.Numbers.{numbers_of}
-use Rattle.class_model.specs.Layout.{built_ins, is_empty, has_members, is_solid, solid_within, solid, base, layout_along, layout, member_count, is_place}
+use Rattle.class_model.specs.Layout.{best_of, built_ins, is_empty, has_members, is_solid, solid_within, solid, base, layout_along, layout, member_count, is_place}
 use Rattle.class_model.specs.Slot.{Keys, Natives, is_one_of, is_name_of, is_heap_at, entry, entries, read_along, slot, without_same, in_turn, candidates_of}
 use Rattle.class_model.proofs.Linear.{linear-same}
 use Rattle.class_model.proofs.Agreed.{bind-agrees, first_along-agrees, entry-agrees}
-use Rattle.class_model.proofs.Solid.{solid_within-same, base-agrees}
+use Rattle.class_model.proofs.Solid.{first_best-agrees, solid_within-same, base-agrees}
 
 module _ {K L : Type 0} (f : K → L) where
   -- what does not see the keys of a class sees the same
@@ -115,6 +115,10 @@ module _ {K L : Type 0} (f : K → L) where
   pub base-renamed : (t : Classes K) (c : ℕ) → base (renamed f t) c ≡ base t c
   base-renamed t c =
       base-agrees (renamed f t) t (λ x. Unit {0}) (λ x bs b p e h. tt) (λ x p. bases_of-renamed t x) (λ x p. lin-renamed t x) (λ x p. is_solid-renamed t x) c tt (λ b p. solid-renamed t b)
+
+  pub best_of-renamed : (t : Classes K) (bs : List ℕ) → best_of (renamed f t) bs ≡ best_of t bs
+  best_of-renamed t bs =
+      first_best-agrees (renamed f t) t (λ x. Unit {0}) (λ x bs b p e h. tt) (λ x p. bases_of-renamed t x) (λ x p. lin-renamed t x) (λ x p. is_solid-renamed t x) (solid (renamed f t)) (solid t) bs bs (λ b h. solid-renamed t b) (λ b d h k. tt) (λ b h. h)
 
   layout_along-renamed : (t : Classes K) (line : List ℕ) → layout_along (renamed f t) line ≡ layout_along t line
   layout_along-renamed t [] = refl

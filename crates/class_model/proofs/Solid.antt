@@ -15,7 +15,7 @@ use Rattle.class_model.proofs.Changed.{bases_of-before, bases_of-last, lin-push,
 use Rattle.class_model.proofs.Numbers.{at-before, at-last, at-changed, length-changed}
 use Rattle.class_model.proofs.Agreed.{bind-agrees}
 
-first_best-held : {K : Type 0} (t : Classes K) (f : ℕ → Option ℕ) (all bs : List ℕ) (b : ℕ) → first_best t f all bs ≡ Some b → Holds bs b
+pub first_best-held : {K : Type 0} (t : Classes K) (f : ℕ → Option ℕ) (all bs : List ℕ) (b : ℕ) → first_best t f all bs ≡ Some b → Holds bs b
 first_best-held t f all [] b e = cc
 first_best-held t f all (x ∷ bs) b e = go (derives_all t (f x) (map f all)) (first_best-held t f all bs b) e
   where
@@ -60,7 +60,7 @@ module _ {K L : Type 0} (t : Classes K) (u : Classes L) (At : ℕ → Type 0) (i
       let r = derives_all-agrees (Some c) ds h in
       ap (λ w. w && derives_all t (Some c) ds) a ∙ ap (λ w. is_sub u c d && w) r
 
-  first_best-agrees : (f g : ℕ → Option ℕ) (all bs : List ℕ) → ((b : ℕ) → Holds all b → f b ≡ g b) → ((b d : ℕ) → Holds all b → f b ≡ Some d → At d) → ((b : ℕ) → Holds bs b → Holds all b) → first_best t f all bs ≡ first_best u g all bs
+  pub first_best-agrees : (f g : ℕ → Option ℕ) (all bs : List ℕ) → ((b : ℕ) → Holds all b → f b ≡ g b) → ((b d : ℕ) → Holds all b → f b ≡ Some d → At d) → ((b : ℕ) → Holds bs b → Holds all b) → first_best t f all bs ≡ first_best u g all bs
   first_best-agrees f g all [] same at within = refl
   first_best-agrees f g all (b ∷ bs) same at within =
       let p = within b (inl refl) in
@@ -105,7 +105,7 @@ best-one u f b h = go (f b) refl
     go None e = sym e
     go (Some d) e = ap (λ w. option_and_then f (cond (w && true) (Some b) None)) (h d e)
 
-best-one_some : {K : Type 0} (u : Classes K) (f : ℕ → Option ℕ) (b d : ℕ) → f b ≡ Some d → is_sub u d d ≡ true → first_best u f (b ∷ []) (b ∷ []) ≡ Some b
+pub best-one_some : {K : Type 0} (u : Classes K) (f : ℕ → Option ℕ) (b d : ℕ) → f b ≡ Some d → is_sub u d d ≡ true → first_best u f (b ∷ []) (b ∷ []) ≡ Some b
 best-one_some u f b d e h = ap (λ o. cond (derives_all u o (o ∷ [])) (Some b) None) e ∙ ap (λ w. cond (w && true) (Some b) None) h
 
 module _ {K : Type 0} where

@@ -20,7 +20,7 @@ Decides-within [] ys = (λ e x h. absurd h, λ h. refl)
 Decides-within (x ∷ xs) ys =
     Decides-like (has ys x && is_within xs ys) (each_of (λ z. Holds ys z) x xs) (λ f. (f x (inl refl), λ z h. f z (inr h))) (Decides-and (has ys x) (is_within xs ys) (Decides-has ys x) (Decides-within xs ys))
 
-Decides-distinct : (xs : List ℕ) → Decides (is_distinct xs) (Distinct xs)
+pub Decides-distinct : (xs : List ℕ) → Decides (is_distinct xs) (Distinct xs)
 Decides-distinct [] = (λ e. tt, λ h. refl)
 Decides-distinct (x ∷ xs) = Decides-and (not (has xs x)) (is_distinct xs) (Decides-not (has xs x) (Decides-has xs x)) (Decides-distinct xs)
 

@@ -1,25 +1,44 @@
--- A class with one base.
-use Rattle.std.proofs.Common.{◌≡◌, ℕ, ◌≤◌, List, [], ◌∷◌, length, Some, None, Bool, true, false, cond, refl, ap, subst, arith, rules}
-use Rattle.std.specs.Prelude.{slice_get}
+-- The bases of a class that is made, as the code reads them.
+use Rattle.std.proofs.Common.{◌≡◌, ℕ, zero, suc, ◌<◌, ◌≤◌, ◌-◌, true, List, [], ◌∷◌, length, get_or, take, drop, Some, refl, sym, ap, arith}
 use Rattle.py_node.specs.declared.refs.PyTypeRef.{PyTypeRef}
+use Rattle.py_node.specs.declared.refs.PyStrInterned.{PyStrInterned}
+use Rattle.class_model.specs.Class.{Classes, is_class, is_sub}
+use Rattle.class_model.specs.Layout.{solid, best_of}
+use Rattle.class_model.proofs.Solid.{best-one_some}
 use Rattle.class_table.specs.Keys.{numbers}
-use Rattle.std.specs.Prelude.{IsTrue, not}
-use Rattle.py_node.specs.declared.raised.Cause.TheVariants.{NotBaseType}
-use Rattle.class_model.specs.Class.{Classes, class_at, is_class}
-use Rattle.class_table.specs.Refused.{AreThere, is_base_at, refused_bases, lacks_base}
+use Rattle.class_table.specs.New.{IsBelow, IsBest}
+use Rattle.class_table.specs.Refused.{AreThere}
 
-pub only : (items : List PyTypeRef) (b : PyTypeRef) → length items ≤ 1 → slice_get items 0 ≡ Some b → items ≡ b ∷ []
-only [] b l e = cc
-only (c ∷ []) b l e = let s : c ≡ b = cc in ap (λ x. x ∷ []) s
-only (c ∷ (d ∷ items)) b l e = absurd (omega arith)
+-- where there is a best base, there are bases
+pub below-best : (t : Classes PyStrInterned) (n : ℕ) (bs : List ℕ) (b : ℕ) → AreThere t bs → best_of t bs ≡ Some b → IsBelow t n bs
+below-best t n [] b l e = cc
+below-best t n (c ∷ bs) b l e = l
 
-pub only-below : {K : Type 0} (t : Classes K) (items : List PyTypeRef) (b : PyTypeRef) → items ≡ b ∷ [] → AreThere t (numbers items) → is_class t b.0 ≡ true
-only-below t items b e h = let P : List PyTypeRef → Type 0 = λ bs. AreThere t (numbers bs) in (subst P e h).0
+pub is-best : (t : Classes PyStrInterned) (bs : List ℕ) (b : PyTypeRef) → best_of t bs ≡ Some b.0 → IsBest t bs (Some b)
+is-best t [] b e = cc
+is-best t (c ∷ bs) b e = e
 
-lacks-one : {K : Type 0} (t : Classes K) (b : ℕ) (bs : List ℕ) (v : Bool) → is_base_at (class_at t b) ≡ v → (cond v None (Some NotBaseType) ≡ Some NotBaseType → IsTrue (not v)) × (IsTrue (not v) → cond v None (Some NotBaseType) ≡ Some NotBaseType)
-lacks-one t b bs true e = (λ h. cc, λ h. absurd (search (rules, h)))
-lacks-one t b bs false e = (λ h. search rules, λ h. refl)
+take-whole : {A : Type 0} (xs : List A) (n : ℕ) → length xs ≤ n → take n xs ≡ xs
+take-whole [] zero h = refl
+take-whole [] (suc n) h = refl
+take-whole (x ∷ xs) zero h = absurd (omega arith)
+take-whole (x ∷ xs) (suc n) h = ap (λ ys. x ∷ ys) (take-whole xs n (omega arith))
 
-pub lacks-both : {K : Type 0} (t : Classes K) (bs : List ℕ) → (refused_bases t bs ≡ Some NotBaseType → IsTrue (lacks_base t bs)) × (IsTrue (lacks_base t bs) → refused_bases t bs ≡ Some NotBaseType)
-lacks-both t [] = (λ h. cc, λ h. absurd (search (rules, h)))
-lacks-both t (b ∷ bs) = lacks-one t b bs (is_base_at (class_at t b)) refl
+-- the first, and the others
+pub first-others : (bases : List PyTypeRef) → 1 ≤ length bases → numbers bases ≡ (get_or bases 0 (record { 0 = 0 })).0 ∷ numbers (take (length bases - 1) (drop 1 bases))
+first-others [] h = absurd (omega arith)
+first-others (b ∷ bases) h = ap (λ ys. b.0 ∷ numbers ys) (sym (take-whole bases (suc (length bases) - 1) (omega arith)))
+
+pub fewer-others : (bases : List PyTypeRef) → 1 ≤ length bases → length (take (length bases - 1) (drop 1 bases)) < length bases
+fewer-others [] h = absurd (omega arith)
+fewer-others (b ∷ bases) h = let e = ap (λ (ys : List PyTypeRef). length ys) (take-whole bases (suc (length bases) - 1) (omega arith)) in omega (arith, e)
+
+pub none-of : (bases : List PyTypeRef) → length bases < 1 → numbers bases ≡ []
+none-of [] h = refl
+none-of (b ∷ bases) h = absurd (omega arith)
+
+-- the only one of at most one is the best
+pub only-best : (t : Classes PyStrInterned) (solids : (c : ℕ) → is_class t c ≡ true → (d : ℕ) × (solid t c ≡ Some d) × (is_sub t d d ≡ true)) (bases : List PyTypeRef) → length bases ≤ 1 → AreThere t (numbers bases) → 1 ≤ length bases → IsBest t (numbers bases) (Some (get_or bases 0 (record { 0 = 0 })))
+only-best t solids [] l h m = absurd (omega arith)
+only-best t solids (b ∷ []) l h m = let s = solids b.0 h.0 in best-one_some t (solid t) b.0 s.0 s.1 s.2
+only-best t solids (b ∷ c ∷ bases) l h m = absurd (omega arith)

@@ -5,6 +5,11 @@ pub mod Along
 pub mod Refreshed
 pub mod Distinct
 pub mod Changed
+pub mod Bests
+pub mod Orders
+pub mod Noted
+pub mod Single
+pub mod Renames
 pub mod Pushed
 pub mod AsKept
 pub mod Heaps

@@ -4,7 +4,6 @@ use Rattle.std.specs.Prelude.{◌&&◌, not, slice_get, ltb, eqb, nat_lt, is_som
 use Rattle.std.specs.Str.{bytes_eq}
 use Rattle.std.proofs.lemmas.Bool.{ltb-true, eqb-true, eqb-false}
 use Rattle.std.proofs.lemmas.Slice.Eq.{bytes_eq-Decides}
-use Rattle.py_node.specs.declared.refs.PyTypeRef.{PyTypeRef}
 use Rattle.py_node.specs.declared.built_in.BuiltIn.{BuiltIn}
 use Rattle.py_node.specs.BuiltIns.{place_of, base_of, all_built_ins}
 use Rattle.py_node.specs.Known.{known_texts}
@@ -13,7 +12,7 @@ use Rattle.class_model.specs.Start.{bases_from, built_class}
 use Rattle.py_node.specs.declared.refs.PyStrInterned.{PyStrInterned}
 use Rattle.class_model.specs.Class.{Classes, class_at, is_class}
 use Rattle.class_model.specs.Numbers.{limit}
-use Rattle.class_table.specs.New.{one_base, IsBelow}
+use Rattle.class_table.specs.New.{IsBelow}
 
 module _ {A B : Type 0} (f : A → B) where
   pub map-step : (xs : List A) (i : ℕ) (d : A) → i < length xs → map f (take (suc i) xs) ≡ map f (take i xs) ++ f (get_or xs i d) ∷ []
@@ -103,11 +102,17 @@ bases-at n (b ∷ bs) (suc i) d h l =
     subst (λ n. base_below n (base_of (get_or bs i d)) ≡ true) z (bases-at (suc n) bs i d (split (base_below n (base_of b)) (bases_below (suc n) bs) h).1 (omega arith))
 
 -- the base of a class that is to be made, by the bases that it has
-pub one-below : (t : Classes PyStrInterned) (n : ℕ) (o : Option PyTypeRef) (b : Option ℕ) → one_base o ≡ bases_from b → base_below n b ≡ true → ((c : ℕ) → c < n → is_class t c ≡ true) → IsBelow t n o
-one-below t n None None e h k = eqb-true n 0 h
-one-below t n None (Some b) e h k = cc
-one-below t n (Some c) None e h k = cc
-one-below t n (Some c) (Some b) e h k = let same : c.0 ≡ b = cc in let l = ltb-true b n h in k c.0 (omega (arith, same, l))
+pub one-below : (t : Classes PyStrInterned) (n : ℕ) (bs : List ℕ) (b : Option ℕ) → bs ≡ bases_from b → base_below n b ≡ true → ((c : ℕ) → c < n → is_class t c ≡ true) → IsBelow t n bs
+one-below t n [] None e h k = eqb-true n 0 h
+one-below t n [] (Some b) e h k = cc
+one-below t n (c ∷ bs) None e h k = cc
+one-below t n (c ∷ []) (Some b) e h k = let same : c ≡ b = cc in let l = ltb-true b n h in (k c (omega (arith, same, l)), tt)
+one-below t n (c ∷ d ∷ bs) (Some b) e h k = cc
+
+-- at most one
+pub one-long : (bs : List ℕ) (b : Option ℕ) → bs ≡ bases_from b → length bs ≤ 1
+one-long bs None e = let l = ap (λ (ys : List ℕ). length ys) e in omega (arith, l)
+one-long bs (Some b) e = let l = ap (λ (ys : List ℕ). length ys) e in omega (arith, l)
 
 pub built-below : (i : ℕ) (d : BuiltIn) → i < 23 → base_below i (base_of (get_or all_built_ins i d)) ≡ true
 unfolding all_built_ins base_of

@@ -5,5 +5,6 @@ pub mod Patch
 pub mod New
 pub mod Made
 pub mod Refused
+pub mod Inherit
 pub mod Turn
 pub mod Table

@@ -1,15 +1,22 @@
 // A class that is made.
 
-ghost use Rattle.std.specs.Prelude.{◌≡◌, ◌<◌, ◌≤◌, ◌++◌, ◌∷◌, [], length, OnOk, OnErr, IfOk, IfSome, true};
+ghost use Rattle.std.specs.Prelude.{◌≡◌, ◌≤◌, ◌||◌, ◌++◌, ◌∷◌, [], ℕ, List, cond, not, nat_lt, length, Some, OnOk, OnErr, IfOk, true};
 ghost use Rattle.py_node.specs.Attributes.{AreNamesDistinct};
+ghost use Rattle.class_model.specs.Order.{Distinct};
+ghost use Rattle.class_model.specs.Class.{is_class};
 ghost use Rattle.class_model.specs.Numbers.{is_ascending, limit};
+ghost use Rattle.class_model.specs.Layout.{built_ins, is_empty};
 ghost use Rattle.class_model.specs.Change.{with_class};
 ghost use Rattle.class_table.specs.Kept.{Kept, plain};
 ghost use Rattle.class_table.specs.Keys.{numbers, number_of};
 ghost use Rattle.class_table.specs.Coherent.{IsCoherent};
-ghost use Rattle.class_table.specs.New.{IsBelow, one_base, class_of_new};
-ghost use Rattle.class_table.specs.Made.{parent, line_of, solid_in, base_by, solid_by, IsAt, IsFresh, noted};
+ghost use Rattle.class_table.specs.New.{IsBelow, IsBest, class_of_new};
+ghost use Rattle.class_table.specs.Made.{IsFresh, noted};
+ghost use Rattle.class_table.specs.Refused.{refusal, WithMemory, refused_order, AreThere};
+ghost use Rattle.class_table.specs.Inherit.{Follows};
 
+use crate::fault::ClassFault;
+use crate::inherit::{inherited, places, rest_of_line};
 use crate::place::place;
 use crate::refresh::settle;
 use crate::stored::{NewClass, SLOTS, Stored};
@@ -33,71 +40,14 @@ fn empty_slots(alloc: Global) -> Result<Vec<Option<SlotEntry>>, OutOfMemory>
     Ok(slots)
 }
 
-// The bases of a class with one base at most.
-fn bases_of(alloc: Global, base: Option<PyTypeRef>) -> Result<Vec<PyTypeRef>, OutOfMemory>
-    ensures { IfOk result (λ v. numbers v.items ≡ one_base base) }
-{
-    let mut bases = Vec::new(alloc);
-    if let Some(class) = base {
-        bases.push(class)?;
-    }
-    Ok(bases)
-}
-
-// The class, and then its base's linearisation.
-fn line(
-    classes: &[Stored],
-    alloc: Global,
-    number: PyTypeRef,
-    base: Option<usize>,
-) -> Result<Vec<PyTypeRef>, OutOfMemory>
-    ensures { IfOk result (λ v. numbers v.items ≡ number.0 ∷ line_of (parent classes.now base)) }
+// The class, and then what follows it.
+fn line(alloc: Global, number: PyTypeRef, rest: &[PyTypeRef]) -> Result<Vec<PyTypeRef>, OutOfMemory>
+    ensures { IfOk result (λ v. numbers v.items ≡ number.0 ∷ numbers rest.now) }
 {
     let mut mro = Vec::new(alloc);
     mro.push(number)?;
-    if let Some(place) = base {
-        if let Some(stored) = classes.get(place) {
-            mro.extend_from_slice(stored.mro())?;
-        }
-    }
+    mro.extend_from_slice(rest)?;
     Ok(mro)
-}
-
-// Where the classes of that line are likely kept: the class at the end, and the others as for its base.
-fn near(classes: &[Stored], alloc: Global, base: Option<usize>) -> Result<Vec<usize>, OutOfMemory> {
-    let mut near = Vec::new(alloc);
-    near.push(classes.len())?;
-    if let Some(place) = base {
-        if let Some(stored) = classes.get(place) {
-            near.extend_from_slice(stored.near())?;
-        }
-    }
-    Ok(near)
-}
-
-// The solid class of a base.
-fn inherited(classes: &[Stored], base: Option<usize>) -> Option<PyTypeRef>
-    ensures { number_of result ≡ solid_in (parent classes.now base) }
-{
-    match base {
-        None => None,
-        Some(place) => match classes.get(place) {
-            None => None,
-            Some(stored) => stored.solid(),
-        },
-    }
-}
-
-fn best_base(base: Option<PyTypeRef>, solid: Option<PyTypeRef>) -> Option<PyTypeRef>
-    ensures { number_of result ≡ base_by base (number_of solid) }
-{
-    match base {
-        None => None,
-        Some(class) => match solid {
-            None => None,
-            Some(_) => Some(class),
-        },
-    }
 }
 
 fn solid_of(
@@ -105,7 +55,7 @@ fn solid_of(
     members: &[PyStrInterned],
     inherited: Option<PyTypeRef>,
 ) -> Option<PyTypeRef>
-    ensures { number_of result ≡ solid_by number.0 members.now (number_of inherited) }
+    ensures { number_of result ≡ cond (nat_lt number.0 built_ins || not (is_empty members.now)) (Some number.0) (number_of inherited) }
 {
     if number.0 < BUILT_INS || !members.is_empty() {
         Some(number)
@@ -121,75 +71,123 @@ fn are_distinct(attrs: &PyAttributes)
     let _count = attrs.len();
 }
 
-// A class as it is made, before its slots are found.
-fn build(
+// A class with what follows from its bases but for its order, before its slots are found.
+fn with_line(
     classes: &[Stored],
     alloc: Global,
-    base: Option<usize>,
     new: NewClass,
+    best: Option<PyTypeRef>,
+    rest: &[PyTypeRef],
 ) -> Result<Stored, OutOfMemory>
-    ensures { IfOk result (λ k. IsFresh classes.now (class_of_new new) new.base base k) }
+    requires coherent { IsCoherent classes.now }
+    requires below { IsBelow (plain classes.now) new.number.0 (numbers new.bases.items) }
+    requires fresh { limit (plain classes.now) ≤ new.number.0 }
+    requires best { IsBest (plain classes.now) (numbers new.bases.items) best }
+    requires rest { Follows (plain classes.now) (numbers new.bases.items) (numbers rest.now) }
+    ensures { IfOk result (λ k. IsFresh classes.now (class_of_new new) k) }
 {
     are_distinct(&new.attrs);
     let slots = empty_slots(alloc)?;
-    let bases = bases_of(alloc, new.base)?;
-    let mro = line(classes, alloc, new.number, base)?;
-    let near = near(classes, alloc, base)?;
-    let above = inherited(classes, base);
-    let solid = solid_of(new.number, &new.members, above);
+    let mro = line(alloc, new.number, rest)?;
+    let near = places(classes, alloc, rest)?;
+    let solid = solid_of(new.number, &new.members, inherited(classes, best));
     Ok(Stored {
         name: new.name,
         number: new.number,
-        bases,
+        bases: new.bases,
         attrs: new.attrs,
         members: new.members,
         flags: new.flags,
         mro,
         near,
         slots,
-        base: best_base(new.base, above),
+        base: best,
         solid,
         subclasses: Vec::new(alloc),
     })
 }
 
-// The place of the base.
-fn base_place(classes: &[Stored], number: PyTypeRef, base: Option<PyTypeRef>) -> Option<usize>
-    requires ascending { is_ascending (plain classes.now) ≡ true }
-    requires base { IsBelow (plain classes.now) number.0 base }
-    ensures { IsAt classes.now base result }
+// A class as it is made, before its slots are found, or why its bases have no order.
+fn build(
+    classes: &[Stored],
+    alloc: Global,
+    new: NewClass,
+    best: Option<PyTypeRef>,
+) -> Result<Stored, ClassFault>
+    requires coherent { IsCoherent classes.now }
+    requires below { IsBelow (plain classes.now) new.number.0 (numbers new.bases.items) }
+    requires fresh { limit (plain classes.now) ≤ new.number.0 }
+    requires best { IsBest (plain classes.now) (numbers new.bases.items) best }
+    ensures fresh { IfOk result (λ k. IsFresh classes.now (class_of_new new) k) }
+    ensures refused { WithMemory result (refusal result ≡ refused_order (plain classes.now) (numbers new.bases.items)) }
 {
-    match base {
-        None => None,
-        Some(class) => Some(place(classes, class)),
+    let rest = match rest_of_line(classes, alloc, &new.bases) {
+        Ok(rest) => rest,
+        Err(fault) => return Err(fault),
+    };
+    match with_line(classes, alloc, new, best, &rest) {
+        Ok(stored) => Ok(stored),
+        Err(_) => Err(ClassFault::OutOfMemory),
     }
 }
 
-// Notes a class among its base's direct subclasses.
-fn note(classes: &mut [Stored], base: Option<usize>, number: PyTypeRef) -> Result<(), OutOfMemory>
-    requires { IfSome base (λ i. i < length classes.old) }
-    ensures ok { OnOk result ((d : Kept) → classes.new ≡ noted d classes.old base number.0) }
+// Notes a class as the last direct subclass of one that is there.
+fn note_in(classes: &mut [Stored], base: PyTypeRef, number: PyTypeRef) -> Result<(), OutOfMemory>
+    requires ascending { is_ascending (plain classes.old) ≡ true }
+    requires there { is_class (plain classes.old) base.0 ≡ true }
+    ensures ok { OnOk result (classes.new ≡ noted (base.0 ∷ []) number.0 classes.old) }
     ensures err { OnErr result (classes.new ≡ classes.old) }
 {
-    if let Some(at) = base {
-        classes[at].add_subclass(number)?;
+    let at = place(classes, base);
+    match classes[at].add_subclass(number) {
+        Ok(()) => Ok(()),
+        Err(error) => Err(error),
     }
-    Ok(())
 }
 
-// Puts a class at the end, and notes it in its base.
-fn attach(
-    classes: &mut Vec<Stored>,
-    base: Option<usize>,
-    number: PyTypeRef,
-    stored: Stored,
-) -> Result<(), OutOfMemory>
-    requires { IfSome base (λ i. i < length classes.old.items) }
-    ensures ok { OnOk result ((d : Kept) → classes.new.items ≡ noted d classes.old.items base number.0 ++ stored ∷ []) }
+// Takes the last direct subclass off one that is there.
+fn forget_in(classes: &mut [Stored], base: PyTypeRef)
+    requires ascending { is_ascending (plain classes.old) ≡ true }
+    requires there { is_class (plain classes.old) base.0 ≡ true }
+    ensures { (n : ℕ) (kept : List Kept) → classes.old ≡ noted (base.0 ∷ []) n kept → classes.new ≡ kept }
+{
+    let at = place(classes, base);
+    classes[at].forget_subclass();
+}
+
+// Notes a class as the last direct subclass of each of its bases.
+fn note(classes: &mut [Stored], bases: &[PyTypeRef], number: PyTypeRef) -> Result<(), OutOfMemory>
+    requires ascending { is_ascending (plain classes.old) ≡ true }
+    requires there { AreThere (plain classes.old) (numbers bases.now) }
+    requires distinct { Distinct (numbers bases.now) }
+    ensures ok { OnOk result (classes.new ≡ noted (numbers bases.now) number.0 classes.old) }
+    ensures err { OnErr result (classes.new ≡ classes.old) }
+{
+    match bases {
+        [] => Ok(()),
+        [base, rest @ ..] => {
+            note_in(classes, *base, number)?;
+            match note(classes, rest, number) {
+                Ok(()) => Ok(()),
+                Err(error) => {
+                    forget_in(classes, *base);
+                    Err(error)
+                }
+            }
+        }
+    }
+}
+
+// Puts a class at the end, and notes it in its bases.
+fn attach(classes: &mut Vec<Stored>, stored: Stored) -> Result<(), OutOfMemory>
+    requires ascending { is_ascending (plain classes.old.items) ≡ true }
+    requires there { AreThere (plain classes.old.items) stored.bases }
+    requires distinct { Distinct stored.bases }
+    ensures ok { OnOk result (classes.new.items ≡ noted stored.bases stored.number classes.old.items ++ stored ∷ []) }
     ensures err { OnErr result (classes.new.items ≡ classes.old.items) }
 {
     classes.reserve(1)?;
-    note(classes, base, number)?;
+    note(classes, stored.bases(), stored.number())?;
     classes.push(stored)?;
     Ok(())
 }
@@ -199,20 +197,28 @@ pub(crate) fn add(
     classes: &mut Vec<Stored>,
     alloc: Global,
     new: NewClass,
-) -> Result<PyTypeRef, OutOfMemory>
+    best: Option<PyTypeRef>,
+) -> Result<PyTypeRef, ClassFault>
     requires coherent { IsCoherent classes.old.items }
-    requires base { IsBelow (plain classes.old.items) new.number.0 new.base }
+    requires below { IsBelow (plain classes.old.items) new.number.0 (numbers new.bases.items) }
     requires fresh { limit (plain classes.old.items) ≤ new.number.0 }
+    requires best { IsBest (plain classes.old.items) (numbers new.bases.items) best }
     ensures number { IfOk result (λ c. c ≡ new.number) }
     ensures coherent { OnOk result (IsCoherent classes.new.items) }
     ensures added { OnOk result (plain classes.new.items ≡ with_class (plain classes.old.items) (class_of_new new)) }
+    ensures refused { WithMemory result (refusal result ≡ refused_order (plain classes.old.items) (numbers new.bases.items)) }
     ensures err { OnErr result (classes.new.items ≡ classes.old.items) }
 {
     let at = classes.len();
     let number = new.number;
-    let base = base_place(classes, number, new.base);
-    let stored = build(classes, alloc, base, new)?;
-    attach(classes, base, number, stored)?;
+    let stored = match build(classes, alloc, new, best) {
+        Ok(stored) => stored,
+        Err(fault) => return Err(fault),
+    };
+    match attach(classes, stored) {
+        Ok(()) => {}
+        Err(_) => return Err(ClassFault::OutOfMemory),
+    }
     settle(classes, at);
     Ok(number)
 }

@@ -1,5 +1,9 @@
 // Why a class could not be made or changed.
 
+ghost use Rattle.std.specs.Prelude.{◌≡◌};
+ghost use Rattle.class_table.specs.Inherit.{fault_of};
+
+use mro_merge::fault::MroFault;
 use py_node::memory::OutOfMemory;
 use py_node::raised::Cause;
 
@@ -15,5 +19,17 @@ pub enum ClassFault {
 impl From<OutOfMemory> for ClassFault {
     fn from(_: OutOfMemory) -> ClassFault {
         ClassFault::OutOfMemory
+    }
+}
+
+// Why bases are refused that have no order.
+pub(crate) fn merge_fault(fault: MroFault) -> ClassFault
+    ensures { result ≡ fault_of fault }
+{
+    match fault {
+        MroFault::DuplicateBase(_) => ClassFault::Refused(Cause::DuplicateBase),
+        MroFault::LocalPrecedence => ClassFault::Refused(Cause::LocalPrecedence),
+        MroFault::MroConflict => ClassFault::Refused(Cause::MroConflict),
+        MroFault::OutOfMemory => ClassFault::OutOfMemory,
     }
 }

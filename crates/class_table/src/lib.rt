@@ -6,6 +6,7 @@ pub mod candidates;
 pub mod entries;
 pub mod fault;
 pub mod heap;
+pub mod inherit;
 pub mod laws;
 pub mod natives;
 pub mod place;

@@ -74,10 +74,14 @@ pub(crate) fn new_class(alloc: Global, class: BuiltIn) -> Result<NewClass, OutOf
     ensures { IfOk result (λ n. class_of_new n ≡ built_class class) }
 {
     let name = String::from_str(alloc, class.name())?;
+    let mut bases = Vec::new(alloc);
+    if let Some(base) = class.base() {
+        bases.push(base)?;
+    }
     Ok(NewClass {
         name,
         number: class.class(),
-        base: class.base(),
+        bases,
         attrs: PyAttributes::new(alloc),
         members: Vec::new(alloc),
         flags: class.flags(),

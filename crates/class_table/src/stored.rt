@@ -1,6 +1,6 @@
 // What the table keeps of a class.
 
-ghost use Rattle.std.specs.Prelude.{◌≡◌, ◌++◌, ◌∷◌, [], OnOk, OnErr, option_and_then, slice_get, slice_set};
+ghost use Rattle.std.specs.Prelude.{◌≡◌, ℕ, List, ◌++◌, ◌∷◌, [], OnOk, OnErr, option_and_then, slice_get, slice_set};
 ghost use Rattle.py_node.specs.Attributes.{value_of, with_value, is_same_name};
 ghost use Rattle.py_node.specs.Slots.{place_of};
 ghost use Rattle.class_model.specs.Order.{has};
@@ -23,7 +23,7 @@ pub(crate) const SLOTS: usize = 73;
 pub(crate) struct NewClass {
     pub(crate) name: String,
     pub(crate) number: PyTypeRef,
-    pub(crate) base: Option<PyTypeRef>,
+    pub(crate) bases: Vec<PyTypeRef>,
     pub(crate) attrs: PyAttributes,
     pub(crate) members: Vec<PyStrInterned>,
     pub(crate) flags: PyTypeFlags,
@@ -114,6 +114,13 @@ impl Stored {
         &self.mro
     }
 
+    // The class's direct bases, in order.
+    pub(crate) fn bases(&self) -> &[PyTypeRef]
+        ensures { numbers result.now ≡ self.now.bases }
+    {
+        &self.bases
+    }
+
     // Where each class of the linearisation is likely kept.
     pub(crate) fn near(&self) -> &[usize] {
         &self.near
@@ -164,6 +171,13 @@ impl Stored {
     {
         self.subclasses.push(class)?;
         Ok(())
+    }
+
+    // Takes the last direct subclass off.
+    pub(crate) fn forget_subclass(&mut self)
+        ensures { (class : ℕ) (subclasses : List ℕ) → self.old.subclasses ≡ subclasses ++ class ∷ [] → self.new ≡ record self.old { subclasses = subclasses } }
+    {
+        self.subclasses.pop();
     }
 
     // Gives an own attribute a value.

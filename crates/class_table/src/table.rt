@@ -2,11 +2,10 @@
 
 ghost use Rattle.std.specs.Prelude.{◌≡◌, ◌<◌, ◌≤◌, [], true, length, OnOk, OnErr, IfOk, ◌↔◌, IsTrue, Some, is_some, leb, option_map, slice_get};
 ghost use Rattle.std.specs.List.{All};
-ghost use Rattle.py_node.specs.declared.raised.Cause.TheVariants.{EmptyBases, NotBaseType};
 ghost use Rattle.py_node.specs.Attributes.{is_same_name, AreNamesDistinct};
 ghost use Rattle.class_model.specs.Class.{class_at, is_class, lin, IsLeastLine, is_sub, is_heap, found, found_past, own_of, subclasses};
 ghost use Rattle.class_model.specs.Numbers.{limit, numbers_of};
-ghost use Rattle.class_model.specs.Layout.{base, solid, built_ins};
+ghost use Rattle.class_model.specs.Layout.{base, best_of, solid, built_ins};
 ghost use Rattle.class_model.specs.Sound.{AreSound};
 ghost use Rattle.class_model.specs.Slot.{entry, slot as slot_read, candidates_of, is_heap_at};
 ghost use Rattle.class_model.specs.BuiltIn.{natives_of};
@@ -15,13 +14,14 @@ ghost use Rattle.class_model.specs.Change.{with_class, with_class_attr};
 ghost use Rattle.class_table.specs.Keys.{numbers, number_of, table_keys};
 ghost use Rattle.class_table.specs.Kept.{plain};
 ghost use Rattle.class_table.specs.New.{IsBelow, class_of_new};
-ghost use Rattle.class_table.specs.Refused.{refusal, refused_bases, refused_attr, lacks_base, AreThere, heap_class};
+ghost use Rattle.class_table.specs.Refused.{refusal, cause_of, refused_layout, refused_bases, refused_attr, WithMemory, IsEarly, AreThere, heap_class};
 ghost use Rattle.class_table.specs.Turn.{list_of};
 
 use crate::add::add;
 use crate::candidates::{Candidates, in_turn, without_same};
 use crate::fault::ClassFault;
 use crate::heap::{add_heap, set_heap};
+use crate::inherit::{best_base, may_derive, only};
 use crate::place::{find, number_in, stored_at, takes};
 use crate::put::put_in;
 use crate::read::{own_entry, read, value_along, value_past};
@@ -31,6 +31,7 @@ use py_node::attributes::PyAttributes;
 use py_node::entry::{SlotEntry, SlotId};
 use py_node::flags::PyTypeFlags;
 use py_node::memory::OutOfMemory;
+use py_node::raised::Cause;
 use py_node::refs::{PyObjectRef, PyStrInterned, PyTypeRef};
 use std::alloc::Global;
 use std::marker::Model;
@@ -123,17 +124,45 @@ impl ClassTable {
         alloc: Global,
         new: NewClass,
     ) -> Result<PyTypeRef, OutOfMemory>
-        requires base { IsBelow self.old new.number.0 new.base }
+        requires below { IsBelow self.old new.number.0 (numbers new.bases.items) }
+        requires one { length new.bases.items ≤ 1 }
         requires fresh { limit self.old ≤ new.number.0 }
         ensures number { IfOk result (λ c. c ≡ new.number) }
         ensures added { OnOk result (self.new ≡ with_class self.old (class_of_new new)) }
         ensures err { OnErr result (self.new ≡ self.old) }
     {
-        add(&mut self.classes, alloc, new)
+        let best = only(&self.classes, &new.bases);
+        match add(&mut self.classes, alloc, new, best) {
+            Ok(number) => Ok(number),
+            Err(ClassFault::OutOfMemory) => Err(OutOfMemory),
+            Err(ClassFault::Refused(_)) => unreachable!(),
+        }
     }
 
-    /// A class that a script makes: with the name, the bases, the attributes and the members. Where
-    /// it is refused or memory runs out, the table stays as it was.
+    /// The best of some bases: the first whose solid class derives from those of all, or why they may not be
+    /// bases together, whatever their order: there is none; or base by base, one may have no subclasses, or
+    /// its layout conflicts with those before it.
+    pub fn best_base(&self, bases: &[PyTypeRef]) -> Result<PyTypeRef, Cause>
+        requires { AreThere self.now (numbers bases.now) }
+        ensures best { IfOk result (λ b. best_of self.now (numbers bases.now) ≡ Some b.0) }
+        ensures refused { cause_of result ≡ refused_layout self.now (numbers bases.now) }
+    {
+        best_base(&self.classes, bases)
+    }
+
+    /// Whether a script may make a class with these bases, or why not.
+    pub fn may_derive(&self, alloc: Global, bases: &[PyTypeRef]) -> Result<(), ClassFault>
+        requires { AreThere self.now (numbers bases.now) }
+        ensures early { IsEarly self.now (numbers bases.now) (refusal result) }
+        ensures refused { WithMemory result (refusal result ≡ refused_bases self.now (numbers bases.now)) }
+    {
+        may_derive(&self.classes, alloc, bases)
+    }
+
+    /// A class that a script makes: with the name, the bases, the attributes and the members. It is
+    /// refused for the first of these causes: it has no base; base by base, one may have no subclasses or
+    /// its layout conflicts with those before it; a base stands twice; the bases have no order. Where it is
+    /// refused or memory runs out, the table stays as it was.
     pub fn new_heap(
         &mut self,
         alloc: Global,
@@ -145,12 +174,10 @@ impl ClassTable {
     ) -> Result<PyTypeRef, ClassFault>
         requires bases { AreThere self.old (numbers bases.items) }
         requires fresh { limit self.old ≤ number.0 }
-        requires one { length bases.items ≤ 1 }
         ensures number { IfOk result (λ c. c ≡ number) }
         ensures added { OnOk result (self.new ≡ with_class self.old (heap_class name.now number.0 (numbers bases.items) attrs members.items)) }
-        ensures refused { refusal result ≡ refused_bases self.old (numbers bases.items) }
-        ensures empty { (refusal result ≡ Some EmptyBases) ↔ (numbers bases.items ≡ []) }
-        ensures base { (refusal result ≡ Some NotBaseType) ↔ IsTrue (lacks_base self.old (numbers bases.items)) }
+        ensures early { IsEarly self.old (numbers bases.items) (refusal result) }
+        ensures refused { WithMemory result (refusal result ≡ refused_bases self.old (numbers bases.items)) }
         ensures err { OnErr result (self.new ≡ self.old) }
     {
         add_heap(

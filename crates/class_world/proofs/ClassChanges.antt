@@ -1,6 +1,6 @@
 -- Classes that are changed or made.
 use Rattle.std.proofs.Common.{◌≡◌, ℕ, suc, ◌^◌, ◌<◌, ◌≤◌, Bool, true, false, cond, eqb, inl, inr, List, [], ◌∷◌, ◌++◌, length, Some, None, Result, Ok, Err, OnOk, OnErr, refl, sym, ap, ◌∙◌, subst, arith, length-append}
-use Rattle.std.specs.Prelude.{is_some, nat_lt, slice_get, option_and_then}
+use Rattle.std.specs.Prelude.{is_some, nat_lt, option_and_then}
 use Rattle.py_node.specs.declared.payload.Node.{Node}
 use Rattle.py_node.specs.declared.refs.PyObjectRef.{PyObjectRef}
 use Rattle.py_node.specs.declared.refs.PyStrInterned.{PyStrInterned}
@@ -10,6 +10,9 @@ use Rattle.py_node.specs.Attributes.{with_value, is_same_name}
 use Rattle.py_node.specs.Tree.{Text}
 use Rattle.class_model.specs.Class.{Class, Classes, is_class, has_flag, rekeyed, renamed}
 use Rattle.class_model.specs.Numbers.{limit}
+use Rattle.class_model.specs.Layout.{best_of}
+use Rattle.class_model.specs.Sound.{AreSound}
+use Rattle.class_table.proofs.Pushed.{each-there}
 use Rattle.class_model.specs.Change.{with_class_attr}
 use Rattle.class_model.proofs.Numbers.{at-changed, at-last, old-or-last}
 use Rattle.class_table.specs.Refused.{is_base_at, AreThere}
@@ -23,7 +26,7 @@ use Rattle.py_node.specs.declared.built_in.BuiltIn.{BuiltIn}
 use Rattle.py_node.specs.declared.built_in.BuiltIn.TheVariants.{TypeType}
 use Rattle.plain_machine.specs.Known.{the_dict}
 use Rattle.plain_machine.specs.Sound.{held_by}
-use Rattle.class_world.proofs.Homes.{held_by-last, held_by-attr}
+use Rattle.class_world.proofs.Homes.{held_by-made, held_by-attr}
 use Rattle.class_world.proofs.Growth.{Like, like-itself, like-push, keep-itself, keep-push, grows, grows-lasts}
 use Rattle.class_world.proofs.Stored.{map-push}
 use Rattle.class_world.proofs.Changes.{fixed-grow, built_in-grow, itself-push}
@@ -109,11 +112,6 @@ unfolding Holds
 bases-there w [] h = tt
 bases-there w (b ∷ bs) h = (h.0, bases-there w bs h.1)
 
-pub one-base : (bs : List PyTypeRef) (b : PyTypeRef) → length bs ≤ 1 → slice_get bs 0 ≡ Some b → bs ≡ b ∷ []
-one-base [] b l e = cc
-one-base (c ∷ []) b l e = let same : c ≡ b = cc in ap (λ (c : PyTypeRef). c ∷ []) same
-one-base (c ∷ (d ∷ bs)) b l e = absurd (omega arith)
-
 -- a class with its node
 module _ (w : Held) (meta : PyTypeRef) (k : Class PyStrInterned) where
   abbrev class_made : PyTypeRef → Held
@@ -142,9 +140,11 @@ module _ (w : Held) (meta : PyTypeRef) (k : Class PyStrInterned) where
     unfolding Holds
     class-made = ap (is_class (w.classes ++ k ∷ [])) (e ∙ sym i) ∙ ap is_some (at-last w.classes k fresh)
 
-    pub class-made-of : (d : ℕ) (b : BuiltIn) → k.bases ≡ d ∷ [] → Holds w (IsOf d b) → Holds (class_made c) (IsOf c.0 b)
+    pub class-made-of : (d : ℕ) (b : BuiltIn) → AreSound w.classes → AreSound (w.classes ++ k ∷ []) → AreThere w.classes k.bases → best_of w.classes k.bases ≡ Some d → Holds w (IsOf d b) → Holds (class_made c) (IsOf c.0 b)
     unfolding Holds
-    class-made-of d b q h = let many = s.fixed in ap (held_by (w.classes ++ k ∷ [])) (e ∙ sym i) ∙ held_by-last w.classes k d b fresh (omega (arith, many, i)) q h
+    class-made-of d b ok more there best h =
+        let many = s.fixed in
+        ap (held_by (w.classes ++ k ∷ [])) (e ∙ sym i) ∙ held_by-made w.classes k d b ok more fresh (omega (arith, many, i)) (each-there w.classes k.bases there) best h
 
     class-stands : Holds (class_made c) (Standing k.number (record { 0 = k.number }))
     unfolding Holds

@@ -1,15 +1,19 @@
 -- What the objects of a class hold, after one more class and after an attribute was set.
-use Rattle.std.proofs.Common.{◌≡◌, ℕ, ◌≤◌, le-ltb, false, cond, List, [], ◌∷◌, Option, Some, None, Bool, refl, ap, ◌∙◌}
-use Rattle.std.specs.Prelude.{nat_lt, slice_get, option_map, option_and_then}
+use Rattle.std.proofs.Common.{◌≡◌, ℕ, ◌≤◌, true, List, Option, Some, None, Bool, refl, ap, ◌∙◌}
+use Rattle.std.specs.Prelude.{is_some, nat_lt, slice_get, option_map, option_and_then}
 use Rattle.py_node.specs.declared.built_in.BuiltIn.{BuiltIn}
 use Rattle.py_node.specs.declared.refs.PyObjectRef.{PyObjectRef}
 use Rattle.py_node.specs.BuiltIns.{all_built_ins}
-use Rattle.class_model.specs.Class.{Class, Classes, lin}
+use Rattle.class_model.specs.Class.{Class, Classes, is_class, lin}
 use Rattle.class_model.specs.Numbers.{limit}
 use Rattle.class_model.specs.Change.{with_class, with_class_attr}
-use Rattle.class_model.specs.Layout.{built_ins}
+use Rattle.class_model.specs.Order.{Holds}
+use Rattle.class_model.specs.Layout.{built_ins, best_of}
+use Rattle.class_model.specs.Sound.{AreSound}
+use Rattle.class_model.proofs.Numbers.{some-of, at-last}
+use Rattle.class_model.proofs.Layouts.{first-built_in}
 use Rattle.class_model.specs.Slot.{first_with}
-use Rattle.class_model.proofs.Changed.{lin-push, lin-one_base, lin-attr}
+use Rattle.class_model.proofs.Changed.{lin-push, lin-attr}
 use Rattle.plain_machine.specs.Sound.{holds_as, held_by}
 
 -- by the linearisation
@@ -24,18 +28,16 @@ module _ {K : Type 0} where
       go None l e = cc
       go (Some line) l e = ap by_line (lin-push t k c line l) ∙ e
 
-  -- a class below one base, past the built-in ones
-  pub held_by-last : (t : Classes K) (k : Class K) (d : ℕ) (b : BuiltIn) → limit t ≤ k.number → built_ins ≤ k.number → k.bases ≡ d ∷ [] → held_by t d ≡ Some b → held_by (with_class t k) k.number ≡ Some b
-  held_by-last t k d b fresh m e h = go (lin t d) refl h
+  -- a class that is made, past the built-in ones: as its best base
+  pub held_by-made : (t : Classes K) (k : Class K) (d : ℕ) (b : BuiltIn) → AreSound t → AreSound (with_class t k) → limit t ≤ k.number → built_ins ≤ k.number → ((x : ℕ) → Holds k.bases x → is_class t x ≡ true) → best_of t k.bases ≡ Some d → held_by t d ≡ Some b → held_by (with_class t k) k.number ≡ Some b
+  held_by-made t k d b ok more fresh late bases best h = go (lin t d) refl h
     where
-      late : (nat_lt k.number built_ins) ≡ false
-      late = le-ltb k.number built_ins m
-
       go : (o : Option (List ℕ)) → lin t d ≡ o → by_line o ≡ Some b → held_by (with_class t k) k.number ≡ Some b
       go None l h = cc
-      go (Some line) l h =
-          ap by_line (lin-one_base t k fresh d line e l)
-          ∙ ap (λ w. option_map holds_as (option_and_then (slice_get all_built_ins) (cond w (Some k.number) (first_with (λ d. nat_lt d built_ins) line)))) late
+      go (Some ld) l h =
+          let line = some-of (lin (with_class t k) k.number) (more.order k.number (ap is_some (at-last t k fresh))) in
+          ap by_line line.1
+          ∙ ap (λ o. option_map holds_as (option_and_then (slice_get all_built_ins) o)) (first-built_in t k ok fresh late bases line.0 d ld line.1 best l)
           ∙ h
 
   pub held_by-attr : (same : K → K → Bool) (t : Classes K) (c : ℕ) (n : K) (v : PyObjectRef) (d : ℕ) → held_by (with_class_attr same t c n v) d ≡ held_by t d

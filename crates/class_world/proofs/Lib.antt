@@ -9,6 +9,7 @@ pub mod Added
 pub mod Bound
 pub mod Filled
 pub mod OfClasses
+pub mod Refusals
 pub mod ClassChanges
 pub mod Look
 pub mod Built

@@ -1,16 +1,15 @@
 -- Classes, as a reading has them, and what holds of their attributes.
-use Rattle.std.proofs.Common.{◌≡◌, ℕ, ◌<◌, ◌^◌, Bool, true, false, cond, eqb, length, List, [], ◌∷◌, Option, Some, None, refl, ap, subst, arith, get_or, IfSome}
-use Rattle.py_node.specs.declared.raised.Cause.TheVariants.{ImmutableType, NotBaseType}
-use Rattle.class_table.specs.Refused.{is_base_at, refused_attr, refused_bases}
+use Rattle.std.proofs.Common.{◌≡◌, ℕ, ◌<◌, ◌^◌, Bool, true, false, cond, eqb, length, List, [], ◌∷◌, Option, Some, None, refl, ap, subst, IfSome}
+use Rattle.py_node.specs.declared.raised.Cause.TheVariants.{ImmutableType}
+use Rattle.class_table.specs.Refused.{is_base_at, refused_attr, refused_layout, refused_bases}
+use Rattle.class_table.proofs.Renames.{layout-alike, refused-alike}
 use Rattle.std.specs.Prelude.{◌==◌, is_some, slice_get, option_map, option_and_then}
 use Rattle.std.specs.Int.RustNames.{bit_and}
 use Rattle.py_node.specs.declared.refs.PyObjectRef.{PyObjectRef}
 use Rattle.py_node.specs.declared.refs.PyStrInterned.{PyStrInterned}
-use Rattle.py_node.specs.declared.refs.PyTypeRef.{PyTypeRef}
-use Rattle.class_table.specs.Keys.{numbers}
 use Rattle.py_node.specs.Attributes.{is_same_name}
 use Rattle.py_node.specs.Tree.{Text}
-use Rattle.class_model.specs.Class.{Class, Classes, class_at, is_class, lin, has_flag, is_sub, own_of, or_else, along, found, past_first, found_past, rekeyed, renamed}
+use Rattle.class_model.specs.Class.{Class, Classes, class_at, is_class, lin, has_flag, is_sub, own_of, or_else, along, found, past_first, found_past, rekeyed}
 use Rattle.class_model.specs.Slot.{is_heap_at}
 use Rattle.class_model.proofs.Renamed.{at-renamed, lin-renamed, is_sub-renamed, own_of-renamed, found-renamed, found_past-renamed}
 use Rattle.plain_machine.specs.World.{is_text}
@@ -67,13 +66,13 @@ module _ (w now : Held) (v : w ≡ now) (t : Reading) where
   pub there-seen : (c : ℕ) → is_class (plain t now).classes c ≡ is_class w.classes c
   there-seen c = class-seen is_some is_some refl (λ k. refl) c
 
-  bases-read : (ks : Classes PyStrInterned) (bs : List ℕ) → refused_bases (renamed (spelled t) ks) bs ≡ refused_bases ks bs
-  bases-read ks [] = refl
-  bases-read ks (b ∷ bs) = ap (λ q. cond q None (Some NotBaseType)) (at-renamed (spelled t) is_base_at is_base_at refl (λ k. refl) ks b)
-
   pub bases-seen : (bs : List ℕ) → refused_bases (plain t now).classes bs ≡ refused_bases w.classes bs
   unfolding plain
-  bases-seen bs = subst (λ n. refused_bases (plain t n).classes bs ≡ refused_bases w.classes bs) v (bases-read w.classes bs)
+  bases-seen bs = subst (λ n. refused_bases (plain t n).classes bs ≡ refused_bases w.classes bs) v (refused-alike (spelled t) w.classes bs)
+
+  pub layout-seen : (bs : List ℕ) → refused_layout (plain t now).classes bs ≡ refused_layout w.classes bs
+  unfolding plain
+  layout-seen bs = subst (λ n. refused_layout (plain t n).classes bs ≡ refused_layout w.classes bs) v (layout-alike (spelled t) w.classes bs)
 
 -- a class's flags, and one of them
 pub flag-of : (o : Option HeldClass) (flags flag : ℕ) → option_map (λ (k : HeldClass). k.flags) o ≡ Some flags → option_map (λ (k : HeldClass). has_flag flag k) o ≡ Some (bit_and flags flag == flag)
@@ -83,11 +82,6 @@ flag-of (Some k) flags flag e = let same : k.flags ≡ flags = cc in ap (λ n. S
 pub base-is : (o : Option HeldClass) (flags : ℕ) → option_map (λ (k : HeldClass). k.flags) o ≡ Some flags → is_base_at o ≡ (bit_and flags 1024 == 1024)
 base-is None flags e = cc
 base-is (Some k) flags e = let same : k.flags ≡ flags = cc in ap (λ n. bit_and n 1024 == 1024) same
-
--- the first base decides
-pub first-refused : (ks : Classes PyStrInterned) (bs : List PyTypeRef) (d : PyTypeRef) (b : Bool) → 0 < length bs → is_base_at (class_at ks (get_or bs 0 d).0) ≡ b → refused_bases ks (numbers bs) ≡ cond b None (Some NotBaseType)
-first-refused ks [] d b l e = absurd (omega arith)
-first-refused ks (c ∷ bs) d b l e = ap (λ q. cond q None (Some NotBaseType)) e
 
 pub refused-seen : (w now : Held) → w ≡ now → (t : Reading) → (c : ℕ) → refused_attr (plain t now).classes c ≡ refused_attr w.classes c
 refused-seen w now v t c = ap (λ b. cond b None (Some ImmutableType)) (heap-seen w now v t c)

@@ -32,7 +32,7 @@ abbrev pub refused_name : PlainWorld → Option PyObjectRef → Option Cause
 refused_name w None = None
 refused_name w (Some r) = cond (holds_text (datum_at w r)) None (Some QualnameType)
 
--- why a script may not make a class: it has no base, its first base may have no subclasses, or its qualified name is no text
+-- why a script may not make a class: its bases are refused, or its qualified name is no text
 abbrev pub refused_heap : PlainWorld → List ℕ → Bindings → Option Cause
 refused_heap w bases attrs = option_or (refused_bases w.classes bases) (refused_name w (qualified attrs))
 

@@ -1,11 +1,12 @@
 // Classes as scripts make and change them, and the functions that they define.
 
-ghost use Rattle.std.specs.Prelude.{◌≡◌, ◌<◌, ◌≤◌, length, Some, None, IfOk, IfNone, IfSome, OnOk, OnErr, slice_get};
+ghost use Rattle.std.specs.Prelude.{◌≡◌, ℕ, ◌<◌, length, Some, IfOk, IfSome, OnOk, OnErr};
+ghost use Rattle.std.specs.Option.{option_or};
 ghost use Rattle.py_node.specs.declared.built_in.BuiltIn.{BuiltIn};
 ghost use Rattle.py_node.specs.declared.built_in.BuiltIn.TheVariants.{TypeType};
-ghost use Rattle.class_model.specs.Layout.{built_ins};
+ghost use Rattle.class_model.specs.Layout.{built_ins, best_of};
 ghost use Rattle.class_table.specs.Keys.{numbers};
-ghost use Rattle.class_table.specs.Refused.{refusal, refused_attr, refused_bases};
+ghost use Rattle.class_table.specs.Refused.{refusal, WithMemory, IsEarly, refused_attr, refused_layout, refused_bases};
 ghost use Rattle.plain_machine.specs.Objects.{with_definer};
 ghost use Rattle.plain_machine.specs.World.{ref, datum_at, with_new_class, with_own_attr};
 ghost use Rattle.class_world.specs.NewHeap.{holds_text, qualified, refused_name, refused_heap, heap_class_of};
@@ -65,8 +66,9 @@ impl World {
     }
 
     /// A class that a script makes, and the node that stands for it: with the name, the bases, the
-    /// attributes and the members. Its objects hold what those of its base do. Where it is refused or
-    /// memory runs out, the world stays as it was.
+    /// attributes and the members. Its objects hold what those of its best base do. A qualified name that is
+    /// no text is told after all that the bases are refused for. Where it is refused or memory runs out, the
+    /// world stays as it was.
     pub fn new_heap(
         &mut self,
         alloc: Global,
@@ -77,54 +79,56 @@ impl World {
         metaclass: PyTypeRef,
     ) -> Result<PyTypeRef, ClassFault>
         requires bases { AllHold self.old (of_each of_class_ref bases.items) }
-        requires one { length bases.items ≤ 1 }
         requires attrs { AllHold self.old (of_each of_binding attrs) }
         requires members { Holds self.old (AreNames members.items) }
         requires metaclass { Holds self.old (IsClass metaclass.0) }
         requires of_classes { Holds self.old (IsOf metaclass.0 TypeType) }
         ensures made { OnOk result ((t : Reading) → plain t self.new ≡ with_new_class (plain t self.old) metaclass.0 (heap_class_of t name.now (length (plain t self.old).nodes) bases.items attrs members.items)) }
         ensures number { IfOk result (λ c. (t : Reading) → c.0 ≡ length (plain t self.old).nodes) }
-        ensures refused { (t : Reading) → Reads t self.old → refusal result ≡ refused_heap (plain t self.old) (numbers bases.items) (bindings t attrs) }
+        ensures early { (t : Reading) → IsEarly (plain t self.old).classes (numbers bases.items) (refusal result) }
+        ensures refused { (t : Reading) → Reads t self.old → WithMemory result (refusal result ≡ refused_heap (plain t self.old) (numbers bases.items) (bindings t attrs)) }
         ensures err { OnErr result (self.new ≡ self.old) }
         ensures reads { (t : Reading) → Reads t self.new → Reads t self.old }
         ensures grows { Grows self.old self.new }
         ensures class { IfOk result (λ c. Holds self.new (IsClass c.0)) }
-        ensures of { IfOk result (λ c. (d : PyTypeRef) (b : BuiltIn) → slice_get bases.items 0 ≡ Some d → Holds self.old (IsOf d.0 b) → Holds self.new (IsOf c.0 b)) }
+        ensures of { IfOk result (λ c. (d : ℕ) (b : BuiltIn) → best_of self.old.classes (numbers bases.items) ≡ Some d → Holds self.old (IsOf d b) → Holds self.new (IsOf c.0 b)) }
         ensures node { IfOk result (λ c. Holds self.new (IsNode (ref c.0))) }
     {
-        match self.heap_refusal(&bases, &attrs) {
-            Some(cause) => Err(ClassFault::Refused(cause)),
+        match self.layout_refusal(&bases) {
+            Some(cause) => return Err(ClassFault::Refused(cause)),
+            None => {}
+        }
+        match self.name_refusal(&attrs) {
+            Some(cause) => self.refuse_name(alloc, &bases, cause),
             None => self.add_heap(alloc, name, bases, attrs, members, metaclass),
         }
     }
 
-    // Why a script may not make a class with these bases and attributes, if it may not.
-    fn heap_refusal(&self, bases: &[PyTypeRef], attrs: &PyAttributes) -> Option<Cause>
-        requires bases { AllHold self.now (of_each of_class_ref bases.now) }
-        requires attrs { AllHold self.now (of_each of_binding attrs.now) }
-        ensures why { (t : Reading) → Reads t self.now → refused_heap (plain t self.now) (numbers bases.now) (bindings t attrs.now) ≡ result }
-        ensures bases { IfNone result (refused_bases self.now.classes (numbers bases.now) ≡ None) }
+    // Why a class may not have these bases, whatever their order, if it may not.
+    fn layout_refusal(&self, bases: &[PyTypeRef]) -> Option<Cause>
+        requires { AllHold self.now (of_each of_class_ref bases.now) }
+        ensures { result ≡ refused_layout self.now.classes (numbers bases.now) }
     {
-        match self.bases_refusal(bases) {
-            Some(cause) => Some(cause),
-            None => self.name_refusal(attrs),
+        match self.classes.best_base(bases) {
+            Ok(_) => None,
+            Err(cause) => Some(cause),
         }
     }
 
-    // Why a class may not have these bases, if it may not.
-    fn bases_refusal(&self, bases: &[PyTypeRef]) -> Option<Cause>
+    // Refuses a class for its name, unless its bases are refused.
+    fn refuse_name(
+        &self,
+        alloc: Global,
+        bases: &[PyTypeRef],
+        cause: Cause,
+    ) -> Result<PyTypeRef, ClassFault>
         requires { AllHold self.now (of_each of_class_ref bases.now) }
-        ensures { refused_bases self.now.classes (numbers bases.now) ≡ result }
+        ensures why { WithMemory result (refusal result ≡ option_or (refused_bases self.now.classes (numbers bases.now)) (Some cause)) }
+        ensures err { IfOk result (λ c. ⊥) }
     {
-        match bases {
-            [] => Some(Cause::EmptyBases),
-            [base, ..] => {
-                if self.can_be_base(*base) {
-                    None
-                } else {
-                    Some(Cause::NotBaseType)
-                }
-            }
+        match self.classes.may_derive(alloc, bases) {
+            Ok(()) => Err(ClassFault::Refused(cause)),
+            Err(fault) => Err(fault),
         }
     }
 
@@ -165,7 +169,7 @@ impl World {
         }
     }
 
-    // A class that nothing forbids, and the node that stands for it.
+    // A class, and the node that stands for it, unless its bases are refused.
     fn add_heap(
         &mut self,
         alloc: Global,
@@ -176,20 +180,18 @@ impl World {
         metaclass: PyTypeRef,
     ) -> Result<PyTypeRef, ClassFault>
         requires bases { AllHold self.old (of_each of_class_ref bases.items) }
-        requires one { length bases.items ≤ 1 }
-        requires allowed { refused_bases self.old.classes (numbers bases.items) ≡ None }
         requires attrs { AllHold self.old (of_each of_binding attrs) }
         requires members { Holds self.old (AreNames members.items) }
         requires metaclass { Holds self.old (IsClass metaclass.0) }
         requires of_classes { Holds self.old (IsOf metaclass.0 TypeType) }
         ensures made { OnOk result ((t : Reading) → plain t self.new ≡ with_new_class (plain t self.old) metaclass.0 (heap_class_of t name.now (length (plain t self.old).nodes) bases.items attrs members.items)) }
         ensures number { IfOk result (λ c. (t : Reading) → c.0 ≡ length (plain t self.old).nodes) }
-        ensures refused { refusal result ≡ None }
+        ensures refused { WithMemory result (refusal result ≡ refused_bases self.old.classes (numbers bases.items)) }
         ensures err { OnErr result (self.new ≡ self.old) }
         ensures reads { (t : Reading) → Reads t self.new → Reads t self.old }
         ensures grows { Grows self.old self.new }
         ensures class { IfOk result (λ c. Holds self.new (IsClass c.0)) }
-        ensures of { IfOk result (λ c. (d : PyTypeRef) (b : BuiltIn) → slice_get bases.items 0 ≡ Some d → Holds self.old (IsOf d.0 b) → Holds self.new (IsOf c.0 b)) }
+        ensures of { IfOk result (λ c. (d : ℕ) (b : BuiltIn) → best_of self.old.classes (numbers bases.items) ≡ Some d → Holds self.old (IsOf d b) → Holds self.new (IsOf c.0 b)) }
         ensures node { IfOk result (λ c. Holds self.new (IsNode (ref c.0))) }
     {
         match self.nodes.reserve(1) {
@@ -197,12 +199,14 @@ impl World {
             Err(_) => return Err(ClassFault::OutOfMemory),
         }
         let number = PyTypeRef(self.nodes.len() as u64);
+        self.classes.sound();
         match self
             .classes
             .new_heap(alloc, number, name, bases, attrs, members)
         {
             Err(fault) => Err(fault),
             Ok(class) => {
+                self.classes.sound();
                 self.nodes.push_reserved(Node {
                     class: metaclass,
                     dict: None,

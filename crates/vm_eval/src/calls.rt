@@ -1,11 +1,13 @@
 // What a host does with a machine beside running commands: it looks at the classes, gives names and
 // expressions, and makes and changes classes. Want of memory sets the machine's mark, as in a run.
 
-ghost use Rattle.std.specs.Prelude.{◌≡◌, ◌≤◌, IfOk, OnOk, OnErr, IsTrue, length};
+ghost use Rattle.std.specs.Prelude.{◌≡◌, ℕ, Some, IfOk, OnOk, OnErr, IsTrue, length};
 ghost use Rattle.py_node.specs.Tree.{tree_of};
+ghost use Rattle.py_node.specs.declared.built_in.BuiltIn.{BuiltIn};
 ghost use Rattle.py_node.specs.declared.built_in.BuiltIn.TheVariants.{TypeType};
+ghost use Rattle.class_model.specs.Layout.{best_of};
 ghost use Rattle.class_table.specs.Keys.{numbers};
-ghost use Rattle.class_table.specs.Refused.{refusal, refused_attr};
+ghost use Rattle.class_table.specs.Refused.{refusal, WithMemory, IsEarly, refused_attr};
 ghost use Rattle.plain_machine.specs.World.{ref, with_own_attr};
 ghost use Rattle.class_world.specs.Reading.{Reading, Reads, bindings, plain};
 ghost use Rattle.class_world.specs.NewHeap.{refused_heap};
@@ -95,18 +97,19 @@ impl VirtualMachine {
         metaclass: PyTypeRef,
     ) -> Result<PyTypeRef, ClassFault>
         requires bases { AllHold self.old.world (of_each of_class_ref bases.items) }
-        requires one { length bases.items ≤ 1 }
         requires attrs { AllHold self.old.world (of_each of_binding attrs) }
         requires members { Holds self.old.world (AreNames members.items) }
         requires metaclass { Holds self.old.world (IsClass metaclass.0) }
         requires of_classes { Holds self.old.world (IsOf metaclass.0 TypeType) }
         ensures made { OnOk result ((t : Reading) → MadeHeap t self.old.world self.new.world metaclass.0 name.now bases.items attrs members.items) }
         ensures number { IfOk result (λ c. (t : Reading) → c.0 ≡ length (plain t self.old.world).nodes) }
-        ensures refused { (t : Reading) → Reads t self.old.world → refusal result ≡ refused_heap (plain t self.old.world) (numbers bases.items) (bindings t attrs) }
+        ensures early { (t : Reading) → IsEarly (plain t self.old.world).classes (numbers bases.items) (refusal result) }
+        ensures refused { (t : Reading) → Reads t self.old.world → WithMemory result (refusal result ≡ refused_heap (plain t self.old.world) (numbers bases.items) (bindings t attrs)) }
         ensures err { OnErr result (self.new.world ≡ self.old.world) }
         ensures reads { (t : Reading) → Reads t self.new.world → Reads t self.old.world }
         ensures grows { Grows self.old.world self.new.world }
         ensures class { IfOk result (λ c. Holds self.new.world (IsClass c.0)) }
+        ensures of { IfOk result (λ c. (d : ℕ) (b : BuiltIn) → best_of self.old.world.classes (numbers bases.items) ≡ Some d → Holds self.old.world (IsOf d b) → Holds self.new.world (IsOf c.0 b)) }
         ensures node { IfOk result (λ c. Holds self.new.world (IsNode (ref c.0))) }
         ensures mark { MarkedAs self.old self.new result }
     {

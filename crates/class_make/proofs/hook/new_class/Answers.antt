@@ -1,7 +1,3 @@
-use Rattle.std.proofs.Common.{Err, ap, sym, ◌∙◌}
-use Rattle.py_node.specs.declared.refs.PyTypeRef.{PyTypeRef}
-use Rattle.class_table.specs.declared.fault.ClassFault.{ClassFault}
-use Rattle.class_table.specs.Refused.{refusal}
 use Rattle.class_world.specs.Reading.{bindings}
 use Rattle.class_world.proofs.Stored.{no-names}
 use Rattle.class_make.proofs.Making.{never-refused}
@@ -15,5 +11,5 @@ unreachable-requires c =
     let w = c.args.world.now in
     let t = c.readable.ensures.0 in
     let r = c.readable.ensures.1 in
-    let why = ap (λ (f : ClassFault). refusal {T = PyTypeRef} (Err f)) (sym c.in-Err-Refused.field-0-is) in
-    never-refused w t c.args.base c.in_ok-bases.bases.items (bindings t c.args.attrs) c.in-Err-Refused.field-0-0 (why ∙ c.in-Err-Refused.ensures.refused t r) c.in_ok-bases.ensures.items c.requires.can (c.requires.named t r)
+    let why = rw c.in-Err-Refused.field-0-is at (c.in-Err-Refused.ensures.refused t r) in
+    never-refused w t c.args.base c.in_ok-bases.bases.items (bindings t c.args.attrs) c.in-Err-Refused.field-0-0 why c.in_ok-bases.ensures.items (c.sound.ensures t) c.requires.can (c.requires.named t r)

@@ -2,10 +2,13 @@ use Rattle.std.proofs.Common.{◌≡◌, ◌<◌, ◌≤◌, List, add-one, ap, 
 use Rattle.py_node.specs.declared.built_in.BuiltIn.{BuiltIn}
 use Rattle.py_node.specs.declared.built_in.BuiltIn.TheVariants.{Object}
 use Rattle.py_node.specs.declared.refs.PyStrInterned.{PyStrInterned}
+use Rattle.std.proofs.lemmas.List.{length-map}
+use Rattle.py_node.specs.declared.refs.PyTypeRef.{PyTypeRef}
+use Rattle.class_table.specs.Keys.{numbers}
 use Rattle.class_model.specs.Class.{Class}
 use Rattle.py_node.specs.BuiltIns.{place_of, base_of, all_built_ins}
 use Rattle.class_model.specs.Start.{built_class}
-use Rattle.class_table.proofs.StartParts.{base_below, map-step, map-end, built-below, one-below, made-place, made-there, made-limit}
+use Rattle.class_table.proofs.StartParts.{base_below, map-step, map-end, built-below, one-below, one-long, made-place, made-there, made-limit}
 use Rattle.class_table.proofs.table.ClassTable.new.Goals as goal
 
 count : (xs : List BuiltIn) → xs ≡ all_built_ins → length xs ≡ 23
@@ -33,4 +36,7 @@ add_class-requires c =
     let l : i < 23 = omega (arith, n, t) in
     let made = c.in_ok-new.ensures in
     let called : c.in_ok-new.new.number.0 ≡ i = ap (λ (k : Class PyStrInterned). k.number) made ∙ subst (λ xs. place_of (get_or xs i Object) ≡ i) (sym c.built_ins-class-items.ensures) (made-place i Object l) in
-    rw (called, c.loop-class.invariant) (record { base = one-below _ i c.in_ok-new.new.base _ (ap (λ (k : Class PyStrInterned). k.bases) made) (subst (λ xs. base_below i (base_of (get_or xs i Object)) ≡ true) (sym c.built_ins-class-items.ensures) (built-below i Object l)) (made-there i (omega arith)); fresh = made-limit i (omega arith) })
+    let below = ap (λ (k : Class PyStrInterned). k.bases) made in
+    let few = one-long (numbers c.in_ok-new.new.bases.items) _ below in
+    let long = length-map c.in_ok-new.new.bases.items (λ (r : PyTypeRef). r.0) in
+    rw (called, c.loop-class.invariant) (record { below = one-below _ i (numbers c.in_ok-new.new.bases.items) _ below (subst (λ xs. base_below i (base_of (get_or xs i Object)) ≡ true) (sym c.built_ins-class-items.ensures) (built-below i Object l)) (made-there i (omega arith)); one = omega (arith, few, long); fresh = made-limit i (omega arith) })

@@ -1,4 +1,7 @@
-use Rattle.std.proofs.Common.{◌≡◌, ap, arith, length, ◌∙◌}
+use Rattle.std.proofs.Common.{◌≡◌, Some, sym, ap, subst, arith, length, ◌∙◌}
+use Rattle.class_model.specs.Layout.{best_of}
+use Rattle.class_model.specs.Sound.{AreSound}
+use Rattle.class_world.specs.Held.{Held}
 use Rattle.py_node.specs.declared.built_in.BuiltIn.TheVariants.{TypeType}
 use Rattle.py_node.specs.declared.refs.PyTypeRef.{PyTypeRef}
 use Rattle.class_table.specs.Keys.{numbers}
@@ -7,7 +10,7 @@ use Rattle.class_world.specs.contracts.world.World.{the_view}
 use Rattle.class_world.specs.Sound.{IsClass, IsOf, AreNames, of_binding, of_class_ref, of_each}
 use Rattle.class_world.proofs.Claims.{opened, opened-one}
 use Rattle.class_world.proofs.Growth.{grows-seen}
-use Rattle.class_world.proofs.ClassChanges.{room, bases-there, one-base, made-grows, class-made, class-made-of, node-made, made-sound}
+use Rattle.class_world.proofs.ClassChanges.{room, bases-there, made-grows, class-made, class-made-of, node-made, made-sound}
 use Rattle.class_world.proofs.world.World.add_heap.Goals as goal
 
 pub new_heap-requires-clause-bases : goal.new_heap-requires-clause-bases
@@ -49,8 +52,11 @@ returns-in-Ok-new_heap-clause-of c = λ d b e h.
     let w = the_view c.self.inside in
     let k = heap_class c.args.name.now c.len.result (numbers c.args.bases.items) c.args.attrs c.args.members.items in
     let size : c.len.result ≡ length w.nodes = omega (arith, c.len.ensures, c.in-Ok.ensures.len, c.self.inside.nodes.ok.0) in
+    let there = bases-there w c.args.bases.items (opened w c.args.self.now (of_each of_class_ref c.args.bases.items) c.self.view_is c.requires.bases) in
+    let more = subst AreSound c.in-Ok-new_heap.ensures.added c.sound-in-Ok-new_heap.ensures.sound in
+    let best = subst (λ (v : Held). best_of v.classes (numbers c.args.bases.items) ≡ Some d) (sym c.self.view_is) e in
     rw (c.push_reserved.ensures.items, c.in-Ok.ensures.items, c.in-Ok-new_heap.ensures.added)
-    (class-made-of w c.args.metaclass k c.in-Ok-new_heap.class (ap (λ (n : PyTypeRef). n.0) c.in-Ok-new_heap.ensures.number ∙ size) size c.self.invariant d.0 b (ap numbers (one-base c.args.bases.items d c.requires.one e)) (opened-one w c.args.self.now (IsOf d.0 b) c.self.view_is h))
+    (class-made-of w c.args.metaclass k c.in-Ok-new_heap.class (ap (λ (n : PyTypeRef). n.0) c.in-Ok-new_heap.ensures.number ∙ size) size c.self.invariant d b c.sound.ensures.sound more there best (opened-one w c.args.self.now (IsOf d b) c.self.view_is h))
 
 pub returns-in-Ok-new_heap-clause-node : goal.returns-in-Ok-new_heap-clause-node
 returns-in-Ok-new_heap-clause-node c =

@@ -1,0 +1,74 @@
+-- What a class gets that is made with some bases, whatever their number: its linearisation, its best base and its solid class.
+use Rattle.std.proofs.Common.{◌≡◌, ℕ, ◌<◌, ◌≤◌, true, not, cond, ◌||◌, List, [], ◌∷◌, map, length, Option, Some, None, inl, inr, refl, sym, ap, subst, ◌∙◌, arith}
+use Rattle.std.specs.Prelude.{nat_lt, option_map, option_and_then}
+use Rattle.class_model.specs.Order.{least_order, all_some, Holds, Distinct, Subsequence}
+use Rattle.class_model.specs.Class.{Class, Classes, is_class, bases_of, lin}
+use Rattle.class_model.specs.Numbers.{limit}
+use Rattle.class_model.specs.Change.{with_class}
+use Rattle.class_model.specs.Layout.{built_ins, is_empty, first_best, solid_within, solid, best_of, base}
+use Rattle.class_model.specs.Sound.{AreSound}
+use Rattle.class_model.proofs.Held.{Holds-equal, Subsequence-holds}
+use Rattle.class_model.proofs.Linear.{all_some-holds}
+use Rattle.class_model.proofs.Agreed.{bind-agrees}
+use Rattle.class_model.proofs.Rule.{lin-classes, lin-below, lin-least}
+use Rattle.class_model.proofs.Changed.{bases_of-before, bases_of-last, lin-by}
+use Rattle.class_model.proofs.Solid.{first_best-agrees, first_best-held, solid-held, is_solid-push, is_solid-last}
+use Rattle.class_model.proofs.Made.{lined, lin-made, solid-old, deep, base-last, solid-last}
+
+pub all_some-some : {A : Type 0} (xs : List A) → all_some (map Some xs) ≡ Some xs
+all_some-some [] = refl
+all_some-some (x ∷ xs) = ap (option_map (λ ys. x ∷ ys)) (all_some-some xs)
+
+lines-same : (f g : ℕ → Option (List ℕ)) (bs : List ℕ) → ((b : ℕ) → Holds bs b → f b ≡ g b) → map f bs ≡ map g bs
+lines-same f g [] h = refl
+lines-same f g (b ∷ bs) h =
+    let a = h b (inl refl) in
+    let r = lines-same f g bs (λ x k. h x (inr k)) in
+    cc (a, r)
+
+pub subsequence-distinct : (bs xs : List ℕ) → Subsequence bs xs → Distinct xs → Distinct bs
+subsequence-distinct [] xs s d = tt
+subsequence-distinct (b ∷ bs) [] s d = absurd s
+subsequence-distinct (b ∷ bs) (x ∷ xs) (inl p) d =
+    (λ h. d.0 (Holds-equal xs b x p.0 (Subsequence-holds bs xs b p.1 h)), subsequence-distinct bs xs p.1 d.1)
+subsequence-distinct (b ∷ bs) (x ∷ xs) (inr s) d = subsequence-distinct (b ∷ bs) xs s d.1
+
+module _ {K : Type 0} where
+  -- a class with a linearisation has no base twice
+  pub bases-distinct : (t : Classes K) (c : ℕ) (line bs : List ℕ) → lin t c ≡ Some line → bases_of t c ≡ Some bs → Distinct bs
+  bases-distinct t c line bs e h =
+      let l = lin-least t c line e in
+      let s : l.bases ≡ bs = let q = l.of_class in cc in
+      subst Distinct s (subsequence-distinct l.bases line l.least.order.keeps_bases l.least.order.distinct)
+
+  -- the lines of classes hold classes alone
+  pub lines-below : (t : Classes K) (bs : List ℕ) (lines : List (List ℕ)) (l : List ℕ) (x : ℕ) → all_some (map (lin t) bs) ≡ Some lines → Holds lines l → Holds l x → x < limit t
+  lines-below t bs lines l x e h k = let r = all_some-holds (lin t) bs lines l e h in lin-below t r.0 l x r.2 k
+
+module _ {K : Type 0} (t : Classes K) (k : Class K) (ok : AreSound t) (fresh : limit t ≤ k.number) (bases : (b : ℕ) → Holds k.bases b → is_class t b ≡ true) where
+  -- the least order over the linearisations of the bases
+  pub lin-value : (line : List ℕ) → option_and_then (least_order k.number k.bases) (all_some (map (lin t) k.bases)) ≡ Some line → lin (with_class t k) k.number ≡ Some line
+  lin-value line e = go (all_some (map (lin t) k.bases)) refl e
+    where
+      go : (o : Option (List (List ℕ))) → all_some (map (lin t) k.bases) ≡ o → option_and_then (least_order k.number k.bases) o ≡ Some line → lin (with_class t k) k.number ≡ Some line
+      go None h e = cc
+      go (Some lines) h e =
+          lin-by (with_class t k) k.number k.bases lines line (bases_of-last t k fresh k.bases refl) (ap all_some (lines-same (lin (with_class t k)) (lin t) k.bases (λ b p. lin-made t k ok b (bases b p))) ∙ h) e
+
+  agrees : (g : ℕ → Option ℕ) → ((b : ℕ) → is_class t b ≡ true → solid t b ≡ g b) → best_of t k.bases ≡ first_best (with_class t k) g k.bases k.bases
+  agrees g same =
+      first_best-agrees t (with_class t k) (λ x. is_class t x ≡ true) (λ x bs b p e h. ok.there x b bs e h) (λ x p. sym (bases_of-before t k x p)) (λ x p. sym (lin-made t k ok x p)) (λ x p. sym (is_solid-push t k x p)) (solid t) g k.bases k.bases (λ b h. same b (bases b h)) (λ b d h e. let r = lined t k ok b (bases b h) in lin-classes t b r.0 d r.1 (solid-held t b r.0 d r.1 e)) (λ b h. h)
+
+  pub best-value : base (with_class t k) k.number ≡ best_of t k.bases
+  best-value = base-last t k ok fresh bases ∙ sym (agrees (solid (with_class t k)) (λ b l. sym (solid-old t k ok b l)))
+
+  -- itself where it is solid, and else that of its best base
+  pub solid-value : solid (with_class t k) k.number ≡ cond (nat_lt k.number built_ins || not (is_empty k.members)) (Some k.number) (option_and_then (solid t) (best_of t k.bases))
+  solid-value =
+      let f = solid_within (with_class t k) (length t) in
+      let same : (b : ℕ) → is_class t b ≡ true → solid t b ≡ f b = λ b l. sym (deep t k ok (length t) b (omega arith) l) in
+      let above : option_and_then f (first_best (with_class t k) f k.bases k.bases) ≡ option_and_then (solid t) (best_of t k.bases) =
+      bind-agrees f (solid t) (first_best (with_class t k) f k.bases k.bases) (best_of t k.bases) (sym (agrees f same)) (λ b e. sym (same b (bases b (first_best-held (with_class t k) f k.bases k.bases b e)))) in
+      solid-last t k ok fresh bases
+      ∙ ap (λ w. cond w (Some k.number) (option_and_then f (first_best (with_class t k) f k.bases k.bases))) (is_solid-last t k fresh)
+      ∙ ap (cond (nat_lt k.number built_ins || not (is_empty k.members)) (Some k.number)) above

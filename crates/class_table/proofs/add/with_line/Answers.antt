@@ -1,0 +1,34 @@
+use Rattle.std.proofs.Common.{Some, List, refl, sym, ap, cond, ◌||◌, not, ◌∙◌}
+use Rattle.std.specs.Prelude.{nat_lt}
+use Rattle.class_model.specs.Layout.{built_ins, is_empty}
+use Rattle.py_node.specs.declared.refs.PyStrInterned.{PyStrInterned}
+use Rattle.class_table.specs.Keys.{numbers, number_of}
+use Rattle.class_table.specs.Kept.{plain}
+use Rattle.class_table.specs.New.{class_of_new}
+use Rattle.class_table.proofs.Pushed.{there-of, best-there, line-given, base-given, solid-given}
+use Rattle.class_table.proofs.add.with_line.Goals as goal
+
+pub inherited-requires-clause-there : goal.inherited-requires-clause-there
+inherited-requires-clause-there c =
+    let t = plain c.args.classes.now in
+    let bs = numbers c.args.new.bases.items in
+    best-there t bs c.args.best (there-of t c.args.new.number.0 bs c.requires.below) c.requires.best
+
+pub returns : goal.returns
+returns c =
+    let kept = c.args.classes.now in
+    let new = class_of_new c.args.new in
+    let ok = c.requires.coherent in
+    record {
+      class = refl;
+      attrs = c.are_distinct.ensures;
+      full = c.in_ok-slots.ensures;
+      mro = line-given kept ok new c.requires.fresh c.requires.below c.args.best c.requires.best (numbers c.args.rest.now) c.requires.rest ∙ ap Some (sym c.in_ok-mro.ensures);
+      base = base-given kept ok new c.requires.fresh c.requires.below c.args.best c.requires.best;
+      solid =
+          solid-given kept ok new c.requires.fresh c.requires.below c.args.best c.requires.best
+          ∙ ap (cond (nat_lt c.args.new.number.0 built_ins || not (is_empty c.args.new.members.items)) (Some c.args.new.number.0)) (sym c.inherited.ensures)
+          ∙ ap (λ (ms : List PyStrInterned). cond (nat_lt c.args.new.number.0 built_ins || not (is_empty ms)) (Some c.args.new.number.0) (number_of c.inherited.result)) (sym c.deref.ensures.value)
+          ∙ sym c.solid_of-solid.ensures;
+      subclasses = ap numbers c.new.ensures.items;
+    }

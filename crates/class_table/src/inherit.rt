@@ -1,0 +1,238 @@
+// What a class gets from its bases: the best of them, and its linearisation.
+
+ghost use Rattle.std.specs.Prelude.{◌≡◌, ◌≤◌, true, length, Some, map, IfOk, IfSome, option_and_then};
+ghost use Rattle.class_model.specs.Class.{class_at, is_class, lin};
+ghost use Rattle.class_model.specs.Numbers.{is_ascending, limit};
+ghost use Rattle.class_model.specs.Layout.{solid, best_of};
+ghost use Rattle.mro_merge.specs.Lists.{rows};
+ghost use Rattle.class_table.specs.Keys.{numbers, number_of};
+ghost use Rattle.class_table.specs.Kept.{plain};
+ghost use Rattle.class_table.specs.Coherent.{IsCoherent};
+ghost use Rattle.class_table.specs.New.{IsBest};
+ghost use Rattle.class_table.specs.Refused.{refusal, WithMemory, cause_of, is_base_at, refused_layout, refused_order, refused_bases, IsEarly, AreThere};
+ghost use Rattle.class_table.specs.Inherit.{is_under, better_of, next_best, best_along, number_found, number_best, Follows};
+
+use crate::fault::{ClassFault, merge_fault};
+use crate::place::{find, find_place, stored_at};
+use crate::stored::Stored;
+use mro_merge::laws::resolve_mro;
+use py_node::flags::PyTypeFlags;
+use py_node::memory::OutOfMemory;
+use py_node::raised::Cause;
+use py_node::refs::PyTypeRef;
+use std::alloc::Global;
+
+// Whether a class may have subclasses.
+fn is_base(classes: &[Stored], class: PyTypeRef) -> bool
+    requires { is_ascending (plain classes.now) ≡ true }
+    ensures { result ≡ is_base_at (class_at (plain classes.now) class.0) }
+{
+    match find(classes, class) {
+        None => false,
+        Some(stored) => stored.flags().has_feature(PyTypeFlags::BASETYPE),
+    }
+}
+
+// The solid class of a class that is there.
+fn solid_of(classes: &[Stored], class: PyTypeRef) -> Option<PyTypeRef>
+    requires coherent { IsCoherent classes.now }
+    requires there { is_class (plain classes.now) class.0 ≡ true }
+    ensures { number_of result ≡ solid (plain classes.now) class.0 }
+{
+    stored_at(classes, class).solid()
+}
+
+// The solid class of the best base, where there is one.
+pub(crate) fn inherited(classes: &[Stored], best: Option<PyTypeRef>) -> Option<PyTypeRef>
+    requires coherent { IsCoherent classes.now }
+    requires there { IfSome best (λ b. is_class (plain classes.now) b.0 ≡ true) }
+    ensures { number_of result ≡ option_and_then (solid (plain classes.now)) (number_of best) }
+{
+    match best {
+        None => None,
+        Some(class) => solid_of(classes, class),
+    }
+}
+
+// Whether one solid class derives from another.
+fn is_under(classes: &[Stored], class: Option<PyTypeRef>, other: Option<PyTypeRef>) -> bool
+    requires { IsCoherent classes.now }
+    ensures { result ≡ is_under (plain classes.now) (number_of class) (number_of other) }
+{
+    match class {
+        None => false,
+        Some(below) => match other {
+            None => false,
+            Some(above) => derives(classes, below, above),
+        },
+    }
+}
+
+// Whether a class is there and derives from another.
+fn derives(classes: &[Stored], class: PyTypeRef, other: PyTypeRef) -> bool
+    requires { IsCoherent classes.now }
+    ensures { result ≡ is_under (plain classes.now) (Some class.0) (Some other.0) }
+{
+    match find(classes, class) {
+        None => false,
+        Some(stored) => stored.derives(other),
+    }
+}
+
+// The better of two bases: the one whose solid class derives from the other's.
+fn better_of(classes: &[Stored], best: PyTypeRef, base: PyTypeRef) -> Result<PyTypeRef, Cause>
+    requires coherent { IsCoherent classes.now }
+    requires best { is_class (plain classes.now) best.0 ≡ true }
+    requires base { is_class (plain classes.now) base.0 ≡ true }
+    ensures { number_found result ≡ better_of (plain classes.now) best.0 base.0 }
+{
+    let first = solid_of(classes, best);
+    let second = solid_of(classes, base);
+    if is_under(classes, first, second) {
+        Ok(best)
+    } else if is_under(classes, second, first) {
+        Ok(base)
+    } else {
+        Err(Cause::LayoutConflict)
+    }
+}
+
+// The better of the best base so far and a further one.
+fn next_best(
+    classes: &[Stored],
+    best: Option<PyTypeRef>,
+    base: PyTypeRef,
+) -> Result<PyTypeRef, Cause>
+    requires coherent { IsCoherent classes.now }
+    requires best { IfSome best (λ b. is_class (plain classes.now) b.0 ≡ true) }
+    requires base { is_class (plain classes.now) base.0 ≡ true }
+    ensures next { number_found result ≡ next_best (plain classes.now) (number_of best) base.0 }
+    ensures there { IfOk result (λ b. is_class (plain classes.now) b.0 ≡ true) }
+{
+    if !is_base(classes, base) {
+        return Err(Cause::NotBaseType);
+    }
+    match best {
+        None => Ok(base),
+        Some(class) => better_of(classes, class, base),
+    }
+}
+
+// The best of some bases, if there are any.
+fn best_along(classes: &[Stored], bases: &[PyTypeRef]) -> Result<Option<PyTypeRef>, Cause>
+    requires coherent { IsCoherent classes.now }
+    requires there { AreThere (plain classes.now) (numbers bases.now) }
+    ensures { number_best result ≡ best_along (plain classes.now) None (numbers bases.now) }
+{
+    let mut best = None;
+    for base in bases {
+        match next_best(classes, best, *base) {
+            Err(cause) => return Err(cause),
+            Ok(class) => best = Some(class),
+        }
+    }
+    Ok(best)
+}
+
+// The best base of a class that a script makes, or why it may not have these bases.
+pub(crate) fn best_base(classes: &[Stored], bases: &[PyTypeRef]) -> Result<PyTypeRef, Cause>
+    requires coherent { IsCoherent classes.now }
+    requires there { AreThere (plain classes.now) (numbers bases.now) }
+    ensures best { IfOk result (λ b. best_of (plain classes.now) (numbers bases.now) ≡ Some b.0) }
+    ensures refused { cause_of result ≡ refused_layout (plain classes.now) (numbers bases.now) }
+{
+    match best_along(classes, bases) {
+        Err(cause) => Err(cause),
+        Ok(None) => Err(Cause::EmptyBases),
+        Ok(Some(best)) => Ok(best),
+    }
+}
+
+// The best of at most one base.
+pub(crate) fn only(classes: &[Stored], bases: &[PyTypeRef]) -> Option<PyTypeRef>
+    requires coherent { IsCoherent classes.now }
+    requires there { AreThere (plain classes.now) (numbers bases.now) }
+    requires one { length bases.now ≤ 1 }
+    ensures { IsBest (plain classes.now) (numbers bases.now) result }
+{
+    match bases {
+        [] => None,
+        [base, ..] => Some(*base),
+    }
+}
+
+// The linearisations of some classes.
+fn lines(
+    classes: &[Stored],
+    alloc: Global,
+    bases: &[PyTypeRef],
+) -> Result<Vec<Vec<PyTypeRef>>, OutOfMemory>
+    requires coherent { IsCoherent classes.now }
+    requires there { AreThere (plain classes.now) (numbers bases.now) }
+    ensures { IfOk result (λ v. map Some (rows v.items) ≡ map (lin (plain classes.now)) (numbers bases.now)) }
+{
+    let mut lines = Vec::new(alloc);
+    for base in bases {
+        let line = Vec::from_slice(alloc, stored_at(classes, *base).mro())?;
+        lines.push(line)?;
+    }
+    Ok(lines)
+}
+
+// What follows a new class with these bases in its linearisation: the merge of theirs.
+pub(crate) fn rest_of_line(
+    classes: &[Stored],
+    alloc: Global,
+    bases: &[PyTypeRef],
+) -> Result<Vec<PyTypeRef>, ClassFault>
+    requires coherent { IsCoherent classes.now }
+    requires there { AreThere (plain classes.now) (numbers bases.now) }
+    ensures rest { IfOk result (λ v. Follows (plain classes.now) (numbers bases.now) (numbers v.items)) }
+    ensures refused { WithMemory result (refusal result ≡ refused_order (plain classes.now) (numbers bases.now)) }
+{
+    let lines = match lines(classes, alloc, bases) {
+        Ok(lines) => lines,
+        Err(_) => return Err(ClassFault::OutOfMemory),
+    };
+    match resolve_mro(alloc, bases, lines) {
+        Ok(rest) => Ok(rest),
+        Err(fault) => Err(merge_fault(fault)),
+    }
+}
+
+// Whether a script may make a class with these bases.
+pub(crate) fn may_derive(
+    classes: &[Stored],
+    alloc: Global,
+    bases: &[PyTypeRef],
+) -> Result<(), ClassFault>
+    requires coherent { IsCoherent classes.now }
+    requires there { AreThere (plain classes.now) (numbers bases.now) }
+    ensures early { IsEarly (plain classes.now) (numbers bases.now) (refusal result) }
+    ensures refused { WithMemory result (refusal result ≡ refused_bases (plain classes.now) (numbers bases.now)) }
+{
+    match best_base(classes, bases) {
+        Ok(_) => {}
+        Err(cause) => return Err(ClassFault::Refused(cause)),
+    }
+    match rest_of_line(classes, alloc, bases) {
+        Ok(_) => Ok(()),
+        Err(fault) => Err(fault),
+    }
+}
+
+// Where the classes of a linearisation are kept, after the class at the end itself. Each is a guess.
+pub(crate) fn places(
+    classes: &[Stored],
+    alloc: Global,
+    rest: &[PyTypeRef],
+) -> Result<Vec<usize>, OutOfMemory>
+    requires { is_ascending (plain classes.now) ≡ true }
+{
+    let mut places = Vec::new(alloc);
+    places.push(classes.len())?;
+    for class in rest {
+        places.push(find_place(classes, *class).unwrap_or(0))?;
+    }
+    Ok(places)
+}

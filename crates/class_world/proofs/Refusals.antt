@@ -1,0 +1,43 @@
+-- Why a world refuses a class.
+use Rattle.std.proofs.Common.{◌≡◌, ℕ, List, Option, Some, None, Result, Ok, Err, sym, ap, ◌∙◌}
+use Rattle.std.specs.Option.{option_or}
+use Rattle.py_node.specs.declared.raised.Cause.{Cause}
+use Rattle.class_table.specs.declared.fault.ClassFault.{ClassFault}
+use Rattle.class_table.specs.declared.fault.ClassFault.TheVariants.{Refused, OutOfMemory}
+use Rattle.class_table.specs.Refused.{refusal, WithMemory, refused_layout, refused_order, refused_bases}
+use Rattle.plain_machine.specs.Plain.{Bindings}
+use Rattle.class_world.specs.Held.{Held}
+use Rattle.class_world.specs.Reading.{Reading, plain}
+use Rattle.class_world.specs.NewHeap.{qualified, refused_name, refused_heap}
+use Rattle.class_world.proofs.OfClasses.{bases-seen, layout-seen}
+
+-- the same cause
+with-same : {T : Type 0} (r : Result T ClassFault) (a b : Option Cause) → a ≡ b → WithMemory r (refusal r ≡ a) → WithMemory r (refusal r ≡ b)
+with-same (Ok x) a b e h = h ∙ e
+with-same (Err (Refused cause)) a b e h = h ∙ e
+with-same (Err OutOfMemory) a b e h = tt
+
+or-none : (o : Option Cause) → o ≡ option_or o None
+or-none None = cc
+or-none (Some cause) = cc
+
+module _ (w now : Held) (v : w ≡ now) (t : Reading) (bs : List ℕ) where
+  -- for its bases, whatever their order
+  pub layout-first : (cause : Cause) (attrs : Bindings) → Some cause ≡ refused_layout w.classes bs → Some cause ≡ refused_heap (plain t now) bs attrs
+  layout-first cause attrs e =
+      let all : refused_bases w.classes bs ≡ Some cause = ap (λ o. option_or o (refused_order w.classes bs)) (sym e) in
+      sym (ap (λ o. option_or o (refused_name (plain t now) (qualified attrs))) (bases-seen w now v t bs ∙ all))
+
+  pub layout-told : (cause told : Cause) → Some cause ≡ refused_layout w.classes bs → refused_layout (plain t now).classes bs ≡ Some told → Some cause ≡ Some told
+  layout-told cause told e f = e ∙ sym (layout-seen w now v t bs) ∙ f
+
+  pub layout-none : (told : Cause) (o : Option Cause) → None ≡ refused_layout w.classes bs → refused_layout (plain t now).classes bs ≡ Some told → o ≡ Some told
+  layout-none told o e f = let h : None ≡ Some told = e ∙ sym (layout-seen w now v t bs) ∙ f in cc
+
+  -- for its bases or its name
+  pub name-next : {T : Type 0} (r : Result T ClassFault) (attrs : Bindings) (o : Option Cause) → refused_name (plain t now) (qualified attrs) ≡ o → WithMemory r (refusal r ≡ option_or (refused_bases w.classes bs) o) → WithMemory r (refusal r ≡ refused_heap (plain t now) bs attrs)
+  name-next r attrs o e h =
+      with-same r _ _ (ap (λ a. option_or a o) (sym (bases-seen w now v t bs)) ∙ ap (option_or (refused_bases (plain t now).classes bs)) (sym e)) h
+
+  pub no-name : {T : Type 0} (r : Result T ClassFault) (attrs : Bindings) → refused_name (plain t now) (qualified attrs) ≡ None → WithMemory r (refusal r ≡ refused_bases w.classes bs) → WithMemory r (refusal r ≡ refused_heap (plain t now) bs attrs)
+  no-name r attrs e h = name-next r attrs None e (with-same r _ _ (or-none (refused_bases w.classes bs)) h)

@@ -1,0 +1,42 @@
+use Rattle.std.proofs.Common.{◌≡◌, List, Some, refl, ap, subst, ◌∙◌}
+use Rattle.std.specs.Option.{option_or}
+use Rattle.py_node.specs.declared.refs.PyTypeRef.{PyTypeRef}
+use Rattle.class_table.specs.Keys.{numbers}
+use Rattle.class_table.specs.Refused.{refusal, WithMemory, refused_layout, refused_bases}
+use Rattle.class_world.specs.Reading.{bindings}
+use Rattle.class_world.proofs.Refusals.{layout-first, layout-told, layout-none, name-next, no-name}
+use Rattle.class_world.proofs.world.World.new_heap.Goals as goal
+
+pub returns-in-Some-clause-early : goal.returns-in-Some-clause-early
+returns-in-Some-clause-early c = λ t told f.
+    let w = c.args.self.now in
+    let e = c.in-Some.ensures ∙ ap (λ (bs : List PyTypeRef). refused_layout w.classes (numbers bs)) c.deref.ensures.value in
+    layout-told w w refl t (numbers c.args.bases.items) c.in-Some.cause told e f
+
+pub returns-in-Some-clause-refused : goal.returns-in-Some-clause-refused
+returns-in-Some-clause-refused c = λ t r.
+    let w = c.args.self.now in
+    let e = c.in-Some.ensures ∙ ap (λ (bs : List PyTypeRef). refused_layout w.classes (numbers bs)) c.deref.ensures.value in
+    layout-first w w refl t (numbers c.args.bases.items) c.in-Some.cause (bindings t c.args.attrs) e
+
+pub returns-in-Some-name_refusal-clause-early : goal.returns-in-Some-name_refusal-clause-early
+returns-in-Some-name_refusal-clause-early c = λ t told f.
+    let w = c.args.self.now in
+    let e = c.in-None.ensures ∙ ap (λ (bs : List PyTypeRef). refused_layout w.classes (numbers bs)) c.deref.ensures.value in
+    layout-none w w refl t (numbers c.args.bases.items) told (refusal c.refuse_name.result) e f
+
+pub returns-in-Some-name_refusal-clause-refused : goal.returns-in-Some-name_refusal-clause-refused
+returns-in-Some-name_refusal-clause-refused c = λ t r.
+    let w = c.args.self.now in
+    let h = subst (λ (bs : List PyTypeRef). WithMemory c.refuse_name.result (refusal c.refuse_name.result ≡ option_or (refused_bases w.classes (numbers bs)) (Some c.in-Some-name_refusal.cause))) c.deref-in-Some-name_refusal.ensures.value c.refuse_name.ensures.why in
+    name-next w w refl t (numbers c.args.bases.items) c.refuse_name.result (bindings t c.args.attrs) (Some c.in-Some-name_refusal.cause) (c.in-Some-name_refusal.ensures t r) h
+
+pub returns-in-None-name_refusal-clause-early : goal.returns-in-None-name_refusal-clause-early
+returns-in-None-name_refusal-clause-early c = λ t told f.
+    let w = c.args.self.now in
+    let e = c.in-None.ensures ∙ ap (λ (bs : List PyTypeRef). refused_layout w.classes (numbers bs)) c.deref.ensures.value in
+    layout-none w w refl t (numbers c.args.bases.items) told (refusal c.add_heap.result) e f
+
+pub returns-in-None-name_refusal-clause-refused : goal.returns-in-None-name_refusal-clause-refused
+returns-in-None-name_refusal-clause-refused c = λ t r.
+    no-name c.args.self.now c.args.self.now refl t (numbers c.args.bases.items) c.add_heap.result (bindings t c.args.attrs) (c.in-None-name_refusal.ensures t r) c.add_heap.ensures.refused
