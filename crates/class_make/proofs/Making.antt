@@ -3,7 +3,6 @@ use Rattle.std.proofs.Common.{◌≡◌, ℕ, zero, suc, ◌<◌, Bool, true, fa
 use Rattle.std.specs.Prelude.{is_some, slice_get}
 use Rattle.py_node.specs.declared.memory.OutOfMemory.{OutOfMemory}
 use Rattle.py_node.specs.declared.raised.Raised.{Raised as Fault}
-use Rattle.py_node.specs.declared.raised.Kind.TheVariants.{NotImplementedError}
 use Rattle.py_node.specs.declared.raised.Cause.TheVariants.{NotYet, QualnameType}
 use Rattle.py_node.specs.declared.raised.Cause.{Cause}
 use Rattle.py_node.specs.declared.refs.PyObjectRef.{PyObjectRef}
@@ -162,4 +161,4 @@ told-hook u v w c node values x y m e f g h k l =
     let here : w ≡ u = f ∙ e in
     let wants : some_has u (known_text known.SetName) values ≡ false = (λ i. some_has (sym e i) (sym g i) values) ∙ k in
     let past : found_past is_text u.classes c (known_text known.InitSubclass) ≡ m = (λ i. found_past is_text (sym here i).classes c (sym h i)) ∙ l in
-    (λ i. hook (here i) node (sym past i)) ∙ sym (ap (λ b. cond b (Ends u (fault NotImplementedError NotYet)) (hook u node (found_past is_text u.classes c (known_text known.InitSubclass)))) wants)
+    (λ i. hook (here i) node (sym past i)) ∙ sym (ap (λ b. cond b (Ends u (fault NotYet)) (hook u node (found_past is_text u.classes c (known_text known.InitSubclass)))) wants)

@@ -5,7 +5,6 @@ use Rattle.py_node.specs.declared.memory.OutOfMemory.{OutOfMemory}
 use Rattle.py_node.specs.declared.refs.PyObjectRef.{PyObjectRef}
 use Rattle.py_node.specs.declared.entry.SlotId.TheVariants.{New}
 use Rattle.py_node.specs.declared.entry.TypeNative.{TypeNative}
-use Rattle.py_node.specs.declared.raised.Kind.TheVariants.{TypeError, ValueError}
 use Rattle.py_node.specs.declared.raised.Cause.TheVariants.{NotBaseType, NullInName, TypeArgs}
 use Rattle.py_node.specs.declared.task.Step.{Step}
 use Rattle.py_node.specs.Tree.{Text}
@@ -29,7 +28,7 @@ use Rattle.class_make.specs.Rows.{Bound, Makes, Types, class_stands}
 pub base-read : (u v : PlainWorld) (meta : ℕ) (name : Text) (base : ℕ) (es ds : List (PyObjectRef × PyObjectRef)) (o : Option Bindings) → v ≡ u → class_has_flag u (2 ^ 10) (Some base) ≡ true → namespace u ds ≡ o → ds ≡ es → with_namespace v meta name base o ≡ on_base u meta name base es
 base-read u v meta name base es ds o e f g h =
     let o-is : o ≡ namespace u es = sym g ∙ ap (namespace u) h in
-    (λ i. with_namespace (e i) meta name base (o-is i)) ∙ sym (ap (λ b. cond b (with_namespace u meta name base (namespace u es)) (Ends u (fault TypeError NotBaseType))) f)
+    (λ i. with_namespace (e i) meta name base (o-is i)) ∙ sym (ap (λ b. cond b (with_namespace u meta name base (namespace u es)) (Ends u (fault NotBaseType))) f)
 
 pub winner-goes : (u : PlainWorld) (meta : ℕ) (o : Option ℕ) (c : ℕ) (name : Text) (base : ℕ) (es : List (PyObjectRef × PyObjectRef)) (args : List PyObjectRef) (kw : Bindings) → o ≡ Some c → not (eqb c meta) && is_some (entry text_keys natives_of u.classes c New) ≡ false → on_base u c name base es ≡ by_winner u meta o name base es args kw
 winner-goes u meta o c name base es args kw e f =
@@ -51,7 +50,7 @@ lone-goes u meta name (b ∷ (c ∷ bs)) d o es args kw l m e = absurd (omega ar
 
 pub parts-go : (u : PlainWorld) (meta : ℕ) (n : Option Text) (b : Option (List PyObjectRef)) (d : Option (List (PyObjectRef × PyObjectRef))) (name : Text) (bases : List PyObjectRef) (es : List (PyObjectRef × PyObjectRef)) (args : List PyObjectRef) (kw : Bindings) → n ≡ Some name → b ≡ Some bases → d ≡ Some es → has_null name ≡ false → by_bases u meta name bases es args kw ≡ by_parts u meta n b d args kw
 parts-go u meta n b d name bases es args kw e f g h =
-    sym (ap (λ q. cond q (Ends u (fault ValueError NullInName)) (by_bases u meta name bases es args kw)) h) ∙ (λ i. by_parts u meta (sym e i) (sym f i) (sym g i) args kw)
+    sym (ap (λ q. cond q (Ends u (fault NullInName)) (by_bases u meta name bases es args kw)) h) ∙ (λ i. by_parts u meta (sym e i) (sym f i) (sym g i) args kw)
 
 pub three-go : (u : PlainWorld) (meta : ℕ) (o : Option (PyObjectRef × (PyObjectRef × PyObjectRef))) (n b d : PyObjectRef) (name : Option Text) (bases : Option (List PyObjectRef)) (es : Option (List (PyObjectRef × PyObjectRef))) (args : List PyObjectRef) (kw : Bindings) → o ≡ Some (n, (b, d)) → text_of (datum_at u n) ≡ name → tuple_of (datum_at u b) ≡ bases → dict_of (datum_at u d) ≡ es → by_parts u meta name bases es args kw ≡ from_three u meta o args kw
 three-go u meta o n b d name bases es args kw e f g h =
@@ -79,11 +78,11 @@ one-read t (a ∷ (b ∷ args)) kw = refl
 
 pub class-of : (u : PlainWorld) (meta : ℕ) (o : Option PyObjectRef) (r : PyObjectRef) (x : PyObjectRef) (args : List PyObjectRef) (kw : Bindings) → o ≡ Some r → eqb meta 1 ≡ true → type_object u r ≡ x → Ends u (value x) ≡ by_one u meta o args kw
 class-of u meta o r x args kw e f g =
-    ap (λ y. Ends u (value y)) (sym g) ∙ sym (ap (λ b. cond b (Ends u (value (type_object u r))) (Ends u (fault TypeError TypeArgs))) f) ∙ ap (λ o. by_one u meta o args kw) (sym e)
+    ap (λ y. Ends u (value y)) (sym g) ∙ sym (ap (λ b. cond b (Ends u (value (type_object u r))) (Ends u (fault TypeArgs))) f) ∙ ap (λ o. by_one u meta o args kw) (sym e)
 
-pub no-type : (u : PlainWorld) (meta : ℕ) (o : Option PyObjectRef) (r : PyObjectRef) (args : List PyObjectRef) (kw : Bindings) → o ≡ Some r → eqb meta 1 ≡ false → Ends u (fault TypeError TypeArgs) ≡ by_one u meta o args kw
+pub no-type : (u : PlainWorld) (meta : ℕ) (o : Option PyObjectRef) (r : PyObjectRef) (args : List PyObjectRef) (kw : Bindings) → o ≡ Some r → eqb meta 1 ≡ false → Ends u (fault TypeArgs) ≡ by_one u meta o args kw
 no-type u meta o r args kw e f =
-    sym (ap (λ b. cond b (Ends u (value (type_object u r))) (Ends u (fault TypeError TypeArgs))) f) ∙ ap (λ o. by_one u meta o args kw) (sym e)
+    sym (ap (λ b. cond b (Ends u (value (type_object u r))) (Ends u (fault TypeArgs))) f) ∙ ap (λ o. by_one u meta o args kw) (sym e)
 
 pub from-args : (u : PlainWorld) (meta : ℕ) (o : Option PyObjectRef) (p : Option (PyObjectRef × (PyObjectRef × PyObjectRef))) (args : List PyObjectRef) (kw : Bindings) → o ≡ None → p ≡ three_of args → from_three u meta p args kw ≡ by_one u meta o args kw
 from-args u meta o p args kw e f =

@@ -1,8 +1,7 @@
 -- What the rows of the creation of classes say.
-use Rattle.std.specs.Prelude.{ℕ, ◌^◌, Bool, false, cond, not, eqb, ◌&&◌, ◌||◌, codes, List, [], ◌∷◌, Option, Some, None, is_some, map, length, filter, Ok, Err}
+use Rattle.std.specs.Prelude.{ℕ, ◌^◌, Bool, false, cond, not, eqb, ◌&&◌, ◌||◌, List, [], ◌∷◌, Option, Some, None, is_some, map, length, filter, Ok, Err}
 use Rattle.py_node.specs.declared.refs.PyObjectRef.{PyObjectRef}
 use Rattle.py_node.specs.declared.raised.Raised.{Raised as Fault}
-use Rattle.py_node.specs.declared.raised.Kind.TheVariants.{TypeError, ValueError, NotImplementedError}
 use Rattle.py_node.specs.declared.raised.Cause.TheVariants.{ArgCount, BasesNotTypes, MetaclassConflict, MroEntries, NamespaceKey, NotBaseType, NotYet, NullInName, QualnameType, SelfType, TypeArgs, TypeArgTypes, UnsafeNew}
 use Rattle.py_node.specs.declared.entry.SlotId.TheVariants.{New}
 use Rattle.py_node.specs.declared.entry.NativeEntry.TheVariants.{Getter, Setter}
@@ -14,6 +13,7 @@ use Rattle.py_node.specs.BuiltIns.{heap_flags}
 use Rattle.py_node.specs.Tree.{Text}
 use Rattle.py_node.specs.declared.known.Known.TheVariants as known
 use Rattle.py_node.specs.Known.{known_text}
+use Rattle.py_node.specs.Faults.{raised}
 use Rattle.class_model.specs.Class.{found_past, is_sub}
 use Rattle.class_model.specs.Slot.{entry}
 use Rattle.class_model.specs.BuiltIn.{natives_of}
@@ -121,7 +121,7 @@ new_class w meta name base attrs =
 -- a class with members of its own is for later. The qualified name must be a text
 abbrev pub refusal_by : Bool → Bool → Option Fault
 refusal_by has_slots is_named =
-    cond has_slots (Some (record { kind = NotImplementedError; cause = NotYet })) (cond is_named None (Some (record { kind = TypeError; cause = QualnameType })))
+    cond has_slots (Some (raised NotYet)) (cond is_named None (Some (raised QualnameType)))
 
 unfoldable pub refusal : Space → Option Fault
 refusal s =
@@ -136,13 +136,13 @@ unfoldable pub made : ℕ → Text → ℕ → Space → Said
 made meta name base s = made_unless (refusal s) meta name base s
 
 abbrev pub with_namespace : PlainWorld → ℕ → Text → ℕ → Option Bindings → Said
-with_namespace w meta name base None = Ends w (fault TypeError NamespaceKey)
+with_namespace w meta name base None = Ends w (fault NamespaceKey)
 with_namespace w meta name base (Some attrs) = made meta name base (completed name (w, attrs))
 
 -- the base must be one that classes can have
 abbrev pub on_base : PlainWorld → ℕ → Text → ℕ → List (PyObjectRef × PyObjectRef) → Said
 on_base w meta name base es =
-    cond (class_has_flag w (2 ^ 10) (Some base)) (with_namespace w meta name base (namespace w es)) (Ends w (fault TypeError NotBaseType))
+    cond (class_has_flag w (2 ^ 10) (Some base)) (with_namespace w meta name base (namespace w es)) (Ends w (fault NotBaseType))
 
 -- the metaclass: the given one, or that of the base where it derives from the given one
 abbrev pub winner : PlainWorld → ℕ → Option ℕ → Option ℕ
@@ -151,13 +151,13 @@ winner w meta (Some d) = cond (is_sub w.classes meta d) (Some meta) (cond (is_su
 
 -- another metaclass that makes its objects itself is asked for the class
 abbrev pub by_winner : PlainWorld → ℕ → Option ℕ → Text → ℕ → List (PyObjectRef × PyObjectRef) → List PyObjectRef → Bindings → Said
-by_winner w meta None name base es args kw = Ends w (fault TypeError MetaclassConflict)
+by_winner w meta None name base es args kw = Ends w (fault MetaclassConflict)
 by_winner w meta (Some c) name base es args kw =
     cond (not (eqb c meta) && is_some (entry text_keys natives_of w.classes c New)) (pass w (ToCall (DoNew c c args kw))) (on_base w c name base es)
 
 -- a base that is no class is asked for others
 abbrev pub by_base : PlainWorld → ℕ → Text → PyObjectRef → Option ℕ → List (PyObjectRef × PyObjectRef) → List PyObjectRef → Bindings → Said
-by_base w meta name b None es args kw = Asks w (Chose 0 ∷ []) (ToAttribute (DoGetAttr b (codes "__mro_entries__")))
+by_base w meta name b None es args kw = Asks w (Chose 0 ∷ []) (ToAttribute (DoGetAttr b (known_text known.MroEntries)))
 by_base w meta name b (Some c) es args kw = by_winner w meta (winner w meta (class_at w b)) name c es args kw
 
 abbrev pub by_bases : PlainWorld → ℕ → Text → List PyObjectRef → List (PyObjectRef × PyObjectRef) → List PyObjectRef → Bindings → Said
@@ -179,11 +179,11 @@ dict_of _ = None
 
 abbrev pub by_parts : PlainWorld → ℕ → Option Text → Option (List PyObjectRef) → Option (List (PyObjectRef × PyObjectRef)) → List PyObjectRef → Bindings → Said
 by_parts w meta (Some name) (Some bases) (Some es) args kw =
-    cond (has_null name) (Ends w (fault ValueError NullInName)) (by_bases w meta name bases es args kw)
-by_parts w meta _ _ _ args kw = Ends w (fault TypeError TypeArgTypes)
+    cond (has_null name) (Ends w (fault NullInName)) (by_bases w meta name bases es args kw)
+by_parts w meta _ _ _ args kw = Ends w (fault TypeArgTypes)
 
 abbrev pub from_three : PlainWorld → ℕ → Option (PyObjectRef × (PyObjectRef × PyObjectRef)) → List PyObjectRef → Bindings → Said
-from_three w meta None args kw = Ends w (fault TypeError TypeArgs)
+from_three w meta None args kw = Ends w (fault TypeArgs)
 from_three w meta (Some (n, (b, d))) args kw = by_parts w meta (text_of (datum_at w n)) (tuple_of (datum_at w b)) (dict_of (datum_at w d)) args kw
 
 -- the one argument, without keywords
@@ -196,7 +196,7 @@ three_of (n ∷ (b ∷ (d ∷ []))) = Some (n, (b, d))
 three_of _ = None
 
 abbrev pub by_one : PlainWorld → ℕ → Option PyObjectRef → List PyObjectRef → Bindings → Said
-by_one w meta (Some o) args kw = cond (eqb meta the_type) (Ends w (value (type_object w o))) (Ends w (fault TypeError TypeArgs))
+by_one w meta (Some o) args kw = cond (eqb meta the_type) (Ends w (value (type_object w o))) (Ends w (fault TypeArgs))
 by_one w meta None args kw = from_three w meta (three_of args) args kw
 
 -- `type` of one object, without keywords, is the object's class. A class is made from a name, bases and a namespace
@@ -209,8 +209,8 @@ without_metaclass kw = filter (λ k. not (is_text k.0 (known_text known.Metaclas
 
 -- a base that is no class and names others is refused, and so is one that does not
 abbrev pub no_class : PlainWorld → Ended → Row
-no_class w (Ok a) = end w (fault TypeError MroEntries)
-no_class w (Err x) = end w (cond (is_attribute_error x.kind) (fault TypeError BasesNotTypes) (Err x))
+no_class w (Ok a) = end w (fault MroEntries)
+no_class w (Err x) = end w (cond (is_attribute_error x.kind) (fault BasesNotTypes) (Err x))
 
 abbrev pub or_no_class : PlainWorld → Row → Row
 or_no_class w row (Chose way ∷ (Answered r ∷ more)) = no_class w r more
@@ -225,21 +225,21 @@ make_class_say w meta args kw =
 -- the native that makes the objects of `type`
 
 abbrev pub type_new_of : PlainWorld → Option ℕ → List PyObjectRef → Bindings → Said
-type_new_of w None args kw = Ends w (fault TypeError SelfType)
+type_new_of w None args kw = Ends w (fault SelfType)
 type_new_of w (Some c) args kw =
-    cond (is_class (nearest_built_in w.classes c) the_type) (pass w (ToClass (DoMakeClass c args kw))) (Ends w (fault TypeError UnsafeNew))
+    cond (is_class (nearest_built_in w.classes c) the_type) (pass w (ToClass (DoMakeClass c args kw))) (Ends w (fault UnsafeNew))
 
 abbrev pub type_new : PlainWorld → List PyObjectRef → Bindings → Said
-type_new w [] kw = Ends w (fault TypeError ArgCount)
+type_new w [] kw = Ends w (fault ArgCount)
 type_new w (c ∷ args) kw = type_new_of w (class_number (datum_at w c)) args kw
 
 -- the first argument must be a class
 abbrev pub class_in : PlainWorld → Option ℕ → (ℕ → Said) → Said
-class_in w None go = Ends w (fault TypeError SelfType)
+class_in w None go = Ends w (fault SelfType)
 class_in w (Some c) go = go c
 
 abbrev pub with_self : PlainWorld → List PyObjectRef → (ℕ → Said) → Said
-with_self w [] go = Ends w (fault TypeError ArgCount)
+with_self w [] go = Ends w (fault ArgCount)
 with_self w (o ∷ args) go = class_in w (class_number (datum_at w o)) go
 
 -- an attribute by its name, as classes read and set it

@@ -24,7 +24,6 @@ use std::alloc::Global;
 /// name, no hash where it compares its objects itself, and the attribute that reads an object's dict.
 pub(crate) fn completed(
     world: &mut World,
-    alloc: Global,
     name: &str,
     attrs: PyAttributes,
 ) -> Result<PyAttributes, OutOfMemory>
@@ -34,18 +33,17 @@ pub(crate) fn completed(
     ensures reads { (t : Reading) → Reads t world.new → Reads t world.old }
     ensures grows { Grows world.old world.new }
 {
-    let told = wrap(world, alloc, Known::InitSubclass, attrs)?;
-    let wrapped = wrap(world, alloc, Known::ClassGetitem, told)?;
-    let qualified = qualify(world, alloc, name, wrapped)?;
+    let told = wrap(world, Known::InitSubclass, attrs)?;
+    let wrapped = wrap(world, Known::ClassGetitem, told)?;
+    let qualified = qualify(world, name, wrapped)?;
     let unhashed = unhash(world, qualified)?;
-    let all = give_dict(world, alloc, unhashed)?;
+    let all = give_dict(world, unhashed)?;
     Ok(all)
 }
 
 // A function under a name becomes a class method of it.
 fn wrap(
     world: &mut World,
-    alloc: Global,
     name: Known,
     attrs: PyAttributes,
 ) -> Result<PyAttributes, OutOfMemory>
@@ -57,7 +55,7 @@ fn wrap(
 {
     let key = world.known(name);
     let value = attrs.get(key);
-    let more = wrap_value(world, alloc, key, value, attrs)?;
+    let more = wrap_value(world, key, value, attrs)?;
     Ok(more)
 }
 
@@ -65,7 +63,6 @@ fn wrap(
 #[tactic(auto, unfolding(crate::specs::Say::wrap_value))]
 fn wrap_value(
     world: &mut World,
-    alloc: Global,
     name: PyStrInterned,
     value: Option<PyObjectRef>,
     attrs: PyAttributes,
@@ -73,7 +70,8 @@ fn wrap_value(
     requires name { Holds world.old (IsName name) }
     requires value { IfSome value (λ r. Holds world.old (IsNode r)) }
     requires attrs { AllHold world.old (of_each of_binding attrs) }
-    ensures becomes { IfOk result (λ a. Becomes (λ t s. wrap_value s (t.text name.0) value) world.old attrs world.new a) }
+    ensures becomes { IfOk result (λ a.
+        Becomes (λ t s. wrap_value s (t.text name.0) value) world.old attrs world.new a) }
     ensures holds { IfOk result (λ a. AllHold world.new (of_each of_binding a)) }
     ensures reads { (t : Reading) → Reads t world.new → Reads t world.old }
     ensures grows { Grows world.old world.new }
@@ -87,7 +85,6 @@ fn wrap_value(
             let class = world.built_in(BuiltIn::ClassMethod);
             let more = put(
                 world,
-                alloc,
                 name,
                 class,
                 Payload::ClassMethod(value),
@@ -112,7 +109,6 @@ fn is_function(world: &World, node: PyObjectRef) -> bool
 // The qualified name is the name, where none is given.
 fn qualify(
     world: &mut World,
-    alloc: Global,
     name: &str,
     attrs: PyAttributes,
 ) -> Result<PyAttributes, OutOfMemory>
@@ -122,10 +118,11 @@ fn qualify(
     ensures reads { (t : Reading) → Reads t world.new → Reads t world.old }
     ensures grows { Grows world.old world.new }
 {
+    let alloc = world.alloc();
     let qualname = world.known(Known::Qualname);
     let text = String::from_str(alloc, name)?;
     let class = world.built_in(BuiltIn::Str);
-    let more = give(world, alloc, qualname, class, Payload::Text(text), attrs)?;
+    let more = give(world, qualname, class, Payload::Text(text), attrs)?;
     Ok(more)
 }
 
@@ -147,7 +144,8 @@ fn unhash(world: &World, attrs: PyAttributes) -> Result<PyAttributes, OutOfMemor
 
 // Whether one of two names is there without the other.
 fn is_unhashed(attrs: &PyAttributes, eq: PyStrInterned, hash: PyStrInterned) -> bool
-    ensures { result ≡ is_some (value_of (λ k. is_same_name k eq) attrs.now) && not (is_some (value_of (λ k. is_same_name k hash) attrs.now)) }
+    ensures { result ≡ is_some (value_of (λ k. is_same_name k eq) attrs.now) &&
+        not (is_some (value_of (λ k. is_same_name k hash) attrs.now)) }
 {
     attrs.contains(eq) && !attrs.contains(hash)
 }
@@ -155,7 +153,6 @@ fn is_unhashed(attrs: &PyAttributes, eq: PyStrInterned, hash: PyStrInterned) -> 
 // The attribute that reads and sets an object's dict.
 fn give_dict(
     world: &mut World,
-    alloc: Global,
     attrs: PyAttributes,
 ) -> Result<PyAttributes, OutOfMemory>
     requires { AllHold world.old (of_each of_binding attrs) }
@@ -172,7 +169,7 @@ fn give_dict(
         setter: Some(NativeEntry::Setter(Property::InstanceDict)),
     };
     let class = world.built_in(BuiltIn::GetSetDescriptor);
-    let more = give(world, alloc, name, class, Payload::GetSet(dict), attrs)?;
+    let more = give(world, name, class, Payload::GetSet(dict), attrs)?;
     Ok(more)
 }
 
@@ -180,7 +177,6 @@ fn give_dict(
 #[tactic(auto, unfolding(crate::specs::Say::give))]
 fn give(
     world: &mut World,
-    alloc: Global,
     name: PyStrInterned,
     class: PyTypeRef,
     payload: Payload,
@@ -192,7 +188,8 @@ fn give(
     requires payload { AllHold world.old (of_payload payload) }
     requires other { class_in payload ≡ None }
     requires attrs { AllHold world.old (of_each of_binding attrs) }
-    ensures becomes { IfOk result (λ a. Becomes (λ t s. give s (t.text name.0) class.0 (datum t payload)) world.old attrs world.new a) }
+    ensures becomes { IfOk result (λ a.
+        Becomes (λ t s. give s (t.text name.0) class.0 (datum t payload)) world.old attrs world.new a) }
     ensures holds { IfOk result (λ a. AllHold world.new (of_each of_binding a)) }
     ensures reads { (t : Reading) → Reads t world.new → Reads t world.old }
     ensures grows { Grows world.old world.new }
@@ -200,7 +197,7 @@ fn give(
     if attrs.contains(name) {
         return Ok(attrs);
     }
-    let more = put(world, alloc, name, class, payload, attrs)?;
+    let more = put(world, name, class, payload, attrs)?;
     Ok(more)
 }
 
@@ -208,7 +205,6 @@ fn give(
 #[tactic(auto, unfolding(crate::specs::Say::put))]
 fn put(
     world: &mut World,
-    alloc: Global,
     name: PyStrInterned,
     class: PyTypeRef,
     payload: Payload,
@@ -220,12 +216,13 @@ fn put(
     requires payload { AllHold world.old (of_payload payload) }
     requires other { class_in payload ≡ None }
     requires attrs { AllHold world.old (of_each of_binding attrs) }
-    ensures becomes { IfOk result (λ a. Becomes (λ t s. put s (t.text name.0) class.0 (datum t payload)) world.old attrs world.new a) }
+    ensures becomes { IfOk result (λ a.
+        Becomes (λ t s. put s (t.text name.0) class.0 (datum t payload)) world.old attrs world.new a) }
     ensures holds { IfOk result (λ a. AllHold world.new (of_each of_binding a)) }
     ensures reads { (t : Reading) → Reads t world.new → Reads t world.old }
     ensures grows { Grows world.old world.new }
 {
-    let node = world.make_node(alloc, class, payload)?;
+    let node = world.make_node(class, payload)?;
     let mut attrs = attrs;
     attrs.insert(name, node)?;
     Ok(attrs)

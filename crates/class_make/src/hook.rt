@@ -22,7 +22,7 @@ use py_node::attributes::PyAttributes;
 use py_node::known::Known;
 use py_node::memory::OutOfMemory;
 use py_node::payload::Payload;
-use py_node::raised::{Cause, Kind, Raised};
+use py_node::raised::{Cause, Raised};
 use py_node::refs::{PyObjectRef, PyStrInterned, PyTypeRef};
 use py_node::task::{Answer, AttributeTask, CallTask, Keywords, Step, Task};
 use std::alloc::Global;
@@ -39,7 +39,6 @@ pub(crate) struct Plan {
 /// Makes a class as planned, unless its attributes are refused.
 pub(crate) fn made(
     world: &mut World,
-    alloc: Global,
     plan: Plan,
     kw: Keywords,
 ) -> Result<Step<ClassKept>, OutOfMemory>
@@ -49,25 +48,26 @@ pub(crate) fn made(
     requires can { Holds world.old (CanBeBase plan.base.0) }
     requires attrs { AllHold world.old (of_each of_binding plan.attrs) }
     requires kw { AllHold world.old (of_each of_binding kw.items) }
-    ensures goes { IfOk result (λ step. Makes kw.items (λ t u. made plan.meta.0 (string_bytes plan.name) plan.base.0 (u, bindings t plan.attrs)) world.old world.new step) }
+    ensures goes { IfOk result (λ step. Makes kw.items (λ t u.
+        made plan.meta.0 (string_bytes plan.name) plan.base.0 (u, bindings t plan.attrs)) world.old world.new step) }
     ensures safe { Leaves of_class_kept world.old world.new result }
 {
-    let refusal = refusal(world, alloc, &plan.attrs)?;
-    made_unless(world, alloc, refusal, plan, kw)
+    let refusal = refusal(world, &plan.attrs)?;
+    made_unless(world, refusal, plan, kw)
 }
 
 // Why a class cannot have the attributes, if it cannot.
 fn refusal(
     world: &World,
-    alloc: Global,
     attrs: &PyAttributes,
 ) -> Result<Option<Raised>, OutOfMemory>
     requires { AllHold world.now (of_each of_binding attrs.now) }
-    ensures { IfOk result (λ o. (t : Reading) → Reads t world.now → refusal (plain t world.now, bindings t attrs.now) ≡ o) }
+    ensures { IfOk result (λ o. (t : Reading) → Reads t world.now →
+        refusal (plain t world.now, bindings t attrs.now) ≡ o) }
 {
     let has_slots = has_name(world, attrs, Known::Slots);
     let qualname = world.known(Known::Qualname);
-    let is_named = is_text_at(world, alloc, attrs.get(qualname))?;
+    let is_named = is_text_at(world, attrs.get(qualname))?;
     let refusal = refusal_by(has_slots, is_named);
     Ok(refusal)
 }
@@ -77,29 +77,23 @@ fn refusal_by(has_slots: bool, is_named: bool) -> Option<Raised>
     ensures { result ≡ refusal_by has_slots is_named }
 {
     if has_slots {
-        return Some(Raised {
-            kind: Kind::NotImplementedError,
-            cause: Cause::NotYet,
-        });
+        return Some(Raised::new(Cause::NotYet));
     }
     if is_named {
         return None;
     }
-    Some(Raised {
-        kind: Kind::TypeError,
-        cause: Cause::QualnameType,
-    })
+    Some(Raised::new(Cause::QualnameType))
 }
 
 // Whether there is an object, and it holds a text.
-fn is_text_at(world: &World, alloc: Global, node: Option<PyObjectRef>) -> Result<bool, OutOfMemory>
+fn is_text_at(world: &World, node: Option<PyObjectRef>) -> Result<bool, OutOfMemory>
     requires { IfSome node (λ r. Holds world.now (IsNode r)) }
     ensures { IfOk result (λ b. (t : Reading) → is_text_at (plain t world.now) node ≡ b) }
 {
     match node {
         None => Ok(false),
         Some(node) => {
-            let text = text_at(world, alloc, node)?;
+            let text = text_at(world, node)?;
             Ok(text.is_some())
         }
     }
@@ -109,7 +103,6 @@ fn is_text_at(world: &World, alloc: Global, node: Option<PyObjectRef>) -> Result
 #[tactic(auto, unfolding(crate::specs::Say::class_job_say, crate::specs::Say::made_unless))]
 fn made_unless(
     world: &mut World,
-    alloc: Global,
     why: Option<Raised>,
     plan: Plan,
     kw: Keywords,
@@ -121,9 +114,12 @@ fn made_unless(
     requires attrs { AllHold world.old (of_each of_binding plan.attrs) }
     requires refusal { (t : Reading) → Reads t world.old → refusal (plain t world.old, bindings t plan.attrs) ≡ why }
     requires kw { AllHold world.old (of_each of_binding kw.items) }
-    ensures goes { IfOk result (λ step. Makes kw.items (λ t u. made_unless why plan.meta.0 (string_bytes plan.name) plan.base.0 (u, bindings t plan.attrs)) world.old world.new step) }
+    ensures goes { IfOk result (λ step. Makes kw.items (λ t u.
+        made_unless why plan.meta.0 (string_bytes plan.name) plan.base.0 (u, bindings t plan.attrs))
+        world.old world.new step) }
     ensures safe { Leaves of_class_kept world.old world.new result }
 {
+    let alloc = world.alloc();
     match why {
         Some(raised) => Ok(Step::End(Err(raised))),
         None => {
@@ -134,7 +130,7 @@ fn made_unless(
                 attrs,
             } = plan;
             let values = values_of(alloc, &attrs)?;
-            let class = new_class(world, alloc, meta, name.as_str(), base, attrs)?;
+            let class = new_class(world, meta, name.as_str(), base, attrs)?;
             let node = world.class_node(class);
             define_all(world, class, &values);
             told_of(world, class, node, &values, kw)
@@ -145,7 +141,6 @@ fn made_unless(
 // A new class, which the world cannot refuse: its base can be one, and its qualified name is a text.
 fn new_class(
     world: &mut World,
-    alloc: Global,
     meta: PyTypeRef,
     name: &str,
     base: PyTypeRef,
@@ -156,17 +151,20 @@ fn new_class(
     requires base { Holds world.old (IsClass base.0) }
     requires can { Holds world.old (CanBeBase base.0) }
     requires attrs { AllHold world.old (of_each of_binding attrs) }
-    requires named { (t : Reading) → Reads t world.old → refused_name (plain t world.old) (qualified (bindings t attrs)) ≡ None }
-    ensures made { OnOk result ((t : Reading) → plain t world.new ≡ new_class (plain t world.old) meta.0 name.now base.0 (bindings t attrs)) }
+    requires named { (t : Reading) → Reads t world.old →
+        refused_name (plain t world.old) (qualified (bindings t attrs)) ≡ None }
+    ensures made { OnOk result ((t : Reading) → plain t world.new ≡
+        new_class (plain t world.old) meta.0 name.now base.0 (bindings t attrs)) }
     ensures number { IfOk result (λ c. (t : Reading) → c.0 ≡ length (plain t world.old).nodes) }
     ensures reads { (t : Reading) → Reads t world.new → Reads t world.old }
     ensures grows { Grows world.old world.new }
     ensures class { IfOk result (λ c. Holds world.new (IsClass c.0)) }
 {
+    let alloc = world.alloc();
     world.readable();
     world.sound();
     let bases = vec![in alloc; base]?;
-    match world.new_heap(alloc, name, bases, attrs, Vec::new(alloc), meta) {
+    match world.new_heap(name, bases, attrs, Vec::new(alloc), meta) {
         Ok(class) => Ok(class),
         Err(ClassFault::OutOfMemory) => Err(OutOfMemory),
         Err(ClassFault::Refused(_)) => unreachable!(),
@@ -223,15 +221,13 @@ fn told_of(
     requires node { Holds world.now (IsNode node) }
     requires values { Holds world.now (AreNodes values.now) }
     requires kw { AllHold world.now (of_each of_binding kw.items) }
-    ensures goes { IfOk result (λ step. Makes kw.items (λ t u. told_of u class.0 node values.now) world.now world.now step) }
+    ensures goes { IfOk result (λ step.
+        Makes kw.items (λ t u. told_of u class.0 node values.now) world.now world.now step) }
     ensures safe { Leaves of_class_kept world.now world.now result }
 {
     let set_name = world.known(Known::SetName);
     if some_has(world, set_name, values) {
-        return Ok(Step::End(Err(Raised {
-            kind: Kind::NotImplementedError,
-            cause: Cause::NotYet,
-        })));
+        return Ok(Step::raise(Cause::NotYet));
     }
     let method = world.class_attr_past(class, world.known(Known::InitSubclass));
     let step = hook(world, node, method, kw);
@@ -277,7 +273,6 @@ fn hook(
 /// The hook is bound, and is called with the keywords of the class.
 pub(crate) fn bound(
     world: &mut World,
-    alloc: Global,
     class: PyObjectRef,
     kw: Keywords,
     answer: Result<Answer, Raised>,
@@ -289,7 +284,7 @@ pub(crate) fn bound(
     ensures safe { Leaves of_class_kept world.old world.new result }
 {
     match answer {
-        Ok(Answer::Value(method)) => call_hook(world, alloc, class, kw, method),
+        Ok(Answer::Value(method)) => call_hook(world, class, kw, method),
         other => Ok(Step::End(other)),
     }
 }
@@ -297,7 +292,6 @@ pub(crate) fn bound(
 // Calls the bound hook.
 fn call_hook(
     world: &World,
-    alloc: Global,
     class: PyObjectRef,
     kw: Keywords,
     method: PyObjectRef,
@@ -305,9 +299,11 @@ fn call_hook(
     requires class { Holds world.now (IsNode class) }
     requires kw { AllHold world.now (of_each of_binding kw.items) }
     requires method { Holds world.now (IsNode method) }
-    ensures goes { IfOk result (λ step. Resumes (ClassKept.AfterBind class kw) (Ok (answer.Value method)) world.now world.now step) }
+    ensures goes { IfOk result (λ step.
+        Resumes (ClassKept.AfterBind class kw) (Ok (answer.Value method)) world.now world.now step) }
     ensures safe { Leaves of_class_kept world.now world.now result }
 {
+    let alloc = world.alloc();
     let metaclass = world.known(Known::Metaclass);
     let kw = without(alloc, metaclass, &kw)?;
     Ok(Step::Ask(

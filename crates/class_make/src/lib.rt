@@ -42,7 +42,6 @@ pub enum ClassKept {
 /// Begins a task.
 pub fn begin(
     world: &mut World,
-    alloc: Global,
     task: ClassTask,
 ) -> Result<Step<ClassKept>, OutOfMemory>
     requires { AllHold world.old (of_class_task task) }
@@ -50,15 +49,14 @@ pub fn begin(
     ensures safe { Leaves of_class_kept world.old world.new result }
 {
     match task {
-        ClassTask::MakeClass(class, args, kw) => make_class(world, alloc, class, args, kw),
-        ClassTask::Type(native, args, kw) => type_native(world, alloc, native, args, kw),
+        ClassTask::MakeClass(class, args, kw) => make_class(world, class, args, kw),
+        ClassTask::Type(native, args, kw) => type_native(world, native, args, kw),
     }
 }
 
 /// Goes on with a task that was given an answer.
 pub fn resume(
     world: &mut World,
-    alloc: Global,
     kept: ClassKept,
     answer: Result<Answer, Raised>,
 ) -> Result<Step<ClassKept>, OutOfMemory>
@@ -71,7 +69,7 @@ pub fn resume(
         ClassKept::Pass => Ok(Step::End(answer)),
         ClassKept::Native => Ok(native_end(world, answer)),
         ClassKept::NoClass => Ok(no_class(world, answer)),
-        ClassKept::AfterBind(class, kw) => bound(world, alloc, class, kw, answer),
+        ClassKept::AfterBind(class, kw) => bound(world, class, kw, answer),
         ClassKept::AfterHook(class) => {
             let step = called(world, class, answer);
             Ok(step)

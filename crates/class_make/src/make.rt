@@ -49,7 +49,6 @@ pub(crate) struct Body {
 /// The class of an object, or a new class.
 pub(crate) fn make_class(
     world: &mut World,
-    alloc: Global,
     meta: PyTypeRef,
     args: Args,
     kw: Keywords,
@@ -60,7 +59,7 @@ pub(crate) fn make_class(
 {
     let one = one_of(&args, &kw);
     let call = Call { args, kw };
-    by_one(world, alloc, meta, one, call)
+    by_one(world, meta, one, call)
 }
 
 // The one argument, without keywords.
@@ -86,7 +85,6 @@ fn three_of(args: &[PyObjectRef]) -> Option<Three>
 // The class of the one argument, or a new class from three.
 fn by_one(
     world: &mut World,
-    alloc: Global,
     meta: PyTypeRef,
     one: Option<PyObjectRef>,
     call: Call,
@@ -95,7 +93,8 @@ fn by_one(
     requires meta_of { Holds world.old (IsOf meta.0 TypeType) }
     requires one { IfSome one (λ r. Holds world.old (IsNode r)) }
     requires rest { AllHold world.old (of_args call.args.items call.kw.items) }
-    ensures goes { IfOk result (λ step. Makes call.kw.items (λ t u. by_one u meta.0 one call.args.items (bindings t call.kw.items)) world.old world.new step) }
+    ensures goes { IfOk result (λ step. Makes call.kw.items (λ t u.
+        by_one u meta.0 one call.args.items (bindings t call.kw.items)) world.old world.new step) }
     ensures safe { Leaves of_class_kept world.old world.new result }
 {
     match one {
@@ -103,11 +102,11 @@ fn by_one(
             if is_type(world, meta) {
                 return Ok(Step::End(Ok(Answer::Value(world.type_object(object)))));
             }
-            Ok(refused(Kind::TypeError, Cause::TypeArgs))
+            Ok(Step::raise(Cause::TypeArgs))
         }
         None => {
             let three = three_of(&call.args);
-            from_three(world, alloc, meta, three, call)
+            from_three(world, meta, three, call)
         }
     }
 }
@@ -121,35 +120,29 @@ fn is_type(world: &World, class: PyTypeRef) -> bool
     class.0 == of_type.0
 }
 
-/// A fault.
-pub(crate) fn refused(kind: Kind, cause: Cause) -> Step<ClassKept>
-    ensures { result ≡ Step.End (Err (record { kind = kind; cause = cause })) }
-{
-    Step::End(Err(Raised { kind, cause }))
-}
-
 // A new class from three arguments.
 fn from_three(
     world: &mut World,
-    alloc: Global,
     meta: PyTypeRef,
     three: Option<Three>,
     call: Call,
 ) -> Result<Step<ClassKept>, OutOfMemory>
     requires meta { Holds world.old (IsClass meta.0) }
     requires meta_of { Holds world.old (IsOf meta.0 TypeType) }
-    requires three { IfSome three (λ p. Holds world.old (IsNode p.0) × (Holds world.old (IsNode p.1.0) × Holds world.old (IsNode p.1.1))) }
+    requires three { IfSome three (λ p. Holds world.old (IsNode p.0) ×
+        (Holds world.old (IsNode p.1.0) × Holds world.old (IsNode p.1.1))) }
     requires rest { AllHold world.old (of_args call.args.items call.kw.items) }
-    ensures goes { IfOk result (λ step. Makes call.kw.items (λ t u. from_three u meta.0 three call.args.items (bindings t call.kw.items)) world.old world.new step) }
+    ensures goes { IfOk result (λ step. Makes call.kw.items (λ t u.
+        from_three u meta.0 three call.args.items (bindings t call.kw.items)) world.old world.new step) }
     ensures safe { Leaves of_class_kept world.old world.new result }
 {
     match three {
-        None => Ok(refused(Kind::TypeError, Cause::TypeArgs)),
+        None => Ok(Step::raise(Cause::TypeArgs)),
         Some((name, (bases, entries))) => {
-            let name = text_at(world, alloc, name)?;
-            let bases = tuple_at(world, alloc, bases)?;
-            let entries = dict_at(world, alloc, entries)?;
-            by_parts(world, alloc, meta, name, bases, entries, call)
+            let name = text_at(world, name)?;
+            let bases = tuple_at(world, bases)?;
+            let entries = dict_at(world, entries)?;
+            by_parts(world, meta, name, bases, entries, call)
         }
     }
 }
@@ -157,7 +150,6 @@ fn from_three(
 // A new class from a text, a tuple and a dict.
 fn by_parts(
     world: &mut World,
-    alloc: Global,
     meta: PyTypeRef,
     name: Option<String>,
     bases: Option<Args>,
@@ -170,18 +162,20 @@ fn by_parts(
     requires keys { IfSome entries (λ es. Holds world.old (AreNodes (map (λ e. e.0) es.items))) }
     requires values { IfSome entries (λ es. Holds world.old (AreNodes (map (λ e. e.1) es.items))) }
     requires rest { AllHold world.old (of_args call.args.items call.kw.items) }
-    ensures goes { IfOk result (λ step. Makes call.kw.items (λ t u. by_parts u meta.0 (option_map (λ s. string_bytes s) name) (option_map (λ rs. rs.items) bases) (option_map (λ es. es.items) entries) call.args.items (bindings t call.kw.items)) world.old world.new step) }
+    ensures goes { IfOk result (λ step. Makes call.kw.items (λ t u.
+        by_parts u meta.0 (option_map (λ s. string_bytes s) name) (option_map (λ rs. rs.items) bases)
+        (option_map (λ es. es.items) entries) call.args.items (bindings t call.kw.items)) world.old world.new step) }
     ensures safe { Leaves of_class_kept world.old world.new result }
 {
     match (name, bases, entries) {
         (Some(name), Some(bases), Some(entries)) => {
             if has_null(name.as_str()) {
-                return Ok(refused(Kind::ValueError, Cause::NullInName));
+                return Ok(Step::raise(Cause::NullInName));
             }
             let body = Body { name, entries };
-            by_bases(world, alloc, meta, bases, body, call)
+            by_bases(world, meta, bases, body, call)
         }
-        _ => Ok(refused(Kind::TypeError, Cause::TypeArgTypes)),
+        _ => Ok(Step::raise(Cause::TypeArgTypes)),
     }
 }
 
@@ -201,7 +195,6 @@ fn has_null(name: &str) -> bool
 // A new class of these bases. None stands for `object`, and more than one are for later.
 fn by_bases(
     world: &mut World,
-    alloc: Global,
     meta: PyTypeRef,
     bases: Args,
     body: Body,
@@ -213,18 +206,20 @@ fn by_bases(
     requires keys { Holds world.old (AreNodes (map (λ e. e.0) body.entries.items)) }
     requires values { Holds world.old (AreNodes (map (λ e. e.1) body.entries.items)) }
     requires rest { AllHold world.old (of_args call.args.items call.kw.items) }
-    ensures goes { IfOk result (λ step. Makes call.kw.items (λ t u. by_bases u meta.0 (string_bytes body.name) bases.items body.entries.items call.args.items (bindings t call.kw.items)) world.old world.new step) }
+    ensures goes { IfOk result (λ step. Makes call.kw.items (λ t u.
+        by_bases u meta.0 (string_bytes body.name) bases.items body.entries.items call.args.items
+        (bindings t call.kw.items)) world.old world.new step) }
     ensures safe { Leaves of_class_kept world.old world.new result }
 {
     match bases.as_slice() {
         [] => {
             let object = world.built_in(BuiltIn::Object);
-            on_base(world, alloc, meta, object, body, call.kw)
+            on_base(world, meta, object, body, call.kw)
         }
         [base] => {
             let base = *base;
             let class = world.class_number(base);
-            by_base(world, alloc, meta, base, class, body, call)
+            by_base(world, meta, base, class, body, call)
         }
         _ => Ok(Step::not_yet()),
     }
@@ -233,7 +228,6 @@ fn by_bases(
 // A new class of one base. One that is no class is asked for others.
 fn by_base(
     world: &mut World,
-    alloc: Global,
     meta: PyTypeRef,
     base: PyObjectRef,
     class: Option<PyTypeRef>,
@@ -248,7 +242,9 @@ fn by_base(
     requires keys { Holds world.old (AreNodes (map (λ e. e.0) body.entries.items)) }
     requires values { Holds world.old (AreNodes (map (λ e. e.1) body.entries.items)) }
     requires rest { AllHold world.old (of_args call.args.items call.kw.items) }
-    ensures goes { IfOk result (λ step. Makes call.kw.items (λ t u. by_base u meta.0 (string_bytes body.name) base (option_map (λ c. c.0) class) body.entries.items call.args.items (bindings t call.kw.items)) world.old world.new step) }
+    ensures goes { IfOk result (λ step. Makes call.kw.items (λ t u.
+        by_base u meta.0 (string_bytes body.name) base (option_map (λ c. c.0) class)
+        body.entries.items call.args.items (bindings t call.kw.items)) world.old world.new step) }
     ensures safe { Leaves of_class_kept world.old world.new result }
 {
     match class {
@@ -260,7 +256,7 @@ fn by_base(
         Some(class) => {
             let of_base = world.metaclass(base);
             let winner = winner(world, meta, of_base);
-            by_winner(world, alloc, meta, winner, class, body, call)
+            by_winner(world, meta, winner, class, body, call)
         }
     }
 }
@@ -272,9 +268,9 @@ pub(crate) fn no_class(world: &World, answer: Result<Answer, Raised>) -> Step<Cl
     ensures safe { AllHold world.now (of_step of_class_kept result) }
 {
     match answer {
-        Ok(_others) => refused(Kind::TypeError, Cause::MroEntries),
+        Ok(_others) => Step::raise(Cause::MroEntries),
         Err(raised) => match raised.kind {
-            Kind::AttributeError => refused(Kind::TypeError, Cause::BasesNotTypes),
+            Kind::AttributeError => Step::raise(Cause::BasesNotTypes),
             _ => Step::End(Err(raised)),
         },
     }
@@ -302,7 +298,6 @@ fn winner(world: &World, meta: PyTypeRef, of_base: PyTypeRef) -> Option<PyTypeRe
 // A new class of this metaclass. Another one that makes its objects itself is asked for it.
 fn by_winner(
     world: &mut World,
-    alloc: Global,
     meta: PyTypeRef,
     winner: Option<PyTypeRef>,
     base: PyTypeRef,
@@ -315,11 +310,13 @@ fn by_winner(
     requires keys { Holds world.old (AreNodes (map (λ e. e.0) body.entries.items)) }
     requires values { Holds world.old (AreNodes (map (λ e. e.1) body.entries.items)) }
     requires rest { AllHold world.old (of_args call.args.items call.kw.items) }
-    ensures goes { IfOk result (λ step. Makes call.kw.items (λ t u. by_winner u meta.0 (option_map (λ c. c.0) winner) (string_bytes body.name) base.0 body.entries.items call.args.items (bindings t call.kw.items)) world.old world.new step) }
+    ensures goes { IfOk result (λ step. Makes call.kw.items (λ t u.
+        by_winner u meta.0 (option_map (λ c. c.0) winner) (string_bytes body.name)
+        base.0 body.entries.items call.args.items (bindings t call.kw.items)) world.old world.new step) }
     ensures safe { Leaves of_class_kept world.old world.new result }
 {
     match winner {
-        None => Ok(refused(Kind::TypeError, Cause::MetaclassConflict)),
+        None => Ok(Step::raise(Cause::MetaclassConflict)),
         Some(class) => {
             if makes_itself(world, class, meta) {
                 return Ok(Step::Ask(
@@ -327,7 +324,7 @@ fn by_winner(
                     ClassKept::Pass,
                 ));
             }
-            on_base(world, alloc, class, base, body, call.kw)
+            on_base(world, class, base, body, call.kw)
         }
     }
 }
@@ -335,7 +332,8 @@ fn by_winner(
 // Whether another metaclass than the given one makes its objects itself.
 fn makes_itself(world: &World, class: PyTypeRef, meta: PyTypeRef) -> bool
     requires { Holds world.now (IsClass class.0) }
-    ensures { (t : Reading) → Reads t world.now → not (eqb class.0 meta.0) && is_some (entry text_keys natives_of (plain t world.now).classes class.0 New) ≡ result }
+    ensures { (t : Reading) → Reads t world.now → not (eqb class.0 meta.0) &&
+        is_some (entry text_keys natives_of (plain t world.now).classes class.0 New) ≡ result }
 {
     class.0 != meta.0 && world.own_slot(class, SlotId::New).is_some()
 }
@@ -343,7 +341,6 @@ fn makes_itself(world: &World, class: PyTypeRef, meta: PyTypeRef) -> bool
 // A new class on a base, which must be one that classes can have.
 fn on_base(
     world: &mut World,
-    alloc: Global,
     meta: PyTypeRef,
     base: PyTypeRef,
     body: Body,
@@ -355,20 +352,20 @@ fn on_base(
     requires keys { Holds world.old (AreNodes (map (λ e. e.0) body.entries.items)) }
     requires values { Holds world.old (AreNodes (map (λ e. e.1) body.entries.items)) }
     requires kw { AllHold world.old (of_each of_binding kw.items) }
-    ensures goes { IfOk result (λ step. Makes kw.items (λ t u. on_base u meta.0 (string_bytes body.name) base.0 body.entries.items) world.old world.new step) }
+    ensures goes { IfOk result (λ step. Makes kw.items (λ t u.
+        on_base u meta.0 (string_bytes body.name) base.0 body.entries.items) world.old world.new step) }
     ensures safe { Leaves of_class_kept world.old world.new result }
 {
     if !world.can_be_base(base) {
-        return Ok(refused(Kind::TypeError, Cause::NotBaseType));
+        return Ok(Step::raise(Cause::NotBaseType));
     }
-    let attrs = namespace(world, alloc, &body.entries)?;
-    with_namespace(world, alloc, meta, body.name, base, attrs, kw)
+    let attrs = namespace(world, &body.entries)?;
+    with_namespace(world, meta, body.name, base, attrs, kw)
 }
 
 // A new class with a namespace, all of whose keys must be texts.
 fn with_namespace(
     world: &mut World,
-    alloc: Global,
     meta: PyTypeRef,
     name: String,
     base: PyTypeRef,
@@ -381,20 +378,22 @@ fn with_namespace(
     requires can { Holds world.old (CanBeBase base.0) }
     requires attrs { IfSome attrs (λ a. AllHold world.old (of_each of_binding a)) }
     requires kw { AllHold world.old (of_each of_binding kw.items) }
-    ensures goes { IfOk result (λ step. Makes kw.items (λ t u. with_namespace u meta.0 (string_bytes name) base.0 (option_map (λ a. bindings t a) attrs)) world.old world.new step) }
+    ensures goes { IfOk result (λ step. Makes kw.items (λ t u.
+        with_namespace u meta.0 (string_bytes name) base.0 (option_map (λ a. bindings t a) attrs))
+        world.old world.new step) }
     ensures safe { Leaves of_class_kept world.old world.new result }
 {
     match attrs {
-        None => Ok(refused(Kind::TypeError, Cause::NamespaceKey)),
+        None => Ok(Step::raise(Cause::NamespaceKey)),
         Some(attrs) => {
-            let attrs = completed(world, alloc, name.as_str(), attrs)?;
+            let attrs = completed(world, name.as_str(), attrs)?;
             let plan = Plan {
                 meta,
                 name,
                 base,
                 attrs,
             };
-            made(world, alloc, plan, kw)
+            made(world, plan, kw)
         }
     }
 }

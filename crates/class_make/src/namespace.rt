@@ -21,12 +21,13 @@ pub(crate) type Entries = Vec<(PyObjectRef, PyObjectRef)>;
 /// The text that an object holds, if it holds one.
 pub(crate) fn text_at(
     world: &World,
-    alloc: Global,
     node: PyObjectRef,
 ) -> Result<Option<String>, OutOfMemory>
     requires { Holds world.now (IsNode node) }
-    ensures { IfOk result (λ o. (t : Reading) → text_of (datum_at (plain t world.now) node) ≡ option_map (λ s. string_bytes s) o) }
+    ensures { IfOk result (λ o. (t : Reading) → text_of (datum_at (plain t world.now) node) ≡
+        option_map (λ s. string_bytes s) o) }
 {
+    let alloc = world.alloc();
     match world.payload(node) {
         Payload::Text(text) => {
             let copy = String::from_str(alloc, text.as_str())?;
@@ -39,13 +40,14 @@ pub(crate) fn text_at(
 /// The objects of a tuple, if an object is one.
 pub(crate) fn tuple_at(
     world: &World,
-    alloc: Global,
     node: PyObjectRef,
 ) -> Result<Option<Args>, OutOfMemory>
     requires { Holds world.now (IsNode node) }
-    ensures parts { IfOk result (λ o. (t : Reading) → tuple_of (datum_at (plain t world.now) node) ≡ option_map (λ rs. rs.items) o) }
+    ensures parts { IfOk result (λ o. (t : Reading) → tuple_of (datum_at (plain t world.now) node) ≡
+        option_map (λ rs. rs.items) o) }
     ensures nodes { IfOk result (λ o. IfSome o (λ rs. Holds world.now (AreNodes rs.items))) }
 {
+    let alloc = world.alloc();
     match world.payload(node) {
         Payload::Tuple(parts) => {
             let copy = copy_args(alloc, parts)?;
@@ -58,14 +60,15 @@ pub(crate) fn tuple_at(
 /// The entries of a dict, if an object is one.
 pub(crate) fn dict_at(
     world: &World,
-    alloc: Global,
     node: PyObjectRef,
 ) -> Result<Option<Entries>, OutOfMemory>
     requires { Holds world.now (IsNode node) }
-    ensures parts { IfOk result (λ o. (t : Reading) → dict_of (datum_at (plain t world.now) node) ≡ option_map (λ es. es.items) o) }
+    ensures parts { IfOk result (λ o. (t : Reading) → dict_of (datum_at (plain t world.now) node) ≡
+        option_map (λ es. es.items) o) }
     ensures keys { IfOk result (λ o. IfSome o (λ es. Holds world.now (AreNodes (map (λ e. e.0) es.items)))) }
     ensures values { IfOk result (λ o. IfSome o (λ es. Holds world.now (AreNodes (map (λ e. e.1) es.items)))) }
 {
+    let alloc = world.alloc();
     match world.payload(node) {
         Payload::Dict(entries) => {
             let copy = copy_entries(alloc, entries)?;
@@ -90,20 +93,21 @@ fn copy_entries(
 /// The attributes that the entries of a dict are, where all keys are texts.
 pub(crate) fn namespace(
     world: &mut World,
-    alloc: Global,
     entries: &[(PyObjectRef, PyObjectRef)],
 ) -> Result<Option<PyAttributes>, OutOfMemory>
     requires keys { Holds world.old (AreNodes (map (λ e. e.0) entries.now)) }
     requires values { Holds world.old (AreNodes (map (λ e. e.1) entries.now)) }
-    ensures named { IfOk result (λ o. (t : Reading) → Reads t world.new → namespace (plain t world.old) entries.now ≡ option_map (λ a. bindings t a) o) }
+    ensures named { IfOk result (λ o. (t : Reading) → Reads t world.new → namespace (plain t world.old) entries.now ≡
+        option_map (λ a. bindings t a) o) }
     ensures same { (t : Reading) → plain t world.new ≡ plain t world.old }
     ensures reads { (t : Reading) → Reads t world.new → Reads t world.old }
     ensures grows { Grows world.old world.new }
     ensures holds { IfOk result (λ o. IfSome o (λ a. AllHold world.new (of_each of_binding a))) }
 {
+    let alloc = world.alloc();
     let mut attrs = PyAttributes::new(alloc);
     for (key, value) in entries {
-        let next = with_key(world, alloc, attrs, *key, *value)?;
+        let next = with_key(world, attrs, *key, *value)?;
         match next {
             None => return Ok(None),
             Some(more) => attrs = more,
@@ -115,7 +119,6 @@ pub(crate) fn namespace(
 // The attributes with one more, where its key is a text.
 fn with_key(
     world: &mut World,
-    alloc: Global,
     attrs: PyAttributes,
     key: PyObjectRef,
     value: PyObjectRef,
@@ -123,17 +126,19 @@ fn with_key(
     requires attrs { AllHold world.old (of_each of_binding attrs) }
     requires key { Holds world.old (IsNode key) }
     requires value { Holds world.old (IsNode value) }
-    ensures named { IfOk result (λ o. (t : Reading) → Reads t world.new → named (bindings t attrs) value (text_of (datum_at (plain t world.old) key)) ≡ option_map (λ a. bindings t a) o) }
+    ensures named { IfOk result (λ o. (t : Reading) → Reads t world.new →
+        named (bindings t attrs) value (text_of (datum_at (plain t world.old) key)) ≡
+        option_map (λ a. bindings t a) o) }
     ensures same { (t : Reading) → plain t world.new ≡ plain t world.old }
     ensures reads { (t : Reading) → Reads t world.new → Reads t world.old }
     ensures grows { Grows world.old world.new }
     ensures holds { IfOk result (λ o. IfSome o (λ a. AllHold world.new (of_each of_binding a))) }
 {
-    let text = text_at(world, alloc, key)?;
+    let text = text_at(world, key)?;
     match text {
         None => Ok(None),
         Some(text) => {
-            let name = world.intern(alloc, text.as_str())?;
+            let name = world.intern(text.as_str())?;
             let mut attrs = attrs;
             attrs.insert(name, value)?;
             Ok(Some(attrs))

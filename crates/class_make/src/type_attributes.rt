@@ -2,6 +2,7 @@
 #![tactic(auto, using(class_world::proofs::Items::item_holds), unfolding(crate::specs::Say::class_job_say))]
 
 ghost use Rattle.std.specs.Prelude.{◌≡◌, ℕ, Err, IfErr, IfOk};
+ghost use Rattle.py_node.specs.Faults.{raised};
 ghost use Rattle.plain_machine.specs.Plain.{Said, Ends};
 ghost use Rattle.class_world.specs.Claims.{of_args, of_ended, of_step, Leaves};
 ghost use Rattle.class_world.specs.Reading.{Reading, bindings, plain};
@@ -13,7 +14,7 @@ use crate::ClassKept;
 use class_world::takes::{three, two};
 use class_world::world::{Fixed, World};
 use py_node::memory::OutOfMemory;
-use py_node::raised::{Cause, Kind, Raised};
+use py_node::raised::{Cause, Raised};
 use py_node::refs::{PyObjectRef, PyTypeRef};
 use py_node::task::{Answer, Args, AttributeTask, Keywords, PySetterValue, Step, Task};
 use std::alloc::Global;
@@ -21,7 +22,6 @@ use std::alloc::Global;
 /// A class's attribute by its name, as classes read it.
 pub(crate) fn type_get_attribute(
     world: &mut World,
-    alloc: Global,
     args: Args,
     kw: Keywords,
 ) -> Result<Step<ClassKept>, OutOfMemory>
@@ -36,7 +36,7 @@ pub(crate) fn type_get_attribute(
     };
     match two(&args, &kw) {
         Err(raised) => Ok(Step::End(Err(raised))),
-        Ok((_, name)) => match world.name_in(alloc, name)? {
+        Ok((_, name)) => match world.name_in(name)? {
             Err(raised) => Ok(Step::End(Err(raised))),
             Ok(name) => Ok(asked(AttributeTask::TypeGet(class, name))),
         },
@@ -46,7 +46,6 @@ pub(crate) fn type_get_attribute(
 /// A class's attribute by its name, as classes set it.
 pub(crate) fn type_set_attr(
     world: &mut World,
-    alloc: Global,
     args: Args,
     kw: Keywords,
 ) -> Result<Step<ClassKept>, OutOfMemory>
@@ -61,7 +60,7 @@ pub(crate) fn type_set_attr(
     };
     match three(&args, &kw) {
         Err(raised) => Ok(Step::End(Err(raised))),
-        Ok((_, name, value)) => match world.name_in(alloc, name)? {
+        Ok((_, name, value)) => match world.name_in(name)? {
             Err(raised) => Ok(Step::End(Err(raised))),
             Ok(name) => {
                 let value = PySetterValue::Assign(value);
@@ -91,12 +90,9 @@ fn class_of_self(world: &World, args: &[PyObjectRef]) -> Result<PyTypeRef, Raise
 
 // A fault of the wrong type.
 fn type_error(cause: Cause) -> Raised
-    ensures { result ≡ record { kind = Kind.TypeError; cause = cause } }
+    ensures { result ≡ raised cause }
 {
-    Raised {
-        kind: Kind::TypeError,
-        cause,
-    }
+    Raised::new(cause)
 }
 
 // A task is asked. Where it gives no object, the native answers None.

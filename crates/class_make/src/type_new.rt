@@ -12,14 +12,13 @@ ghost use Rattle.class_make.specs.Rows.{Begins, Types, of_class_kept};
 ghost use Rattle.py_node.specs.declared.task.ClassTask.TheVariants as class_task;
 
 use crate::ClassKept;
-use crate::make::refused;
 use crate::type_attributes::{type_get_attribute, type_set_attr};
 use class_world::args::copy_args;
 use class_world::world::World;
 use py_node::built_in::BuiltIn;
 use py_node::entry::TypeNative;
 use py_node::memory::OutOfMemory;
-use py_node::raised::{Cause, Kind};
+use py_node::raised::Cause;
 use py_node::refs::PyTypeRef;
 use py_node::task::{Args, ClassTask, Keywords, Step, Task};
 use std::alloc::Global;
@@ -27,7 +26,6 @@ use std::alloc::Global;
 /// A native of `type`.
 pub(crate) fn type_native(
     world: &mut World,
-    alloc: Global,
     native: TypeNative,
     args: Args,
     kw: Keywords,
@@ -37,9 +35,9 @@ pub(crate) fn type_native(
     ensures safe { Leaves of_class_kept world.old world.new result }
 {
     match native {
-        TypeNative::New => type_new(world, alloc, args, kw),
-        TypeNative::GetAttribute => type_get_attribute(world, alloc, args, kw),
-        TypeNative::SetAttr => type_set_attr(world, alloc, args, kw),
+        TypeNative::New => type_new(world, args, kw),
+        TypeNative::GetAttribute => type_get_attribute(world, args, kw),
+        TypeNative::SetAttr => type_set_attr(world, args, kw),
         _ => Ok(Step::not_yet()),
     }
 }
@@ -47,16 +45,17 @@ pub(crate) fn type_native(
 // The native that makes the objects of `type`: its first argument is the metaclass.
 fn type_new(
     world: &mut World,
-    alloc: Global,
     args: Args,
     kw: Keywords,
 ) -> Result<Step<ClassKept>, OutOfMemory>
     requires { AllHold world.old (of_args args.items kw.items) }
-    ensures goes { IfOk result (λ step. Types (λ t u. type_new u args.items (bindings t kw.items)) world.old world.new step) }
+    ensures goes { IfOk result (λ step.
+        Types (λ t u. type_new u args.items (bindings t kw.items)) world.old world.new step) }
     ensures safe { Leaves of_class_kept world.old world.new result }
 {
+    let alloc = world.alloc();
     match args.as_slice() {
-        [] => Ok(refused(Kind::TypeError, Cause::ArgCount)),
+        [] => Ok(Step::raise(Cause::ArgCount)),
         [class, rest @ ..] => {
             let class = world.class_number(*class);
             let rest = copy_args(alloc, rest)?;
@@ -70,14 +69,15 @@ fn type_new(
 fn type_new_of(world: &World, class: Option<PyTypeRef>, args: Args, kw: Keywords) -> Step<ClassKept>
     requires class { AllHold world.now (of_option of_class_ref class) }
     requires rest { AllHold world.now (of_args args.items kw.items) }
-    ensures goes { Types (λ t u. type_new_of u (option_map (λ c. c.0) class) args.items (bindings t kw.items)) world.now world.now result }
+    ensures goes { Types (λ t u.
+        type_new_of u (option_map (λ c. c.0) class) args.items (bindings t kw.items)) world.now world.now result }
     ensures safe { AllHold world.now (of_step of_class_kept result) }
 {
     match class {
-        None => refused(Kind::TypeError, Cause::SelfType),
+        None => Step::raise(Cause::SelfType),
         Some(class) => {
             if !makes_classes(world, class) {
-                return refused(Kind::TypeError, Cause::UnsafeNew);
+                return Step::raise(Cause::UnsafeNew);
             }
             Step::Ask(
                 Task::Class(ClassTask::MakeClass(class, args, kw)),

@@ -55,7 +55,8 @@ fn solid_of(
     members: &[PyStrInterned],
     inherited: Option<PyTypeRef>,
 ) -> Option<PyTypeRef>
-    ensures { number_of result ≡ cond (nat_lt number.0 built_ins || not (is_empty members.now)) (Some number.0) (number_of inherited) }
+    ensures { number_of result ≡
+        cond (nat_lt number.0 built_ins || not (is_empty members.now)) (Some number.0) (number_of inherited) }
 {
     if number.0 < BUILT_INS || !members.is_empty() {
         Some(number)
@@ -206,7 +207,8 @@ pub(crate) fn add(
     ensures number { IfOk result (λ c. c ≡ new.number) }
     ensures coherent { OnOk result (IsCoherent classes.new.items) }
     ensures added { OnOk result (plain classes.new.items ≡ with_class (plain classes.old.items) (class_of_new new)) }
-    ensures refused { WithMemory result (refusal result ≡ refused_order (plain classes.old.items) (numbers new.bases.items)) }
+    ensures refused { WithMemory result (refusal result ≡
+        refused_order (plain classes.old.items) (numbers new.bases.items)) }
     ensures err { OnErr result (classes.new.items ≡ classes.old.items) }
 {
     let at = classes.len();

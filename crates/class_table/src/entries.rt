@@ -149,7 +149,8 @@ fn is_own(slot: SlotId) -> bool
 pub(crate) fn entry(classes: &[Stored], place: usize, slot: SlotId) -> Option<SlotEntry>
     requires lines { HasLines classes.now }
     requires inside { place < length classes.now }
-    ensures { (d : Kept) → result ≡ entry table_keys natives_of (plain classes.now) (slice_index_or classes.now place d).number slot }
+    ensures { (d : Kept) → result ≡
+        entry table_keys natives_of (plain classes.now) (slice_index_or classes.now place d).number slot }
 {
     let stored = &classes[place];
     if is_inherited(stored, slot) {

@@ -45,7 +45,8 @@ fn heap_parts(
     attrs: PyAttributes,
     members: Vec<PyStrInterned>,
 ) -> Result<NewClass, OutOfMemory>
-    ensures class { IfOk result (λ n. class_of_new n ≡ heap_class name.now number.0 (numbers bases.items) attrs members.items) }
+    ensures class { IfOk result (λ n.
+        class_of_new n ≡ heap_class name.now number.0 (numbers bases.items) attrs members.items) }
     ensures number { IfOk result (λ n. n.number ≡ number) }
 {
     Ok(NewClass {
@@ -73,9 +74,12 @@ pub(crate) fn add_heap(
     requires fresh { limit (plain classes.old.items) ≤ number.0 }
     ensures number { IfOk result (λ c. c ≡ number) }
     ensures coherent { OnOk result (IsCoherent classes.new.items) }
-    ensures added { OnOk result (plain classes.new.items ≡ with_class (plain classes.old.items) (heap_class name.now number.0 (numbers bases.items) attrs members.items)) }
+    ensures added { OnOk result (plain classes.new.items ≡
+        with_class (plain classes.old.items) (heap_class name.now number.0 (numbers bases.items) attrs members.items))
+        }
     ensures early { IsEarly (plain classes.old.items) (numbers bases.items) (refusal result) }
-    ensures refused { WithMemory result (refusal result ≡ refused_bases (plain classes.old.items) (numbers bases.items)) }
+    ensures refused { WithMemory result (refusal result ≡
+        refused_bases (plain classes.old.items) (numbers bases.items)) }
     ensures err { OnErr result (classes.new.items ≡ classes.old.items) }
 {
     let best = match best_base(classes, &bases) {
@@ -100,7 +104,8 @@ pub(crate) fn set_heap(
     requires there { is_class (plain classes.old.items) class.0 ≡ true }
     ensures coherent { OnOk result (IsCoherent classes.new.items) }
     ensures immutable { refusal result ≡ refused_attr (plain classes.old.items) class.0 }
-    ensures set { OnOk result (plain classes.new.items ≡ with_class_attr is_same_name (plain classes.old.items) class.0 name value) }
+    ensures set { OnOk result (plain classes.new.items ≡
+        with_class_attr is_same_name (plain classes.old.items) class.0 name value) }
     ensures err { OnErr result (classes.new.items ≡ classes.old.items) }
 {
     if !is_heap(classes, class) {

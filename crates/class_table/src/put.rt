@@ -42,7 +42,8 @@ pub(crate) fn put_in(
     requires coherent { IsCoherent classes.old.items }
     requires there { is_class (plain classes.old.items) class.0 ≡ true }
     ensures coherent { OnOk result (IsCoherent classes.new.items) }
-    ensures ok { OnOk result (plain classes.new.items ≡ with_class_attr is_same_name (plain classes.old.items) class.0 name value) }
+    ensures ok { OnOk result (plain classes.new.items ≡
+        with_class_attr is_same_name (plain classes.old.items) class.0 name value) }
     ensures err { OnErr result (classes.new.items ≡ classes.old.items) }
 {
     put(classes, class, name, value)

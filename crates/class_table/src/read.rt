@@ -143,7 +143,8 @@ fn fills_any(classes: &[Stored], class: PyTypeRef, slots: &[SlotId]) -> bool
 fn has_table(classes: &[Stored], class: PyTypeRef, mapping: bool) -> bool
     requires coherent { IsCoherent classes.now }
     requires there { is_class (plain classes.now) class.0 ≡ true }
-    ensures { result ≡ has_table (entry table_keys natives_of (plain classes.now) class.0) (table_sort mapping) all_slots }
+    ensures { result ≡ has_table (entry table_keys natives_of (plain classes.now) class.0) (table_sort mapping)
+        all_slots }
 {
     fills_any(classes, class, slots_in(mapping))
 }
@@ -157,7 +158,8 @@ fn of_table(
 ) -> Option<SlotEntry>
     requires coherent { IsCoherent classes.now }
     requires inside { (x : ℕ) → Holds (numbers line.now) x → is_class (plain classes.now) x ≡ true }
-    ensures { result ≡ read_along (entry table_keys natives_of (plain classes.now)) (table_sort mapping) 0 (numbers line.now) slot }
+    ensures { result ≡ read_along (entry table_keys natives_of (plain classes.now)) (table_sort mapping) 0
+        (numbers line.now) slot }
 {
     for class in line {
         if has_table(classes, *class, mapping) {
@@ -177,7 +179,8 @@ fn read_along(
     requires coherent { IsCoherent classes.now }
     requires own { is_class (plain classes.now) class.0 ≡ true }
     requires inside { (x : ℕ) → Holds (numbers line.now) x → is_class (plain classes.now) x ≡ true }
-    ensures { result ≡ read_along (entry table_keys natives_of (plain classes.now)) (sort_of slot) class.0 (numbers line.now) slot }
+    ensures { result ≡ read_along (entry table_keys natives_of (plain classes.now)) (sort_of slot) class.0
+        (numbers line.now) slot }
 {
     match slot.sort() {
         Sort::ByItself => own_entry(classes, class, slot),

@@ -30,7 +30,10 @@ fn is_name_of(slot: SlotId, name: PyStrInterned) -> bool
 fn patch_slot(classes: &mut [Stored], place: usize, slot: SlotId)
     requires lines { HasLines classes.old }
     requires inside { place < length classes.old }
-    ensures { (d : Kept) → classes.new ≡ slice_set classes.old place (record (slice_index_or classes.old place d) { slots = slice_set (slice_index_or classes.old place d).slots (place_of slot) (entry table_keys natives_of (plain classes.old) (slice_index_or classes.old place d).number slot) }) }
+    ensures { (d : Kept) → classes.new ≡
+        slice_set classes.old place (record (slice_index_or classes.old place d)
+        { slots = slice_set (slice_index_or classes.old place d).slots (place_of slot)
+        (entry table_keys natives_of (plain classes.old) (slice_index_or classes.old place d).number slot) }) }
 {
     let found = entry(classes, place, slot);
     classes[place].set_slot(slot, found);
@@ -41,7 +44,8 @@ fn patch(classes: &mut [Stored], at: usize, name: PyStrInterned)
     requires lines { HasLines classes.old }
     requires inside { at < length classes.old }
     requires near { (d : Kept) → IsNear (plain classes.old) name (slice_index_or classes.old at d) }
-    ensures { (d : Kept) → classes.new ≡ slice_set classes.old at (settled (plain classes.old) (slice_index_or classes.old at d)) }
+    ensures { (d : Kept) → classes.new ≡
+        slice_set classes.old at (settled (plain classes.old) (slice_index_or classes.old at d)) }
 {
     for place in 0..SLOTS {
         let slot = SlotId::at(place);
@@ -56,7 +60,8 @@ pub(crate) fn settle(classes: &mut [Stored], at: usize)
     requires lines { HasLines classes.old }
     requires inside { at < length classes.old }
     requires full { (d : Kept) → length (slice_index_or classes.old at d).slots ≡ 73 }
-    ensures { (d : Kept) → classes.new ≡ slice_set classes.old at (settled (plain classes.old) (slice_index_or classes.old at d)) }
+    ensures { (d : Kept) → classes.new ≡
+        slice_set classes.old at (settled (plain classes.old) (slice_index_or classes.old at d)) }
 {
     for place in 0..SLOTS {
         patch_slot(classes, at, SlotId::at(place));

@@ -56,7 +56,7 @@ fn table_of(alloc: Global, rows: &[(Known, &str)]) -> Result<Names, OutOfMemory>
 {
     let mut names = Names::new(alloc);
     for row in rows {
-        names.intern(alloc, row.1)?;
+        names.intern(row.1)?;
     }
     Ok(names)
 }

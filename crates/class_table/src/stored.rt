@@ -175,7 +175,8 @@ impl Stored {
 
     // Takes the last direct subclass off.
     pub(crate) fn forget_subclass(&mut self)
-        ensures { (class : ℕ) (subclasses : List ℕ) → self.old.subclasses ≡ subclasses ++ class ∷ [] → self.new ≡ record self.old { subclasses = subclasses } }
+        ensures { (class : ℕ) (subclasses : List ℕ) → self.old.subclasses ≡ subclasses ++ class ∷ [] → self.new ≡
+            record self.old { subclasses = subclasses } }
     {
         self.subclasses.pop();
     }
@@ -186,7 +187,8 @@ impl Stored {
         name: PyStrInterned,
         value: PyObjectRef,
     ) -> Result<(), OutOfMemory>
-        ensures ok { OnOk result (self.new ≡ record self.old { attrs = with_value is_same_name self.old.attrs name value }) }
+        ensures ok { OnOk result (self.new ≡
+            record self.old { attrs = with_value is_same_name self.old.attrs name value }) }
         ensures err { OnErr result (self.new ≡ self.old) }
     {
         self.attrs.insert(name, value)

@@ -41,6 +41,7 @@ use std::marker::Model;
 #[derive(Drop)]
 pub struct ClassTable {
     classes: Vec<Stored>,
+    alloc: Global,
 }
 
 impl Model for ClassTable {
@@ -65,7 +66,7 @@ impl ClassTable {
         let mut table = ClassTable::empty(alloc);
         for class in built_ins() {
             let new = new_class(alloc, *class)?;
-            table.add_class(alloc, new)?;
+            table.add_class(new)?;
         }
         Ok(table)
     }
@@ -76,6 +77,7 @@ impl ClassTable {
     {
         ClassTable {
             classes: Vec::new(alloc),
+            alloc,
         }
     }
 
@@ -121,7 +123,6 @@ impl ClassTable {
     // One more class, with one base or none. Where memory runs out, the table stays as it was.
     pub(crate) fn add_class(
         &mut self,
-        alloc: Global,
         new: NewClass,
     ) -> Result<PyTypeRef, OutOfMemory>
         requires below { IsBelow self.old new.number.0 (numbers new.bases.items) }
@@ -131,6 +132,7 @@ impl ClassTable {
         ensures added { OnOk result (self.new ≡ with_class self.old (class_of_new new)) }
         ensures err { OnErr result (self.new ≡ self.old) }
     {
+        let alloc = self.alloc;
         let best = only(&self.classes, &new.bases);
         match add(&mut self.classes, alloc, new, best) {
             Ok(number) => Ok(number),
@@ -151,11 +153,12 @@ impl ClassTable {
     }
 
     /// Whether a script may make a class with these bases, or why not.
-    pub fn may_derive(&self, alloc: Global, bases: &[PyTypeRef]) -> Result<(), ClassFault>
+    pub fn may_derive(&self, bases: &[PyTypeRef]) -> Result<(), ClassFault>
         requires { AreThere self.now (numbers bases.now) }
         ensures early { IsEarly self.now (numbers bases.now) (refusal result) }
         ensures refused { WithMemory result (refusal result ≡ refused_bases self.now (numbers bases.now)) }
     {
+        let alloc = self.alloc;
         may_derive(&self.classes, alloc, bases)
     }
 
@@ -165,7 +168,6 @@ impl ClassTable {
     /// refused or memory runs out, the table stays as it was.
     pub fn new_heap(
         &mut self,
-        alloc: Global,
         number: PyTypeRef,
         name: &str,
         bases: Vec<PyTypeRef>,
@@ -175,11 +177,13 @@ impl ClassTable {
         requires bases { AreThere self.old (numbers bases.items) }
         requires fresh { limit self.old ≤ number.0 }
         ensures number { IfOk result (λ c. c ≡ number) }
-        ensures added { OnOk result (self.new ≡ with_class self.old (heap_class name.now number.0 (numbers bases.items) attrs members.items)) }
+        ensures added { OnOk result (self.new ≡
+            with_class self.old (heap_class name.now number.0 (numbers bases.items) attrs members.items)) }
         ensures early { IsEarly self.old (numbers bases.items) (refusal result) }
         ensures refused { WithMemory result (refusal result ≡ refused_bases self.old (numbers bases.items)) }
         ensures err { OnErr result (self.new ≡ self.old) }
     {
+        let alloc = self.alloc;
         add_heap(
             &mut self.classes,
             alloc,

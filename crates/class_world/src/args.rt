@@ -41,7 +41,8 @@ pub fn alone(alloc: Global, a: PyObjectRef) -> Result<Args, OutOfMemory>
 /// Two arguments.
 pub fn both(alloc: Global, a: PyObjectRef, b: PyObjectRef) -> Result<Args, OutOfMemory>
     ensures items { IfOk result (λ v. v.items ≡ a ∷ b ∷ []) }
-    ensures holds { IfOk result (λ v. (w : Held) → Holds w (IsNode a) → Holds w (IsNode b) → Holds w (AreNodes v.items)) }
+    ensures holds { IfOk result (λ v. (w : Held) → Holds w (IsNode a) → Holds w (IsNode b) →
+        Holds w (AreNodes v.items)) }
 {
     Ok(vec![in alloc; a, b]?)
 }
@@ -83,8 +84,10 @@ pub fn filled(
     names: &[PyStrInterned],
     values: &[PyObjectRef],
 ) -> Result<PyAttributes, OutOfMemory>
-    ensures vars { IfOk result (λ vars. (t : Reading) → bindings t vars ≡ filled [] (map (spelled t) names.now) values.now) }
-    ensures holds { IfOk result (λ vars. (w : Held) → Holds w (AreNames names.now) → Holds w (AreNodes values.now) → AllHold w (of_each of_binding vars)) }
+    ensures vars { IfOk result (λ vars. (t : Reading) → bindings t vars ≡
+        filled [] (map (spelled t) names.now) values.now) }
+    ensures holds { IfOk result (λ vars. (w : Held) → Holds w (AreNames names.now) → Holds w (AreNodes values.now) →
+        AllHold w (of_each of_binding vars)) }
 {
     let mut vars = PyAttributes::new(alloc);
     for (name, value) in names.iter().zip(values) {

@@ -24,23 +24,25 @@ use py_node::refs::{PyObjectRef, PyStrInterned};
 use std::alloc::Global;
 
 /// Gives the built-in classes their own attributes.
-pub(crate) fn add_own_attrs(world: &mut World, alloc: Global) -> Result<(), OutOfMemory>
-    ensures added { OnOk result ((t : Reading) → Reads t world.new → plain t world.new ≡ fold with_attrs (plain t world.old) all_built_ins) }
+pub(crate) fn add_own_attrs(world: &mut World) -> Result<(), OutOfMemory>
+    ensures added { OnOk result ((t : Reading) → Reads t world.new → plain t world.new ≡
+        fold with_attrs (plain t world.old) all_built_ins) }
     ensures reads { (t : Reading) → Reads t world.new → Reads t world.old }
 {
     for class in built_ins() {
-        add_attrs(world, alloc, *class)?;
+        add_attrs(world, *class)?;
     }
     Ok(())
 }
 
 // Adds the own attributes of a class, in order.
-fn add_attrs(world: &mut World, alloc: Global, class: BuiltIn) -> Result<(), OutOfMemory>
-    ensures added { OnOk result ((t : Reading) → Reads t world.new → plain t world.new ≡ with_attrs (plain t world.old) class) }
+fn add_attrs(world: &mut World, class: BuiltIn) -> Result<(), OutOfMemory>
+    ensures added { OnOk result ((t : Reading) → Reads t world.new → plain t world.new ≡
+        with_attrs (plain t world.old) class) }
     ensures reads { (t : Reading) → Reads t world.new → Reads t world.old }
 {
     for attr in attrs_of(class) {
-        add_attr(world, alloc, class, *attr)?;
+        add_attr(world, class, *attr)?;
     }
     Ok(())
 }
@@ -49,15 +51,15 @@ fn add_attrs(world: &mut World, alloc: Global, class: BuiltIn) -> Result<(), Out
 #[tactic(auto, unfolding(plain_machine::specs::Start::with_attr))]
 fn add_attr(
     world: &mut World,
-    alloc: Global,
     class: BuiltIn,
     attr: OwnAttr,
 ) -> Result<(), OutOfMemory>
-    ensures added { OnOk result ((t : Reading) → Reads t world.new → plain t world.new ≡ with_attr class (plain t world.old) attr) }
+    ensures added { OnOk result ((t : Reading) → Reads t world.new → plain t world.new ≡
+        with_attr class (plain t world.old) attr) }
     ensures reads { (t : Reading) → Reads t world.new → Reads t world.old }
 {
     let name = world.known(attr.0);
-    let node = add_object(world, alloc, class, name, attr.1)?;
+    let node = add_object(world, class, name, attr.1)?;
     let holder = world.built_in(class);
     world.put_class_attr(holder, name, node)
 }
@@ -65,13 +67,14 @@ fn add_attr(
 // The object that an own attribute holds.
 fn add_object(
     world: &mut World,
-    alloc: Global,
     class: BuiltIn,
     name: PyStrInterned,
     attr: Attr,
 ) -> Result<PyObjectRef, OutOfMemory>
     requires { Holds world.old (IsName name) }
-    ensures made { OnOk result ((t : Reading) → plain t world.new ≡ with_node (plain t world.old) (place_of (attr_class attr)) (attr_datum (place_of class) (t.text name.0) attr)) }
+    ensures made { OnOk result ((t : Reading) → plain t world.new ≡
+        with_node (plain t world.old) (place_of (attr_class attr)) (attr_datum (place_of class) (t.text name.0) attr))
+        }
     ensures number { IfOk result (λ r. (t : Reading) → r ≡ next_node (plain t world.old) (place_of (attr_class attr))) }
     ensures reads { (t : Reading) → Reads t world.new → Reads t world.old }
     ensures grows { Grows world.old world.new }
@@ -79,7 +82,7 @@ fn add_object(
 {
     let payload = payload_of(world, class, name, attr);
     let holder = world.built_in(class_of(attr));
-    world.make_node(alloc, holder, payload)
+    world.make_node(holder, payload)
 }
 
 // The class of the object that an own attribute holds.
@@ -153,7 +156,8 @@ fn get_set(
     setter: Option<NativeEntry>,
 ) -> Payload
     requires { Holds world.now (IsName name) }
-    ensures reads { (t : Reading) → datum t result ≡ AGetSet (place_of class) (t.text name.0) (Some (Getter property)) setter }
+    ensures reads { (t : Reading) → datum t result ≡
+        AGetSet (place_of class) (t.text name.0) (Some (Getter property)) setter }
     ensures holds { AllHold world.now (of_payload result) }
     ensures home { home_of result ≡ built_in.GetSetDescriptor }
     ensures other { class_in result ≡ None }

@@ -23,7 +23,8 @@ use reply_text::class::{push_class_head, push_class_member, push_end, push_slot,
 
 /// Adds the lines of each class that a script made.
 pub fn push_classes(out: &mut Vec<u8>, world: &World) -> Result<(), OutOfMemory>
-    ensures { OnOk result ((t : Reading) → Reads t world.now → out.new.items ≡ out.old.items ++ classes_text (plain t world.now)) }
+    ensures { OnOk result ((t : Reading) → Reads t world.now → out.new.items ≡ out.old.items ++
+        classes_text (plain t world.now)) }
 {
     push_each(out, world.classes())?;
     Ok(())
@@ -31,7 +32,8 @@ pub fn push_classes(out: &mut Vec<u8>, world: &World) -> Result<(), OutOfMemory>
 
 // The lines of each class of a table that a script made.
 fn push_each(out: &mut Vec<u8>, classes: &ClassTable) -> Result<(), OutOfMemory>
-    ensures { OnOk result (out.new.items ≡ out.old.items ++ flat_map (heap_text table_keys classes.now) (numbers_of classes.now)) }
+    ensures { OnOk result (out.new.items ≡ out.old.items ++
+        flat_map (heap_text table_keys classes.now) (numbers_of classes.now)) }
 {
     for place in 0..classes.len() {
         push_if_heap(out, classes, classes.number_at(place))?;
@@ -74,7 +76,8 @@ fn push_names(
     line: &[PyTypeRef],
 ) -> Result<(), OutOfMemory>
     requires { (c : ℕ) → Holds (numbers line.now) c → is_class classes.now c ≡ true }
-    ensures { OnOk result (out.new.items ≡ out.old.items ++ class_head name.now ++ joined (codes ", ") (map escaped (map (name_at classes.now) (numbers line.now))) ++ end_of_line) }
+    ensures { OnOk result (out.new.items ≡ out.old.items ++ class_head name.now ++
+        joined (codes ", ") (map escaped (map (name_at classes.now) (numbers line.now))) ++ end_of_line) }
 {
     push_class_head(out, name)?;
     push_members(out, classes, line)?;
@@ -89,7 +92,8 @@ fn push_slots(
     class: PyTypeRef,
 ) -> Result<(), OutOfMemory>
     requires { is_class classes.now class.0 ≡ true }
-    ensures { OnOk result (out.new.items ≡ out.old.items ++ slots_head name.now ++ flat_map slot_word (own_words table_keys classes.now class.0 all_slots) ++ end_of_line) }
+    ensures { OnOk result (out.new.items ≡ out.old.items ++ slots_head name.now ++
+        flat_map slot_word (own_words table_keys classes.now class.0 all_slots) ++ end_of_line) }
 {
     push_slots_head(out, name)?;
     push_own_slots(out, classes, class, slots())?;
@@ -103,7 +107,8 @@ fn push_members(
     line: &[PyTypeRef],
 ) -> Result<(), OutOfMemory>
     requires { (c : ℕ) → Holds (numbers line.now) c → is_class classes.now c ≡ true }
-    ensures { OnOk result (out.new.items ≡ out.old.items ++ joined (codes ", ") (map escaped (map (name_at classes.now) (numbers line.now)))) }
+    ensures { OnOk result (out.new.items ≡ out.old.items ++
+        joined (codes ", ") (map escaped (map (name_at classes.now) (numbers line.now)))) }
 {
     let mut is_first = true;
     for class in line {
@@ -121,7 +126,8 @@ fn push_own_slots(
     rows: &[(SlotId, &str, Sort)],
 ) -> Result<(), OutOfMemory>
     requires { is_class classes.now class.0 ≡ true }
-    ensures { OnOk result (out.new.items ≡ out.old.items ++ flat_map slot_word (own_words table_keys classes.now class.0 (map (λ r. r.0) rows.now))) }
+    ensures { OnOk result (out.new.items ≡ out.old.items ++
+        flat_map slot_word (own_words table_keys classes.now class.0 (map (λ r. r.0) rows.now))) }
 {
     for row in rows {
         push_own_slot(out, row.0, classes.own_slot(class, row.0))?;

@@ -85,7 +85,6 @@ impl World {
     /// Gives a dict a value under a name: in its place, or else last, with a new text as its key.
     pub fn set_value_in(
         &mut self,
-        alloc: Global,
         dict: PyObjectRef,
         name: PyStrInterned,
         value: PyObjectRef,
@@ -100,7 +99,7 @@ impl World {
         ensures grows { Grows self.old self.new }
     {
         match self.place_in(dict, name) {
-            None => self.add_value(alloc, dict, name, value),
+            None => self.add_value(dict, name, value),
             Some(place) => {
                 self.put_value(dict, place, value);
                 Ok(())
@@ -127,7 +126,6 @@ impl World {
     // A name that is no key of a dict becomes the last one, as a new text.
     fn add_value(
         &mut self,
-        alloc: Global,
         dict: PyObjectRef,
         name: PyStrInterned,
         value: PyObjectRef,
@@ -146,9 +144,9 @@ impl World {
         ensures grows { Grows self.old self.new }
     {
         self.readable();
-        let text = self.spelling(alloc, name)?;
+        let text = self.spelling(name)?;
         let class = self.class_of_texts();
-        let key = self.make_node(alloc, class, Payload::Text(text))?;
+        let key = self.make_node(class, Payload::Text(text))?;
         self.push_entry(dict, key, value)
     }
 

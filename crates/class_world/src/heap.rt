@@ -38,7 +38,8 @@ impl World {
         requires name { Holds self.old (IsName name) }
         requires value { Holds self.old (IsNode value) }
         ensures refused { (t : Reading) → refusal result ≡ refused_attr (plain t self.old).classes class.0 }
-        ensures set { OnOk result ((t : Reading) → plain t self.new ≡ with_own_attr (plain t self.old) class.0 (t.text name.0) value) }
+        ensures set { OnOk result ((t : Reading) → plain t self.new ≡
+            with_own_attr (plain t self.old) class.0 (t.text name.0) value) }
         ensures err { OnErr result (self.new ≡ self.old) }
         ensures reads { (t : Reading) → Reads t self.new → Reads t self.old }
         ensures grows { Grows self.old self.new }
@@ -57,7 +58,8 @@ impl World {
         requires first { class.0 < built_ins }
         requires name { Holds self.old (IsName name) }
         requires value { Holds self.old (IsNode value) }
-        ensures set { OnOk result ((t : Reading) → plain t self.new ≡ with_own_attr (plain t self.old) class.0 (t.text name.0) value) }
+        ensures set { OnOk result ((t : Reading) → plain t self.new ≡
+            with_own_attr (plain t self.old) class.0 (t.text name.0) value) }
         ensures err { OnErr result (self.new ≡ self.old) }
         ensures reads { (t : Reading) → Reads t self.new → Reads t self.old }
         ensures grows { Grows self.old self.new }
@@ -71,7 +73,6 @@ impl World {
     /// world stays as it was.
     pub fn new_heap(
         &mut self,
-        alloc: Global,
         name: &str,
         bases: Vec<PyTypeRef>,
         attrs: PyAttributes,
@@ -83,15 +84,19 @@ impl World {
         requires members { Holds self.old (AreNames members.items) }
         requires metaclass { Holds self.old (IsClass metaclass.0) }
         requires of_classes { Holds self.old (IsOf metaclass.0 TypeType) }
-        ensures made { OnOk result ((t : Reading) → plain t self.new ≡ with_new_class (plain t self.old) metaclass.0 (heap_class_of t name.now (length (plain t self.old).nodes) bases.items attrs members.items)) }
+        ensures made { OnOk result ((t : Reading) → plain t self.new ≡
+            with_new_class (plain t self.old) metaclass.0
+            (heap_class_of t name.now (length (plain t self.old).nodes) bases.items attrs members.items)) }
         ensures number { IfOk result (λ c. (t : Reading) → c.0 ≡ length (plain t self.old).nodes) }
         ensures early { (t : Reading) → IsEarly (plain t self.old).classes (numbers bases.items) (refusal result) }
-        ensures refused { (t : Reading) → Reads t self.old → WithMemory result (refusal result ≡ refused_heap (plain t self.old) (numbers bases.items) (bindings t attrs)) }
+        ensures refused { (t : Reading) → Reads t self.old → WithMemory result (refusal result ≡
+            refused_heap (plain t self.old) (numbers bases.items) (bindings t attrs)) }
         ensures err { OnErr result (self.new ≡ self.old) }
         ensures reads { (t : Reading) → Reads t self.new → Reads t self.old }
         ensures grows { Grows self.old self.new }
         ensures class { IfOk result (λ c. Holds self.new (IsClass c.0)) }
-        ensures of { IfOk result (λ c. (d : ℕ) (b : BuiltIn) → best_of self.old.classes (numbers bases.items) ≡ Some d → Holds self.old (IsOf d b) → Holds self.new (IsOf c.0 b)) }
+        ensures of { IfOk result (λ c. (d : ℕ) (b : BuiltIn) → best_of self.old.classes (numbers bases.items) ≡
+            Some d → Holds self.old (IsOf d b) → Holds self.new (IsOf c.0 b)) }
         ensures node { IfOk result (λ c. Holds self.new (IsNode (ref c.0))) }
     {
         match self.layout_refusal(&bases) {
@@ -99,8 +104,8 @@ impl World {
             None => {}
         }
         match self.name_refusal(&attrs) {
-            Some(cause) => self.refuse_name(alloc, &bases, cause),
-            None => self.add_heap(alloc, name, bases, attrs, members, metaclass),
+            Some(cause) => self.refuse_name(&bases, cause),
+            None => self.add_heap(name, bases, attrs, members, metaclass),
         }
     }
 
@@ -118,15 +123,15 @@ impl World {
     // Refuses a class for its name, unless its bases are refused.
     fn refuse_name(
         &self,
-        alloc: Global,
         bases: &[PyTypeRef],
         cause: Cause,
     ) -> Result<PyTypeRef, ClassFault>
         requires { AllHold self.now (of_each of_class_ref bases.now) }
-        ensures why { WithMemory result (refusal result ≡ option_or (refused_bases self.now.classes (numbers bases.now)) (Some cause)) }
+        ensures why { WithMemory result (refusal result ≡
+            option_or (refused_bases self.now.classes (numbers bases.now)) (Some cause)) }
         ensures err { IfOk result (λ c. ⊥) }
     {
-        match self.classes.may_derive(alloc, bases) {
+        match self.classes.may_derive(bases) {
             Ok(()) => Err(ClassFault::Refused(cause)),
             Err(fault) => Err(fault),
         }
@@ -135,7 +140,8 @@ impl World {
     // Why a class may not have these attributes, if it may not: its qualified name is no text.
     fn name_refusal(&self, attrs: &PyAttributes) -> Option<Cause>
         requires { AllHold self.now (of_each of_binding attrs.now) }
-        ensures { (t : Reading) → Reads t self.now → refused_name (plain t self.now) (qualified (bindings t attrs.now)) ≡ result }
+        ensures { (t : Reading) → Reads t self.now →
+            refused_name (plain t self.now) (qualified (bindings t attrs.now)) ≡ result }
     {
         match self.qualified(attrs) {
             None => None,
@@ -172,7 +178,6 @@ impl World {
     // A class, and the node that stands for it, unless its bases are refused.
     fn add_heap(
         &mut self,
-        alloc: Global,
         name: &str,
         bases: Vec<PyTypeRef>,
         attrs: PyAttributes,
@@ -184,14 +189,17 @@ impl World {
         requires members { Holds self.old (AreNames members.items) }
         requires metaclass { Holds self.old (IsClass metaclass.0) }
         requires of_classes { Holds self.old (IsOf metaclass.0 TypeType) }
-        ensures made { OnOk result ((t : Reading) → plain t self.new ≡ with_new_class (plain t self.old) metaclass.0 (heap_class_of t name.now (length (plain t self.old).nodes) bases.items attrs members.items)) }
+        ensures made { OnOk result ((t : Reading) → plain t self.new ≡
+            with_new_class (plain t self.old) metaclass.0
+            (heap_class_of t name.now (length (plain t self.old).nodes) bases.items attrs members.items)) }
         ensures number { IfOk result (λ c. (t : Reading) → c.0 ≡ length (plain t self.old).nodes) }
         ensures refused { WithMemory result (refusal result ≡ refused_bases self.old.classes (numbers bases.items)) }
         ensures err { OnErr result (self.new ≡ self.old) }
         ensures reads { (t : Reading) → Reads t self.new → Reads t self.old }
         ensures grows { Grows self.old self.new }
         ensures class { IfOk result (λ c. Holds self.new (IsClass c.0)) }
-        ensures of { IfOk result (λ c. (d : ℕ) (b : BuiltIn) → best_of self.old.classes (numbers bases.items) ≡ Some d → Holds self.old (IsOf d b) → Holds self.new (IsOf c.0 b)) }
+        ensures of { IfOk result (λ c. (d : ℕ) (b : BuiltIn) → best_of self.old.classes (numbers bases.items) ≡
+            Some d → Holds self.old (IsOf d b) → Holds self.new (IsOf c.0 b)) }
         ensures node { IfOk result (λ c. Holds self.new (IsNode (ref c.0))) }
     {
         match self.nodes.reserve(1) {
@@ -202,7 +210,7 @@ impl World {
         self.classes.sound();
         match self
             .classes
-            .new_heap(alloc, number, name, bases, attrs, members)
+            .new_heap(number, name, bases, attrs, members)
         {
             Err(fault) => Err(fault),
             Ok(class) => {

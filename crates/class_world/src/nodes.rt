@@ -39,7 +39,8 @@ fn push(
     payload: Payload,
 ) -> PyObjectRef
     requires { vec_len nodes.old < vec_capacity nodes.old }
-    ensures pushed { nodes.new.items ≡ nodes.old.items ++ record { class = class; dict = dict; payload = payload } ∷ [] }
+    ensures pushed { nodes.new.items ≡ nodes.old.items ++ record { class = class; dict = dict; payload = payload } ∷
+        [] }
     ensures number { result ≡ ref (length nodes.old.items) }
 {
     let number = nodes.len();

@@ -47,7 +47,8 @@ impl World {
     /// The class that an object stands for, if it stands for one.
     pub fn class_number(&self, node: PyObjectRef) -> Option<PyTypeRef>
         requires { Holds self.now (IsNode node) }
-        ensures number { (t : Reading) → class_number (datum_at (plain t self.now) node) ≡ option_map (λ c. c.0) result }
+        ensures number { (t : Reading) → class_number (datum_at (plain t self.now) node) ≡
+            option_map (λ c. c.0) result }
         ensures class { IfSome result (λ c. Holds self.now (IsClass c.0)) }
         ensures holding { IfSome result (λ c. Holds self.now (Holding node TypeType)) }
     {
@@ -101,8 +102,10 @@ impl World {
     /// The built-in class whose objects a class's objects are: the nearest one along the linearisation.
     pub fn nearest_built_in(&self, class: PyTypeRef) -> Option<PyTypeRef>
         requires { Holds self.now (IsClass class.0) }
-        ensures nearest { (t : Reading) → nearest_built_in (plain t self.now).classes class.0 ≡ option_map (λ c. c.0) result }
-        ensures of { (b : BuiltIn) → option_map (λ c. c.0) result ≡ Some (place_of b) → Holds self.now (IsOf class.0 (holds_as b)) }
+        ensures nearest { (t : Reading) → nearest_built_in (plain t self.now).classes class.0 ≡
+            option_map (λ c. c.0) result }
+        ensures of { (b : BuiltIn) → option_map (λ c. c.0) result ≡ Some (place_of b) →
+            Holds self.now (IsOf class.0 (holds_as b)) }
     {
         first_built_in(self.classes().mro(class))
     }

@@ -22,7 +22,8 @@ impl World {
     /// The name of a class.
     pub fn class_name(&self, class: PyTypeRef) -> &str
         requires { Holds self.now (IsClass class.0) }
-        ensures { (t : Reading) → option_map (λ k. k.name) (class_numbered (plain t self.now).classes class.0) ≡ Some result.now }
+        ensures { (t : Reading) → option_map (λ k. k.name) (class_numbered (plain t self.now).classes class.0) ≡
+            Some result.now }
     {
         self.classes.name(class)
     }
@@ -39,7 +40,8 @@ impl World {
     /// A slot as it is read for a class.
     pub fn class_slot(&self, class: PyTypeRef, slot: SlotId) -> Option<SlotEntry>
         requires { Holds self.now (IsClass class.0) }
-        ensures { (t : Reading) → Reads t self.now → slot_read text_keys natives_of (plain t self.now).classes class.0 slot ≡ result }
+        ensures { (t : Reading) → Reads t self.now →
+            slot_read text_keys natives_of (plain t self.now).classes class.0 slot ≡ result }
     {
         self.classes.slot(class, slot)
     }
@@ -47,7 +49,8 @@ impl World {
     /// What a class itself has in a slot.
     pub fn own_slot(&self, class: PyTypeRef, slot: SlotId) -> Option<SlotEntry>
         requires { Holds self.now (IsClass class.0) }
-        ensures { (t : Reading) → Reads t self.now → entry text_keys natives_of (plain t self.now).classes class.0 slot ≡ result }
+        ensures { (t : Reading) → Reads t self.now →
+            entry text_keys natives_of (plain t self.now).classes class.0 slot ≡ result }
     {
         self.classes.own_slot(class, slot)
     }
@@ -62,7 +65,9 @@ impl World {
     ) -> Candidates
         requires a { Holds self.now (IsNode a) }
         requires b { Holds self.now (IsNode b) }
-        ensures { (t : Reading) → Reads t self.now → candidates_at (plain t self.now) left right (class_at (plain t self.now) a) (class_at (plain t self.now) b) ≡ list_of result }
+        ensures { (t : Reading) → Reads t self.now →
+            candidates_at (plain t self.now) left right (class_at (plain t self.now) a)
+            (class_at (plain t self.now) b) ≡ list_of result }
     {
         let class_a = self.class_of(a);
         let class_b = self.class_of(b);
@@ -79,7 +84,8 @@ impl World {
     ) -> Candidates
         requires a { Holds self.now (IsClass a.0) }
         requires b { Holds self.now (IsClass b.0) }
-        ensures { (t : Reading) → Reads t self.now → candidates_of text_keys natives_of (plain t self.now).classes left right a.0 b.0 ≡ list_of result }
+        ensures { (t : Reading) → Reads t self.now →
+            candidates_of text_keys natives_of (plain t self.now).classes left right a.0 b.0 ≡ list_of result }
     {
         self.classes.candidates(left, right, a, b)
     }
@@ -87,7 +93,8 @@ impl World {
     /// The value of a name, in the first class along a class's linearisation that has it.
     pub fn class_attr(&self, class: PyTypeRef, name: PyStrInterned) -> Option<PyObjectRef>
         requires { Holds self.now (IsClass class.0) }
-        ensures found { (t : Reading) → Reads t self.now → found is_text (plain t self.now).classes class.0 (t.text name.0) ≡ result }
+        ensures found { (t : Reading) → Reads t self.now →
+            found is_text (plain t self.now).classes class.0 (t.text name.0) ≡ result }
         ensures node { IfSome result (λ r. Holds self.now (IsNode r)) }
     {
         self.classes.get_attr(class, name)
@@ -96,7 +103,8 @@ impl World {
     /// The same past the class itself.
     pub fn class_attr_past(&self, class: PyTypeRef, name: PyStrInterned) -> Option<PyObjectRef>
         requires { Holds self.now (IsClass class.0) }
-        ensures found { (t : Reading) → Reads t self.now → found_past is_text (plain t self.now).classes class.0 (t.text name.0) ≡ result }
+        ensures found { (t : Reading) → Reads t self.now →
+            found_past is_text (plain t self.now).classes class.0 (t.text name.0) ≡ result }
         ensures node { IfSome result (λ r. Holds self.now (IsNode r)) }
     {
         self.classes.get_super_attr(class, name)
@@ -105,7 +113,8 @@ impl World {
     /// A class's own value of a name.
     pub fn own_attr(&self, class: PyTypeRef, name: PyStrInterned) -> Option<PyObjectRef>
         requires { Holds self.now (IsClass class.0) }
-        ensures found { (t : Reading) → Reads t self.now → own_of (λ y. is_text y (t.text name.0)) (class_numbered (plain t self.now).classes class.0) ≡ result }
+        ensures found { (t : Reading) → Reads t self.now →
+            own_of (λ y. is_text y (t.text name.0)) (class_numbered (plain t self.now).classes class.0) ≡ result }
         ensures node { IfSome result (λ r. Holds self.now (IsNode r)) }
     {
         self.classes.get_direct_attr(class, name)
@@ -140,7 +149,8 @@ impl World {
     /// Whether a class has a flag.
     pub fn class_flag(&self, class: PyTypeRef, flag: PyTypeFlags) -> bool
         requires { Holds self.now (IsClass class.0) }
-        ensures { (t : Reading) → option_map (λ k. has_flag flag.0 k) (class_numbered (plain t self.now).classes class.0) ≡ Some result }
+        ensures { (t : Reading) →
+            option_map (λ k. has_flag flag.0 k) (class_numbered (plain t self.now).classes class.0) ≡ Some result }
     {
         self.classes.flags(class).has_feature(flag)
     }

@@ -38,29 +38,28 @@ const ITEMS: usize = 20;
 
 /// The text of an object.
 #[tactic(auto, unfolding(plain_machine::specs::Show::show))]
-pub fn show(world: &World, alloc: Global, node: PyObjectRef) -> Result<String, OutOfMemory>
+pub fn show(world: &World, node: PyObjectRef) -> Result<String, OutOfMemory>
     requires { Holds world.now (IsNode node) }
     ensures { IfOk result (λ s. (t : Reading) → string_bytes s ≡ show (plain t world.now) node) }
 {
-    text_within(world, alloc, DEPTH, node)
+    text_within(world, DEPTH, node)
 }
 
 // The text of an object, where containers are shown so many deep.
 #[cycle(show)]
 fn text_within(
     world: &World,
-    alloc: Global,
     depth: u8,
     node: PyObjectRef,
 ) -> Result<String, OutOfMemory>
     requires { Holds world.now (IsNode node) }
     ensures { IfOk result (λ s. (t : Reading) → string_bytes s ≡ text_within depth (plain t world.now) node) }
 {
+    let alloc = world.alloc();
     match fixed(node) {
         Some(text) => Ok(String::from_str(alloc, text)?),
         None => show_payload(
             world,
-            alloc,
             depth,
             world.class_of(node),
             world.payload(node),
@@ -85,22 +84,23 @@ fn fixed(node: PyObjectRef) -> Option<&'static str>
 #[cycle(show)]
 fn show_payload(
     world: &World,
-    alloc: Global,
     depth: u8,
     class: PyTypeRef,
     payload: &Payload,
 ) -> Result<String, OutOfMemory>
     requires class { Holds world.now (IsClass class.0) }
     requires payload { AllHold world.now (of_payload payload.now) }
-    ensures { IfOk result (λ s. (t : Reading) → string_bytes s ≡ datum_text (containers depth (plain t world.now)) (plain t world.now) class.0 (datum t payload.now)) }
+    ensures { IfOk result (λ s. (t : Reading) → string_bytes s ≡
+        datum_text (containers depth (plain t world.now)) (plain t world.now) class.0 (datum t payload.now)) }
 {
+    let alloc = world.alloc();
     match payload {
         Payload::Number(z) if class.0 == INT => Ok(format!(in alloc; "{z}")?),
         Payload::Text(text) if class.0 == STR => quoted_string(alloc, text.as_str()),
-        Payload::Tuple(items) if class.0 == TUPLE => show_tuple(world, alloc, depth, items),
-        Payload::Dict(entries) if class.0 == DICT => show_dict(world, alloc, depth, entries),
-        Payload::Class(named) => show_class(world, alloc, *named),
-        _ => show_plain(world, alloc, class),
+        Payload::Tuple(items) if class.0 == TUPLE => show_tuple(world, depth, items),
+        Payload::Dict(entries) if class.0 == DICT => show_dict(world, depth, entries),
+        Payload::Class(named) => show_class(world, *named),
+        _ => show_plain(world, class),
     }
 }
 
@@ -108,15 +108,16 @@ fn show_payload(
 #[cycle(show)]
 fn show_tuple(
     world: &World,
-    alloc: Global,
     depth: u8,
     items: &Vec<PyObjectRef>,
 ) -> Result<String, OutOfMemory>
     requires { Holds world.now (AreNodes items.now.items) }
-    ensures { IfOk result (λ s. (t : Reading) → string_bytes s ≡ (containers depth (plain t world.now)).tuple items.now.items) }
+    ensures { IfOk result (λ s. (t : Reading) → string_bytes s ≡
+        (containers depth (plain t world.now)).tuple items.now.items) }
 {
+    let alloc = world.alloc();
     match depth.checked_sub(1) {
-        Some(depth) => tuple_of(alloc, &item_texts(world, alloc, depth, items)?),
+        Some(depth) => tuple_of(alloc, &item_texts(world, depth, items)?),
         None => Ok(String::from_str(alloc, "...")?),
     }
 }
@@ -125,16 +126,17 @@ fn show_tuple(
 #[cycle(show)]
 fn show_dict(
     world: &World,
-    alloc: Global,
     depth: u8,
     entries: &Vec<(PyObjectRef, PyObjectRef)>,
 ) -> Result<String, OutOfMemory>
     requires keys { Holds world.now (AreNodes (map (λ e. e.0) entries.now.items)) }
     requires values { Holds world.now (AreNodes (map (λ e. e.1) entries.now.items)) }
-    ensures { IfOk result (λ s. (t : Reading) → string_bytes s ≡ (containers depth (plain t world.now)).dict entries.now.items) }
+    ensures { IfOk result (λ s. (t : Reading) → string_bytes s ≡
+        (containers depth (plain t world.now)).dict entries.now.items) }
 {
+    let alloc = world.alloc();
     match depth.checked_sub(1) {
-        Some(depth) => dict_of(alloc, &entry_texts(world, alloc, depth, entries)?),
+        Some(depth) => dict_of(alloc, &entry_texts(world, depth, entries)?),
         None => Ok(String::from_str(alloc, "...")?),
     }
 }
@@ -143,16 +145,17 @@ fn show_dict(
 #[cycle(show)]
 fn item_texts(
     world: &World,
-    alloc: Global,
     depth: u8,
     items: &[PyObjectRef],
 ) -> Result<Vec<String>, OutOfMemory>
     requires { Holds world.now (AreNodes items.now) }
-    ensures { IfOk result (λ xs. (t : Reading) → map string_bytes xs.items ≡ item_texts (text_within depth (plain t world.now)) items.now) }
+    ensures { IfOk result (λ xs. (t : Reading) → map string_bytes xs.items ≡
+        item_texts (text_within depth (plain t world.now)) items.now) }
 {
+    let alloc = world.alloc();
     let mut texts = Vec::new(alloc);
     for item in first_items(items) {
-        texts.push(text_within(world, alloc, depth, *item)?)?;
+        texts.push(text_within(world, depth, *item)?)?;
     }
     push_rest(alloc, &mut texts, items)?;
     Ok(texts)
@@ -162,17 +165,18 @@ fn item_texts(
 #[cycle(show)]
 fn entry_texts(
     world: &World,
-    alloc: Global,
     depth: u8,
     entries: &[(PyObjectRef, PyObjectRef)],
 ) -> Result<Vec<String>, OutOfMemory>
     requires keys { Holds world.now (AreNodes (map (λ e. e.0) entries.now)) }
     requires values { Holds world.now (AreNodes (map (λ e. e.1) entries.now)) }
-    ensures { IfOk result (λ xs. (t : Reading) → map string_bytes xs.items ≡ item_texts (entry_text (text_within depth (plain t world.now))) entries.now) }
+    ensures { IfOk result (λ xs. (t : Reading) → map string_bytes xs.items ≡
+        item_texts (entry_text (text_within depth (plain t world.now))) entries.now) }
 {
+    let alloc = world.alloc();
     let mut texts = Vec::new(alloc);
     for entry in first_items(entries) {
-        texts.push(show_entry(world, alloc, depth, *entry)?)?;
+        texts.push(show_entry(world, depth, *entry)?)?;
     }
     push_rest(alloc, &mut texts, entries)?;
     Ok(texts)
@@ -182,16 +186,17 @@ fn entry_texts(
 #[cycle(show)]
 fn show_entry(
     world: &World,
-    alloc: Global,
     depth: u8,
     entry: (PyObjectRef, PyObjectRef),
 ) -> Result<String, OutOfMemory>
     requires key { Holds world.now (IsNode entry.0) }
     requires value { Holds world.now (IsNode entry.1) }
-    ensures { IfOk result (λ s. (t : Reading) → string_bytes s ≡ entry_text (text_within depth (plain t world.now)) entry) }
+    ensures { IfOk result (λ s. (t : Reading) → string_bytes s ≡
+        entry_text (text_within depth (plain t world.now)) entry) }
 {
-    let key = text_within(world, alloc, depth, entry.0)?;
-    let value = text_within(world, alloc, depth, entry.1)?;
+    let alloc = world.alloc();
+    let key = text_within(world, depth, entry.0)?;
+    let value = text_within(world, depth, entry.1)?;
     between(alloc, key.as_str(), ": ", value.as_str())
 }
 
@@ -208,7 +213,8 @@ fn first_items<T>(items: &[T]) -> &[T]
 
 // Adds dots where there are items that are not shown.
 fn push_rest<T>(alloc: Global, texts: &mut Vec<String>, items: &[T]) -> Result<(), OutOfMemory>
-    ensures { OnOk result (map string_bytes texts.new.items ≡ map string_bytes texts.old.items ++ rest_text (drop 20 items.now)) }
+    ensures { OnOk result (map string_bytes texts.new.items ≡ map string_bytes texts.old.items ++
+        rest_text (drop 20 items.now)) }
 {
     if items.len() > ITEMS {
         texts.push(String::from_str(alloc, "...")?)?;
@@ -250,18 +256,21 @@ fn with_commas(alloc: Global, texts: &[String]) -> Result<String, OutOfMemory>
 }
 
 // The text of a class.
-fn show_class(world: &World, alloc: Global, class: PyTypeRef) -> Result<String, OutOfMemory>
+fn show_class(world: &World, class: PyTypeRef) -> Result<String, OutOfMemory>
     requires { Holds world.now (IsClass class.0) }
-    ensures { IfOk result (λ s. (t : Reading) → string_bytes s ≡ codes "<class '" ++ class_name (plain t world.now) class.0 ++ codes "'>") }
+    ensures { IfOk result (λ s. (t : Reading) → string_bytes s ≡ codes "<class '" ++
+        class_name (plain t world.now) class.0 ++ codes "'>") }
 {
+    let alloc = world.alloc();
     wrapped(alloc, "<class '", world.class_name(class), "'>")
 }
 
 // The text of an object whose class gives it no text of its own.
-fn show_plain(world: &World, alloc: Global, class: PyTypeRef) -> Result<String, OutOfMemory>
+fn show_plain(world: &World, class: PyTypeRef) -> Result<String, OutOfMemory>
     requires { Holds world.now (IsClass class.0) }
     ensures { IfOk result (λ s. (t : Reading) → string_bytes s ≡ plain_text (plain t world.now) class.0) }
 {
+    let alloc = world.alloc();
     wrapped(alloc, "<", world.class_name(class), " object>")
 }
 

@@ -2,6 +2,7 @@
 #![tactic(auto, using(crate::proofs::Items::item_holds))]
 
 ghost use Rattle.std.specs.Prelude.{◌≡◌, Err, IfErr, IfNone, IfOk, IfSome, string_bytes};
+ghost use Rattle.py_node.specs.Faults.{raised};
 ghost use Rattle.plain_machine.specs.Plain.{PlainWorld, Said, Ends};
 ghost use Rattle.plain_machine.specs.Takes.{without_keywords, with_one, with_two, with_three, text_in, with_text};
 ghost use Rattle.plain_machine.specs.World.{datum_at};
@@ -14,7 +15,7 @@ ghost use Rattle.class_world.specs.Sound.{AreNodes, IsName, IsNode, Holds, Grows
 use crate::world::World;
 use py_node::memory::OutOfMemory;
 use py_node::payload::Payload;
-use py_node::raised::{Cause, Kind, Raised};
+use py_node::raised::{Cause, Raised};
 use py_node::refs::{PyObjectRef, PyStrInterned};
 use std::alloc::Global;
 
@@ -88,28 +89,21 @@ fn keyword_refusal(kw: &[(PyStrInterned, PyObjectRef)]) -> Option<Raised>
     if kw.is_empty() {
         None
     } else {
-        Some(Raised {
-            kind: Kind::TypeError,
-            cause: Cause::UnexpectedKeyword,
-        })
+        Some(Raised::new(Cause::UnexpectedKeyword))
     }
 }
 
 // There are too few arguments, or too many.
 fn wrong_count() -> Raised
-    ensures { result ≡ record { kind = Kind.TypeError; cause = Cause.ArgCount } }
+    ensures { result ≡ raised Cause.ArgCount }
 {
-    Raised {
-        kind: Kind::TypeError,
-        cause: Cause::ArgCount,
-    }
+    Raised::new(Cause::ArgCount)
 }
 
 impl World {
     /// The name that an argument is, or why it is refused: it must be a text.
     pub fn name_in(
         &mut self,
-        alloc: Global,
         node: PyObjectRef,
     ) -> Result<Result<PyStrInterned, Raised>, OutOfMemory>
         requires { Holds self.old (IsNode node) }
@@ -122,27 +116,25 @@ impl World {
         ensures grows { Grows self.old self.new }
         ensures name { IfOk result (λ r. IfOk r (λ x. Holds self.new (IsName x))) }
     {
-        match self.text_in(alloc, node)? {
-            None => Ok(Err(Raised {
-                kind: Kind::TypeError,
-                cause: Cause::SelfType,
-            })),
+        match self.text_in(node)? {
+            None => Ok(Err(Raised::new(Cause::SelfType))),
             Some(text) => {
-                let name = self.intern(alloc, text.as_str())?;
+                let name = self.intern(text.as_str())?;
                 Ok(Ok(name))
             }
         }
     }
 
     // The text that an object is, if it is one.
-    fn text_in(&self, alloc: Global, node: PyObjectRef) -> Result<Option<String>, OutOfMemory>
+    fn text_in(&self, node: PyObjectRef) -> Result<Option<String>, OutOfMemory>
         requires { Holds self.now (IsNode node) }
         ensures text { IfOk result (λ o. IfSome o (λ s. (t : Reading) (w : PlainWorld) (go : Text → Said) →
             text_in w (datum_at (plain t self.now) node) go ≡ go (string_bytes s))) }
         ensures other { IfOk result (λ o. IfNone o ((t : Reading) (w : PlainWorld) (go : Text → Said) →
             text_in w (datum_at (plain t self.now) node) go ≡
-            Ends w (Err (record { kind = Kind.TypeError; cause = Cause.SelfType })))) }
+            Ends w (Err (raised Cause.SelfType)))) }
     {
+        let alloc = self.alloc();
         match self.payload(node) {
             Payload::Text(text) => {
                 let copy = String::from_str(alloc, text.as_str())?;

@@ -71,6 +71,7 @@ pub struct World {
     pub(crate) vars: PyAttributes,
     pub(crate) scopes: Vec<Scope>,
     pub(crate) calls: Vec<BodyCall>,
+    alloc: Global,
 }
 
 impl Model for World {
@@ -93,10 +94,11 @@ impl World {
     /// own attributes, and None, NotImplemented, False and True.
     pub fn new(alloc: Global) -> Result<World, OutOfMemory>
         ensures start { IfOk result (λ w. (t : Reading) → Reads t w → plain t w ≡ start) }
-        ensures known { IfOk result (λ w. (n : ℕ) (x : List ℕ) → slice_get known_texts n ≡ Some x → slice_get w.names n ≡ Some x) }
+        ensures known { IfOk result (λ w. (n : ℕ) (x : List ℕ) → slice_get known_texts n ≡ Some x →
+            slice_get w.names n ≡ Some x) }
     {
         let mut world = World::bare(alloc)?;
-        add_own_attrs(&mut world, alloc)?;
+        add_own_attrs(&mut world)?;
         world.knows_names();
         Ok(world)
     }
@@ -116,6 +118,7 @@ impl World {
             vars: PyAttributes::new(alloc),
             scopes: Vec::new(alloc),
             calls: Vec::new(alloc),
+            alloc,
         })
     }
 
@@ -124,6 +127,11 @@ impl World {
         ensures { (n : ℕ) (x : List ℕ) → slice_get known_texts n ≡ Some x → slice_get self.now.names n ≡ Some x }
     {
         let _names = &self.names;
+    }
+
+    /// What the world takes its memory from.
+    pub fn alloc(&self) -> Global {
+        self.alloc
     }
 
     /// The numbers can be read: the theorems, which speak of each reading, speak of at least one.
@@ -240,7 +248,6 @@ impl World {
     /// objects of its class hold. Where memory runs out, there is neither.
     pub fn make_node(
         &mut self,
-        alloc: Global,
         class: PyTypeRef,
         payload: Payload,
     ) -> Result<PyObjectRef, OutOfMemory>
@@ -248,7 +255,8 @@ impl World {
         requires of { Holds self.old (IsOf class.0 (home_of payload)) }
         requires payload { AllHold self.old (of_payload payload) }
         requires other { class_in payload ≡ None }
-        ensures made { OnOk result ((t : Reading) → plain t self.new ≡ with_node (plain t self.old) class.0 (datum t payload)) }
+        ensures made { OnOk result ((t : Reading) → plain t self.new ≡
+            with_node (plain t self.old) class.0 (datum t payload)) }
         ensures number { IfOk result (λ r. (t : Reading) → r ≡ next_node (plain t self.old) class.0) }
         ensures err { OnErr result (self.new ≡ self.old) }
         ensures reads { (t : Reading) → Reads t self.new → Reads t self.old }
@@ -256,17 +264,18 @@ impl World {
         ensures node { IfOk result (λ r. Holds self.new (IsNode r)) }
         ensures holding { IfOk result (λ r. Holds self.new (Holding r (home_of payload))) }
     {
-        let dict = self.new_dict(alloc, class);
+        let dict = self.new_dict(class);
         add_object(&mut self.nodes, dict, class, payload)
     }
 
     // A new dict, where a class gives its objects one.
-    fn new_dict(&self, alloc: Global, class: PyTypeRef) -> Option<Node>
+    fn new_dict(&self, class: PyTypeRef) -> Option<Node>
         requires { Holds self.now (IsClass class.0) }
         ensures gives { (t : Reading) → has_dict (plain t self.now) class.0 ≡ is_some result }
         ensures empty { IfSome result (λ d. IsEmptyDict d) }
         ensures holds { AllHold self.now (of_option of_node result) }
     {
+        let alloc = self.alloc;
         if self.gives_dict(class) {
             Some(Node {
                 class: self.class_of_dicts(),
@@ -307,7 +316,7 @@ impl World {
     }
 
     /// The name of a text, which may be new.
-    pub fn intern(&mut self, alloc: Global, text: &str) -> Result<PyStrInterned, OutOfMemory>
+    pub fn intern(&mut self, text: &str) -> Result<PyStrInterned, OutOfMemory>
         ensures spelled { IfOk result (λ x. (t : Reading) → Reads t self.new → t.text x.0 ≡ text.now) }
         ensures err { OnErr result (self.new ≡ self.old) }
         ensures same { (t : Reading) → plain t self.new ≡ plain t self.old }
@@ -315,7 +324,7 @@ impl World {
         ensures grows { Grows self.old self.new }
         ensures holds { IfOk result (λ x. Holds self.new (IsName x)) }
     {
-        Ok(self.names.intern(alloc, text)?)
+        Ok(self.names.intern(text)?)
     }
 
     // One more expression, of names and expressions that are there.
@@ -351,12 +360,13 @@ impl World {
     }
 
     /// Takes the notes of the bodies that were started.
-    pub fn take_calls(&mut self, alloc: Global) -> Vec<BodyCall>
+    pub fn take_calls(&mut self) -> Vec<BodyCall>
         ensures calls { (t : Reading) → map started_of result.items ≡ (plain t self.old).calls }
         ensures taken { (t : Reading) → plain t self.new ≡ without_calls (plain t self.old) }
         ensures reads { (t : Reading) → Reads t self.new → Reads t self.old }
         ensures grows { Grows self.old self.new }
     {
+        let alloc = self.alloc;
         mem::replace(&mut self.calls, Vec::new(alloc))
     }
 
@@ -373,7 +383,8 @@ impl World {
     pub fn bind(&mut self, name: PyStrInterned, value: PyObjectRef) -> Result<(), OutOfMemory>
         requires name { Holds self.old (IsName name) }
         requires value { Holds self.old (IsNode value) }
-        ensures bound { OnOk result ((t : Reading) → plain t self.new ≡ with_binding (plain t self.old) (t.text name.0) value) }
+        ensures bound { OnOk result ((t : Reading) → plain t self.new ≡
+            with_binding (plain t self.old) (t.text name.0) value) }
         ensures err { OnErr result (self.new ≡ self.old) }
         ensures reads { (t : Reading) → Reads t self.new → Reads t self.old }
         ensures grows { Grows self.old self.new }
@@ -392,7 +403,8 @@ impl World {
         requires func { Holds self.old (IsNode func) }
         requires vars { AllHold self.old (of_each of_binding vars) }
         requires values { Holds self.old (HasValues func vars) }
-        ensures opened { OnOk result ((t : Reading) → plain t self.new ≡ with_scope (plain t self.old) (record { func = func; vars = bindings t vars }) (started_of start)) }
+        ensures opened { OnOk result ((t : Reading) → plain t self.new ≡
+            with_scope (plain t self.old) (record { func = func; vars = bindings t vars }) (started_of start)) }
         ensures bodies { OnOk result (length self.new.scopes ≡ suc (length self.old.scopes)) }
         ensures err { OnErr result (self.new ≡ self.old) }
         ensures reads { (t : Reading) → Reads t self.new → Reads t self.old }
@@ -417,10 +429,11 @@ impl World {
     }
 
     /// The text of a name.
-    pub fn spelling(&self, alloc: Global, name: PyStrInterned) -> Result<String, OutOfMemory>
+    pub fn spelling(&self, name: PyStrInterned) -> Result<String, OutOfMemory>
         requires { Holds self.now (IsName name) }
         ensures { IfOk result (λ s. (t : Reading) → Reads t self.now → string_bytes s ≡ t.text name.0) }
     {
+        let alloc = self.alloc;
         Ok(String::from_str(alloc, self.names.text(name))?)
     }
 }

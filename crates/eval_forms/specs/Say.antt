@@ -1,7 +1,6 @@
 -- What the rows of expressions say.
 use Rattle.std.specs.Prelude.{ℕ, Bool, if◌then◌else◌, bytes_eq, codes, List, [], ◌∷◌, ◌++◌, Option, Some, None, length, take, drop, slice_get}
 use Rattle.py_node.specs.declared.refs.PyObjectRef.{PyObjectRef}
-use Rattle.py_node.specs.declared.raised.Kind.TheVariants.{NameError, NotImplementedError, TypeError}
 use Rattle.py_node.specs.declared.raised.Cause.TheVariants.{ArgCount, NotYet, Unbound}
 use Rattle.py_node.specs.declared.expr.Word.{Word}
 use Rattle.py_node.specs.declared.expr.Word.TheVariants as word
@@ -42,7 +41,7 @@ built_in_named x =
 
 -- what a name names, or a fault where it names nothing
 abbrev pub named_say : PlainWorld → Option PyObjectRef → Row
-named_say w None = end w (fault NameError Unbound)
+named_say w None = end w (fault Unbound)
 named_say w (Some r) = end w (value r)
 
 -- a name is that of a variable, or else of a built-in object
@@ -57,7 +56,7 @@ one_of (a ∷ (b ∷ more)) = None
 
 -- a binding binds a variable to its operand, which is its value
 abbrev pub bind_say : PlainWorld → Text → Option PyObjectRef → Row
-bind_say w x None = end w (fault TypeError ArgCount)
+bind_say w x None = end w (fault ArgCount)
 bind_say w x (Some v) = end (with_binding w x v) (value v)
 
 -- a function is a new object
@@ -66,11 +65,11 @@ func_say w x ps rest e = make w the_function (AFunction x ps rest e None)
 
 -- what no stage so far has named
 abbrev pub not_yet : PlainWorld → Row
-not_yet w = end w (fault NotImplementedError NotYet)
+not_yet w = end w (fault NotYet)
 
 -- a sum of two operands
 abbrev pub add_of : PlainWorld → Option (PyObjectRef × PyObjectRef) → Row
-add_of w None = end w (fault TypeError ArgCount)
+add_of w None = end w (fault ArgCount)
 add_of w (Some p) = ask w (ToOperator (DoAdd p.0 p.1)) (end w)
 
 -- the word's task, with the values of the operands
@@ -80,12 +79,12 @@ op_say w _ vs = not_yet w
 
 -- an attribute is set to the second operand, and the answer is None
 abbrev pub set_attr_say : PlainWorld → Text → Option (PyObjectRef × PyObjectRef) → Row
-set_attr_say w x None = end w (fault TypeError ArgCount)
+set_attr_say w x None = end w (fault ArgCount)
 set_attr_say w x (Some p) = ask w (ToAttribute (DoSetAttr p.0 x (Some p.1))) (λ r. on_done w r (end w (value none)))
 
 -- the first operand is called with the others
 abbrev pub call_say : PlainWorld → List PyObjectRef → Row
-call_say w [] = end w (fault TypeError ArgCount)
+call_say w [] = end w (fault ArgCount)
 call_say w (f ∷ args) = start (pass w (ToCall (DoCall f args []))) (end w)
 
 -- a class: its name is a new text, its bases are a new tuple, its entries are a new dict, with a new text for each name, and the class of the first base, or `type`, is called with these

@@ -27,7 +27,6 @@ use std::alloc::Global;
 // A class, with the values of its bases and of its entries.
 pub(crate) fn class_step(
     world: &mut World,
-    alloc: Global,
     name: PyStrInterned,
     bases: usize,
     names: &[PyStrInterned],
@@ -37,19 +36,21 @@ pub(crate) fn class_step(
     requires names { Holds world.old (AreNames names.now) }
     requires values { Holds world.old (AreNodes values.now) }
     requires all { length values.now ≡ bases + length names.now }
-    ensures goes { IfOk result (λ step. Takes (λ t u. class_say u (t.text name.0) bases (map (λ x. t.text x.0) names.now) values.now) world.old world.new step) }
+    ensures goes { IfOk result (λ step.
+        Takes (λ t u.
+        class_say u (t.text name.0) bases (map (λ x. t.text x.0) names.now) values.now) world.old world.new step) }
     ensures safe { Leaves of_eval_kept world.old world.new result }
 {
+    let alloc = world.alloc();
     let (bases, values) = values.split_at(bases);
     let entries = filled(alloc, names, values)?;
-    call_metaclass(world, alloc, name, bases, &entries)
+    call_metaclass(world, name, bases, &entries)
 }
 
 // A metaclass is called with a class's name, bases and entries.
 #[tactic(auto, unfolding(crate::specs::Say::eval_say, py_node::specs::BuiltIns::place_of))]
 fn call_metaclass(
     world: &mut World,
-    alloc: Global,
     name: PyStrInterned,
     bases: &[PyObjectRef],
     entries: &PyAttributes,
@@ -57,13 +58,16 @@ fn call_metaclass(
     requires name { Holds world.old (IsName name) }
     requires bases { Holds world.old (AreNodes bases.now) }
     requires entries { AllHold world.old (of_each of_binding entries.now) }
-    ensures goes { IfOk result (λ step. Takes (λ t u. start (class_by u (t.text name.0) bases.now (bindings t entries.now)) (end u)) world.old world.new step) }
+    ensures goes { IfOk result (λ step.
+        Takes (λ t u.
+        start (class_by u (t.text name.0) bases.now (bindings t entries.now)) (end u)) world.old world.new step) }
     ensures safe { Leaves of_eval_kept world.old world.new result }
 {
+    let alloc = world.alloc();
     let meta = metaclass(world, first(bases));
-    let name = new_text(world, alloc, name)?;
-    let bases = new_tuple(world, alloc, bases)?;
-    let dict = new_dict(world, alloc, entries)?;
+    let name = new_text(world, name)?;
+    let bases = new_tuple(world, bases)?;
+    let dict = new_dict(world, entries)?;
     let args = vec![in alloc; name, bases, dict]?;
     let task = CallTask::Call(meta, args, Vec::new(alloc));
     Ok(Step::Ask(Task::Call(task), EvalKept::Pass))
@@ -73,37 +77,38 @@ fn call_metaclass(
 #[tactic(auto, unfolding(py_node::specs::BuiltIns::place_of))]
 fn new_tuple(
     world: &mut World,
-    alloc: Global,
     items: &[PyObjectRef],
 ) -> Result<PyObjectRef, OutOfMemory>
     requires { Holds world.old (AreNodes items.now) }
-    ensures made { OnOk result ((t : Reading) → plain t world.new ≡ with_node (plain t world.old) the_tuple (ATuple items.now)) }
+    ensures made { OnOk result ((t : Reading) → plain t world.new ≡
+        with_node (plain t world.old) the_tuple (ATuple items.now)) }
     ensures number { IfOk result (λ r. (t : Reading) → r ≡ next_node (plain t world.old) the_tuple) }
     ensures reads { (t : Reading) → Reads t world.new → Reads t world.old }
     ensures grows { Grows world.old world.new }
     ensures node { IfOk result (λ r. Holds world.new (IsNode r)) }
 {
+    let alloc = world.alloc();
     let copy = copy_args(alloc, items)?;
     let class = world.built_in(BuiltIn::Tuple);
-    world.make_node(alloc, class, Payload::Tuple(copy))
+    world.make_node(class, Payload::Tuple(copy))
 }
 
 // A new dict: a new text for each name, with its value.
 #[tactic(auto, unfolding(py_node::specs::BuiltIns::place_of))]
 fn new_dict(
     world: &mut World,
-    alloc: Global,
     entries: &PyAttributes,
 ) -> Result<PyObjectRef, OutOfMemory>
     requires { AllHold world.old (of_each of_binding entries.now) }
-    ensures made { IfOk result (λ r. (t : Reading) → Reads t world.new → with_dict (keyed (plain t world.old) [] (bindings t entries.now)) ≡ (plain t world.new, r)) }
+    ensures made { IfOk result (λ r. (t : Reading) → Reads t world.new →
+        with_dict (keyed (plain t world.old) [] (bindings t entries.now)) ≡ (plain t world.new, r)) }
     ensures reads { (t : Reading) → Reads t world.new → Reads t world.old }
     ensures grows { Grows world.old world.new }
     ensures node { IfOk result (λ r. Holds world.new (IsNode r)) }
 {
-    let pairs = key_all(world, alloc, entries)?;
+    let pairs = key_all(world, entries)?;
     let class = world.built_in(BuiltIn::Dict);
-    world.make_node(alloc, class, Payload::Dict(pairs))
+    world.make_node(class, Payload::Dict(pairs))
 }
 
 // The first of some objects.
@@ -133,38 +138,39 @@ fn metaclass(world: &World, first: Option<PyObjectRef>) -> PyObjectRef
 #[tactic(auto, unfolding(py_node::specs::BuiltIns::place_of))]
 fn new_text(
     world: &mut World,
-    alloc: Global,
     name: PyStrInterned,
 ) -> Result<PyObjectRef, OutOfMemory>
     requires { Holds world.old (IsName name) }
-    ensures made { OnOk result ((t : Reading) → Reads t world.old → plain t world.new ≡ with_node (plain t world.old) the_str (AText (t.text name.0))) }
+    ensures made { OnOk result ((t : Reading) → Reads t world.old → plain t world.new ≡
+        with_node (plain t world.old) the_str (AText (t.text name.0))) }
     ensures number { IfOk result (λ r. (t : Reading) → r ≡ next_node (plain t world.old) the_str) }
     ensures reads { (t : Reading) → Reads t world.new → Reads t world.old }
     ensures grows { Grows world.old world.new }
     ensures node { IfOk result (λ r. Holds world.new (IsNode r)) }
 {
-    let text = world.spelling(alloc, name)?;
+    let text = world.spelling(name)?;
     let class = world.built_in(BuiltIn::Str);
-    world.make_node(alloc, class, Payload::Text(text))
+    world.make_node(class, Payload::Text(text))
 }
 
 // New texts for names, with their values.
 fn key_all(
     world: &mut World,
-    alloc: Global,
     entries: &PyAttributes,
 ) -> Result<Vec<(PyObjectRef, PyObjectRef)>, OutOfMemory>
     requires { AllHold world.old (of_each of_binding entries.now) }
-    ensures keyed { IfOk result (λ v. (t : Reading) → Reads t world.new → keyed (plain t world.old) [] (bindings t entries.now) ≡ (plain t world.new, v.items)) }
+    ensures keyed { IfOk result (λ v. (t : Reading) → Reads t world.new →
+        keyed (plain t world.old) [] (bindings t entries.now) ≡ (plain t world.new, v.items)) }
     ensures reads { (t : Reading) → Reads t world.new → Reads t world.old }
     ensures grows { Grows world.old world.new }
     ensures pairs { IfOk result (λ v. ArePairs world.new v.items) }
     ensures keys { IfOk result (λ v. Holds world.new (KeysDiffer (map (λ p. p.0) v.items))) }
 {
+    let alloc = world.alloc();
     let mut pairs = Vec::new(alloc);
     for i in 0..entries.len() {
         let (name, value) = entries.at(i);
-        let key = new_text(world, alloc, name)?;
+        let key = new_text(world, name)?;
         pairs.push((key, value))?;
     }
     world.readable();

@@ -2,6 +2,7 @@
 #![tactic(auto, unfolding(crate::specs::Say::eval_say))]
 
 ghost use Rattle.std.specs.Prelude.{◌≡◌, ◌≤◌, ◌++◌, [], ◌∷◌, map, length, slice_get, Ok, IfOk, IfErr, OnOk, IfSome};
+ghost use Rattle.py_node.specs.Faults.{raised};
 ghost use Rattle.class_world.specs.Sound.{AllHold, Holds, IsExpression, IsName, IsNode, AreNodes, of_form, of_node_ref, of_option};
 ghost use Rattle.class_world.specs.Claims.{of_eval_task, of_ended, of_step, Leaves};
 ghost use Rattle.class_world.specs.Reading.{Reading, Reads};
@@ -21,7 +22,7 @@ use py_node::built_in::BuiltIn;
 use py_node::expr::{Constant, Word};
 use py_node::memory::OutOfMemory;
 use py_node::payload::{Form, Function, Payload};
-use py_node::raised::{Cause, Kind, Raised};
+use py_node::raised::{Cause, Raised};
 use py_node::refs::{PyObjectRef, PyStrInterned};
 use py_node::task::{
     Answer, AttributeTask, CallTask, EvalTask, OperatorTask, PyNumberBinaryOp, PySetterValue, Step,
@@ -43,22 +44,21 @@ pub enum EvalKept {
 /// Begins a task.
 pub fn begin(
     world: &mut World,
-    alloc: Global,
     task: EvalTask,
 ) -> Result<Step<EvalKept>, OutOfMemory>
     requires { AllHold world.old (of_eval_task task) }
     ensures goes { IfOk result (λ step. Begins task world.old world.new step) }
     ensures safe { Leaves of_eval_kept world.old world.new result }
 {
+    let alloc = world.alloc();
     match task {
-        EvalTask::Eval(e) => next_operand(world, alloc, e, Vec::new(alloc)),
+        EvalTask::Eval(e) => next_operand(world, e, Vec::new(alloc)),
     }
 }
 
 /// Goes on with a task that was given an answer.
 pub fn resume(
     world: &mut World,
-    alloc: Global,
     kept: EvalKept,
     answer: Result<Answer, Raised>,
 ) -> Result<Step<EvalKept>, OutOfMemory>
@@ -70,7 +70,7 @@ pub fn resume(
     match kept {
         EvalKept::Pass => Ok(Step::End(answer)),
         EvalKept::Operands(e, values) => match object_of(answer) {
-            Ok(value) => one_more(world, alloc, e, values, value),
+            Ok(value) => one_more(world, e, values, value),
             Err(other) => Ok(Step::End(other)),
         },
         EvalKept::SetDone => {
@@ -106,7 +106,6 @@ fn set_done(world: &World, answer: Result<Answer, Raised>) -> Step<EvalKept>
 // The next operand is evaluated, after one that has a value.
 fn one_more(
     world: &mut World,
-    alloc: Global,
     e: u64,
     values: Vec<PyObjectRef>,
     value: PyObjectRef,
@@ -117,7 +116,7 @@ fn one_more(
     ensures safe { Leaves of_eval_kept world.old world.new result }
 {
     let values = with_value(values, value)?;
-    next_operand(world, alloc, e, values)
+    next_operand(world, e, values)
 }
 
 // The values with one more.
@@ -132,7 +131,6 @@ fn with_value(values: Vec<PyObjectRef>, value: PyObjectRef) -> Result<Vec<PyObje
 // The next operand is evaluated. Where all have values, the expression has its own step.
 fn next_operand(
     world: &mut World,
-    alloc: Global,
     e: u64,
     values: Vec<PyObjectRef>,
 ) -> Result<Step<EvalKept>, OutOfMemory>
@@ -147,7 +145,7 @@ fn next_operand(
             Task::Eval(EvalTask::Eval(operand)),
             EvalKept::Operands(e, values),
         )),
-        None => own_step(world, alloc, e, values),
+        None => own_step(world, e, values),
     }
 }
 
@@ -213,7 +211,6 @@ pub enum Own {
 // The step of an expression whose operands have their values.
 fn own_step(
     world: &mut World,
-    alloc: Global,
     e: u64,
     values: Vec<PyObjectRef>,
 ) -> Result<Step<EvalKept>, OutOfMemory>
@@ -223,14 +220,15 @@ fn own_step(
     ensures goes { IfOk result (λ step. Continues e values.items world.old world.new step) }
     ensures safe { Leaves of_eval_kept world.old world.new result }
 {
+    let alloc = world.alloc();
     match own_of(alloc, world.form(e))? {
-        Own::Const(constant) => const_step(world, alloc, constant),
+        Own::Const(constant) => const_step(world, constant),
         Own::Name(name) => {
             let step = name_step(world, name);
             Ok(step)
         }
         Own::Bind(name) => bind_step(world, name, one_of(&values)),
-        Own::Func(name, params, rest, body) => func_step(world, alloc, name, params, rest, body),
+        Own::Func(name, params, rest, body) => func_step(world, name, params, rest, body),
         Own::SetAttr(name) => {
             let step = set_attr_step(name, &values);
             Ok(step)
@@ -240,7 +238,7 @@ fn own_step(
             let step = op_step(word, &values);
             Ok(step)
         }
-        Own::Class(name, bases, names) => class_step(world, alloc, name, bases, &names, &values),
+        Own::Class(name, bases, names) => class_step(world, name, bases, &names, &values),
         Own::NotYet => Ok(not_yet()),
     }
 }
@@ -299,7 +297,6 @@ fn names_of(
 #[tactic(auto, unfolding(crate::specs::Say::eval_say, py_node::specs::BuiltIns::place_of))]
 fn const_step(
     world: &mut World,
-    alloc: Global,
     constant: Constant,
 ) -> Result<Step<EvalKept>, OutOfMemory>
     ensures goes { IfOk result (λ step. ContinuesTree (λ t. TConst (literal_of constant)) [] world.old world.new step) }
@@ -311,12 +308,12 @@ fn const_step(
         Constant::True => Ok(Step::End(Ok(Answer::Value(world.fixed(Fixed::True))))),
         Constant::Int(z) => {
             let class = world.built_in(BuiltIn::Int);
-            let node = world.make_node(alloc, class, Payload::Number(z as i128))?;
+            let node = world.make_node(class, Payload::Number(z as i128))?;
             Ok(Step::End(Ok(Answer::Value(node))))
         }
         Constant::Str(text) => {
             let class = world.built_in(BuiltIn::Str);
-            let node = world.make_node(alloc, class, Payload::Text(text))?;
+            let node = world.make_node(class, Payload::Text(text))?;
             Ok(Step::End(Ok(Answer::Value(node))))
         }
     }
@@ -334,10 +331,7 @@ fn bind_step(
     ensures safe { Leaves of_eval_kept world.old world.new result }
 {
     match value {
-        None => Ok(Step::End(Err(Raised {
-            kind: Kind::TypeError,
-            cause: Cause::ArgCount,
-        }))),
+        None => Ok(Step::raise(Cause::ArgCount)),
         Some(value) => {
             world.bind(name, value)?;
             Ok(Step::End(Ok(Answer::Value(value))))
@@ -359,14 +353,16 @@ fn one_of(values: &[PyObjectRef]) -> Option<PyObjectRef>
 #[tactic(auto, unfolding(py_node::specs::BuiltIns::place_of))]
 fn func_step(
     world: &mut World,
-    alloc: Global,
     name: PyStrInterned,
     params: Vec<PyStrInterned>,
     rest: bool,
     body: u64,
 ) -> Result<Step<EvalKept>, OutOfMemory>
     requires parts { AllHold world.old (of_form (Form.Func name params rest body)) }
-    ensures goes { IfOk result (λ step. Closes (λ t w. func_say w (t.text name.0) (map (λ p. t.text p.0) params.items) rest (t.tree body)) world.old world.new step) }
+    ensures goes { IfOk result (λ step.
+        Closes (λ t w.
+        func_say w (t.text name.0) (map (λ p. t.text p.0) params.items) rest (t.tree body)) world.old world.new step)
+        }
     ensures safe { Leaves of_eval_kept world.old world.new result }
 {
     let class = world.built_in(BuiltIn::Function);
@@ -377,17 +373,18 @@ fn func_step(
         body,
         class: None,
     };
-    let node = world.make_node(alloc, class, Payload::Function(function))?;
+    let node = world.make_node(class, Payload::Function(function))?;
     Ok(Step::End(Ok(Answer::Value(node))))
 }
 
 // An attribute is set to the second operand.
 fn set_attr_step(name: PyStrInterned, values: &[PyObjectRef]) -> Step<EvalKept>
     ensures goes { (w : World) → Takes (λ t u. set_attr_say u (t.text name.0) (two_of values.now)) w w result }
-    ensures safe { (w : World) → Holds w (IsName name) → Holds w (AreNodes values.now) → AllHold w (of_step of_eval_kept result) }
+    ensures safe { (w : World) → Holds w (IsName name) → Holds w (AreNodes values.now) →
+        AllHold w (of_step of_eval_kept result) }
 {
     match two_of(values) {
-        None => missing_operand(),
+        None => Step::raise(Cause::ArgCount),
         Some((target, value)) => Step::Ask(
             Task::Attribute(AttributeTask::SetAttr(target, name, PySetterValue::Assign(value))),
             EvalKept::SetDone,
@@ -398,10 +395,11 @@ fn set_attr_step(name: PyStrInterned, values: &[PyObjectRef]) -> Step<EvalKept>
 // The first operand is called with the others.
 fn call_step(alloc: Global, values: &[PyObjectRef]) -> Result<Step<EvalKept>, OutOfMemory>
     ensures goes { IfOk result (λ step. (w : World) → Takes (λ t u. call_say u values.now) w w step) }
-    ensures safe { IfOk result (λ step. (w : World) → Holds w (AreNodes values.now) → AllHold w (of_step of_eval_kept step)) }
+    ensures safe { IfOk result (λ step. (w : World) → Holds w (AreNodes values.now) →
+        AllHold w (of_step of_eval_kept step)) }
 {
     match values {
-        [] => Ok(missing_operand()),
+        [] => Ok(Step::raise(Cause::ArgCount)),
         [func, args @ ..] => {
             let args = copy_args(alloc, args)?;
             let task = CallTask::Call(*func, args, Vec::new(alloc));
@@ -427,27 +425,15 @@ fn add_step(values: &[PyObjectRef]) -> Step<EvalKept>
     ensures safe { (w : World) → Holds w (AreNodes values.now) → AllHold w (of_step of_eval_kept result) }
 {
     match two_of(values) {
-        None => missing_operand(),
+        None => Step::raise(Cause::ArgCount),
         Some((a, b)) => Step::Ask(Task::Operator(OperatorTask::Add(a, b)), EvalKept::Pass),
     }
 }
 
 // What no stage so far has named.
 fn not_yet() -> Step<EvalKept>
-    ensures { result ≡ Step.End (Err (record { kind = Kind.NotImplementedError; cause = Cause.NotYet })) }
+    ensures { result ≡ Step.End (Err (raised Cause.NotYet)) }
 {
-    Step::End(Err(Raised {
-        kind: Kind::NotImplementedError,
-        cause: Cause::NotYet,
-    }))
+    Step::raise(Cause::NotYet)
 }
 
-// There are too few operands, or too many.
-fn missing_operand() -> Step<EvalKept>
-    ensures { result ≡ Step.End (Err (record { kind = Kind.TypeError; cause = Cause.ArgCount })) }
-{
-    Step::End(Err(Raised {
-        kind: Kind::TypeError,
-        cause: Cause::ArgCount,
-    }))
-}

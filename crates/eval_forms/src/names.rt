@@ -9,7 +9,7 @@ ghost use Rattle.eval_forms.specs.Rows.{Closes, of_eval_kept};
 
 use crate::EvalKept;
 use class_world::world::{Fixed, World};
-use py_node::raised::{Cause, Kind, Raised};
+use py_node::raised::Cause;
 use py_node::refs::{PyObjectRef, PyStrInterned};
 use py_node::task::{Answer, Step};
 
@@ -23,10 +23,7 @@ pub(crate) fn name_step(world: &World, name: PyStrInterned) -> Step<EvalKept>
         Some(node) => Step::End(Ok(Answer::Value(node))),
         None => match built_in_at(world, name) {
             Some(node) => Step::End(Ok(Answer::Value(node))),
-            None => Step::End(Err(Raised {
-                kind: Kind::NameError,
-                cause: Cause::Unbound,
-            })),
+            None => Step::raise(Cause::Unbound),
         },
     }
 }

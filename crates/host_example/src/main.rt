@@ -52,14 +52,13 @@ fn changed(vm: &mut VirtualMachine, alloc: Global) -> Result<PyTypeRef, ClassFau
     let metaclass = vm.world().built_in(BuiltIn::TypeType);
     let bases = one(alloc, vm.world().built_in(BuiltIn::Object))?;
     let class = vm.new_heap(
-        alloc,
         "A",
         bases,
         PyAttributes::new(alloc),
         Vec::new(alloc),
         metaclass,
     )?;
-    let name = vm.intern(alloc, "x")?;
+    let name = vm.intern("x")?;
     let none = vm.world().fixed(Fixed::None);
     vm.set_attr(class, name, none)?;
     Ok(class)
@@ -75,7 +74,7 @@ fn one(alloc: Global, class: PyTypeRef) -> Result<Vec<PyTypeRef>, OutOfMemory>
 // Two commands, run with 1,000 units each.
 fn replies(vm: &mut VirtualMachine, alloc: Global) -> Result<Vec<Reply>, RunFault> {
     let commands = commands(alloc)?;
-    vm.run(alloc, &commands, 1000)
+    vm.run(&commands, 1000)
 }
 
 // `n = 33`, and then `n + 12`.

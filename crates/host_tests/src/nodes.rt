@@ -15,9 +15,9 @@ use std::test::Fail;
 fn interns_a_text_once(rt: HostRuntime) -> Result<(), Fail> {
     let alloc = rt.alloc();
     let mut names = Names::new(alloc);
-    assert_eq!(rt; names.intern(alloc, "x")?, PyStrInterned(0));
-    assert_eq!(rt; names.intern(alloc, "y")?, PyStrInterned(1));
-    assert_eq!(rt; names.intern(alloc, "x")?, PyStrInterned(0));
+    assert_eq!(rt; names.intern("x")?, PyStrInterned(0));
+    assert_eq!(rt; names.intern("y")?, PyStrInterned(1));
+    assert_eq!(rt; names.intern("x")?, PyStrInterned(0));
     assert_eq!(rt; names.len(), 2);
     assert_eq!(rt; names.interned_str("y"), Some(PyStrInterned(1)));
     assert_eq!(rt; names.interned_str("z"), None);

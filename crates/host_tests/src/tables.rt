@@ -14,7 +14,6 @@ fn grow(table: &mut ClassTable, alloc: Global, number: u64, base: u64) -> Result
     let base = PyTypeRef(base);
     if table.has_class(base) && table.takes(class) {
         table.new_heap(
-            alloc,
             class,
             "c",
             vec![in alloc; base]?,
@@ -57,7 +56,7 @@ fn numbers_have_gaps(rt: HostRuntime) -> Result<(), Fail> {
 fn child_follows_its_base(rt: HostRuntime) -> Result<(), Fail> {
     let alloc = rt.alloc();
     let mut names = known_names(alloc)?;
-    let add = names.intern(alloc, "__add__")?;
+    let add = names.intern("__add__")?;
     let mut table = ClassTable::new(alloc)?;
     let first = PyTypeRef(100);
     let child = PyTypeRef(200);

@@ -31,19 +31,19 @@ fn tells_its_numbers(rt: HostRuntime) -> Result<(), Fail> {
 // Why a class with these bases is refused whose qualified name is an object.
 fn refusal(
     world: &mut World,
-    alloc: Global,
     bases: Vec<PyTypeRef>,
     qualname: Fixed,
 ) -> Result<Option<Cause>, OutOfMemory>
     requires bases { AllHold world.old (of_each of_class_ref bases.items) }
     requires one { length bases.items ≤ 1 }
 {
+    let alloc = world.alloc();
     let name = world.known(Known::Qualname);
     let qualname = world.fixed(qualname);
     let mut attrs = PyAttributes::new(alloc);
     attrs.insert(name, qualname)?;
     let metaclass = world.built_in(BuiltIn::TypeType);
-    match world.new_heap(alloc, "A", bases, attrs, Vec::new(alloc), metaclass) {
+    match world.new_heap("A", bases, attrs, Vec::new(alloc), metaclass) {
         Ok(_) => Ok(None),
         Err(ClassFault::Refused(cause)) => Ok(Some(cause)),
         Err(ClassFault::OutOfMemory) => Err(OutOfMemory),
@@ -56,17 +56,17 @@ fn refuses_a_class_in_order(rt: HostRuntime) -> Result<(), Fail> {
     let mut world = World::new(alloc)?;
     let none = Vec::new(alloc);
     assert_eq!(rt;
-        refusal(&mut world, alloc, none, Fixed::None)?,
+        refusal(&mut world, none, Fixed::None)?,
         Some(Cause::EmptyBases)
     );
     let bool = vec![in alloc; world.built_in(BuiltIn::Bool)]?;
     assert_eq!(rt;
-        refusal(&mut world, alloc, bool, Fixed::None)?,
+        refusal(&mut world, bool, Fixed::None)?,
         Some(Cause::NotBaseType)
     );
     let object = vec![in alloc; world.built_in(BuiltIn::Object)]?;
     assert_eq!(rt;
-        refusal(&mut world, alloc, object, Fixed::None)?,
+        refusal(&mut world, object, Fixed::None)?,
         Some(Cause::QualnameType)
     );
     Ok(())

@@ -80,7 +80,8 @@ pub fn resolve_mro(
     ensures order { IfOk result (λ line. IsRest (numbers bases.now) (rows mros.items) (numbers line.items)) }
     ensures duplicate { (b : PyTypeRef) → (result ≡ Err (DuplicateBase b)) ↔ IsFirstRepeat (numbers bases.now) b.0 }
     ensures precedence { (result ≡ Err LocalPrecedence) ↔ IsBrokenPrecedence (numbers bases.now) (rows mros.items) }
-    ensures conflict { WithMemory result ((result ≡ Err MroConflict) ↔ IsOrderConflict (numbers bases.now) (rows mros.items)) }
+    ensures conflict { WithMemory result ((result ≡ Err MroConflict) ↔
+        IsOrderConflict (numbers bases.now) (rows mros.items)) }
     ensures none { OnRefusal result (HasNoOrder (numbers bases.now) (rows mros.items)) }
     ensures cause { IfErr result (λ fault. Tells fault (order_cause (numbers bases.now) (rows mros.items))) }
 {

@@ -60,7 +60,8 @@ impl Source for MemorySource {
 
         // What the trait says of each source.
         ensures room { IfOk result (λ n. n ≤ length buf.old) }
-        ensures moved { IfOk result (λ n. Moves (source_left self.old) (Some (source_left self.new)) buf.old buf.new n) }
+        ensures moved { IfOk result (λ n.
+            Moves (source_left self.old) (Some (source_left self.new)) buf.old buf.new n) }
         ensures end { IfOk result (λ n. n ≡ 0 → 0 < length buf.old → source_left self.old ≡ []) }
         ensures kept { OnErr result (source_left self.new ≡ source_left self.old) }
         ensures failed { OnErr result (Rose (source_plan self.old).faults (source_plan self.new).faults) }

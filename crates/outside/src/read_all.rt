@@ -63,10 +63,12 @@ fn read_piece<S: Source>(
 ) -> Result<usize, ReadEnd>
     ensures count { IfOk result (λ n. n ≤ length buffer.old) }
     ensures len { IfOk result (λ n. vec_len bytes.new ≡ vec_len bytes.old + n) }
-    ensures piece { IfOk result (λ n. ForSome (S.left source.old) (λ left. bytes.new.items ≡ bytes.old.items ++ take n left)) }
+    ensures piece { IfOk result (λ n. ForSome (S.left source.old) (λ left.
+        bytes.new.items ≡ bytes.old.items ++ take n left)) }
     ensures end { IfOk result (λ n. ForSome (S.left source.old) (λ left. n ≡ 0 → 0 < length buffer.old → left ≡ [])) }
     ensures rest { IfOk result (λ n. ForSome (S.left source.old) (λ left. S.left source.new ≡ Some (drop n left))) }
-    ensures rest_err { ForSome (S.left source.old) (λ left. (n : ℕ) × (n ≤ length buffer.old) × (S.left source.new ≡ Some (drop n left))) }
+    ensures rest_err { ForSome (S.left source.old) (λ left. (n : ℕ) × (n ≤ length buffer.old) ×
+        (S.left source.new ≡ Some (drop n left))) }
     ensures fault { IsErrOf result ReadEnd.Fault → Rose (S.faults source.old) (S.faults source.new) }
     ensures large { ¬ IsErrOf result ReadEnd.TooLarge }
     ensures later { S.faults source.old ≤ S.faults source.new }

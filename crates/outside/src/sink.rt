@@ -21,7 +21,8 @@ pub trait Sink {
 
         // Of a piece that isn't empty it takes something, or fails.
         ensures some { IfOk result (λ n. 0 < length piece.now → 0 < n) }
-        ensures taken { IfOk result (λ n. ForSome (taken self.old) (λ bytes. taken self.new ≡ Some (bytes ++ take n piece.now))) }
+        ensures taken { IfOk result (λ n. ForSome (taken self.old) (λ bytes.
+            taken self.new ≡ Some (bytes ++ take n piece.now))) }
 
         // A failure takes nothing.
         ensures kept { OnErr result (taken self.new ≡ taken self.old) }

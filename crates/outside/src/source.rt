@@ -24,7 +24,8 @@ pub trait Source {
     /// Reads some bytes into the buffer's front, and says how many.
     fn read(&mut self, buf: &mut [u8]) -> Result<usize, Failed>
         ensures room { IfOk result (λ n. n ≤ length buf.old) }
-        ensures moved { IfOk result (λ n. ForSome (left self.old) (λ bytes. Moves bytes (left self.new) buf.old buf.new n)) }
+        ensures moved { IfOk result (λ n. ForSome (left self.old) (λ bytes.
+            Moves bytes (left self.new) buf.old buf.new n)) }
 
         // A buffer that has room is given nothing only at the end.
         ensures end { IfOk result (λ n. ForSome (left self.old) (λ bytes. n ≡ 0 → 0 < length buf.old → bytes ≡ [])) }

@@ -1,6 +1,5 @@
 -- The laws of `reach` that need no bound on the units: it follows what the row says, and rows that go on alike come out alike.
 use Rattle.std.proofs.Common.{◌≡◌, ℕ, zero, suc, ◌<◌, ◌≤◌, [], ◌∷◌, ◌++◌, refl, sym, ap, ◌∙◌, arith, append_assoc, true, false, cond, nat_lt}
-use Rattle.py_node.specs.declared.raised.Kind.TheVariants.{RecursionError}
 use Rattle.py_node.specs.declared.raised.Cause.TheVariants.{DepthLimit}
 use Rattle.plain_machine.specs.Plain.{PlainWorld, PlainTask, Ended, Answered, Told, Said, Asks, Ends, Saying}
 use Rattle.plain_machine.specs.Row.{fault}
@@ -23,7 +22,7 @@ abbrev rest_of : Follow → PlainTask → Told → ℕ → PlainWorld → Ended 
 rest_of f task told depth w r left = f w task (told ++ Answered r ∷ []) left depth
 
 abbrev too_deep : PlainWorld → ℕ → Outcome
-too_deep w left = Out w (Over (fault RecursionError DepthLimit)) left
+too_deep w left = Out w (Over (fault DepthLimit)) left
 
 carry-spends : (go : PlainWorld → Ended → ℕ → Outcome) (o : Outcome) (n : ℕ) → units_of o ≤ n → ((w : PlainWorld) (r : Ended) (left : ℕ) → left ≤ n → units_of (go w r left) ≤ left) → units_of (carry go o) ≤ n
 carry-spends go (Out w (Over r) left) n h k = let a = k w r left h in omega arith

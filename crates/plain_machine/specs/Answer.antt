@@ -1,6 +1,5 @@
 -- What a task answers: its row is followed until it ends. And what a list of commands is answered.
 use Rattle.std.specs.Prelude.{ℕ, zero, suc, List, [], ◌∷◌, ◌++◌, nat_lt, cond, length, Ok, Err}
-use Rattle.py_node.specs.declared.raised.Kind.TheVariants.{RecursionError}
 use Rattle.py_node.specs.declared.raised.Cause.TheVariants.{DepthLimit}
 use Rattle.py_node.specs.Tree.{Tree}
 use Rattle.py_node.specs.Replies.{PlainReply, ToldValue, ToldRaise, ToldBudget}
@@ -31,7 +30,7 @@ carry go (Out w NoUnits left) = Out w NoUnits left
 -- an asked task's outcome, where no task stands at depth 1000
 abbrev pub asked : Follow → PlainWorld → PlainTask → ℕ → ℕ → Outcome
 asked self w task left depth =
-    cond (nat_lt depth 1000) (self w task [] left depth) (Out w (Over (fault RecursionError DepthLimit)) left)
+    cond (nat_lt depth 1000) (self w task [] left depth) (Out w (Over (fault DepthLimit)) left)
 
 -- what follows from what a row says. An ask spends a unit, and with none left the command is over
 abbrev pub step : Follow → PlainTask → Told → ℕ → Said → ℕ → Outcome

@@ -2,12 +2,12 @@
 use Rattle.std.specs.Prelude.{ℕ, Bool, true, false, List, [], ◌∷◌, Option, Some, None, Result, Ok, Err}
 use Rattle.py_node.specs.declared.refs.PyObjectRef.{PyObjectRef}
 use Rattle.py_node.specs.declared.raised.Raised.{Raised as Fault}
-use Rattle.py_node.specs.declared.raised.Kind.{Kind}
-use Rattle.py_node.specs.declared.raised.Kind.TheVariants.{AttributeError, NotImplementedError}
+use Rattle.py_node.specs.declared.raised.Kind.TheVariants.{AttributeError}
 use Rattle.py_node.specs.declared.raised.Cause.{Cause}
 use Rattle.py_node.specs.declared.raised.Cause.TheVariants.{NotYet}
 use Rattle.py_node.specs.declared.entry.SlotEntry.{SlotEntry}
 use Rattle.py_node.specs.Tree.{Tree}
+use Rattle.py_node.specs.Faults.{raised}
 use Rattle.plain_machine.specs.Plain.{Datum, Bindings, PlainWorld, DoEval, PlainTask, ToEval, AsValue, AsDone, Ended, Fact, Answered, Made, Read, ReadObjects, ReadNames, Chose, Told, Said, Asks, Ends}
 use Rattle.plain_machine.specs.World.{ref, with_node, next_node}
 
@@ -51,12 +51,13 @@ none = ref 23
 abbrev pub pass : PlainWorld → PlainTask → Said
 pass w task = Asks w [] task
 
-abbrev pub fault : {A : Type 0} → Kind → Cause → Result A Fault
-fault kind cause = Err (record { kind = kind; cause = cause })
+-- a fault of a cause, which tells its kind
+abbrev pub fault : {A : Type 0} → Cause → Result A Fault
+fault cause = Err (raised cause)
 
 -- how a row ends that is not there yet
 abbrev pub not_yet : {A : Type 0} → Result A Fault
-not_yet = fault NotImplementedError NotYet
+not_yet = fault NotYet
 
 -- whether a fault is an AttributeError
 abbrev pub is_attribute_error : Kind → Bool

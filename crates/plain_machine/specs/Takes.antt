@@ -1,7 +1,6 @@
 -- What a native takes: so many arguments and no keyword, in the one order in which that is tested.
 use Rattle.std.specs.Prelude.{List, [], ◌∷◌, Option, Some, None, Ok}
 use Rattle.py_node.specs.declared.refs.PyObjectRef.{PyObjectRef}
-use Rattle.py_node.specs.declared.raised.Kind.TheVariants.{TypeError}
 use Rattle.py_node.specs.declared.raised.Cause.TheVariants.{ArgCount, SelfType, UnexpectedKeyword}
 use Rattle.py_node.specs.Tree.{Text}
 use Rattle.plain_machine.specs.Plain.{Datum, AText, PlainWorld, Bindings, AsDone, Ended, Said, Ends}
@@ -10,27 +9,27 @@ use Rattle.plain_machine.specs.Row.{Row, end, value, none, fault}
 
 abbrev pub without_keywords : PlainWorld → Bindings → Said → Said
 without_keywords w [] go = go
-without_keywords w (k ∷ kw) go = Ends w (fault TypeError UnexpectedKeyword)
+without_keywords w (k ∷ kw) go = Ends w (fault UnexpectedKeyword)
 
 -- the object alone
 abbrev pub with_one : PlainWorld → List PyObjectRef → Bindings → (PyObjectRef → Said) → Said
 with_one w (o ∷ []) kw go = without_keywords w kw (go o)
-with_one w _ kw go = Ends w (fault TypeError ArgCount)
+with_one w _ kw go = Ends w (fault ArgCount)
 
 -- the object and one argument
 abbrev pub with_two : PlainWorld → List PyObjectRef → Bindings → (PyObjectRef → PyObjectRef → Said) → Said
 with_two w (o ∷ a ∷ []) kw go = without_keywords w kw (go o a)
-with_two w _ kw go = Ends w (fault TypeError ArgCount)
+with_two w _ kw go = Ends w (fault ArgCount)
 
 -- the object and two arguments
 abbrev pub with_three : PlainWorld → List PyObjectRef → Bindings → (PyObjectRef → PyObjectRef → PyObjectRef → Said) → Said
 with_three w (o ∷ a ∷ b ∷ []) kw go = without_keywords w kw (go o a b)
-with_three w _ kw go = Ends w (fault TypeError ArgCount)
+with_three w _ kw go = Ends w (fault ArgCount)
 
 -- an argument that must be a text
 abbrev pub text_in : PlainWorld → Option Datum → (Text → Said) → Said
 text_in w (Some (AText x)) go = go x
-text_in w _ go = Ends w (fault TypeError SelfType)
+text_in w _ go = Ends w (fault SelfType)
 
 abbrev pub with_text : PlainWorld → PyObjectRef → (Text → Said) → Said
 with_text w a go = text_in w (datum_at w a) go

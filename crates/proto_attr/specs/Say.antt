@@ -1,8 +1,7 @@
 -- What the rows of attributes and special methods say.
-use Rattle.std.specs.Prelude.{ℕ, zero, suc, Bool, true, false, cond, ◌&&◌, codes, List, [], ◌∷◌, Option, Some, None, Ok, Err, is_some}
+use Rattle.std.specs.Prelude.{ℕ, zero, suc, Bool, true, false, cond, ◌&&◌, List, [], ◌∷◌, Option, Some, None, Ok, Err, is_some}
 use Rattle.py_node.specs.declared.refs.PyObjectRef.{PyObjectRef}
 use Rattle.py_node.specs.declared.raised.Raised.{Raised as Fault}
-use Rattle.py_node.specs.declared.raised.Kind.TheVariants.{TypeError, AttributeError}
 use Rattle.py_node.specs.declared.raised.Cause.TheVariants.{ImmutableType, NoAttribute, NoSpecial}
 use Rattle.py_node.specs.declared.entry.SlotId.TheVariants.{Getattro, Setattro, DescrGet, DescrSet}
 use Rattle.py_node.specs.declared.entry.SlotEntry.{SlotEntry}
@@ -11,6 +10,8 @@ use Rattle.py_node.specs.declared.entry.NativeEntry.TheVariants.{OfObject, OfTyp
 use Rattle.py_node.specs.declared.entry.ObjectNative.TheVariants as object
 use Rattle.py_node.specs.declared.entry.TypeNative.TheVariants as type
 use Rattle.py_node.specs.Tree.{Text}
+use Rattle.py_node.specs.declared.known.Known.TheVariants as known
+use Rattle.py_node.specs.Known.{known_text}
 use Rattle.proto_attr.specs.declared.find.Found.{Found}
 use Rattle.proto_attr.specs.declared.find.Found.TheVariants.{Descriptor, Value, Missing}
 use Rattle.class_model.specs.Class.{class_at as class_numbered, found}
@@ -33,8 +34,8 @@ by_name w o method = ToAttribute (DoSpecial o method (next_node w the_str ∷ []
 -- an object's attribute is set as its class's entry for that says: by a special method, as classes do, or as objects do
 abbrev pub set_by_method : PlainWorld → PyObjectRef → Text → Option PyObjectRef → Said
 set_by_method w o x (Some v) =
-    pass (with_text w x) (ToAttribute (DoSpecial o (codes "__setattr__") (next_node w the_str ∷ v ∷ []) []))
-set_by_method w o x None = pass (with_text w x) (by_name w o (codes "__delattr__"))
+    pass (with_text w x) (ToAttribute (DoSpecial o (known_text known.SetAttr) (next_node w the_str ∷ v ∷ []) []))
+set_by_method w o x None = pass (with_text w x) (by_name w o (known_text known.DelAttr))
 
 abbrev pub set_in_class : PlainWorld → Option ℕ → PyObjectRef → Text → Option PyObjectRef → Said
 set_in_class w None o x v = pass w (ToAttribute (DoGenericSet o x v))
@@ -55,7 +56,7 @@ setter w (Some a) = cond (is_some (slot_at w a DescrSet)) (Some a) None
 
 -- a class's own attribute, where the class was made by a script. That one is taken out is not there yet
 abbrev pub own_set : PlainWorld → Bool → ℕ → Text → Option PyObjectRef → Said
-own_set w false c x v = Ends w (fault TypeError ImmutableType)
+own_set w false c x v = Ends w (fault ImmutableType)
 own_set w true c x (Some v) = Ends (with_own_attr w c x v) done
 own_set w true c x None = Ends w not_yet
 
@@ -74,7 +75,7 @@ special_by w fast m o args kw =
     (Asks w (Chose 1 ∷ []) (ToAttribute (DoBind m (Some o) (type_object w o))))
 
 abbrev pub special_found : PlainWorld → Option PyObjectRef → PyObjectRef → List PyObjectRef → Bindings → Said
-special_found w None o args kw = Ends w (fault AttributeError NoSpecial)
+special_found w None o args kw = Ends w (fault NoSpecial)
 special_found w (Some m) o args kw = special_by w (is_fast w m) m o args kw
 
 -- what was asked first was the call, or it was the binding, and then what is bound is called
@@ -117,7 +118,7 @@ descriptor_get w a o = pass w (ToDescriptor (DoDescrGet a (Some o) (Some (type_o
 abbrev pub generic_by : PlainWorld → PyObjectRef → Found → Said
 generic_by w o (Descriptor a) = descriptor_get w a o
 generic_by w o (Value v) = Ends w (value v)
-generic_by w o Missing = Ends w (fault AttributeError NoAttribute)
+generic_by w o Missing = Ends w (fault NoAttribute)
 
 abbrev pub generic_say : PlainWorld → PyObjectRef → Text → Row
 generic_say w o x = start (generic_by w o (find w (special_at w o x) (own_value w o x))) (end w)
@@ -145,7 +146,7 @@ abbrev pub of_class : PlainWorld → ℕ → PyObjectRef → Said
 of_class w c z = cond (gives w z) (pass w (ToDescriptor (DoDescrGet z None (Some (class_object w c))))) (Ends w (value z))
 
 abbrev pub type_get_by : PlainWorld → ℕ → Option PyObjectRef → Option PyObjectRef → Said
-type_get_by w c None None = Ends w (fault AttributeError NoAttribute)
+type_get_by w c None None = Ends w (fault NoAttribute)
 type_get_by w c None (Some z) = of_class w c z
 type_get_by w c (Some a) None = generic_by w (class_object w c) (of_value w a)
 type_get_by w c (Some a) (Some z) = cond (is_data w a) (descriptor_get w a (class_object w c)) (of_class w c z)
@@ -155,7 +156,7 @@ type_get_say w c x = start (type_get_by w c (special_at w (class_object w c) x) 
 
 -- an object's attribute is read as its class's entry for that says: by a special method, as classes do, or as objects do
 abbrev pub get_by_method : PlainWorld → PyObjectRef → Text → Said
-get_by_method w o x = Asks (with_text w x) (Chose 1 ∷ []) (by_name w o (codes "__getattribute__"))
+get_by_method w o x = Asks (with_text w x) (Chose 1 ∷ []) (by_name w o (known_text known.GetAttribute))
 
 abbrev pub get_in_class : PlainWorld → Option ℕ → PyObjectRef → Text → Said
 get_in_class w None o x = Asks w (Chose 0 ∷ []) (ToAttribute (DoGeneric o x))
@@ -169,11 +170,11 @@ get_by w _ o x = Asks w (Chose 0 ∷ []) (ToAttribute (DoGeneric o x))
 -- a special method that finds no attribute leaves it to `__getattr__`, where there is one
 abbrev pub or_get_attr : PlainWorld → Option PyObjectRef → PyObjectRef → Text → Fault → Said
 or_get_attr w None o x fault = Ends w (Err fault)
-or_get_attr w (Some m) o x fault = pass (with_text w x) (by_name w o (codes "__getattr__"))
+or_get_attr w (Some m) o x fault = pass (with_text w x) (by_name w o (known_text known.GetAttr))
 
 abbrev pub get_rest : PlainWorld → PyObjectRef → Text → ℕ → Ended → Row
 get_rest w o x (suc n) (Err fault) =
-    cond (is_attribute_error fault.kind) (start (or_get_attr w (special_at w o (codes "__getattr__")) o x fault) (end w)) (end w (Err fault))
+    cond (is_attribute_error fault.kind) (start (or_get_attr w (special_at w o (known_text known.GetAttr)) o x fault) (end w)) (end w (Err fault))
 get_rest w o x _ r = end w r
 
 abbrev pub get_attr_say : PlainWorld → PyObjectRef → Text → Row
@@ -187,7 +188,7 @@ as_attribute v = Ok (AsAttribute v)
 abbrev pub load_found : PlainWorld → PyObjectRef → Found → Said
 load_found w o (Descriptor a) = descriptor_get w a o
 load_found w o (Value v) = Ends w (as_attribute v)
-load_found w o Missing = Ends w (fault AttributeError NoAttribute)
+load_found w o Missing = Ends w (fault NoAttribute)
 
 abbrev pub load_fast : PlainWorld → PyObjectRef → PyObjectRef → Option PyObjectRef → Said
 load_fast w o a None = Ends w (Ok (AsFunction o a))
@@ -213,10 +214,10 @@ invoke_say w o f args kw = start (invoke_by w o f args kw) (end w)
 
 -- an object's attribute is set by what its class has under the name, where that sets attributes, or else in its dict
 abbrev pub set_in_dict : PlainWorld → Option PyObjectRef → Text → Option PyObjectRef → Option PyObjectRef → Said
-set_in_dict w None x v old = Ends w (fault AttributeError NoAttribute)
+set_in_dict w None x v old = Ends w (fault NoAttribute)
 set_in_dict w (Some d) x (Some v) old = Ends (with_value_in w d x v) done
 set_in_dict w (Some d) x None (Some old) = Ends (without_value_in w d x) done
-set_in_dict w (Some d) x None None = Ends w (fault AttributeError NoAttribute)
+set_in_dict w (Some d) x None None = Ends w (fault NoAttribute)
 
 abbrev pub generic_set_by : PlainWorld → Option PyObjectRef → PyObjectRef → Text → Option PyObjectRef → Said
 generic_set_by w (Some a) o x v = pass w (ToDescriptor (DoDescrSet a o v))

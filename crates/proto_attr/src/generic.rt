@@ -2,6 +2,7 @@
 #![tactic(auto, unfolding(crate::specs::Say::attribute_say))]
 
 ghost use Rattle.std.specs.Prelude.{◌≡◌, Some, Err};
+ghost use Rattle.py_node.specs.Faults.{raised};
 ghost use Rattle.class_world.specs.Sound.{AllHold, Holds, IsNode, of_option, of_node_ref};
 ghost use Rattle.class_world.specs.Claims.{of_attribute_task, of_step, of_task};
 ghost use Rattle.class_world.specs.Reading.{Reading, Reads, plain, task_of};
@@ -14,7 +15,7 @@ ghost use Rattle.proto_attr.specs.Rows.{Begins, of_attribute_kept};
 use crate::AttributeKept;
 use crate::find::{Found, find};
 use class_world::world::World;
-use py_node::raised::{Cause, Kind, Raised};
+use py_node::raised::Cause;
 use py_node::refs::{PyObjectRef, PyStrInterned};
 use py_node::task::{Answer, DescriptorTask, Step, Task};
 
@@ -88,10 +89,7 @@ pub(crate) fn descriptor_get(world: &World, value: PyObjectRef, o: PyObjectRef) 
 
 // There is no such attribute.
 pub(crate) fn no_attribute() -> Step<AttributeKept>
-    ensures { result ≡ Step.End (Err (record { kind = Kind.AttributeError; cause = Cause.NoAttribute })) }
+    ensures { result ≡ Step.End (Err (raised Cause.NoAttribute)) }
 {
-    Step::End(Err(Raised {
-        kind: Kind::AttributeError,
-        cause: Cause::NoAttribute,
-    }))
+    Step::raise(Cause::NoAttribute)
 }

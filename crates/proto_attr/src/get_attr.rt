@@ -15,6 +15,7 @@ use crate::named::by_name;
 use crate::setting::asked;
 use class_world::world::World;
 use py_node::entry::{NativeEntry, SlotEntry, SlotId, TypeNative};
+use py_node::known::Known;
 use py_node::memory::OutOfMemory;
 use py_node::raised::{Kind, Raised};
 use py_node::refs::{PyObjectRef, PyStrInterned};
@@ -24,7 +25,6 @@ use std::alloc::Global;
 // An object's attribute is read as its class's entry for that says.
 pub(crate) fn get_attr(
     world: &mut World,
-    alloc: Global,
     o: PyObjectRef,
     name: PyStrInterned,
 ) -> Result<Step<AttributeKept>, OutOfMemory>
@@ -33,7 +33,7 @@ pub(crate) fn get_attr(
     ensures safe { Leaves of_attribute_kept world.old world.new result }
 {
     match world.slot(o, SlotId::Getattro) {
-        Some(SlotEntry::Wrapper(_)) => get_by_method(world, alloc, o, name),
+        Some(SlotEntry::Wrapper(_)) => get_by_method(world, o, name),
         Some(SlotEntry::Native(NativeEntry::OfType(TypeNative::GetAttribute))) => {
             match world.class_number(o) {
                 None => Ok(asked(AttributeTask::Generic(o, name))),
@@ -47,7 +47,6 @@ pub(crate) fn get_attr(
 // A special method reads the attribute.
 fn get_by_method(
     world: &mut World,
-    alloc: Global,
     o: PyObjectRef,
     name: PyStrInterned,
 ) -> Result<Step<AttributeKept>, OutOfMemory>
@@ -56,15 +55,14 @@ fn get_by_method(
         (λ t w. get_by_method w o (spelled t name)) world.old world.new step) }
     ensures safe { Leaves of_attribute_kept world.old world.new result }
 {
-    let method = world.intern(alloc, "__getattribute__")?;
-    let task = by_name(world, alloc, o, method, name)?;
+    let method = world.known(Known::GetAttribute);
+    let task = by_name(world, o, method, name)?;
     Ok(Step::Ask(task, AttributeKept::GetAttr(o, name)))
 }
 
 // What a special method that reads attributes answered. Where it found none, `__getattr__` is asked.
 pub(crate) fn or_get_attr(
     world: &mut World,
-    alloc: Global,
     o: PyObjectRef,
     name: PyStrInterned,
     answer: Result<Answer, Raised>,
@@ -77,7 +75,7 @@ pub(crate) fn or_get_attr(
     match answer {
         Ok(answer) => Ok(Step::End(Ok(answer))),
         Err(fault) => match fault.kind {
-            Kind::AttributeError => by_get_attr(world, alloc, o, name, fault),
+            Kind::AttributeError => by_get_attr(world, o, name, fault),
             _ => Ok(Step::End(Err(fault))),
         },
     }
@@ -86,7 +84,6 @@ pub(crate) fn or_get_attr(
 // `__getattr__` is asked, where the object's class has it.
 fn by_get_attr(
     world: &mut World,
-    alloc: Global,
     o: PyObjectRef,
     name: PyStrInterned,
     fault: Raised,
@@ -96,11 +93,11 @@ fn by_get_attr(
     ensures goes { IfOk result (λ step. Resumes (kept.GetAttr o name) (Err fault) world.old world.new step) }
     ensures safe { Leaves of_attribute_kept world.old world.new result }
 {
-    let method = world.intern(alloc, "__getattr__")?;
+    let method = world.known(Known::GetAttr);
     match world.special(o, method) {
         None => Ok(Step::End(Err(fault))),
         Some(_) => {
-            let task = by_name(world, alloc, o, method, name)?;
+            let task = by_name(world, o, method, name)?;
             Ok(Step::Ask(task, AttributeKept::Pass))
         }
     }

@@ -48,7 +48,6 @@ pub enum AttributeKept {
 /// Begins a task.
 pub fn begin(
     world: &mut World,
-    alloc: Global,
     task: AttributeTask,
 ) -> Result<Step<AttributeKept>, OutOfMemory>
     requires { AllHold world.old (of_attribute_task task) }
@@ -56,19 +55,19 @@ pub fn begin(
     ensures safe { Leaves of_attribute_kept world.old world.new result }
 {
     match task {
-        AttributeTask::GetAttr(o, name) => get_attr::get_attr(world, alloc, o, name),
+        AttributeTask::GetAttr(o, name) => get_attr::get_attr(world, o, name),
         AttributeTask::Generic(o, name) => Ok(generic::generic(world, o, name)),
         AttributeTask::GenericOpt(o, name, dict) => Ok(generic::generic_opt(world, o, name, dict)),
         AttributeTask::TypeGet(class, name) => Ok(class_get::type_get(world, class, name)),
         AttributeTask::LoadMethod(o, name) => Ok(load::load_method(world, o, name)),
-        AttributeTask::Invoke(method, args, kw) => load::invoke(world, alloc, method, args, kw),
+        AttributeTask::Invoke(method, args, kw) => load::invoke(world, method, args, kw),
         AttributeTask::GenericSet(o, name, value) => {
-            object_set::generic_set(world, alloc, o, name, value)
+            object_set::generic_set(world, o, name, value)
         }
-        AttributeTask::SetAttr(o, name, value) => setting::set_attr(world, alloc, o, name, value),
+        AttributeTask::SetAttr(o, name, value) => setting::set_attr(world, o, name, value),
         AttributeTask::TypeSet(class, name, value) => setting::type_set(world, class, name, value),
         AttributeTask::Special(o, name, args, kw) => {
-            special::special(world, alloc, o, name, args, kw)
+            special::special(world, o, name, args, kw)
         }
         AttributeTask::Bind(m, o, class) => Ok(binding::bind(world, m, o, class)),
         AttributeTask::HasAttr(_, _) => Ok(Step::not_yet()),
@@ -78,7 +77,6 @@ pub fn begin(
 /// Goes on with a task that was given an answer.
 pub fn resume(
     world: &mut World,
-    alloc: Global,
     kept: AttributeKept,
     answer: Result<Answer, Raised>,
 ) -> Result<Step<AttributeKept>, OutOfMemory>
@@ -89,7 +87,7 @@ pub fn resume(
 {
     match kept {
         AttributeKept::Pass => Ok(Step::End(answer)),
-        AttributeKept::GetAttr(o, name) => get_attr::or_get_attr(world, alloc, o, name, answer),
+        AttributeKept::GetAttr(o, name) => get_attr::or_get_attr(world, o, name, answer),
         AttributeKept::Maybe => Ok(Step::End(maybe(answer))),
         AttributeKept::Method => Ok(Step::End(method(answer))),
         AttributeKept::AfterBind(args, kw) => match answer {

@@ -101,7 +101,6 @@ fn load_found(
 // A method that was loaded is called.
 pub(crate) fn invoke(
     world: &World,
-    alloc: Global,
     method: PyMethod,
     args: Args,
     kw: Keywords,
@@ -110,6 +109,7 @@ pub(crate) fn invoke(
     ensures goes { IfOk result (λ step. Begins (attribute.Invoke method args kw) world.now world.now step) }
     ensures safe { IfOk result (λ step. AllHold world.now (of_step of_attribute_kept step)) }
 {
+    let alloc = world.alloc();
     match method {
         PyMethod::Function { target, func } => {
             let all = bound(alloc, target, &args)?;

@@ -19,7 +19,6 @@ use std::alloc::Global;
 // The call of an object's special method with a name.
 pub(crate) fn by_name(
     world: &mut World,
-    alloc: Global,
     o: PyObjectRef,
     method: PyStrInterned,
     name: PyStrInterned,
@@ -35,9 +34,10 @@ pub(crate) fn by_name(
     ensures grows { Grows world.old world.new }
     ensures holds { IfOk result (λ task. AllHold world.new (of_task task)) }
 {
-    let text = world.spelling(alloc, name)?;
+    let alloc = world.alloc();
+    let text = world.spelling(name)?;
     let class = world.built_in(BuiltIn::Str);
-    let node = world.make_node(alloc, class, Payload::Text(text))?;
+    let node = world.make_node(class, Payload::Text(text))?;
     let args = alone(alloc, node)?;
     let task = AttributeTask::Special(o, method, args, Vec::new(alloc));
     Ok(Task::Attribute(task))

@@ -22,7 +22,6 @@ use std::alloc::Global;
 // An object's attribute is set or taken out by what its class has under the name, or else in its dict.
 pub(crate) fn generic_set(
     world: &mut World,
-    alloc: Global,
     o: PyObjectRef,
     name: PyStrInterned,
     value: PySetterValue,
@@ -33,7 +32,7 @@ pub(crate) fn generic_set(
 {
     let found = world.special(o, name);
     match setter(world, found) {
-        None => set_in_dict(world, alloc, o, name, value),
+        None => set_in_dict(world, o, name, value),
         Some(setter) => {
             let task = DescriptorTask::DescrSet(setter, o, value);
             Ok(Step::Ask(Task::Descriptor(task), AttributeKept::Pass))
@@ -44,7 +43,6 @@ pub(crate) fn generic_set(
 // The object's dict gets the value, or loses the one that it has.
 fn set_in_dict(
     world: &mut World,
-    alloc: Global,
     o: PyObjectRef,
     name: PyStrInterned,
     value: PySetterValue,
@@ -60,7 +58,7 @@ fn set_in_dict(
     };
     match value {
         PySetterValue::Assign(value) => {
-            world.set_value_in(alloc, dict, name, value)?;
+            world.set_value_in(dict, name, value)?;
             Ok(Step::End(Ok(Answer::Done)))
         }
         PySetterValue::Delete => match world.own_value(o, name) {

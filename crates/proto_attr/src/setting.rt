@@ -20,7 +20,7 @@ use py_node::known::Known;
 use py_node::entry::{NativeEntry, SlotEntry, SlotId, TypeNative};
 use py_node::memory::OutOfMemory;
 use py_node::payload::Payload;
-use py_node::raised::{Cause, Kind, Raised};
+use py_node::raised::Cause;
 use py_node::refs::{PyObjectRef, PyStrInterned, PyTypeRef};
 use py_node::task::{Answer, AttributeTask, DescriptorTask, PySetterValue, Step, Task};
 use std::alloc::Global;
@@ -28,7 +28,6 @@ use std::alloc::Global;
 // An object's attribute is set or taken out, as its class's entry for that says.
 pub(crate) fn set_attr(
     world: &mut World,
-    alloc: Global,
     o: PyObjectRef,
     name: PyStrInterned,
     value: PySetterValue,
@@ -38,7 +37,7 @@ pub(crate) fn set_attr(
     ensures safe { Leaves of_attribute_kept world.old world.new result }
 {
     match world.slot(o, SlotId::Setattro) {
-        Some(SlotEntry::Wrapper(_)) => set_by_method(world, alloc, o, name, value),
+        Some(SlotEntry::Wrapper(_)) => set_by_method(world, o, name, value),
         Some(SlotEntry::Native(NativeEntry::OfType(TypeNative::SetAttr))) => {
             match world.class_number(o) {
                 None => Ok(asked(AttributeTask::GenericSet(o, name, value))),
@@ -59,7 +58,6 @@ pub(crate) fn asked(task: AttributeTask) -> Step<AttributeKept>
 // A special method sets the attribute or takes it out. It is given the name as a new text.
 fn set_by_method(
     world: &mut World,
-    alloc: Global,
     o: PyObjectRef,
     name: PyStrInterned,
     value: PySetterValue,
@@ -69,9 +67,10 @@ fn set_by_method(
         (λ t w. set_by_method w o (spelled t name) (setter_value value)) world.old world.new step) }
     ensures safe { Leaves of_attribute_kept world.old world.new result }
 {
-    let text = world.spelling(alloc, name)?;
+    let alloc = world.alloc();
+    let text = world.spelling(name)?;
     let class = world.built_in(BuiltIn::Str);
-    let node = world.make_node(alloc, class, Payload::Text(text))?;
+    let node = world.make_node(class, Payload::Text(text))?;
     match value {
         PySetterValue::Assign(value) => {
             let method = world.known(Known::SetAttr);
@@ -125,27 +124,17 @@ fn own_set(
     match value {
         PySetterValue::Assign(value) => match world.set_attr(class, name, value) {
             Ok(()) => Ok(Step::End(Ok(Answer::Done))),
-            Err(ClassFault::Refused(cause)) => Ok(refused(cause)),
+            Err(ClassFault::Refused(_)) => Ok(Step::raise(Cause::ImmutableType)),
             Err(ClassFault::OutOfMemory) => Err(OutOfMemory),
         },
         PySetterValue::Delete => {
             if world.class_is_heap(class) {
                 Ok(Step::not_yet())
             } else {
-                Ok(refused(Cause::ImmutableType))
+                Ok(Step::raise(Cause::ImmutableType))
             }
         }
     }
-}
-
-// A class may not be changed so.
-fn refused(cause: Cause) -> Step<AttributeKept>
-    ensures { result ≡ Step.End (Err (record { kind = Kind.TypeError; cause = cause })) }
-{
-    Step::End(Err(Raised {
-        kind: Kind::TypeError,
-        cause,
-    }))
 }
 
 // A value that was found, where it is one that sets attributes.

@@ -11,7 +11,7 @@ use crate::AttributeKept;
 use class_world::args::with_first;
 use class_world::world::World;
 use py_node::memory::OutOfMemory;
-use py_node::raised::{Cause, Kind, Raised};
+use py_node::raised::Cause;
 use py_node::refs::{PyObjectRef, PyStrInterned};
 use py_node::task::{Args, AttributeTask, CallTask, Keywords, Step, Task};
 use std::alloc::Global;
@@ -20,7 +20,6 @@ use std::alloc::Global;
 // another one is bound first.
 pub(crate) fn special(
     world: &World,
-    alloc: Global,
     o: PyObjectRef,
     name: PyStrInterned,
     args: Args,
@@ -30,11 +29,9 @@ pub(crate) fn special(
     ensures goes { IfOk result (λ step. Begins (attribute.Special o name args kw) world.now world.now step) }
     ensures safe { IfOk result (λ step. AllHold world.now (of_step of_attribute_kept step)) }
 {
+    let alloc = world.alloc();
     let Some(method) = world.special(o, name) else {
-        return Ok(Step::End(Err(Raised {
-            kind: Kind::AttributeError,
-            cause: Cause::NoSpecial,
-        })));
+        return Ok(Step::raise(Cause::NoSpecial));
     };
     if world.is_fast(method) {
         let all = bound(alloc, o, &args)?;
@@ -54,7 +51,8 @@ pub(crate) fn bound(
     args: &[PyObjectRef],
 ) -> Result<Args, OutOfMemory>
     ensures items { IfOk result (λ v. v.items ≡ object ∷ args.now) }
-    ensures holds { IfOk result (λ v. (w : World) → Holds w (IsNode object) → Holds w (AreNodes args.now) → Holds w (AreNodes v.items)) }
+    ensures holds { IfOk result (λ v. (w : World) → Holds w (IsNode object) → Holds w (AreNodes args.now) →
+        Holds w (AreNodes v.items)) }
 {
     let all = with_first(alloc, object, args)?;
     Ok(all)

@@ -5,7 +5,6 @@ use Rattle.std.specs.Global.{Vec}
 use Rattle.py_node.specs.declared.refs.PyObjectRef.{PyObjectRef}
 use Rattle.py_node.specs.declared.refs.PyStrInterned.{PyStrInterned}
 use Rattle.py_node.specs.declared.payload.Function.{Function}
-use Rattle.py_node.specs.declared.raised.Kind.TheVariants.{TypeError}
 use Rattle.py_node.specs.declared.raised.Cause.TheVariants.{ArgCount}
 use Rattle.py_node.specs.declared.task.CallTask.TheVariants as call
 use Rattle.py_node.specs.declared.task.Step.{Step}
@@ -41,7 +40,7 @@ filled-opens t u g f before vars kw xs names more all =
     let keyed = when_filled u f x ps g.rest (t.tree g.body) in
     let here = ap (λ ys. with_keywords ys (bindings t before) (bindings t kw)) (sym names) ∙ sym more in
     let test = ap (all_filled (bindings t vars)) (sym names) ∙ all in
-    sym (ap keyed here ∙ ap (λ b. cond b (opened_of g f vars t u) (Ends u (fault TypeError ArgCount))) test)
+    sym (ap keyed here ∙ ap (λ b. cond b (opened_of g f vars t u) (Ends u (fault ArgCount))) test)
 
 -- the last parameter takes the rest
 pub rest-fills : (t : Reading) (u v : PlainWorld) (g : Function) (f : PyObjectRef) (args : List PyObjectRef) (vars kw : List (PyStrInterned × PyObjectRef)) → g.rest ≡ true → v ≡ with_node u the_tuple (ATuple (left_over (but_last (map (spelled t) g.params.items)) args)) → bindings t vars ≡ with_value is_text (filled [] (but_last (map (spelled t) g.params.items)) args) (last_of (map (spelled t) g.params.items)) (next_node u the_tuple) → by_keywords_of g f vars kw t v ≡ by_place_of g f args kw t u
@@ -57,7 +56,7 @@ all-fill t u g f args vars kw rest none filling =
     let x = spelled t g.name in
     let ps = map (spelled t) g.params.items in
     let keyed : by_keywords_of g f vars kw t u ≡ by_keywords u f x ps false (t.tree g.body) (filled [] ps args) (bindings t kw) = λ i. by_keywords u f x ps (rest i) (t.tree g.body) (filling i) (bindings t kw) in
-    let test = ap (λ b. cond b (by_keywords u f x ps false (t.tree g.body) (filled [] ps args) (bindings t kw)) (Ends u (fault TypeError ArgCount))) none in
+    let test = ap (λ b. cond b (by_keywords u f x ps false (t.tree g.body) (filled [] ps args) (bindings t kw)) (Ends u (fault ArgCount))) none in
     keyed ∙ sym test ∙ ap (λ b. by_place u f x ps b (t.tree g.body) args (bindings t kw)) (sym rest)
 
 pub empty-is : {A : Type 0} (xs : List A) → is_empty xs ≡ (length xs == 0)

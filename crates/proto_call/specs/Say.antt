@@ -1,7 +1,6 @@
 -- What the rows of calls say.
 use Rattle.std.specs.Prelude.{ℕ, zero, suc, Bool, true, false, cond, not, eqb, ◌&&◌, ◌||◌, List, [], ◌∷◌, Option, Some, None, is_some, is_none, map}
 use Rattle.py_node.specs.declared.refs.PyObjectRef.{PyObjectRef}
-use Rattle.py_node.specs.declared.raised.Kind.TheVariants.{TypeError, AttributeError}
 use Rattle.py_node.specs.declared.raised.Cause.TheVariants.{AbstractMethods, ArgCount, CannotCreate, InitNotNone, NoSpecial, NotCallable, SelfType, UnexpectedKeyword, UnsafeNew}
 use Rattle.py_node.specs.declared.entry.SlotId.TheVariants.{Call, Init, New}
 use Rattle.py_node.specs.declared.entry.SlotEntry.{SlotEntry}
@@ -58,7 +57,7 @@ asked_of_native w (Some task) = pass w task
 abbrev pub call_by : PlainWorld → Option SlotEntry → PyObjectRef → List PyObjectRef → Bindings → Said
 call_by w (Some (Native n)) f args kw = asked_of_native w (call_native n (datum_at w f) f args kw)
 call_by w (Some (Wrapper s)) f args kw = pass w (ToAttribute (DoSpecial f (known_text known.Call) args kw))
-call_by w _ f args kw = Ends w (fault TypeError NotCallable)
+call_by w _ f args kw = Ends w (fault NotCallable)
 
 abbrev pub call_say : PlainWorld → PyObjectRef → List PyObjectRef → Bindings → Row
 call_say w f args kw = start (call_by w (slot_at w f Call) f args kw) (end w)
@@ -119,9 +118,9 @@ abbrev pub opened : PlainWorld → PyObjectRef → Text → List Text → Tree �
 opened w f x params body vars = pass (with_scope w (record { func = f; vars = vars }) (started w x params vars)) (ToEval (DoEval body))
 
 abbrev pub when_filled : PlainWorld → PyObjectRef → Text → List Text → Bool → Tree → Option Bindings → Said
-when_filled w f x params rest body None = Ends w (fault TypeError UnexpectedKeyword)
+when_filled w f x params rest body None = Ends w (fault UnexpectedKeyword)
 when_filled w f x params rest body (Some vars) =
-    cond (all_filled vars (single rest params)) (opened w f x params body vars) (Ends w (fault TypeError ArgCount))
+    cond (all_filled vars (single rest params)) (opened w f x params body vars) (Ends w (fault ArgCount))
 
 abbrev pub by_keywords : PlainWorld → PyObjectRef → Text → List Text → Bool → Tree → Bindings → Bindings → Said
 by_keywords w f x params rest body vars kw = when_filled w f x params rest body (with_keywords (single rest params) vars kw)
@@ -129,14 +128,14 @@ by_keywords w f x params rest body vars kw = when_filled w f x params rest body 
 -- the arguments that are left over are a new tuple, for the parameter that takes the rest; without one there may be none
 abbrev pub by_place : PlainWorld → PyObjectRef → Text → List Text → Bool → Tree → List PyObjectRef → Bindings → Said
 by_place w f x params false body args kw =
-    cond (is_empty (left_over params args)) (by_keywords w f x params false body (filled [] params args) kw) (Ends w (fault TypeError ArgCount))
+    cond (is_empty (left_over params args)) (by_keywords w f x params false body (filled [] params args) kw) (Ends w (fault ArgCount))
 by_place w f x params true body args kw =
     by_keywords (with_node w the_tuple (ATuple (left_over (but_last params) args))) f x params true body
     (with_value is_text (filled [] (but_last params) args) (last_of params) (next_node w the_tuple)) kw
 
 abbrev pub body_by : PlainWorld → Option Datum → PyObjectRef → List PyObjectRef → Bindings → Said
 body_by w (Some (AFunction x params rest body c)) f args kw = by_place w f x params rest body args kw
-body_by w _ f args kw = Ends w (fault TypeError NotCallable)
+body_by w _ f args kw = Ends w (fault NotCallable)
 
 -- the scope is taken away however the body ends
 abbrev pub body_say : PlainWorld → PyObjectRef → List PyObjectRef → Bindings → Row
@@ -155,13 +154,13 @@ type_call_say w c args kw =
 -- New
 
 abbrev pub new_found : PlainWorld → Option PyObjectRef → ℕ → List PyObjectRef → Bindings → Said
-new_found w None c args kw = Ends w (fault AttributeError NoSpecial)
+new_found w None c args kw = Ends w (fault NoSpecial)
 new_found w (Some f) c args kw = pass w (ToCall (DoCall f (class_object w c ∷ args) kw))
 
 abbrev pub new_by : PlainWorld → Option SlotEntry → ℕ → List PyObjectRef → Bindings → Said
 new_by w (Some (Native n)) c args kw = pass w (native_task n (class_object w c ∷ args) kw)
 new_by w (Some (Wrapper s)) c args kw = new_found w (found is_text w.classes c (known_text known.New)) c args kw
-new_by w _ c args kw = Ends w (fault TypeError CannotCreate)
+new_by w _ c args kw = Ends w (fault CannotCreate)
 
 abbrev pub new_say : PlainWorld → ℕ → ℕ → List PyObjectRef → Bindings → Row
 new_say w k c args kw = start (new_by w (slot text_keys natives_of w.classes k New) c args kw) (end w)
@@ -176,7 +175,7 @@ init_by w _ o args kw = Ends w done
 -- a method that initialises must give None
 abbrev pub init_rest : PlainWorld → ℕ → Ended → Row
 init_rest w zero r = end w r
-init_rest w (suc n) r = on_value w r (λ v. cond (eqb v.0 23) (end w (value v)) (end w (fault TypeError InitNotNone)))
+init_rest w (suc n) r = on_value w r (λ v. cond (eqb v.0 23) (end w (value v)) (end w (fault InitNotNone)))
 
 abbrev pub init_say : PlainWorld → PyObjectRef → List PyObjectRef → Bindings → Row
 init_say w o args kw = fork (init_by w (slot_at w o Init) o args kw) (init_rest w)
@@ -192,26 +191,26 @@ is_abstract w None = false
 is_abstract w (Some r) = has_items (datum_at w r)
 
 abbrev pub unless_abstract : PlainWorld → Bool → ℕ → Said
-unless_abstract w true c = Ends w (fault TypeError AbstractMethods)
+unless_abstract w true c = Ends w (fault AbstractMethods)
 unless_abstract w false c = Ends (with_node w c AnObject) (value (next_node w c))
 
 -- a new object of a class, whose objects must be plain ones, and which may leave no method abstract
 abbrev pub created : PlainWorld → Option ℕ → ℕ → Said
-created w None c = Ends w (fault TypeError UnsafeNew)
+created w None c = Ends w (fault UnsafeNew)
 created w (Some b) c =
-    cond (not (eqb b the_object)) (Ends w (fault TypeError UnsafeNew)) (unless_abstract w (is_abstract w (found is_text w.classes c (known_text known.Abstractmethods))) c)
+    cond (not (eqb b the_object)) (Ends w (fault UnsafeNew)) (unless_abstract w (is_abstract w (found is_text w.classes c (known_text known.Abstractmethods))) c)
 
 abbrev pub new_of_class : PlainWorld → Option ℕ → Said
-new_of_class w None = Ends w (fault TypeError SelfType)
+new_of_class w None = Ends w (fault SelfType)
 new_of_class w (Some c) = created w (nearest_built_in w.classes c) c
 
 abbrev pub object_new : PlainWorld → List PyObjectRef → Said
-object_new w [] = Ends w (fault TypeError ArgCount)
+object_new w [] = Ends w (fault ArgCount)
 object_new w (c ∷ args) = new_of_class w (class_number (datum_at w c))
 
 -- any arguments will do
 abbrev pub object_init : PlainWorld → List PyObjectRef → Said
-object_init w [] = Ends w (fault TypeError ArgCount)
+object_init w [] = Ends w (fault ArgCount)
 object_init w (o ∷ args) = Ends w (value none)
 
 -- the class alone, and no keyword

@@ -12,7 +12,6 @@ use class_world::args::with_first;
 use class_world::world::World;
 use py_node::known::Known;
 use py_node::memory::OutOfMemory;
-use py_node::raised::{Cause, Kind, Raised};
 use py_node::refs::PyObjectRef;
 use py_node::task::{Args, AttributeTask, Keywords, Step, Task};
 use std::alloc::Global;
@@ -20,7 +19,8 @@ use std::alloc::Global;
 /// The arguments with an object before them.
 pub(crate) fn bound(alloc: Global, object: PyObjectRef, args: Args) -> Result<Args, OutOfMemory>
     ensures items { IfOk result (λ v. v.items ≡ object ∷ args.items) }
-    ensures holds { IfOk result (λ v. (w : World) → Holds w (IsNode object) → Holds w (AreNodes args.items) → Holds w (AreNodes v.items)) }
+    ensures holds { IfOk result (λ v. (w : World) → Holds w (IsNode object) → Holds w (AreNodes args.items) →
+        Holds w (AreNodes v.items)) }
 {
     let all = with_first(alloc, object, &args)?;
     Ok(all)
@@ -35,15 +35,10 @@ pub(crate) fn special(
     kw: Keywords,
 ) -> Task
     requires { AllHold world.now (IsNode object ∷ of_args args.items kw.items) }
-    ensures task { (t : Reading) → Reads t world.now → task_of t result ≡ ToAttribute (DoSpecial object (known_text name) args.items (bindings t kw.items)) }
+    ensures task { (t : Reading) → Reads t world.now → task_of t result ≡
+        ToAttribute (DoSpecial object (known_text name) args.items (bindings t kw.items)) }
     ensures holds { AllHold world.now (of_task result) }
 {
     Task::Attribute(AttributeTask::Special(object, world.known(name), args, kw))
 }
 
-/// A fault of a call.
-pub(crate) fn refused(kind: Kind, cause: Cause) -> Step<CallKept>
-    ensures { result ≡ Step.End (Err (record { kind = kind; cause = cause })) }
-{
-    Step::End(Err(Raised { kind, cause }))
-}

@@ -17,7 +17,6 @@ ghost use Rattle.proto_call.specs.Rows.{Begins, of_call_kept, bodies_of};
 ghost use Rattle.proto_call.specs.Bodies.{Enters, LastFilled, RestFilled, RunsAs, datum_of, last_in, of_function, opened_of, by_keywords_of, by_place_of};
 
 use crate::CallKept;
-use crate::asked::refused;
 use crate::parameters::{all_filled, left_over, single, with_keywords};
 use class_world::args::{copy_args, filled};
 use class_world::show::show;
@@ -26,7 +25,7 @@ use py_node::attributes::PyAttributes;
 use py_node::built_in::BuiltIn;
 use py_node::memory::OutOfMemory;
 use py_node::payload::{Function, Payload};
-use py_node::raised::{Cause, Kind};
+use py_node::raised::Cause;
 use py_node::refs::{PyObjectRef, PyStrInterned};
 use py_node::reply::BodyCall;
 use py_node::task::{Args, EvalTask, Keywords, Step, Task};
@@ -35,7 +34,6 @@ use std::alloc::Global;
 /// Runs the body of a function.
 pub(crate) fn begin_body(
     world: &mut World,
-    alloc: Global,
     f: PyObjectRef,
     args: Args,
     kw: Keywords,
@@ -44,16 +42,15 @@ pub(crate) fn begin_body(
     ensures goes { IfOk result (λ step. Begins (call.Body f args kw) world.old world.new step) }
     ensures safe { LeavesOpen of_call_kept bodies_of 0 world.old world.new result }
 {
-    match function_at(world, alloc, f)? {
-        Some(function) => by_place(world, alloc, f, &function, &args, &kw),
-        None => Ok(refused(Kind::TypeError, Cause::NotCallable)),
+    match function_at(world, f)? {
+        Some(function) => by_place(world, f, &function, &args, &kw),
+        None => Ok(Step::raise(Cause::NotCallable)),
     }
 }
 
 // The function that an object is, if it is one.
 fn function_at(
     world: &World,
-    alloc: Global,
     node: PyObjectRef,
 ) -> Result<Option<Function>, OutOfMemory>
     requires { Holds world.now (IsNode node) }
@@ -61,6 +58,7 @@ fn function_at(
     ensures runs { IfOk result (λ o. (t : Reading) → RunsAs (datum_at (plain t world.now) node) (datum_of t o)) }
     ensures holds { IfOk result (λ o. AllHold world.now (of_option of_function o)) }
 {
+    let alloc = world.alloc();
     match world.payload(node) {
         Payload::Function(function) => Ok(Some(copy_function(alloc, function)?)),
         _ => Ok(None),
@@ -69,7 +67,8 @@ fn function_at(
 
 // The same function again.
 fn copy_function(alloc: Global, function: &Function) -> Result<Function, OutOfMemory>
-    ensures same { IfOk result (λ g. (t : Reading) → datum t (payload.Function g) ≡ datum t (payload.Function function.now)) }
+    ensures same { IfOk result (λ g. (t : Reading) → datum t (payload.Function g) ≡
+        datum t (payload.Function function.now)) }
     ensures params { IfOk result (λ g. g.params.items ≡ function.now.params.items) }
     ensures claims { IfOk result (λ g. of_function g ≡ of_function function.now) }
 {
@@ -88,7 +87,6 @@ fn copy_function(alloc: Global, function: &Function) -> Result<Function, OutOfMe
 // parameter that takes the rest; without one there may be none.
 fn by_place(
     world: &mut World,
-    alloc: Global,
     f: PyObjectRef,
     function: &Function,
     args: &[PyObjectRef],
@@ -101,14 +99,15 @@ fn by_place(
     ensures goes { IfOk result (λ step. Enters (by_place_of function.now f args.now kw.now) world.old world.new step) }
     ensures safe { LeavesOpen of_call_kept bodies_of 0 world.old world.new result }
 {
+    let alloc = world.alloc();
     if function.rest {
-        let vars = with_rest(world, alloc, &function.params, args)?;
-        by_keywords(world, alloc, f, function, vars, kw)
+        let vars = with_rest(world, &function.params, args)?;
+        by_keywords(world, f, function, vars, kw)
     } else if left_over(&function.params, args).is_empty() {
         let vars = filled(alloc, &function.params, args)?;
-        by_keywords(world, alloc, f, function, vars, kw)
+        by_keywords(world, f, function, vars, kw)
     } else {
-        Ok(refused(Kind::TypeError, Cause::ArgCount))
+        Ok(Step::raise(Cause::ArgCount))
     }
 }
 
@@ -116,23 +115,27 @@ fn by_place(
 // tuple.
 fn with_rest(
     world: &mut World,
-    alloc: Global,
     params: &[PyStrInterned],
     args: &[PyObjectRef],
 ) -> Result<PyAttributes, OutOfMemory>
     requires params { Holds world.old (AreNames params.now) }
     requires args { Holds world.old (AreNodes args.now) }
-    ensures made { OnOk result ((t : Reading) → plain t world.new ≡ with_node (plain t world.old) the_tuple (ATuple (left_over (but_last (map (spelled t) params.now)) args.now))) }
-    ensures vars { IfOk result (λ vars. (t : Reading) → Reads t world.new → bindings t vars ≡ with_value is_text (filled [] (but_last (map (spelled t) params.now)) args.now) (last_of (map (spelled t) params.now)) (next_node (plain t world.old) the_tuple)) }
+    ensures made { OnOk result ((t : Reading) → plain t world.new ≡
+        with_node (plain t world.old) the_tuple (ATuple (left_over (but_last (map (spelled t) params.now)) args.now)))
+        }
+    ensures vars { IfOk result (λ vars. (t : Reading) → Reads t world.new → bindings t vars ≡
+        with_value is_text (filled [] (but_last (map (spelled t) params.now)) args.now)
+        (last_of (map (spelled t) params.now)) (next_node (plain t world.old) the_tuple)) }
     ensures last { IfOk result (λ vars. LastFilled params.now vars) }
     ensures reads { (t : Reading) → Reads t world.new → Reads t world.old }
     ensures grows { Grows world.old world.new }
     ensures holds { IfOk result (λ vars. AllHold world.new (of_each of_binding vars)) }
 {
-    let last = last_name(world, alloc, params)?;
+    let alloc = world.alloc();
+    let last = last_name(world, params)?;
     let singles = single(params, true);
     let mut vars = filled(alloc, singles, args)?;
-    let tuple = make_tuple(world, alloc, left_over(singles, args))?;
+    let tuple = make_tuple(world, left_over(singles, args))?;
     vars.insert(last, tuple)?;
     Ok(vars)
 }
@@ -140,11 +143,11 @@ fn with_rest(
 // The last of some names, or else the name of no characters.
 fn last_name(
     world: &mut World,
-    alloc: Global,
     names: &[PyStrInterned],
 ) -> Result<PyStrInterned, OutOfMemory>
     requires { Holds world.old (AreNames names.now) }
-    ensures spelled { IfOk result (λ x. (t : Reading) → Reads t world.new → spelled t x ≡ last_of (map (spelled t) names.now)) }
+    ensures spelled { IfOk result (λ x. (t : Reading) → Reads t world.new → spelled t x ≡
+        last_of (map (spelled t) names.now)) }
     ensures last { IfOk result (λ x. IfSome (last_in names.now) (λ y. y ≡ x)) }
     ensures same { (t : Reading) → plain t world.new ≡ plain t world.old }
     ensures reads { (t : Reading) → Reads t world.new → Reads t world.old }
@@ -153,32 +156,32 @@ fn last_name(
 {
     match names {
         [.., name] => Ok(*name),
-        [] => world.intern(alloc, ""),
+        [] => world.intern(""),
     }
 }
 
 // A new tuple.
 fn make_tuple(
     world: &mut World,
-    alloc: Global,
     items: &[PyObjectRef],
 ) -> Result<PyObjectRef, OutOfMemory>
     requires { Holds world.old (AreNodes items.now) }
-    ensures made { OnOk result ((t : Reading) → plain t world.new ≡ with_node (plain t world.old) the_tuple (ATuple items.now)) }
+    ensures made { OnOk result ((t : Reading) → plain t world.new ≡
+        with_node (plain t world.old) the_tuple (ATuple items.now)) }
     ensures number { IfOk result (λ r. (t : Reading) → r ≡ next_node (plain t world.old) the_tuple) }
     ensures reads { (t : Reading) → Reads t world.new → Reads t world.old }
     ensures grows { Grows world.old world.new }
     ensures node { IfOk result (λ r. Holds world.new (IsNode r)) }
 {
+    let alloc = world.alloc();
     let items = copy_args(alloc, items)?;
     let class = world.built_in(BuiltIn::Tuple);
-    world.make_node(alloc, class, Payload::Tuple(items))
+    world.make_node(class, Payload::Tuple(items))
 }
 
 // Keywords fill parameters that have no value yet, and then each must have one.
 fn by_keywords(
     world: &mut World,
-    alloc: Global,
     f: PyObjectRef,
     function: &Function,
     vars: PyAttributes,
@@ -195,12 +198,12 @@ fn by_keywords(
 {
     let singles = single(&function.params, function.rest);
     match with_keywords(vars, singles, kw)? {
-        None => Ok(refused(Kind::TypeError, Cause::UnexpectedKeyword)),
+        None => Ok(Step::raise(Cause::UnexpectedKeyword)),
         Some(vars) => {
             if all_filled(&vars, singles) {
-                opened(world, alloc, f, function, vars)
+                opened(world, f, function, vars)
             } else {
-                Ok(refused(Kind::TypeError, Cause::ArgCount))
+                Ok(Step::raise(Cause::ArgCount))
             }
         }
     }
@@ -209,7 +212,6 @@ fn by_keywords(
 // The body's scope opens, its start is noted, and it is evaluated.
 fn opened(
     world: &mut World,
-    alloc: Global,
     f: PyObjectRef,
     function: &Function,
     vars: PyAttributes,
@@ -221,7 +223,7 @@ fn opened(
     ensures goes { IfOk result (λ step. Enters (opened_of function.now f vars) world.old world.new step) }
     ensures safe { LeavesOpen of_call_kept bodies_of 0 world.old world.new result }
 {
-    let start = started(world, alloc, function, &vars)?;
+    let start = started(world, function, &vars)?;
     world.open_scope(f, vars, start)?;
     Ok(Step::Ask(Task::Eval(EvalTask::Eval(function.body)), CallKept::Scope))
 }
@@ -229,32 +231,34 @@ fn opened(
 // The note of a body's start: its function's name, and the texts of its parameters' values.
 fn started(
     world: &World,
-    alloc: Global,
     function: &Function,
     vars: &PyAttributes,
 ) -> Result<BodyCall, OutOfMemory>
     requires function { AllHold world.now (of_function function.now) }
     requires vars { AllHold world.now (of_each of_binding vars.now) }
-    ensures { IfOk result (λ c. (t : Reading) → Reads t world.now → started_of c ≡ started (plain t world.now) (spelled t function.now.name) (map (spelled t) function.now.params.items) (bindings t vars.now)) }
+    ensures { IfOk result (λ c. (t : Reading) → Reads t world.now → started_of c ≡
+        started (plain t world.now) (spelled t function.now.name) (map (spelled t) function.now.params.items)
+        (bindings t vars.now)) }
 {
-    let name = world.spelling(alloc, function.name)?;
-    let args = texts(world, alloc, &function.params, vars)?;
+    let name = world.spelling(function.name)?;
+    let args = texts(world, &function.params, vars)?;
     Ok(BodyCall { name, args })
 }
 
 // The texts of parameters' values, in order.
 fn texts(
     world: &World,
-    alloc: Global,
     params: &[PyStrInterned],
     vars: &PyAttributes,
 ) -> Result<Vec<String>, OutOfMemory>
     requires { AllHold world.now (of_each of_binding vars.now) }
-    ensures { IfOk result (λ v. (t : Reading) → map (λ s. string_bytes s) v.items ≡ map (shown (plain t world.now) (bindings t vars.now)) (map (spelled t) params.now)) }
+    ensures { IfOk result (λ v. (t : Reading) → map (λ s. string_bytes s) v.items ≡
+        map (shown (plain t world.now) (bindings t vars.now)) (map (spelled t) params.now)) }
 {
+    let alloc = world.alloc();
     let mut texts = Vec::with_capacity(alloc, params.len())?;
     for param in params {
-        texts.push(shown(world, alloc, vars, *param)?)?;
+        texts.push(shown(world, vars, *param)?)?;
     }
     Ok(texts)
 }
@@ -262,27 +266,27 @@ fn texts(
 // The text of a parameter's value.
 fn shown(
     world: &World,
-    alloc: Global,
     vars: &PyAttributes,
     param: PyStrInterned,
 ) -> Result<String, OutOfMemory>
     requires { AllHold world.now (of_each of_binding vars.now) }
-    ensures { IfOk result (λ s. (t : Reading) → string_bytes s ≡ shown (plain t world.now) (bindings t vars.now) (spelled t param)) }
+    ensures { IfOk result (λ s. (t : Reading) → string_bytes s ≡
+        shown (plain t world.now) (bindings t vars.now) (spelled t param)) }
 {
-    value_text(world, alloc, vars.get(param))
+    value_text(world, vars.get(param))
 }
 
 // The text of a value, which is empty where there is none.
 fn value_text(
     world: &World,
-    alloc: Global,
     value: Option<PyObjectRef>,
 ) -> Result<String, OutOfMemory>
     requires { AllHold world.now (of_option of_node_ref value) }
     ensures { IfOk result (λ s. (t : Reading) → string_bytes s ≡ value_text (plain t world.now) value) }
 {
+    let alloc = world.alloc();
     match value {
-        Some(value) => show(world, alloc, value),
+        Some(value) => show(world, value),
         None => Ok(String::new(alloc)),
     }
 }

@@ -10,14 +10,14 @@ ghost use Rattle.proto_call.specs.Say.{call_native, call_by, with_self};
 ghost use Rattle.proto_call.specs.Rows.{Begins, Decides, OpensNone, LeavesNone};
 
 use crate::CallKept;
-use crate::asked::{bound, refused, special};
+use crate::asked::{bound, special};
 use class_world::args::native_task;
 use class_world::world::World;
 use py_node::entry::{CallableNative, NativeEntry, SlotEntry, SlotId, TypeNative};
 use py_node::known::Known;
 use py_node::memory::OutOfMemory;
 use py_node::payload::Payload;
-use py_node::raised::{Cause, Kind};
+use py_node::raised::Cause;
 use py_node::refs::PyObjectRef;
 use py_node::task::{Args, CallTask, Keywords, Step, Task};
 use std::alloc::Global;
@@ -25,7 +25,6 @@ use std::alloc::Global;
 /// An object is called as its class's entry for calls says: by a native, or by the special method.
 pub(crate) fn begin_call(
     world: &mut World,
-    alloc: Global,
     f: PyObjectRef,
     args: Args,
     kw: Keywords,
@@ -36,7 +35,7 @@ pub(crate) fn begin_call(
 {
     match world.slot(f, SlotId::Call) {
         Some(SlotEntry::Native(native)) => {
-            match native_call(world, alloc, native, f, args, kw)? {
+            match native_call(world, native, f, args, kw)? {
                 Some(task) => Ok(Step::Ask(task, CallKept::Pass)),
                 None => Ok(Step::not_yet()),
             }
@@ -45,14 +44,13 @@ pub(crate) fn begin_call(
             let task = special(world, f, Known::Call, args, kw);
             Ok(Step::Ask(task, CallKept::Pass))
         }
-        _ => Ok(refused(Kind::TypeError, Cause::NotCallable)),
+        _ => Ok(Step::raise(Cause::NotCallable)),
     }
 }
 
 // What a native entry for calls asks for an object, if it is there yet.
 fn native_call(
     world: &World,
-    alloc: Global,
     native: NativeEntry,
     f: PyObjectRef,
     args: Args,
@@ -63,6 +61,7 @@ fn native_call(
         call_native native (datum_at (plain t world.now) f) f args.items (bindings t kw.items)) }
     ensures holds { IfOk result (λ o. AllHold world.now (of_option of_task o)) }
 {
+    let alloc = world.alloc();
     let task = call_held(alloc, native, world.payload(f), f, args, kw)?;
     Ok(task)
 }
@@ -117,7 +116,8 @@ fn call_held(
 // The arguments of a native function, after the object that it is bound to, if any.
 fn with_self(alloc: Global, target: Option<PyObjectRef>, args: Args) -> Result<Args, OutOfMemory>
     ensures items { IfOk result (λ v. v.items ≡ with_self target args.items) }
-    ensures holds { IfOk result (λ v. (w : World) → AllHold w (of_option of_node_ref target) → Holds w (AreNodes args.items) → Holds w (AreNodes v.items)) }
+    ensures holds { IfOk result (λ v. (w : World) → AllHold w (of_option of_node_ref target) →
+        Holds w (AreNodes args.items) → Holds w (AreNodes v.items)) }
 {
     match target {
         None => Ok(args),

@@ -12,14 +12,14 @@ ghost use Rattle.plain_machine.specs.Known.{the_type};
 ghost use Rattle.proto_call.specs.Rows.{Begins, Decides, Continues, Resumes, OpensNone, LeavesNone};
 
 use crate::CallKept;
-use crate::asked::{bound, refused};
+use crate::asked::bound;
 use class_world::args::{copy_args, copy_keywords, native_task};
 use class_world::world::World;
 use py_node::built_in::BuiltIn;
 use py_node::entry::{SlotEntry, SlotId};
 use py_node::known::Known;
 use py_node::memory::OutOfMemory;
-use py_node::raised::{Cause, Kind};
+use py_node::raised::Cause;
 use py_node::refs::{PyObjectRef, PyStrInterned, PyTypeRef};
 use py_node::task::{Answer, Args, CallTask, Keywords, Step, Task};
 use std::alloc::Global;
@@ -27,7 +27,6 @@ use std::alloc::Global;
 /// The call of a class: first the object is made, of the same arguments.
 pub(crate) fn begin_type_call(
     world: &World,
-    alloc: Global,
     class: PyTypeRef,
     args: Args,
     kw: Keywords,
@@ -36,6 +35,7 @@ pub(crate) fn begin_type_call(
     ensures goes { IfOk result (λ step. Begins (call.TypeCall class args kw) world.now world.now step) }
     ensures safe { IfOk result (λ step. OpensNone world.now step) }
 {
+    let alloc = world.alloc();
     let task = new_task(alloc, class, &args, &kw)?;
     Ok(Step::Ask(task, CallKept::AfterNew(class, args, kw)))
 }
@@ -47,8 +47,10 @@ fn new_task(
     args: &[PyObjectRef],
     kw: &[(PyStrInterned, PyObjectRef)],
 ) -> Result<Task, OutOfMemory>
-    ensures task { IfOk result (λ task. (t : Reading) → task_of t task ≡ ToCall (DoNew class.0 class.0 args.now (bindings t kw.now))) }
-    ensures holds { IfOk result (λ task. (w : World) → AllHold w (IsClass class.0 ∷ of_args args.now kw.now) → AllHold w (of_task task)) }
+    ensures task { IfOk result (λ task. (t : Reading) → task_of t task ≡
+        ToCall (DoNew class.0 class.0 args.now (bindings t kw.now))) }
+    ensures holds { IfOk result (λ task. (w : World) → AllHold w (IsClass class.0 ∷ of_args args.now kw.now) →
+        AllHold w (of_task task)) }
 {
     let args = copy_args(alloc, args)?;
     let kw = copy_keywords(alloc, kw)?;
@@ -89,8 +91,11 @@ fn initialised(
     kw: Keywords,
     object: PyObjectRef,
 ) -> Step<CallKept>
-    ensures goes { (w : World) → Continues (CallKept.AfterNew class args kw) (Ok (Answer.Value object)) (λ t u. cond is_answer (Ends u (value object)) (pass u (ToCall (DoInit object args.items (bindings t kw.items))))) w w result }
-    ensures safe { (w : World) → AllHold w (IsClass class.0 ∷ of_args args.items kw.items) → Holds w (IsNode object) → OpensNone w result }
+    ensures goes { (w : World) → Continues (CallKept.AfterNew class args kw) (Ok (Answer.Value object)) (λ t u.
+        cond is_answer (Ends u (value object)) (pass u (ToCall (DoInit object args.items (bindings t kw.items)))))
+        w w result }
+    ensures safe { (w : World) → AllHold w (IsClass class.0 ∷ of_args args.items kw.items) → Holds w (IsNode object) →
+        OpensNone w result }
 {
     if is_answer {
         Step::End(Ok(Answer::Value(object)))
@@ -105,7 +110,6 @@ fn initialised(
 /// An object of a class is made, as a class makes objects.
 pub(crate) fn begin_new(
     world: &mut World,
-    alloc: Global,
     by: PyTypeRef,
     class: PyTypeRef,
     args: Args,
@@ -116,13 +120,12 @@ pub(crate) fn begin_new(
     ensures safe { LeavesNone world.old world.new result }
 {
     let entry = world.class_slot(by, SlotId::New);
-    new_by(world, alloc, entry, by, class, args, kw)
+    new_by(world, entry, by, class, args, kw)
 }
 
 // An object is made by an entry: a native, or the method of that name.
 fn new_by(
     world: &World,
-    alloc: Global,
     entry: Option<SlotEntry>,
     by: PyTypeRef,
     class: PyTypeRef,
@@ -130,9 +133,11 @@ fn new_by(
     kw: Keywords,
 ) -> Result<Step<CallKept>, OutOfMemory>
     requires { AllHold world.now (IsClass class.0 ∷ of_args args.items kw.items) }
-    ensures goes { IfOk result (λ step. Decides (call.New by class args kw) (λ t u. new_by u entry class.0 args.items (bindings t kw.items)) world.now world.now step) }
+    ensures goes { IfOk result (λ step. Decides (call.New by class args kw) (λ t u.
+        new_by u entry class.0 args.items (bindings t kw.items)) world.now world.now step) }
     ensures safe { LeavesNone world.now world.now result }
 {
+    let alloc = world.alloc();
     match entry {
         Some(SlotEntry::Native(native)) => {
             let args = bound(alloc, world.class_object(class), args)?;
@@ -140,16 +145,15 @@ fn new_by(
         }
         Some(SlotEntry::Wrapper(_)) => {
             let method = world.class_attr(class, world.known(Known::New));
-            new_found(world, alloc, method, by, class, args, kw)
+            new_found(world, method, by, class, args, kw)
         }
-        _ => Ok(refused(Kind::TypeError, Cause::CannotCreate)),
+        _ => Ok(Step::raise(Cause::CannotCreate)),
     }
 }
 
 // An object is made by the method that was found, if any.
 fn new_found(
     world: &World,
-    alloc: Global,
     method: Option<PyObjectRef>,
     by: PyTypeRef,
     class: PyTypeRef,
@@ -158,11 +162,13 @@ fn new_found(
 ) -> Result<Step<CallKept>, OutOfMemory>
     requires args { AllHold world.now (IsClass class.0 ∷ of_args args.items kw.items) }
     requires method { AllHold world.now (of_option of_node_ref method) }
-    ensures goes { IfOk result (λ step. Decides (call.New by class args kw) (λ t u. new_found u method class.0 args.items (bindings t kw.items)) world.now world.now step) }
+    ensures goes { IfOk result (λ step. Decides (call.New by class args kw) (λ t u.
+        new_found u method class.0 args.items (bindings t kw.items)) world.now world.now step) }
     ensures safe { IfOk result (λ step. OpensNone world.now step) }
 {
+    let alloc = world.alloc();
     match method {
-        None => Ok(refused(Kind::AttributeError, Cause::NoSpecial)),
+        None => Ok(Step::raise(Cause::NoSpecial)),
         Some(method) => {
             let args = bound(alloc, world.class_object(class), args)?;
             Ok(Step::Ask(Task::Call(CallTask::Call(method, args, kw)), CallKept::Pass))

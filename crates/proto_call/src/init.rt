@@ -7,13 +7,13 @@ ghost use Rattle.class_world.specs.Claims.{of_args};
 ghost use Rattle.proto_call.specs.Rows.{Begins, Resumes, OpensNone, LeavesNone};
 
 use crate::CallKept;
-use crate::asked::{bound, refused, special};
+use crate::asked::{bound, special};
 use class_world::args::native_task;
 use class_world::world::{Fixed, World};
 use py_node::entry::{SlotEntry, SlotId};
 use py_node::known::Known;
 use py_node::memory::OutOfMemory;
-use py_node::raised::{Cause, Kind};
+use py_node::raised::Cause;
 use py_node::refs::PyObjectRef;
 use py_node::task::{Answer, Args, Keywords, Step};
 use std::alloc::Global;
@@ -22,7 +22,6 @@ use std::alloc::Global;
 /// special method.
 pub(crate) fn begin_init(
     world: &World,
-    alloc: Global,
     object: PyObjectRef,
     args: Args,
     kw: Keywords,
@@ -31,6 +30,7 @@ pub(crate) fn begin_init(
     ensures goes { IfOk result (λ step. Begins (call.Init object args kw) world.now world.now step) }
     ensures safe { LeavesNone world.now world.now result }
 {
+    let alloc = world.alloc();
     match world.slot(object, SlotId::Init) {
         Some(SlotEntry::Native(native)) => {
             let args = bound(alloc, object, args)?;
@@ -53,6 +53,6 @@ pub(crate) fn resume_init(world: &World, given: PyObjectRef) -> Step<CallKept>
     if given == world.fixed(Fixed::None) {
         Step::End(Ok(Answer::Value(given)))
     } else {
-        refused(Kind::TypeError, Cause::InitNotNone)
+        Step::raise(Cause::InitNotNone)
     }
 }

@@ -46,7 +46,6 @@ pub enum CallKept {
 /// Begins a task.
 pub fn begin(
     world: &mut World,
-    alloc: Global,
     task: CallTask,
 ) -> Result<Step<CallKept>, OutOfMemory>
     requires { AllHold world.old (of_call_task task) }
@@ -54,19 +53,18 @@ pub fn begin(
     ensures safe { LeavesOpen of_call_kept bodies_of 0 world.old world.new result }
 {
     match task {
-        CallTask::Call(f, args, kw) => begin_call(world, alloc, f, args, kw),
-        CallTask::Body(f, args, kw) => begin_body(world, alloc, f, args, kw),
-        CallTask::TypeCall(class, args, kw) => begin_type_call(world, alloc, class, args, kw),
-        CallTask::New(by, class, args, kw) => begin_new(world, alloc, by, class, args, kw),
-        CallTask::Init(object, args, kw) => begin_init(world, alloc, object, args, kw),
-        CallTask::Object(native, args, kw) => begin_object(world, alloc, native, args, kw),
+        CallTask::Call(f, args, kw) => begin_call(world, f, args, kw),
+        CallTask::Body(f, args, kw) => begin_body(world, f, args, kw),
+        CallTask::TypeCall(class, args, kw) => begin_type_call(world, class, args, kw),
+        CallTask::New(by, class, args, kw) => begin_new(world, by, class, args, kw),
+        CallTask::Init(object, args, kw) => begin_init(world, object, args, kw),
+        CallTask::Object(native, args, kw) => begin_object(world, native, args, kw),
     }
 }
 
 /// Goes on with a task that was given an answer.
 pub fn resume(
     world: &mut World,
-    alloc: Global,
     kept: CallKept,
     answer: Result<Answer, Raised>,
 ) -> Result<Step<CallKept>, OutOfMemory>

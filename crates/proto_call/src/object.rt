@@ -13,7 +13,6 @@ ghost use Rattle.plain_machine.specs.Known.{the_object};
 ghost use Rattle.proto_call.specs.Rows.{Begins, Resumes, Closes, Does, OpensNone, LeavesNone};
 
 use crate::CallKept;
-use crate::asked::refused;
 use class_world::takes::{one, three, two};
 use class_world::world::{Fixed, World};
 use py_node::built_in::BuiltIn;
@@ -21,7 +20,7 @@ use py_node::entry::ObjectNative;
 use py_node::known::Known;
 use py_node::memory::OutOfMemory;
 use py_node::payload::Payload;
-use py_node::raised::{Cause, Kind, Raised};
+use py_node::raised::{Cause, Raised};
 use py_node::refs::{PyObjectRef, PyStrInterned, PyTypeRef};
 use py_node::task::{Answer, Args, AttributeTask, Keywords, PySetterValue, Step, Task};
 use std::alloc::Global;
@@ -29,7 +28,6 @@ use std::alloc::Global;
 /// A native of `object`.
 pub(crate) fn begin_object(
     world: &mut World,
-    alloc: Global,
     native: ObjectNative,
     args: Args,
     kw: Keywords,
@@ -38,14 +36,13 @@ pub(crate) fn begin_object(
     ensures goes { IfOk result (λ step. Begins (call.Object native args kw) world.old world.new step) }
     ensures safe { LeavesNone world.old world.new result }
 {
-    let step = object_by(world, alloc, native, &args, &kw)?;
+    let step = object_by(world, native, &args, &kw)?;
     Ok(step)
 }
 
 // What a native of `object` does with its arguments and keywords.
 fn object_by(
     world: &mut World,
-    alloc: Global,
     native: ObjectNative,
     args: &[PyObjectRef],
     kw: &[(PyStrInterned, PyObjectRef)],
@@ -56,11 +53,11 @@ fn object_by(
     ensures safe { LeavesNone world.old world.new result }
 {
     match native {
-        ObjectNative::New => object_new(world, alloc, args),
+        ObjectNative::New => object_new(world, args),
         ObjectNative::Init => Ok(object_init(world, args)),
         ObjectNative::InitSubclass => Ok(object_init_subclass(world, args, kw)),
-        ObjectNative::GetAttribute => object_get_attribute(world, alloc, args, kw),
-        ObjectNative::SetAttr => object_set_attr(world, alloc, args, kw),
+        ObjectNative::GetAttribute => object_get_attribute(world, args, kw),
+        ObjectNative::SetAttr => object_set_attr(world, args, kw),
         _ => Ok(Step::not_yet()),
     }
 }
@@ -70,7 +67,6 @@ fn object_by(
 #[tactic(auto, using(crate::proofs::Items::item_holds), unfolding(crate::specs::Say::call_job_say, py_node::specs::BuiltIns::place_of))]
 fn object_new(
     world: &mut World,
-    alloc: Global,
     args: &[PyObjectRef],
 ) -> Result<Step<CallKept>, OutOfMemory>
     requires { Holds world.old (AreNodes args.now) }
@@ -78,22 +74,22 @@ fn object_new(
     ensures safe { LeavesNone world.old world.new result }
 {
     let [class, ..] = args else {
-        return Ok(refused(Kind::TypeError, Cause::ArgCount));
+        return Ok(Step::raise(Cause::ArgCount));
     };
     let Some(class) = world.class_number(*class) else {
-        return Ok(refused(Kind::TypeError, Cause::SelfType));
+        return Ok(Step::raise(Cause::SelfType));
     };
     let Some(built_in) = world.nearest_built_in(class) else {
-        return Ok(refused(Kind::TypeError, Cause::UnsafeNew));
+        return Ok(Step::raise(Cause::UnsafeNew));
     };
     if built_in.0 != BuiltIn::Object.class().0 {
-        return Ok(refused(Kind::TypeError, Cause::UnsafeNew));
+        return Ok(Step::raise(Cause::UnsafeNew));
     }
     let methods = world.class_attr(class, world.known(Known::Abstractmethods));
     if is_abstract(world, methods) {
-        return Ok(refused(Kind::TypeError, Cause::AbstractMethods));
+        return Ok(Step::raise(Cause::AbstractMethods));
     }
-    let node = world.make_node(alloc, class, Payload::Object)?;
+    let node = world.make_node(class, Payload::Object)?;
     Ok(Step::End(Ok(Answer::Value(node))))
 }
 
@@ -124,7 +120,7 @@ fn object_init(world: &World, args: &[PyObjectRef]) -> Step<CallKept>
     ensures safe { OpensNone world.now result }
 {
     match args {
-        [] => refused(Kind::TypeError, Cause::ArgCount),
+        [] => Step::raise(Cause::ArgCount),
         _ => Step::End(Ok(Answer::Value(world.fixed(Fixed::None)))),
     }
 }
@@ -147,7 +143,6 @@ fn object_init_subclass(
 // An attribute by its name, as objects read it.
 fn object_get_attribute(
     world: &mut World,
-    alloc: Global,
     args: &[PyObjectRef],
     kw: &[(PyStrInterned, PyObjectRef)],
 ) -> Result<Step<CallKept>, OutOfMemory>
@@ -158,7 +153,7 @@ fn object_get_attribute(
 {
     match two(args, kw) {
         Err(raised) => Ok(Step::End(Err(raised))),
-        Ok((o, name)) => match world.name_in(alloc, name)? {
+        Ok((o, name)) => match world.name_in(name)? {
             Err(raised) => Ok(Step::End(Err(raised))),
             Ok(name) => Ok(asked(AttributeTask::Generic(o, name))),
         },
@@ -168,7 +163,6 @@ fn object_get_attribute(
 // An attribute by its name, as objects set it.
 fn object_set_attr(
     world: &mut World,
-    alloc: Global,
     args: &[PyObjectRef],
     kw: &[(PyStrInterned, PyObjectRef)],
 ) -> Result<Step<CallKept>, OutOfMemory>
@@ -179,7 +173,7 @@ fn object_set_attr(
 {
     match three(args, kw) {
         Err(raised) => Ok(Step::End(Err(raised))),
-        Ok((o, name, value)) => match world.name_in(alloc, name)? {
+        Ok((o, name, value)) => match world.name_in(name)? {
             Err(raised) => Ok(Step::End(Err(raised))),
             Ok(name) => {
                 let value = PySetterValue::Assign(value);

@@ -42,7 +42,8 @@ fn is_member(names: &[PyStrInterned], name: PyStrInterned) -> bool
 
 // Whether a keyword names a parameter that has no value yet.
 fn is_open(params: &[PyStrInterned], vars: &PyAttributes, name: PyStrInterned) -> bool
-    ensures { (t : Reading) → (is_member (map (spelled t) params.now) (spelled t name) && is_none (value_at (bindings t vars.now) (spelled t name))) ≡ result }
+    ensures { (t : Reading) → (is_member (map (spelled t) params.now) (spelled t name) &&
+        is_none (value_at (bindings t vars.now) (spelled t name))) ≡ result }
 {
     is_member(params, name) && !vars.contains(name)
 }
@@ -53,9 +54,12 @@ pub(crate) fn with_keywords(
     params: &[PyStrInterned],
     keywords: &[(PyStrInterned, PyObjectRef)],
 ) -> Result<Option<PyAttributes>, OutOfMemory>
-    ensures vars { IfOk result (λ o. (t : Reading) → option_map (bindings t) o ≡ with_keywords (map (spelled t) params.now) (bindings t vars) (bindings t keywords.now)) }
-    ensures keeps { IfOk result (λ o. IfSome o (λ more. (x : PyStrInterned) → has_value vars x ≡ true → has_value more x ≡ true)) }
-    ensures holds { IfOk result (λ o. IfSome o (λ more. (w : Held) → AllHold w (of_each of_binding vars) → AllHold w (of_each of_binding keywords.now) → AllHold w (of_each of_binding more))) }
+    ensures vars { IfOk result (λ o. (t : Reading) → option_map (bindings t) o ≡
+        with_keywords (map (spelled t) params.now) (bindings t vars) (bindings t keywords.now)) }
+    ensures keeps { IfOk result (λ o. IfSome o (λ more. (x : PyStrInterned) → has_value vars x ≡ true →
+        has_value more x ≡ true)) }
+    ensures holds { IfOk result (λ o. IfSome o (λ more. (w : Held) → AllHold w (of_each of_binding vars) →
+        AllHold w (of_each of_binding keywords.now) → AllHold w (of_each of_binding more))) }
 {
     for (name, value) in keywords {
         if !is_open(params, &vars, *name) {

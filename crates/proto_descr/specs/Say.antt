@@ -1,7 +1,6 @@
 -- What the rows of descriptors say.
 use Rattle.std.specs.Prelude.{ℕ, Bool, cond, not, eqb, ◌&&◌, false, [], ◌∷◌, Option, Some, None}
 use Rattle.py_node.specs.declared.refs.PyObjectRef.{PyObjectRef}
-use Rattle.py_node.specs.declared.raised.Kind.TheVariants.{TypeError}
 use Rattle.py_node.specs.declared.raised.Cause.TheVariants.{NeedsType}
 use Rattle.py_node.specs.declared.entry.SlotId.TheVariants.{DescrGet}
 use Rattle.py_node.specs.declared.entry.SlotEntry.{SlotEntry}
@@ -45,18 +44,18 @@ bound_native w x n o = Ends (with_node w the_builtin_method (ABuiltinMethod x n 
 -- a native of objects is bound to the object, where a class is given too
 abbrev pub object_get : PlainWorld → PyObjectRef → Text → NativeEntry → Option PyObjectRef → Option ℕ → Said
 object_get w m x n None c = Ends w (value m)
-object_get w m x n (Some o) None = Ends w (fault TypeError NeedsType)
+object_get w m x n (Some o) None = Ends w (fault NeedsType)
 object_get w m x n (Some o) (Some c) = bound_native w x n o
 
 -- a native of classes is bound to the object's class, or else to the class that is given
 abbrev pub class_get : PlainWorld → Text → NativeEntry → Option PyObjectRef → Option PyObjectRef → Said
-class_get w x n None None = Ends w (fault TypeError NeedsType)
+class_get w x n None None = Ends w (fault NeedsType)
 class_get w x n None (Some c) = bound_native w x n c
 class_get w x n (Some o) c = bound_native w x n (type_object w o)
 
 abbrev pub static_get : PlainWorld → PyObjectRef → Option PyObjectRef → Said
 static_get w m None = Ends w (value m)
-static_get w m (Some o) = Ends w (fault TypeError NeedsType)
+static_get w m (Some o) = Ends w (fault NeedsType)
 
 abbrev pub native_get : PlainWorld → Option Datum → PyObjectRef → Option PyObjectRef → Option PyObjectRef → Said
 native_get w (Some (AMethodDescriptor k x n flags)) m o c =

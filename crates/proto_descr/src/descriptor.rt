@@ -2,6 +2,7 @@
 #![tactic(auto, unfolding(crate::specs::Say::descriptor_say, py_node::specs::BuiltIns::place_of))]
 
 ghost use Rattle.std.specs.Prelude.{◌≡◌, ◌∷◌, ◌++◌, Option, Some, IfOk};
+ghost use Rattle.py_node.specs.Faults.{raised};
 ghost use Rattle.class_world.specs.Sound.{AllHold, Grows, Holds, IsName, IsNode, of_option, of_node_ref};
 ghost use Rattle.class_world.specs.Held.{Held};
 ghost use Rattle.class_world.specs.Claims.{of_descriptor_task, of_ended, Leaves};
@@ -23,7 +24,7 @@ use py_node::flags::PyMethodFlags;
 use py_node::known::Known;
 use py_node::memory::OutOfMemory;
 use py_node::payload::{BoundMethod, BuiltinMethod, MethodDescriptor, Payload};
-use py_node::raised::{Cause, Kind, Raised};
+use py_node::raised::{Cause, Raised};
 use py_node::refs::{PyObjectRef, PyTypeRef};
 use py_node::task::{Answer, AttributeTask, Step, Task};
 use std::alloc::Global;
@@ -34,7 +35,6 @@ type Ended = Result<Answer, Raised>;
 // A descriptor's value for an object and a class, as its class's entry for that says.
 pub(crate) fn descr_get(
     world: &mut World,
-    alloc: Global,
     m: PyObjectRef,
     o: Option<PyObjectRef>,
     class: Option<PyObjectRef>,
@@ -45,14 +45,14 @@ pub(crate) fn descr_get(
 {
     match world.slot(m, SlotId::DescrGet) {
         None => Ok(Step::End(Ok(Answer::Value(m)))),
-        Some(SlotEntry::Wrapper(_)) => get_by_method(world, alloc, m, o, class),
+        Some(SlotEntry::Wrapper(_)) => get_by_method(world, m, o, class),
         Some(SlotEntry::Native(NativeEntry::OfCallable(CallableNative::GetFunction))) => {
             let class = class_of_option(world, class);
-            let ended = function_get(world, alloc, m, o, class)?;
+            let ended = function_get(world, m, o, class)?;
             Ok(Step::End(ended))
         }
         Some(SlotEntry::Native(NativeEntry::OfCallable(CallableNative::GetMethodDescriptor))) => {
-            get_of_native(world, alloc, m, o, class)
+            get_of_native(world, m, o, class)
         }
         Some(_) => Ok(Step::not_yet()),
     }
@@ -61,32 +61,34 @@ pub(crate) fn descr_get(
 // A native as a method is bound.
 fn get_of_native(
     world: &mut World,
-    alloc: Global,
     m: PyObjectRef,
     o: Option<PyObjectRef>,
     class: Option<PyObjectRef>,
 ) -> Result<Step<DescriptorKept>, OutOfMemory>
     requires { AllHold world.old (of_descriptor_task (descriptor.DescrGet m o class)) }
-    ensures goes { IfOk result (λ step. Starts (descriptor.DescrGet m o class) (λ t w. native_get w (datum_at w m) m o class) world.old world.new step) }
+    ensures goes { IfOk result (λ step.
+        Starts (descriptor.DescrGet m o class) (λ t w. native_get w (datum_at w m) m o class)
+        world.old world.new step) }
     ensures safe { Leaves of_descriptor_kept world.old world.new result }
 {
     let native = descriptor_of(world, m);
-    let ended = native_get(world, alloc, native, m, o, class)?;
+    let ended = native_get(world, native, m, o, class)?;
     Ok(Step::End(ended))
 }
 
 // A special method is asked, and is given None for what is missing.
 fn get_by_method(
     world: &World,
-    alloc: Global,
     m: PyObjectRef,
     o: Option<PyObjectRef>,
     class: Option<PyObjectRef>,
 ) -> Result<Step<DescriptorKept>, OutOfMemory>
     requires { AllHold world.now (of_descriptor_task (descriptor.DescrGet m o class)) }
-    ensures goes { IfOk result (λ step. Starts (descriptor.DescrGet m o class) (λ t w. descr_get_by w (Some (SlotEntry.Wrapper SlotId.DescrGet)) m o class) world.now world.now step) }
+    ensures goes { IfOk result (λ step. Starts (descriptor.DescrGet m o class) (λ t w.
+        descr_get_by w (Some (SlotEntry.Wrapper SlotId.DescrGet)) m o class) world.now world.now step) }
     ensures safe { Leaves of_descriptor_kept world.now world.now result }
 {
+    let alloc = world.alloc();
     let object = or_none(world, o);
     let class = or_none(world, class);
     let method = world.known(Known::Get);
@@ -121,7 +123,6 @@ fn class_of_option(world: &World, object: Option<PyObjectRef>) -> Option<PyTypeR
 // A function is bound to an object, but not to None unless it is looked up in None's class.
 fn function_get(
     world: &mut World,
-    alloc: Global,
     m: PyObjectRef,
     o: Option<PyObjectRef>,
     class: Option<PyTypeRef>,
@@ -142,7 +143,7 @@ fn function_get(
                 func: m,
             };
             let class = world.built_in(BuiltIn::Method);
-            let node = world.make_node(alloc, class, Payload::Method(method))?;
+            let node = world.make_node(class, Payload::Method(method))?;
             Ok(Ok(Answer::Value(node)))
         }
     }
@@ -168,7 +169,8 @@ fn is_none_type(class: Option<PyTypeRef>) -> bool
 // The native that an object is as a method, if it is one.
 fn descriptor_of(world: &World, m: PyObjectRef) -> Option<MethodDescriptor>
     requires { Holds world.now (IsNode m) }
-    ensures reads { (t : Reading) (u : PlainWorld) (o : Option Object) (c : Option Object) → native_get u (datum_at (plain t world.now) m) m o c ≡ native_get u (described t result) m o c }
+    ensures reads { (t : Reading) (u : PlainWorld) (o : Option Object) (c : Option Object) →
+        native_get u (datum_at (plain t world.now) m) m o c ≡ native_get u (described t result) m o c }
     ensures holds { AllHold world.now (of_option native_of result) }
 {
     match world.payload(m) {
@@ -180,7 +182,6 @@ fn descriptor_of(world: &World, m: PyObjectRef) -> Option<MethodDescriptor>
 // A native as a method is bound as its flags say.
 fn native_get(
     world: &mut World,
-    alloc: Global,
     native: Option<MethodDescriptor>,
     m: PyObjectRef,
     o: Option<PyObjectRef>,
@@ -188,7 +189,8 @@ fn native_get(
 ) -> Result<Ended, OutOfMemory>
     requires native { AllHold world.old (of_option native_of native) }
     requires task { AllHold world.old (of_descriptor_task (descriptor.DescrGet m o class)) }
-    ensures goes { IfOk result (λ r. Closes (λ t w. native_get w (described t native) m o class) world.old world.new r) }
+    ensures goes { IfOk result (λ r.
+        Closes (λ t w. native_get w (described t native) m o class) world.old world.new r) }
     ensures grows { Grows world.old world.new }
     ensures safe { IfOk result (λ r. AllHold world.new (of_ended r)) }
 {
@@ -198,9 +200,9 @@ fn native_get(
             let flags = PyMethodFlags(native.flags);
             if flags.contains(PyMethodFlags::METHOD) {
                 let class = class_of_option(world, class);
-                object_get(world, alloc, native, m, o, class)
+                object_get(world, native, m, o, class)
             } else if flags.contains(PyMethodFlags::CLASS) {
-                class_get(world, alloc, native, o, class)
+                class_get(world, native, o, class)
             } else {
                 Ok(static_get(m, o))
             }
@@ -211,7 +213,6 @@ fn native_get(
 // A native of objects is bound to the object, where a class is given too.
 fn object_get(
     world: &mut World,
-    alloc: Global,
     native: MethodDescriptor,
     m: PyObjectRef,
     o: Option<PyObjectRef>,
@@ -219,7 +220,8 @@ fn object_get(
 ) -> Result<Ended, OutOfMemory>
     requires name { Holds world.old (IsName native.name) }
     requires task { AllHold world.old (IsNode m ∷ of_option of_node_ref o) }
-    ensures goes { IfOk result (λ r. Closes (λ t w. object_get w m (spelled t native.name) native.entry o (number class)) world.old world.new r) }
+    ensures goes { IfOk result (λ r.
+        Closes (λ t w. object_get w m (spelled t native.name) native.entry o (number class)) world.old world.new r) }
     ensures grows { Grows world.old world.new }
     ensures safe { IfOk result (λ r. AllHold world.new (of_ended r)) }
 {
@@ -227,7 +229,7 @@ fn object_get(
         None => Ok(Ok(Answer::Value(m))),
         Some(object) => match class {
             None => Ok(Err(needs_type())),
-            Some(_) => bound_native(world, alloc, native, object),
+            Some(_) => bound_native(world, native, object),
         },
     }
 }
@@ -235,25 +237,25 @@ fn object_get(
 // A native of classes is bound to the object's class, or else to the class that is given.
 fn class_get(
     world: &mut World,
-    alloc: Global,
     native: MethodDescriptor,
     o: Option<PyObjectRef>,
     class: Option<PyObjectRef>,
 ) -> Result<Ended, OutOfMemory>
     requires name { Holds world.old (IsName native.name) }
     requires task { AllHold world.old (of_option of_node_ref o ++ of_option of_node_ref class) }
-    ensures goes { IfOk result (λ r. Closes (λ t w. class_get w (spelled t native.name) native.entry o class) world.old world.new r) }
+    ensures goes { IfOk result (λ r.
+        Closes (λ t w. class_get w (spelled t native.name) native.entry o class) world.old world.new r) }
     ensures grows { Grows world.old world.new }
     ensures safe { IfOk result (λ r. AllHold world.new (of_ended r)) }
 {
     match o {
         Some(object) => {
             let target = world.type_object(object);
-            bound_native(world, alloc, native, target)
+            bound_native(world, native, target)
         }
         None => match class {
             None => Ok(Err(needs_type())),
-            Some(target) => bound_native(world, alloc, native, target),
+            Some(target) => bound_native(world, native, target),
         },
     }
 }
@@ -271,24 +273,21 @@ fn static_get(m: PyObjectRef, o: Option<PyObjectRef>) -> Ended
 
 // A class is wanted.
 fn needs_type() -> Raised
-    ensures { result ≡ record { kind = Kind.TypeError; cause = Cause.NeedsType } }
+    ensures { result ≡ raised Cause.NeedsType }
 {
-    Raised {
-        kind: Kind::TypeError,
-        cause: Cause::NeedsType,
-    }
+    Raised::new(Cause::NeedsType)
 }
 
 // A native is bound to an object.
 fn bound_native(
     world: &mut World,
-    alloc: Global,
     native: MethodDescriptor,
     target: PyObjectRef,
 ) -> Result<Ended, OutOfMemory>
     requires name { Holds world.old (IsName native.name) }
     requires target { Holds world.old (IsNode target) }
-    ensures goes { IfOk result (λ r. Closes (λ t w. bound_native w (spelled t native.name) native.entry target) world.old world.new r) }
+    ensures goes { IfOk result (λ r.
+        Closes (λ t w. bound_native w (spelled t native.name) native.entry target) world.old world.new r) }
     ensures grows { Grows world.old world.new }
     ensures safe { IfOk result (λ r. AllHold world.new (of_ended r)) }
 {
@@ -298,6 +297,6 @@ fn bound_native(
         target,
     };
     let class = world.built_in(BuiltIn::BuiltinMethod);
-    let node = world.make_node(alloc, class, Payload::BuiltinMethod(method))?;
+    let node = world.make_node(class, Payload::BuiltinMethod(method))?;
     Ok(Ok(Answer::Value(node)))
 }

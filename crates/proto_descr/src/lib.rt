@@ -24,7 +24,6 @@ pub enum DescriptorKept {
 /// Begins a task.
 pub fn begin(
     world: &mut World,
-    alloc: Global,
     task: DescriptorTask,
 ) -> Result<Step<DescriptorKept>, OutOfMemory>
     requires { AllHold world.old (of_descriptor_task task) }
@@ -32,7 +31,7 @@ pub fn begin(
     ensures safe { Leaves of_descriptor_kept world.old world.new result }
 {
     match task {
-        DescriptorTask::DescrGet(m, o, class) => descriptor::descr_get(world, alloc, m, o, class),
+        DescriptorTask::DescrGet(m, o, class) => descriptor::descr_get(world, m, o, class),
         _ => Ok(Step::not_yet()),
     }
 }

@@ -10,7 +10,6 @@ use Rattle.py_node.specs.declared.task.OperatorTask.{OperatorTask}
 use Rattle.py_node.specs.declared.task.PyNumberBinaryOp.TheVariants.{Add}
 use Rattle.py_node.specs.declared.task.Step.{Step}
 use Rattle.plain_machine.specs.Plain.{OperatorJob, DoAdd, DoBinOp1, DoEnter, DoInt, Read}
-use Rattle.py_node.specs.declared.raised.Kind.TheVariants.{TypeError}
 use Rattle.py_node.specs.declared.raised.Cause.TheVariants.{UnsupportedOperand}
 use Rattle.py_node.specs.declared.task.Step.TheVariants.{Ask, End}
 use Rattle.py_node.specs.declared.task.Task.TheVariants as task
@@ -56,7 +55,7 @@ Sums a b = Goes operator_say operator_stands (λ t. fresh (DoInt int.Add (a ∷ 
 -- the steps of the code, by what was read
 
 abbrev pub joining : Option SlotEntry → PyObjectRef → PyObjectRef → Step OperatorKept
-joining None a b = End (fault TypeError UnsupportedOperand)
+joining None a b = End (fault UnsupportedOperand)
 joining (Some s) a b = Ask (task.Operator (operator.Concat a b)) Pass
 
 abbrev pub entered : PyObjectRef → PyObjectRef → PyObjectRef → List SlotEntry → Step OperatorKept

@@ -1,7 +1,6 @@
 -- What the rows of operators say.
 use Rattle.std.specs.Prelude.{◌^◌, ℤ, pos, negsuc, ◌+ℤ◌, Bool, cond, eqb, List, [], ◌∷◌, Option, Some, None, nat_lt}
 use Rattle.py_node.specs.declared.refs.PyObjectRef.{PyObjectRef}
-use Rattle.py_node.specs.declared.raised.Kind.TheVariants.{TypeError, OverflowError}
 use Rattle.py_node.specs.declared.raised.Cause.TheVariants.{UnsupportedOperand, IntRange, ArgCount, UnexpectedKeyword}
 use Rattle.py_node.specs.declared.entry.SlotId.{SlotId}
 use Rattle.py_node.specs.declared.entry.SlotId.TheVariants.{SeqItem}
@@ -60,7 +59,7 @@ enter_say w s a b = start (enter_by w s a b) (end w)
 
 -- a sequence is joined, and nothing else
 abbrev pub joined : PlainWorld → Option SlotEntry → PyObjectRef → PyObjectRef → Said
-joined w None a b = Ends w (fault TypeError UnsupportedOperand)
+joined w None a b = Ends w (fault UnsupportedOperand)
 joined w (Some s) a b = pass w (ToOperator (DoConcat a b))
 
 -- where no candidate serves, sequences are joined
@@ -79,7 +78,7 @@ abbrev pub total : ℤ → ℤ → Option ℤ
 total x y = cond (fits (x +ℤ y)) (Some (x +ℤ y)) None
 
 abbrev pub int_or_fault : PlainWorld → Option ℤ → Row
-int_or_fault w None = end w (fault OverflowError IntRange)
+int_or_fault w None = end w (fault IntRange)
 int_or_fault w (Some z) = make w the_int (ANumber z)
 
 abbrev pub sum_say : PlainWorld → Option ℤ → Option ℤ → Row
@@ -88,11 +87,11 @@ sum_say w _ _ = end w (value not_implemented)
 
 abbrev pub without_keywords : PlainWorld → Bindings → Row → Row
 without_keywords w [] go = go
-without_keywords w (k ∷ kw) go = end w (fault TypeError UnexpectedKeyword)
+without_keywords w (k ∷ kw) go = end w (fault UnexpectedKeyword)
 
 -- the sum of two whole numbers. Two operands are wanted, and no keyword
 abbrev pub int_say : PlainWorld → Option (PyObjectRef × PyObjectRef) → Bindings → Row
-int_say w None kw = end w (fault TypeError ArgCount)
+int_say w None kw = end w (fault ArgCount)
 int_say w (Some p) kw = without_keywords w kw (sum_say w (number_of (datum_at w p.0)) (number_of (datum_at w p.1)))
 
 unfoldable pub operator_say : PlainWorld → OperatorJob → Row

@@ -17,7 +17,7 @@ use py_node::built_in::BuiltIn;
 use py_node::entry::{IntNative, SlotEntry, SlotId};
 use py_node::memory::OutOfMemory;
 use py_node::payload::Payload;
-use py_node::raised::{Cause, Kind, Raised};
+use py_node::raised::{Cause, Raised};
 use py_node::refs::PyObjectRef;
 use py_node::task::{
     Answer, Args, AttributeTask, Keywords, OperatorTask, PyNumberBinaryOp, Step, Task,
@@ -38,7 +38,6 @@ pub enum OperatorKept {
 /// Begins a task.
 pub fn begin(
     world: &mut World,
-    alloc: Global,
     task: OperatorTask,
 ) -> Result<Step<OperatorKept>, OutOfMemory>
     requires { AllHold world.old (of_operator_task task) }
@@ -51,8 +50,8 @@ pub fn begin(
             OperatorKept::AddRest(a, b),
         )),
         OperatorTask::BinOp1(op, a, b) => binop1(world, op, a, b),
-        OperatorTask::Enter(entry, a, b) => enter(world, alloc, entry, a, b),
-        OperatorTask::Int(native, args, kw) => int(world, alloc, native, args, kw),
+        OperatorTask::Enter(entry, a, b) => enter(world, entry, a, b),
+        OperatorTask::Int(native, args, kw) => int(world, native, args, kw),
         _ => Ok(Step::not_yet()),
     }
 }
@@ -98,7 +97,8 @@ fn add_rest(
     requires a { Holds world.old (IsNode a) }
     requires b { Holds world.old (IsNode b) }
     requires answer { Holds world.old (IsNode x) }
-    ensures goes { IfOk result (λ step. Resumes (OperatorKept.AddRest a b) (Ok (Answer.Value x)) world.old world.new step) }
+    ensures goes { IfOk result (λ step.
+        Resumes (OperatorKept.AddRest a b) (Ok (Answer.Value x)) world.old world.new step) }
     ensures safe { Leaves of_operator_kept world.old world.new result }
 {
     if !is_not_implemented(x) {
@@ -117,10 +117,7 @@ fn joining(item: Option<SlotEntry>, a: PyObjectRef, b: PyObjectRef) -> Step<Oper
             Task::Operator(OperatorTask::Concat(a, b)),
             OperatorKept::Pass,
         ),
-        None => Step::End(Err(Raised {
-            kind: Kind::TypeError,
-            cause: Cause::UnsupportedOperand,
-        })),
+        None => Step::raise(Cause::UnsupportedOperand),
     }
 }
 
@@ -135,7 +132,8 @@ fn next_candidate(
     requires a { Holds world.old (IsNode a) }
     requires b { Holds world.old (IsNode b) }
     requires answer { Holds world.old (IsNode x) }
-    ensures goes { IfOk result (λ step. Resumes (OperatorKept.Candidate next a b) (Ok (Answer.Value x)) world.old world.new step) }
+    ensures goes { IfOk result (λ step.
+        Resumes (OperatorKept.Candidate next a b) (Ok (Answer.Value x)) world.old world.new step) }
     ensures safe { Leaves of_operator_kept world.old world.new result }
 {
     if !is_not_implemented(x) {
@@ -194,7 +192,6 @@ fn enter_first(
 // An entry is entered with both operands.
 fn enter(
     world: &World,
-    alloc: Global,
     entry: SlotEntry,
     a: PyObjectRef,
     b: PyObjectRef,
@@ -203,13 +200,14 @@ fn enter(
     ensures goes { IfOk result (λ step. Begins (operator.Enter entry a b) world.now world.now step) }
     ensures safe { Leaves of_operator_kept world.now world.now result }
 {
+    let alloc = world.alloc();
     match entry {
         SlotEntry::Native(native) => {
             let args = both(alloc, a, b)?;
             let task = native_task(native, args, Vec::new(alloc));
             Ok(Step::Ask(task, OperatorKept::Pass))
         }
-        SlotEntry::Wrapper(slot) => enter_method(world, alloc, slot, a, b),
+        SlotEntry::Wrapper(slot) => enter_method(world, slot, a, b),
         SlotEntry::Unhashable => Ok(Step::not_yet()),
     }
 }
@@ -217,7 +215,6 @@ fn enter(
 // The special method that a wrapper stands for: that of its slot's first name.
 fn enter_method(
     world: &World,
-    alloc: Global,
     slot: SlotId,
     a: PyObjectRef,
     b: PyObjectRef,
@@ -226,6 +223,7 @@ fn enter_method(
     ensures goes { IfOk result (λ step. Begins (operator.Enter (SlotEntry.Wrapper slot) a b) world.now world.now step) }
     ensures safe { Leaves of_operator_kept world.now world.now result }
 {
+    let alloc = world.alloc();
     let [name, ..] = slot.special_names() else {
         return Ok(Step::not_yet());
     };
@@ -247,7 +245,6 @@ fn in_order(reflected: bool, a: PyObjectRef, b: PyObjectRef) -> (PyObjectRef, Py
 // A native of `int`: the sum of two whole numbers.
 fn int(
     world: &mut World,
-    alloc: Global,
     native: IntNative,
     args: Args,
     kw: Keywords,
@@ -257,30 +254,19 @@ fn int(
     ensures safe { Leaves of_operator_kept world.old world.new result }
 {
     match two_of(&args) {
-        None => Ok(refused(Cause::ArgCount)),
+        None => Ok(Step::raise(Cause::ArgCount)),
         Some((a, b)) => {
             if !kw.is_empty() {
-                return Ok(refused(Cause::UnexpectedKeyword));
+                return Ok(Step::raise(Cause::UnexpectedKeyword));
             }
-            sum(world, alloc, a, b)
+            sum(world, a, b)
         }
     }
-}
-
-// A fault of a call.
-fn refused(cause: Cause) -> Step<OperatorKept>
-    ensures { result ≡ Step.End (Err (record { kind = Kind.TypeError; cause = cause })) }
-{
-    Step::End(Err(Raised {
-        kind: Kind::TypeError,
-        cause,
-    }))
 }
 
 // The sum of two whole numbers, or NotImplemented where one is none.
 fn sum(
     world: &mut World,
-    alloc: Global,
     a: PyObjectRef,
     b: PyObjectRef,
 ) -> Result<Step<OperatorKept>, OutOfMemory>
@@ -293,13 +279,10 @@ fn sum(
         (Some(x), Some(y)) => match total(x, y) {
             Some(z) => {
                 let class = world.built_in(BuiltIn::Int);
-                let node = world.make_node(alloc, class, Payload::Number(z))?;
+                let node = world.make_node(class, Payload::Number(z))?;
                 Ok(Step::End(Ok(Answer::Value(node))))
             }
-            None => Ok(Step::End(Err(Raised {
-                kind: Kind::OverflowError,
-                cause: Cause::IntRange,
-            }))),
+            None => Ok(Step::raise(Cause::IntRange)),
         },
         _ => Ok(Step::End(Ok(Answer::Value(world.fixed(Fixed::NotImplemented))))),
     }

@@ -13,6 +13,7 @@ use std::marker::Model;
 #[derive(Drop)]
 pub struct Names {
     texts: IndexSet<String>,
+    alloc: Global,
 }
 
 impl Model for Names {
@@ -33,6 +34,7 @@ impl Names {
     {
         Names {
             texts: IndexSet::new(alloc),
+            alloc,
         }
     }
 
@@ -45,7 +47,7 @@ impl Names {
     }
 
     /// The name of a text, which is new where the table lacks it. A known text takes no memory.
-    pub fn intern(&mut self, alloc: Global, text: &str) -> Result<PyStrInterned, OutOfMemory>
+    pub fn intern(&mut self, text: &str) -> Result<PyStrInterned, OutOfMemory>
         ensures spelled { IfOk result (λ n. slice_get self.new n.0 ≡ Some text.now) }
         ensures same { Stands self.old text.now → self.new ≡ self.old }
         ensures known { Stands self.old text.now → IsOk result }
@@ -56,7 +58,7 @@ impl Names {
     {
         match self.interned_str(text) {
             Some(name) => Ok(name),
-            None => self.push(alloc, text),
+            None => self.push(text),
         }
     }
 
@@ -80,12 +82,13 @@ impl Names {
     }
 
     // One more name, for a text that the table lacks.
-    fn push(&mut self, alloc: Global, text: &str) -> Result<PyStrInterned, OutOfMemory>
+    fn push(&mut self, text: &str) -> Result<PyStrInterned, OutOfMemory>
         requires { Stands self.old text.now → ⊥ }
         ensures last { IfOk result (λ n. n.0 ≡ length self.old) }
         ensures added { OnOk result (self.new ≡ self.old ++ text.now ∷ []) }
         ensures err { OnErr result (self.new ≡ self.old) }
     {
+        let alloc = self.alloc;
         let number = self.texts.len();
         let copy = String::from_str(alloc, text)?;
         self.texts.insert(copy)?;

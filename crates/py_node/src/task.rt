@@ -5,7 +5,7 @@ ghost use Rattle.py_node.specs.Faults.{raised};
 
 use crate::entry::{IntNative, NativeEntry, ObjectNative, SlotEntry, TypeNative};
 use crate::protocol::{CompareTask, ObjectTask, ProtocolTask};
-use crate::raised::{Cause, Kind, Raised};
+use crate::raised::{Cause, Raised};
 use crate::refs::{PyObjectRef, PyStrInterned, PyTypeRef};
 
 /// A binary operator of numbers.
@@ -238,12 +238,9 @@ pub enum Step<K> {
 impl<K> Step<K> {
     /// The end of a row that is not there yet.
     pub fn not_yet() -> Step<K>
-        ensures { result ≡ Step.End (Err (record { kind = Kind.NotImplementedError; cause = Cause.NotYet })) }
+        ensures { result ≡ Step.End (Err (raised Cause.NotYet)) }
     {
-        Step::End(Err(Raised {
-            kind: Kind::NotImplementedError,
-            cause: Cause::NotYet,
-        }))
+        Step::raise(Cause::NotYet)
     }
 
     /// The row ends with a fault of a cause.

@@ -16,7 +16,8 @@ pub fn push_class_lines(
     line: &[&str],
     slots: &[&str],
 ) -> Result<(), OutOfMemory>
-    ensures { OnOk result (out.new.items ≡ out.old.items ++ class_lines name.now (map (λ s. s.now) line.now) (map (λ s. s.now) slots.now)) }
+    ensures { OnOk result (out.new.items ≡ out.old.items ++
+        class_lines name.now (map (λ s. s.now) line.now) (map (λ s. s.now) slots.now)) }
 {
     push_class_head(out, name)?;
     push_class_members(out, line)?;
@@ -77,7 +78,8 @@ pub fn push_end(out: &mut Vec<u8>) -> Result<(), OutOfMemory>
 
 // The names along a linearisation.
 fn push_class_members(out: &mut Vec<u8>, line: &[&str]) -> Result<(), OutOfMemory>
-    ensures { OnOk result (out.new.items ≡ out.old.items ++ joined (codes ", ") (map escaped (map (λ s. s.now) line.now))) }
+    ensures { OnOk result (out.new.items ≡ out.old.items ++
+        joined (codes ", ") (map escaped (map (λ s. s.now) line.now))) }
 {
     let mut is_first = true;
     for name in line {

@@ -99,7 +99,8 @@ pub fn read_script(alloc: Global, bytes: &[u8]) -> Result<Vec<Command>, ScriptFa
 // The JSON value of a text.
 fn read_value(alloc: Global, bytes: &[u8]) -> Result<Value, ScriptFault>
     ensures ok { IfOk result (λ v. value_of bytes.now ≡ Some (view v)) }
-    ensures script { (e : Refusal) → result ≡ Err (ScriptFault.Script e) → (e ≡ ScriptError.NotJson) × (value_of bytes.now ≡ None) }
+    ensures script { (e : Refusal) → result ≡ Err (ScriptFault.Script e) → (e ≡ ScriptError.NotJson) ×
+        (value_of bytes.now ≡ None) }
 {
     match Value::from_slice(alloc, bytes) {
         Ok(value) => Ok(value),

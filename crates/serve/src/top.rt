@@ -40,13 +40,15 @@ pub fn serve<S: Source, K: Sink>(
     // What has a script's answer, or failed in writing it, has read all; whatever comes, at most one byte
     // past the limit is read, and for words that are none nothing.
     ensures read { HasReadAll result → ForSome (S.left source.old) (λ _. S.left source.new ≡ Some []) }
-    ensures at_most { ForSome (S.left source.old) (λ bytes. (n : ℕ) × (n ≤ 2 ^ 24 + 1) × (S.left source.new ≡ Some (drop n bytes))) }
+    ensures at_most { ForSome (S.left source.old) (λ bytes. (n : ℕ) × (n ≤ 2 ^ 24 + 1) ×
+        (S.left source.new ≡ Some (drop n bytes))) }
     ensures unread { result ≡ Status.Usage → source.new ≡ source.old }
     // Usage comes exactly where the words are none that the program knows.
     ensures usage { result ≡ Status.Usage → units_in (map string_bytes words.now) ≡ None }
     ensures only_usage { units_in (map string_bytes words.now) ≡ None → result ≡ Status.Usage }
     // A word of a script comes only where the bytes, which are few enough, give it.
-    ensures script { (e : Refusal) → result ≡ Status.Script e → ForSome (S.left source.old) (λ bytes. (length bytes ≤ 2 ^ 24) × (script_of bytes ≡ Err e)) }
+    ensures script { (e : Refusal) → result ≡ Status.Script e → ForSome (S.left source.old) (λ bytes.
+        (length bytes ≤ 2 ^ 24) × (script_of bytes ≡ Err e)) }
     ensures read_fault { result ≡ Status.ReadFault → Rose (S.faults source.old) (S.faults source.new) }
     ensures too_large { result ≡ Status.TooLarge → ForSome (S.left source.old) (λ bytes. 2 ^ 24 < length bytes) }
     ensures fits { ForSome (S.left source.old) (λ bytes. length bytes ≤ 2 ^ 24 → result ≡ Status.TooLarge → ⊥) }
@@ -56,7 +58,8 @@ pub fn serve<S: Source, K: Sink>(
         × ForSome (S.left source.old) (λ bytes. (length bytes ≤ 2 ^ 24) × (text : List ℕ) × IsTextOf bytes units text
         × ForSome (K.taken sink.old) (λ old. (n : ℕ) × (n < length text) × (K.taken sink.new ≡ Some (old ++ take n text)))) }
     // With any other end nothing is written.
-    ensures nothing { (result ≡ Status.Done → ⊥) → (result ≡ Status.WriteFault → ⊥) → K.taken sink.new ≡ K.taken sink.old }
+    ensures nothing { (result ≡ Status.Done → ⊥) → (result ≡ Status.WriteFault → ⊥) → K.taken sink.new ≡
+        K.taken sink.old }
     // Words that are known, bytes that spell a script and are few enough, and no failure: then all is
     // written, or memory could not be had.
     ensures complete { (units : ℕ) → units_in (map string_bytes words.now) ≡ Some units
@@ -97,7 +100,8 @@ fn answer<K: Sink>(alloc: Global, bytes: &[u8], units: u64, sink: &mut K) -> Sta
     ensures write_fault { result ≡ Status.WriteFault → Rose (K.faults sink.old) (K.faults sink.new) }
     ensures front { result ≡ Status.WriteFault → (text : List ℕ) × IsTextOf bytes.now units text
         × ForSome (K.taken sink.old) (λ old. (n : ℕ) × (n < length text) × (K.taken sink.new ≡ Some (old ++ take n text))) }
-    ensures nothing { (result ≡ Status.Done → ⊥) → (result ≡ Status.WriteFault → ⊥) → K.taken sink.new ≡ K.taken sink.old }
+    ensures nothing { (result ≡ Status.Done → ⊥) → (result ≡ Status.WriteFault → ⊥) → K.taken sink.new ≡
+        K.taken sink.old }
     ensures complete { (commands : List Tree) → script_of bytes.now ≡ Ok commands
         → (Rose (K.faults sink.old) (K.faults sink.new) → ⊥) → IsDoneOrPoor result }
     ensures sure { (text : List ℕ) → IsTextOf bytes.now units text → length text ≤ K.sure sink.old
@@ -131,7 +135,7 @@ fn run_text(alloc: Global, commands: &[Command], units: u64) -> Result<Vec<u8>, 
     ensures { IfOk result (λ v. v.items ≡ run_text (trees_in commands.now) units) }
 {
     let mut vm = VirtualMachine::new(alloc)?;
-    match vm.run(alloc, commands, units) {
+    match vm.run(commands, units) {
         Ok(replies) => {
             let mut text = write_replies(alloc, &replies)?;
             push_classes(&mut text, vm.world())?;

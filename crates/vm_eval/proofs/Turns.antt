@@ -2,7 +2,6 @@
 use Rattle.std.proofs.Common.{◌≡◌, ℕ, zero, suc, ◌+◌, List, [], ◌∷◌, ◌++◌, length, map, refl, sym, ap, ◌∙◌, arith, zero-add, true, false, cond, nat_lt, length-append}
 use Rattle.std.specs.Prelude.{Result}
 use Rattle.std.proofs.lemmas.List.{map-append, length-map}
-use Rattle.py_node.specs.declared.raised.Kind.TheVariants.{RecursionError}
 use Rattle.py_node.specs.declared.raised.Cause.TheVariants.{DepthLimit}
 use Rattle.py_node.specs.declared.raised.Raised.{Raised as Fault}
 use Rattle.py_node.specs.declared.task.Answer.{Answer}
@@ -84,18 +83,18 @@ module _ (t : Reading) (old : World) (stack : List Kept) (task : Task) (kept : K
       let w = plain t old in
       let n = length (stack ++ kept ∷ []) in
       sym (pushed ∙ ap (unwind 0 (map (stands t) (stack ++ kept ∷ []))) (
-      ap (λ b. cond b (reach say w (task_of t task) [] left n) (Out w (Over (fault RecursionError DepthLimit)) left)) low
+      ap (λ b. cond b (reach say w (task_of t task) [] left n) (Out w (Over (fault DepthLimit)) left)) low
       ∙ reach-is say w (task_of t task) [] left n
       ∙ step-coming t (task_of t task) [] (say w (task_of t task) []) next new left n (h t reads).1))
 
   -- or it stands too deep
-  pub state-limit : nat_lt (length (stack ++ kept ∷ [])) 1000 ≡ false → state t old (stack ++ kept ∷ []) left (End (fault RecursionError DepthLimit)) ≡ state t old stack (suc left) (Ask task kept)
+  pub state-limit : nat_lt (length (stack ++ kept ∷ [])) 1000 ≡ false → state t old (stack ++ kept ∷ []) left (End (fault DepthLimit)) ≡ state t old stack (suc left) (Ask task kept)
   unfolding state
   state-limit high =
       let w = plain t old in
       let n = length (stack ++ kept ∷ []) in
       sym (pushed ∙ ap (unwind 0 (map (stands t) (stack ++ kept ∷ []))) (
-      ap (λ b. cond b (reach say w (task_of t task) [] left n) (Out w (Over (fault RecursionError DepthLimit)) left)) high))
+      ap (λ b. cond b (reach say w (task_of t task) [] left n) (Out w (Over (fault DepthLimit)) left)) high))
 
 -- no unit is left
 pub state-no_units : (t : Reading) (w : World) (stack : List Kept) (task : Task) (kept : Kept) → Out (plain t w) NoUnits 0 ≡ state t w stack 0 (Ask task kept)

@@ -49,7 +49,7 @@ impl VirtualMachine {
     }
 
     /// The name of a text, which may be new.
-    pub fn intern(&mut self, alloc: Global, text: &str) -> Result<PyStrInterned, OutOfMemory>
+    pub fn intern(&mut self, text: &str) -> Result<PyStrInterned, OutOfMemory>
         ensures spelled { IfOk result (λ x. (t : Reading) → Reads t self.new.world → t.text x.0 ≡ text.now) }
         ensures same { (t : Reading) → plain t self.new.world ≡ plain t self.old.world }
         ensures reads { (t : Reading) → Reads t self.new.world → Reads t self.old.world }
@@ -57,7 +57,7 @@ impl VirtualMachine {
         ensures holds { IfOk result (λ x. Holds self.new.world (IsName x)) }
         ensures mark { MarkedBy self.old self.new result }
     {
-        match self.world.intern(alloc, text) {
+        match self.world.intern(text) {
             Ok(name) => Ok(name),
             Err(error) => {
                 self.failed = true;
@@ -67,7 +67,7 @@ impl VirtualMachine {
     }
 
     /// Puts an expression into the machine's store, and answers its number there.
-    pub fn add_expr(&mut self, alloc: Global, expr: &Expr) -> Result<u64, OutOfMemory>
+    pub fn add_expr(&mut self, expr: &Expr) -> Result<u64, OutOfMemory>
         ensures added { IfOk result (λ n. (t : Reading) → Reads t self.new.world → t.tree n ≡ tree_of expr.now) }
         ensures same { (t : Reading) → plain t self.new.world ≡ plain t self.old.world }
         ensures reads { (t : Reading) → Reads t self.new.world → Reads t self.old.world }
@@ -75,7 +75,7 @@ impl VirtualMachine {
         ensures holds { IfOk result (λ n. Holds self.new.world (IsExpression n)) }
         ensures mark { MarkedBy self.old self.new result }
     {
-        match store::add_expr(&mut self.world, alloc, expr) {
+        match store::add_expr(&mut self.world, expr) {
             Ok(number) => Ok(number),
             Err(error) => {
                 self.failed = true;
@@ -89,7 +89,6 @@ impl VirtualMachine {
     /// memory runs out its world does.
     pub fn new_heap(
         &mut self,
-        alloc: Global,
         name: &str,
         bases: Vec<PyTypeRef>,
         attrs: PyAttributes,
@@ -101,21 +100,26 @@ impl VirtualMachine {
         requires members { Holds self.old.world (AreNames members.items) }
         requires metaclass { Holds self.old.world (IsClass metaclass.0) }
         requires of_classes { Holds self.old.world (IsOf metaclass.0 TypeType) }
-        ensures made { OnOk result ((t : Reading) → MadeHeap t self.old.world self.new.world metaclass.0 name.now bases.items attrs members.items) }
+        ensures made { OnOk result ((t : Reading) →
+            MadeHeap t self.old.world self.new.world metaclass.0 name.now bases.items attrs members.items) }
         ensures number { IfOk result (λ c. (t : Reading) → c.0 ≡ length (plain t self.old.world).nodes) }
-        ensures early { (t : Reading) → IsEarly (plain t self.old.world).classes (numbers bases.items) (refusal result) }
-        ensures refused { (t : Reading) → Reads t self.old.world → WithMemory result (refusal result ≡ refused_heap (plain t self.old.world) (numbers bases.items) (bindings t attrs)) }
+        ensures early { (t : Reading) →
+            IsEarly (plain t self.old.world).classes (numbers bases.items) (refusal result) }
+        ensures refused { (t : Reading) → Reads t self.old.world →
+            WithMemory result (refusal result ≡
+            refused_heap (plain t self.old.world) (numbers bases.items) (bindings t attrs)) }
         ensures err { OnErr result (self.new.world ≡ self.old.world) }
         ensures reads { (t : Reading) → Reads t self.new.world → Reads t self.old.world }
         ensures grows { Grows self.old.world self.new.world }
         ensures class { IfOk result (λ c. Holds self.new.world (IsClass c.0)) }
-        ensures of { IfOk result (λ c. (d : ℕ) (b : BuiltIn) → best_of self.old.world.classes (numbers bases.items) ≡ Some d → Holds self.old.world (IsOf d b) → Holds self.new.world (IsOf c.0 b)) }
+        ensures of { IfOk result (λ c. (d : ℕ) (b : BuiltIn) → best_of self.old.world.classes (numbers bases.items) ≡
+            Some d → Holds self.old.world (IsOf d b) → Holds self.new.world (IsOf c.0 b)) }
         ensures node { IfOk result (λ c. Holds self.new.world (IsNode (ref c.0))) }
         ensures mark { MarkedAs self.old self.new result }
     {
         match self
             .world
-            .new_heap(alloc, name, bases, attrs, members, metaclass)
+            .new_heap(name, bases, attrs, members, metaclass)
         {
             Err(ClassFault::OutOfMemory) => {
                 self.failed = true;
@@ -137,7 +141,8 @@ impl VirtualMachine {
         requires name { Holds self.old.world (IsName name) }
         requires value { Holds self.old.world (IsNode value) }
         ensures refused { (t : Reading) → refusal result ≡ refused_attr (plain t self.old.world).classes class.0 }
-        ensures set { OnOk result ((t : Reading) → plain t self.new.world ≡ with_own_attr (plain t self.old.world) class.0 (t.text name.0) value) }
+        ensures set { OnOk result ((t : Reading) → plain t self.new.world ≡
+            with_own_attr (plain t self.old.world) class.0 (t.text name.0) value) }
         ensures err { OnErr result (self.new.world ≡ self.old.world) }
         ensures reads { (t : Reading) → Reads t self.new.world → Reads t self.old.world }
         ensures grows { Grows self.old.world self.new.world }

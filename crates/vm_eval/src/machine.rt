@@ -81,7 +81,6 @@ impl VirtualMachine {
     /// same; no commands take no memory.
     pub fn run(
         &mut self,
-        alloc: Global,
         commands: &[Command],
         units: u64,
     ) -> Result<Vec<Reply>, RunFault>
@@ -101,7 +100,7 @@ impl VirtualMachine {
             self.world.sound();
             return Err(RunFault::Failed);
         }
-        match replies(&mut self.world, alloc, &mut self.stack, commands, units) {
+        match replies(&mut self.world, &mut self.stack, commands, units) {
             Ok(replies) => {
                 self.world.readable();
                 self.world.sound();

@@ -24,7 +24,6 @@ use std::alloc::Global;
 // The replies to commands, each of which may use so many units.
 pub(crate) fn replies(
     world: &mut World,
-    alloc: Global,
     stack: &mut Vec<Kept>,
     commands: &[Command],
     units: u64,
@@ -34,9 +33,10 @@ pub(crate) fn replies(
     ensures bodies { OnOk result (AsDeep world.old world.new) }
     ensures idle { commands.now ≡ [] → IfErr result (λ _. ⊥) }
 {
+    let alloc = world.alloc();
     let mut replies = Vec::new(alloc);
     for command in commands {
-        let reply = reply(world, alloc, stack, command, units)?;
+        let reply = reply(world, stack, command, units)?;
         push(&mut replies, reply)?;
     }
     Ok(replies)
@@ -53,46 +53,46 @@ fn push(replies: &mut Vec<Reply>, reply: Reply) -> Result<(), OutOfMemory>
 // The reply to one command.
 fn reply(
     world: &mut World,
-    alloc: Global,
     stack: &mut Vec<Kept>,
     command: &Command,
     units: u64,
 ) -> Result<Reply, OutOfMemory>
-    ensures replied { IfOk result (λ reply. Replied (tree_of command.now.expr) world.old units world.new (reply_of reply)) }
+    ensures replied { IfOk result (λ reply.
+        Replied (tree_of command.now.expr) world.old units world.new (reply_of reply)) }
     ensures lasts { Lasts world.old world.new }
     ensures bodies { OnOk result (AsDeep world.old world.new) }
 {
-    let number = add_expr(world, alloc, &command.expr)?;
+    let number = add_expr(world, &command.expr)?;
     let end = drive(
         world,
-        alloc,
         stack,
         Task::Eval(EvalTask::Eval(number)),
         units,
     )?;
-    let answer = answering(world, alloc, end)?;
-    let calls = world.take_calls(alloc);
+    let answer = answering(world, end)?;
+    let calls = world.take_calls();
     Ok(Reply { answer, calls })
 }
 
 // How a command is answered, with the text of its value.
-fn answering(world: &World, alloc: Global, end: End) -> Result<ReplyAnswer, OutOfMemory>
+fn answering(world: &World, end: End) -> Result<ReplyAnswer, OutOfMemory>
     requires { AllHold world.now (of_end end) }
     ensures { IfOk result (λ answer. (t : Reading) → told_of answer ≡ answering (plain t world.now) (ending_of end)) }
 {
     match end {
         End::NoUnits => Ok(ReplyAnswer::Budget),
         End::Over(Err(raised)) => Ok(ReplyAnswer::Raised(raised)),
-        End::Over(Ok(Answer::Value(node))) => shown(world, alloc, node),
-        End::Over(Ok(_)) => shown(world, alloc, world.fixed(Fixed::None)),
+        End::Over(Ok(Answer::Value(node))) => shown(world, node),
+        End::Over(Ok(_)) => shown(world, world.fixed(Fixed::None)),
     }
 }
 
 // A value, with its text.
-fn shown(world: &World, alloc: Global, node: PyObjectRef) -> Result<ReplyAnswer, OutOfMemory>
+fn shown(world: &World, node: PyObjectRef) -> Result<ReplyAnswer, OutOfMemory>
     requires { Holds world.now (IsNode node) }
-    ensures { IfOk result (λ answer. (t : Reading) → told_of answer ≡ ToldValue node (show_of (plain t world.now) node)) }
+    ensures { IfOk result (λ answer. (t : Reading) → told_of answer ≡
+        ToldValue node (show_of (plain t world.now) node)) }
 {
-    let text = show(world, alloc, node)?;
+    let text = show(world, node)?;
     Ok(ReplyAnswer::Value(node, text))
 }

@@ -20,7 +20,7 @@ use proto_call::CallKept;
 use proto_descr::DescriptorKept;
 use proto_ops::OperatorKept;
 use py_node::memory::OutOfMemory;
-use py_node::raised::{Cause, Kind, Raised};
+use py_node::raised::{Cause, Raised};
 use py_node::task::{Answer, Step, Task};
 use std::alloc::Global;
 
@@ -46,34 +46,34 @@ pub enum End {
 }
 
 // The first step of a task.
-fn begin(world: &mut World, alloc: Global, task: Task) -> Result<Step<Kept>, OutOfMemory>
+fn begin(world: &mut World, task: Task) -> Result<Step<Kept>, OutOfMemory>
     requires { AllHold world.old (of_task task) }
     ensures goes { IfOk result (λ step. Begins task world.old world.new step) }
     ensures safe { LeavesOpen of_kept bodies_in 0 world.old world.new result }
 {
     match task {
         Task::Eval(task) => {
-            let step = eval_forms::begin(world, alloc, task)?;
+            let step = eval_forms::begin(world, task)?;
             Ok(of_eval(step))
         }
         Task::Attribute(task) => {
-            let step = proto_attr::begin(world, alloc, task)?;
+            let step = proto_attr::begin(world, task)?;
             Ok(of_attribute(step))
         }
         Task::Descriptor(task) => {
-            let step = proto_descr::begin(world, alloc, task)?;
+            let step = proto_descr::begin(world, task)?;
             Ok(of_descriptor(step))
         }
         Task::Call(task) => {
-            let step = proto_call::begin(world, alloc, task)?;
+            let step = proto_call::begin(world, task)?;
             Ok(of_call(step))
         }
         Task::Class(task) => {
-            let step = class_make::begin(world, alloc, task)?;
+            let step = class_make::begin(world, task)?;
             Ok(of_class(step))
         }
         Task::Operator(task) => {
-            let step = proto_ops::begin(world, alloc, task)?;
+            let step = proto_ops::begin(world, task)?;
             Ok(of_operator(step))
         }
         Task::Compare(_) => Ok(Step::not_yet()),
@@ -86,7 +86,6 @@ fn begin(world: &mut World, alloc: Global, task: Task) -> Result<Step<Kept>, Out
 // The next step of a row that was given an answer.
 fn resume(
     world: &mut World,
-    alloc: Global,
     kept: Kept,
     answer: Result<Answer, Raised>,
 ) -> Result<Step<Kept>, OutOfMemory>
@@ -97,11 +96,11 @@ fn resume(
 {
     match kept {
         Kept::ForEval(kept) => {
-            let step = eval_forms::resume(world, alloc, kept, answer)?;
+            let step = eval_forms::resume(world, kept, answer)?;
             Ok(of_eval(step))
         }
         Kept::ForAttribute(kept) => {
-            let step = proto_attr::resume(world, alloc, kept, answer)?;
+            let step = proto_attr::resume(world, kept, answer)?;
             Ok(of_attribute(step))
         }
         Kept::ForDescriptor(kept) => {
@@ -109,11 +108,11 @@ fn resume(
             Ok(of_descriptor(step))
         }
         Kept::ForCall(kept) => {
-            let step = proto_call::resume(world, alloc, kept, answer)?;
+            let step = proto_call::resume(world, kept, answer)?;
             Ok(of_call(step))
         }
         Kept::ForClass(kept) => {
-            let step = class_make::resume(world, alloc, kept, answer)?;
+            let step = class_make::resume(world, kept, answer)?;
             Ok(of_class(step))
         }
         Kept::ForOperator(kept) => {
@@ -206,17 +205,19 @@ pub enum Turn {
 // One turn: an answer goes to the frame on top, or an asked task begins above it.
 fn take_turn(
     world: &mut World,
-    alloc: Global,
     stack: &mut Vec<Kept>,
     left: &mut u64,
     step: Step<Kept>,
 ) -> Result<Turn, OutOfMemory>
     requires stack { AllHold world.old (of_each of_kept stack.old.items) }
     requires step { AllHold world.old (of_step of_kept step) }
-    ensures turned { IfOk result (λ turn. Keeps world.old stack.old.items left.old step world.new stack.new.items left.new turn) }
-    ensures falls { IfOk result (λ turn. turns_left left.new stack.new.items turn < turns_left left.old stack.old.items (Turn.On step)) }
+    ensures turned { IfOk result (λ turn.
+        Keeps world.old stack.old.items left.old step world.new stack.new.items left.new turn) }
+    ensures falls { IfOk result (λ turn.
+        turns_left left.new stack.new.items turn < turns_left left.old stack.old.items (Turn.On step)) }
     ensures lasts { Lasts world.old world.new }
-    ensures bodies { IfOk result (λ turn. (n : ℕ) → RunsAbove n world.old stack.old.items (Turn.On step) → RunsAbove n world.new stack.new.items turn) }
+    ensures bodies { IfOk result (λ turn. (n : ℕ) → RunsAbove n world.old stack.old.items (Turn.On step) →
+        RunsAbove n world.new stack.new.items turn) }
     ensures stack { IfOk result (λ turn. AllHold world.new (of_each of_kept stack.new.items)) }
     ensures holds { IfOk result (λ turn. AllHold world.new (of_turn turn)) }
 {
@@ -224,7 +225,7 @@ fn take_turn(
         Step::End(answer) => match stack.pop() {
             None => Ok(Turn::Finished(answer)),
             Some(kept) => {
-                let next = resume(world, alloc, kept, answer)?;
+                let next = resume(world, kept, answer)?;
                 Ok(Turn::On(next))
             }
         },
@@ -235,13 +236,10 @@ fn take_turn(
             *left -= 1;
             push(stack, kept)?;
             if stack.len() < DEPTH {
-                let next = begin(world, alloc, task)?;
+                let next = begin(world, task)?;
                 Ok(Turn::On(next))
             } else {
-                Ok(Turn::On(Step::End(Err(Raised {
-                    kind: Kind::RecursionError,
-                    cause: Cause::DepthLimit,
-                }))))
+                Ok(Turn::On(Step::raise(Cause::DepthLimit)))
             }
         }
     }
@@ -258,7 +256,6 @@ fn push(stack: &mut Vec<Kept>, kept: Kept) -> Result<(), OutOfMemory>
 // How a task ends that may use so many units, on a stack that is empty. As many bodies run as before.
 pub(crate) fn drive(
     world: &mut World,
-    alloc: Global,
     stack: &mut Vec<Kept>,
     task: Task,
     units: u64,
@@ -270,7 +267,7 @@ pub(crate) fn drive(
     ensures bodies { OnOk result (AsDeep world.old world.new) }
 {
     let depth = world.depth();
-    match take_turns(world, alloc, stack, task, units)? {
+    match take_turns(world, stack, task, units)? {
         End::Over(answer) => Ok(End::Over(answer)),
         End::NoUnits => {
             world.end_bodies(depth);
@@ -282,7 +279,6 @@ pub(crate) fn drive(
 // The turns of a task, on a stack that is empty.
 fn take_turns(
     world: &mut World,
-    alloc: Global,
     stack: &mut Vec<Kept>,
     task: Task,
     units: u64,
@@ -295,9 +291,9 @@ fn take_turns(
 {
     stack.clear();
     let mut left = units;
-    let mut step = begin(world, alloc, task)?;
+    let mut step = begin(world, task)?;
     'turns: loop {
-        match take_turn(world, alloc, stack, &mut left, step)? {
+        match take_turn(world, stack, &mut left, step)? {
             Turn::On(next) => step = next,
             Turn::Finished(answer) => return Ok(End::Over(answer)),
             Turn::OutOfUnits => return Ok(End::NoUnits),

@@ -2,7 +2,6 @@ use Rattle.std.proofs.Common.{◌∙◌, sym, subst, refl}
 use Rattle.std.specs.Prelude.{IfSome}
 use Rattle.plain_machine.specs.Row.{value, fault}
 use Rattle.plain_machine.specs.Plain.{Ends}
-use Rattle.py_node.specs.declared.raised.Kind.TheVariants.{TypeError}
 use Rattle.py_node.specs.declared.raised.Cause.TheVariants.{TypeArgs}
 use Rattle.class_world.specs.Reading.{plain, bindings}
 use Rattle.class_world.specs.Sound.{IsNode, Holds}
@@ -27,8 +26,8 @@ returns-then-is_type-clause-goes c =
 pub returns-else-is_type-clause-goes : goal.returns-else-is_type-clause-goes
 returns-else-is_type-clause-goes c =
     let w = c.args.world.now in
-    rw c.refused.ensures (
-    makes-from c.args.call.kw.items (λ t u. by_one u c.args.meta.0 c.args.one c.args.call.args.items (bindings t c.args.call.kw.items)) (λ t u. Ends u (fault TypeError TypeArgs)) w w w _ (λ t r.
+    rw c.raise.ensures (
+    makes-from c.args.call.kw.items (λ t u. by_one u c.args.meta.0 c.args.one c.args.call.args.items (bindings t c.args.call.kw.items)) (λ t u. Ends u (fault TypeArgs)) w w w _ (λ t r.
     (r, no-type (plain t w) c.args.meta.0 c.args.one c.in-Some.object c.args.call.args.items (bindings t c.args.call.kw.items) c.in-Some.is (sym c.is_type.ensures ∙ c.if-is_type.false)))
     (λ meta args t r. (r, (refl, refl))))
 
