@@ -1,4 +1,4 @@
-// The attributes of a class to be, and what its creation adds to them.
+//! The attributes of a class to be, and what its creation adds to them.
 
 ghost use Rattle.std.specs.Prelude.{◌≡◌, None, ◌&&◌, not, is_some, IfOk, IfSome};
 ghost use Rattle.py_node.specs.Attributes.{value_of, is_same_name};
@@ -10,14 +10,11 @@ ghost use Rattle.class_make.specs.Say.{has_name, is_class, put, give, wrap_value
 ghost use Rattle.plain_machine.specs.Known.{the_function};
 ghost use Rattle.class_make.specs.Rows.{Becomes};
 
-use class_world::world::{Fixed, World};
-use py_node::attributes::PyAttributes;
-use py_node::built_in::BuiltIn;
-use py_node::entry::{NativeEntry, Property};
-use py_node::known::Known;
-use py_node::memory::OutOfMemory;
-use py_node::payload::{GetSet, Payload};
-use py_node::refs::{PyObjectRef, PyStrInterned, PyTypeRef};
+use class_world::{Fixed, World};
+use py_node::{
+    BuiltIn, GetSet, Known, NativeEntry, OutOfMemory, Payload, Property, PyAttributes, PyObjectRef,
+    PyStrInterned, PyTypeRef,
+};
 use std::alloc::Global;
 
 /// The attributes of a class of this name: class methods where its hooks are functions, a qualified
@@ -42,11 +39,7 @@ pub(crate) fn completed(
 }
 
 // A function under a name becomes a class method of it.
-fn wrap(
-    world: &mut World,
-    name: Known,
-    attrs: PyAttributes,
-) -> Result<PyAttributes, OutOfMemory>
+fn wrap(world: &mut World, name: Known, attrs: PyAttributes) -> Result<PyAttributes, OutOfMemory>
     requires { AllHold world.old (of_each of_binding attrs) }
     ensures becomes { IfOk result (λ a. Becomes (λ t. wrap (known_text name)) world.old attrs world.new a) }
     ensures holds { IfOk result (λ a. AllHold world.new (of_each of_binding a)) }
@@ -83,13 +76,7 @@ fn wrap_value(
                 return Ok(attrs);
             }
             let class = world.built_in(BuiltIn::ClassMethod);
-            let more = put(
-                world,
-                name,
-                class,
-                Payload::ClassMethod(value),
-                attrs,
-            )?;
+            let more = put(world, name, class, Payload::ClassMethod(value), attrs)?;
             Ok(more)
         }
     }
@@ -107,11 +94,7 @@ fn is_function(world: &World, node: PyObjectRef) -> bool
 }
 
 // The qualified name is the name, where none is given.
-fn qualify(
-    world: &mut World,
-    name: &str,
-    attrs: PyAttributes,
-) -> Result<PyAttributes, OutOfMemory>
+fn qualify(world: &mut World, name: &str, attrs: PyAttributes) -> Result<PyAttributes, OutOfMemory>
     requires { AllHold world.old (of_each of_binding attrs) }
     ensures becomes { IfOk result (λ a. Becomes (λ t. qualify name.now) world.old attrs world.new a) }
     ensures holds { IfOk result (λ a. AllHold world.new (of_each of_binding a)) }
@@ -151,10 +134,7 @@ fn is_unhashed(attrs: &PyAttributes, eq: PyStrInterned, hash: PyStrInterned) -> 
 }
 
 // The attribute that reads and sets an object's dict.
-fn give_dict(
-    world: &mut World,
-    attrs: PyAttributes,
-) -> Result<PyAttributes, OutOfMemory>
+fn give_dict(world: &mut World, attrs: PyAttributes) -> Result<PyAttributes, OutOfMemory>
     requires { AllHold world.old (of_each of_binding attrs) }
     ensures becomes { IfOk result (λ a. Becomes (λ t. give_dict) world.old attrs world.new a) }
     ensures holds { IfOk result (λ a. AllHold world.new (of_each of_binding a)) }

@@ -1,4 +1,4 @@
-// A class that is made, and how it is told of.
+//! A class that is made, and how it is told of.
 
 ghost use Rattle.std.specs.Prelude.{◌≡◌, filter, length, not, string_bytes, None, Ok, IfOk, IfSome, OnOk};
 ghost use Rattle.py_node.specs.declared.task.Answer.TheVariants as answer;
@@ -16,15 +16,13 @@ ghost use Rattle.class_make.specs.Rows.{Makes, Resumes, of_class_kept};
 use crate::ClassKept;
 use crate::attributes::has_name;
 use crate::namespace::text_at;
-use class_table::fault::ClassFault;
-use class_world::world::World;
-use py_node::attributes::PyAttributes;
-use py_node::known::Known;
-use py_node::memory::OutOfMemory;
-use py_node::payload::Payload;
-use py_node::raised::{Cause, Raised};
-use py_node::refs::{PyObjectRef, PyStrInterned, PyTypeRef};
-use py_node::task::{Answer, AttributeTask, CallTask, Keywords, Step, Task};
+use class_table::ClassFault;
+use class_world::World;
+use py_node::task::Keywords;
+use py_node::{
+    Answer, AttributeTask, CallTask, Cause, Known, OutOfMemory, Payload, PyAttributes, PyObjectRef,
+    PyStrInterned, PyTypeRef, Raised, Step, Task,
+};
 use std::alloc::Global;
 
 /// What a class is made from: its metaclass, its name, its base and its attributes.
@@ -57,10 +55,7 @@ pub(crate) fn made(
 }
 
 // Why a class cannot have the attributes, if it cannot.
-fn refusal(
-    world: &World,
-    attrs: &PyAttributes,
-) -> Result<Option<Raised>, OutOfMemory>
+fn refusal(world: &World, attrs: &PyAttributes) -> Result<Option<Raised>, OutOfMemory>
     requires { AllHold world.now (of_each of_binding attrs.now) }
     ensures { IfOk result (λ o. (t : Reading) → Reads t world.now →
         refusal (plain t world.now, bindings t attrs.now) ≡ o) }

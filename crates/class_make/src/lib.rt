@@ -1,4 +1,4 @@
-// The rows of the creation of classes, each a small automaton: `begin` and `resume`.
+//! The rows of the creation of classes, each a small automaton: `begin` and `resume`.
 #![tactic(auto, unfolding(crate::specs::Say::class_job_say))]
 
 ghost use Rattle.std.specs.Prelude.{◌≡◌, IfOk};
@@ -17,11 +17,9 @@ use crate::hook::{bound, called};
 use crate::make::{make_class, no_class};
 use crate::type_attributes::native_end;
 use crate::type_new::type_native;
-use class_world::world::World;
-use py_node::memory::OutOfMemory;
-use py_node::raised::Raised;
-use py_node::refs::PyObjectRef;
-use py_node::task::{Answer, ClassTask, Keywords, Step};
+use class_world::World;
+use py_node::task::Keywords;
+use py_node::{Answer, ClassTask, OutOfMemory, PyObjectRef, Raised, Step};
 use std::alloc::Global;
 
 /// What a row of the creation of classes keeps while it waits for an answer.
@@ -40,10 +38,7 @@ pub enum ClassKept {
 }
 
 /// Begins a task.
-pub fn begin(
-    world: &mut World,
-    task: ClassTask,
-) -> Result<Step<ClassKept>, OutOfMemory>
+pub fn begin(world: &mut World, task: ClassTask) -> Result<Step<ClassKept>, OutOfMemory>
     requires { AllHold world.old (of_class_task task) }
     ensures goes { IfOk result (λ step. Begins task world.old world.new step) }
     ensures safe { Leaves of_class_kept world.old world.new result }

@@ -1,4 +1,4 @@
-// The making of a class from a name, a tuple of bases and a namespace.
+//! The making of a class from a name, a tuple of bases and a namespace.
 
 ghost use Rattle.std.specs.Prelude.{◌≡◌, ◌&&◌, not, eqb, is_some, map, option_map, string_bytes, Err, Some, IfOk, IfSome};
 ghost use Rattle.py_node.specs.declared.entry.SlotId.TheVariants.{New};
@@ -18,15 +18,12 @@ use crate::ClassKept;
 use crate::attributes::completed;
 use crate::hook::{Plan, made};
 use crate::namespace::{Entries, dict_at, namespace, text_at, tuple_at};
-use class_world::world::World;
-use py_node::attributes::PyAttributes;
-use py_node::built_in::BuiltIn;
-use py_node::known::Known;
-use py_node::entry::SlotId;
-use py_node::memory::OutOfMemory;
-use py_node::raised::{Cause, Kind, Raised};
-use py_node::refs::{PyObjectRef, PyStrInterned, PyTypeRef};
-use py_node::task::{Answer, Args, AttributeTask, CallTask, Keywords, Step, Task};
+use class_world::World;
+use py_node::task::{Args, Keywords};
+use py_node::{
+    Answer, AttributeTask, BuiltIn, CallTask, Cause, Kind, Known, OutOfMemory, PyAttributes,
+    PyObjectRef, PyStrInterned, PyTypeRef, Raised, SlotId, Step, Task,
+};
 use std::alloc::Global;
 
 /// Three arguments.

@@ -1,4 +1,4 @@
-// The parts that a class is made from: a name, a tuple of bases and a namespace.
+//! The parts that a class is made from: a name, a tuple of bases and a namespace.
 
 ghost use Rattle.std.specs.Prelude.{◌≡◌, map, option_map, string_bytes, IfOk, IfSome};
 ghost use Rattle.plain_machine.specs.World.{datum_at};
@@ -6,23 +6,17 @@ ghost use Rattle.class_world.specs.Reading.{Reading, Reads, bindings, plain};
 ghost use Rattle.class_world.specs.Sound.{IsNode, AreNodes, Holds, AllHold, Grows, of_binding, of_each};
 ghost use Rattle.class_make.specs.Say.{text_of, tuple_of, dict_of, named, namespace};
 
+use class_world::World;
 use class_world::args::copy_args;
-use class_world::world::World;
-use py_node::attributes::PyAttributes;
-use py_node::memory::OutOfMemory;
-use py_node::payload::Payload;
-use py_node::refs::PyObjectRef;
 use py_node::task::Args;
+use py_node::{OutOfMemory, Payload, PyAttributes, PyObjectRef};
 use std::alloc::Global;
 
 /// The entries of a dict: keys with their values.
 pub(crate) type Entries = Vec<(PyObjectRef, PyObjectRef)>;
 
 /// The text that an object holds, if it holds one.
-pub(crate) fn text_at(
-    world: &World,
-    node: PyObjectRef,
-) -> Result<Option<String>, OutOfMemory>
+pub(crate) fn text_at(world: &World, node: PyObjectRef) -> Result<Option<String>, OutOfMemory>
     requires { Holds world.now (IsNode node) }
     ensures { IfOk result (λ o. (t : Reading) → text_of (datum_at (plain t world.now) node) ≡
         option_map (λ s. string_bytes s) o) }
@@ -38,10 +32,7 @@ pub(crate) fn text_at(
 }
 
 /// The objects of a tuple, if an object is one.
-pub(crate) fn tuple_at(
-    world: &World,
-    node: PyObjectRef,
-) -> Result<Option<Args>, OutOfMemory>
+pub(crate) fn tuple_at(world: &World, node: PyObjectRef) -> Result<Option<Args>, OutOfMemory>
     requires { Holds world.now (IsNode node) }
     ensures parts { IfOk result (λ o. (t : Reading) → tuple_of (datum_at (plain t world.now) node) ≡
         option_map (λ rs. rs.items) o) }
@@ -58,10 +49,7 @@ pub(crate) fn tuple_at(
 }
 
 /// The entries of a dict, if an object is one.
-pub(crate) fn dict_at(
-    world: &World,
-    node: PyObjectRef,
-) -> Result<Option<Entries>, OutOfMemory>
+pub(crate) fn dict_at(world: &World, node: PyObjectRef) -> Result<Option<Entries>, OutOfMemory>
     requires { Holds world.now (IsNode node) }
     ensures parts { IfOk result (λ o. (t : Reading) → dict_of (datum_at (plain t world.now) node) ≡
         option_map (λ es. es.items) o) }

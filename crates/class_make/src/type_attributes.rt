@@ -1,4 +1,4 @@
-// The natives of `type` that read and set attributes.
+//! The natives of `type` that read and set attributes.
 #![tactic(auto, using(class_world::proofs::Items::item_holds), unfolding(crate::specs::Say::class_job_say))]
 
 ghost use Rattle.std.specs.Prelude.{◌≡◌, ℕ, Err, IfErr, IfOk};
@@ -12,11 +12,12 @@ ghost use Rattle.class_make.specs.Rows.{Resumes, Types, of_class_kept};
 
 use crate::ClassKept;
 use class_world::takes::{three, two};
-use class_world::world::{Fixed, World};
-use py_node::memory::OutOfMemory;
-use py_node::raised::{Cause, Raised};
-use py_node::refs::{PyObjectRef, PyTypeRef};
-use py_node::task::{Answer, Args, AttributeTask, Keywords, PySetterValue, Step, Task};
+use class_world::{Fixed, World};
+use py_node::task::{Args, Keywords};
+use py_node::{
+    Answer, AttributeTask, Cause, OutOfMemory, PyObjectRef, PySetterValue, PyTypeRef, Raised, Step,
+    Task,
+};
 use std::alloc::Global;
 
 /// A class's attribute by its name, as classes read it.

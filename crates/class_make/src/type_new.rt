@@ -1,4 +1,4 @@
-// The natives of `type`.
+//! The natives of `type`.
 
 ghost use Rattle.std.specs.Prelude.{◌≡◌, option_map, IfOk, IsTrue};
 ghost use Rattle.plain_machine.specs.Objects.{nearest_built_in};
@@ -13,14 +13,10 @@ ghost use Rattle.py_node.specs.declared.task.ClassTask.TheVariants as class_task
 
 use crate::ClassKept;
 use crate::type_attributes::{type_get_attribute, type_set_attr};
+use class_world::World;
 use class_world::args::copy_args;
-use class_world::world::World;
-use py_node::built_in::BuiltIn;
-use py_node::entry::TypeNative;
-use py_node::memory::OutOfMemory;
-use py_node::raised::Cause;
-use py_node::refs::PyTypeRef;
-use py_node::task::{Args, ClassTask, Keywords, Step, Task};
+use py_node::task::{Args, Keywords};
+use py_node::{BuiltIn, Cause, ClassTask, OutOfMemory, PyTypeRef, Step, Task, TypeNative};
 use std::alloc::Global;
 
 /// A native of `type`.
@@ -43,11 +39,7 @@ pub(crate) fn type_native(
 }
 
 // The native that makes the objects of `type`: its first argument is the metaclass.
-fn type_new(
-    world: &mut World,
-    args: Args,
-    kw: Keywords,
-) -> Result<Step<ClassKept>, OutOfMemory>
+fn type_new(world: &mut World, args: Args, kw: Keywords) -> Result<Step<ClassKept>, OutOfMemory>
     requires { AllHold world.old (of_args args.items kw.items) }
     ensures goes { IfOk result (λ step.
         Types (λ t u. type_new u args.items (bindings t kw.items)) world.old world.new step) }

@@ -1,4 +1,4 @@
-// A class that is made.
+//! A class that is made.
 
 ghost use Rattle.std.specs.Prelude.{◌≡◌, ◌≤◌, ◌||◌, ◌++◌, ◌∷◌, [], ℕ, List, cond, not, nat_lt, length, Some, OnOk, OnErr, IfOk, true};
 ghost use Rattle.py_node.specs.Attributes.{AreNamesDistinct};
@@ -20,10 +20,7 @@ use crate::inherit::{inherited, places, rest_of_line};
 use crate::place::place;
 use crate::refresh::settle;
 use crate::stored::{NewClass, SLOTS, Stored};
-use py_node::attributes::PyAttributes;
-use py_node::entry::SlotEntry;
-use py_node::memory::OutOfMemory;
-use py_node::refs::{PyStrInterned, PyTypeRef};
+use py_node::{OutOfMemory, PyAttributes, PyStrInterned, PyTypeRef, SlotEntry};
 use std::alloc::Global;
 
 // How many classes are built in: they are the first.

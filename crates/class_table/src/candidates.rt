@@ -1,13 +1,13 @@
-// The candidates of an operator.
+//! The candidates of an operator.
 
 ghost use Rattle.std.specs.Prelude.{◌≡◌};
 ghost use Rattle.class_model.specs.Slot.{in_turn, without_same};
 ghost use Rattle.class_table.specs.Turn.{list_of};
 
-use py_node::entry::SlotEntry;
+use py_node::SlotEntry;
 
 /// What an operator is tried with, in turn.
-#[derive(Clone, Copy, PartialEq, Eq, Debug)]
+#[derive(Clone, Copy, PartialEq, Eq)]
 pub struct Candidates {
     pub first: Option<SlotEntry>,
     pub second: Option<SlotEntry>,

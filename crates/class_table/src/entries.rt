@@ -1,4 +1,4 @@
-// What a class itself has in a slot, found from the attributes and linearisations that are kept.
+//! What a class itself has in a slot, found from the attributes and linearisations that are kept.
 
 ghost use Rattle.std.specs.Prelude.{◌≡◌, ◌<◌, ◌&&◌, true, not, Some, length, slice_index_or};
 ghost use Rattle.py_node.specs.Attributes.{value_of, is_same_name};
@@ -14,10 +14,7 @@ ghost use Rattle.class_table.specs.Coherent.{HasLines};
 use crate::natives::built_in_entry;
 use crate::place::{find_near, likely};
 use crate::stored::Stored;
-use py_node::attributes::PyAttributes;
-use py_node::entry::{SlotEntry, SlotId};
-use py_node::refs::{PyObjectRef, PyTypeRef};
-use py_node::slots::Sort;
+use py_node::{PyAttributes, PyObjectRef, PyTypeRef, SlotEntry, SlotId, Sort};
 
 // Whether an object is None.
 fn is_none(value: PyObjectRef) -> bool

@@ -1,11 +1,10 @@
-// Why a class could not be made or changed.
+//! Why a class could not be made or changed.
 
 ghost use Rattle.std.specs.Prelude.{◌≡◌};
 ghost use Rattle.class_table.specs.Inherit.{fault_of};
 
-use mro_merge::fault::MroFault;
-use py_node::memory::OutOfMemory;
-use py_node::raised::Cause;
+use mro_merge::MroFault;
+use py_node::{Cause, OutOfMemory};
 
 /// Why a class could not be made or changed.
 #[derive(Clone, Copy, PartialEq, Eq, Debug)]

@@ -1,4 +1,4 @@
-// Classes as scripts make and change them.
+//! Classes as scripts make and change them.
 
 ghost use Rattle.std.specs.Prelude.{◌≡◌, true, ◌≤◌, OnOk, OnErr, IfOk};
 ghost use Rattle.py_node.specs.Attributes.{is_same_name};
@@ -18,11 +18,9 @@ use crate::inherit::best_base;
 use crate::place::find;
 use crate::put::put_in;
 use crate::stored::{NewClass, Stored};
-use py_node::attributes::PyAttributes;
-use py_node::flags::PyTypeFlags;
-use py_node::memory::OutOfMemory;
-use py_node::raised::Cause;
-use py_node::refs::{PyObjectRef, PyStrInterned, PyTypeRef};
+use py_node::{
+    Cause, OutOfMemory, PyAttributes, PyObjectRef, PyStrInterned, PyTypeFlags, PyTypeRef,
+};
 use std::alloc::Global;
 
 // Whether a class was made by a script.
@@ -75,8 +73,7 @@ pub(crate) fn add_heap(
     ensures number { IfOk result (λ c. c ≡ number) }
     ensures coherent { OnOk result (IsCoherent classes.new.items) }
     ensures added { OnOk result (plain classes.new.items ≡
-        with_class (plain classes.old.items) (heap_class name.now number.0 (numbers bases.items) attrs members.items))
-        }
+        with_class (plain classes.old.items) (heap_class name.now number.0 (numbers bases.items) attrs members.items)) }
     ensures early { IsEarly (plain classes.old.items) (numbers bases.items) (refusal result) }
     ensures refused { WithMemory result (refusal result ≡
         refused_bases (plain classes.old.items) (numbers bases.items)) }

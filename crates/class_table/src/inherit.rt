@@ -1,4 +1,4 @@
-// What a class gets from its bases: the best of them, and its linearisation.
+//! What a class gets from its bases: the best of them, and its linearisation.
 
 ghost use Rattle.std.specs.Prelude.{◌≡◌, ◌≤◌, true, length, Some, map, IfOk, IfSome, option_and_then};
 ghost use Rattle.class_model.specs.Class.{class_at, is_class, lin};
@@ -16,10 +16,7 @@ use crate::fault::{ClassFault, merge_fault};
 use crate::place::{find, find_place, stored_at};
 use crate::stored::Stored;
 use mro_merge::laws::resolve_mro;
-use py_node::flags::PyTypeFlags;
-use py_node::memory::OutOfMemory;
-use py_node::raised::Cause;
-use py_node::refs::PyTypeRef;
+use py_node::{Cause, OutOfMemory, PyTypeFlags, PyTypeRef};
 use std::alloc::Global;
 
 // Whether a class may have subclasses.

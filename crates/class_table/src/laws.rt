@@ -1,4 +1,4 @@
-// What is so of every table of classes, and is the result of no call.
+//! What is so of every table of classes, and is the result of no call.
 
 ghost use Rattle.class_model.specs.Failing.{FailsAsSaid, PassesAsSaid};
 

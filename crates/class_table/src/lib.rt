@@ -1,4 +1,4 @@
-// A table of classes: each with its linearisation, its slots and its subclasses, kept up to date.
+//! A table of classes: each with its linearisation, its slots and its subclasses, kept up to date.
 #![tactic(auto)]
 
 pub mod add;
@@ -16,3 +16,7 @@ pub mod refresh;
 pub mod start;
 pub mod stored;
 pub mod table;
+
+pub use candidates::Candidates;
+pub use fault::ClassFault;
+pub use table::ClassTable;

@@ -1,13 +1,12 @@
-// What stands in the slots of the built-in classes.
+//! What stands in the slots of the built-in classes.
 
 ghost use Rattle.std.specs.Prelude.{◌≡◌, Some};
 ghost use Rattle.py_node.specs.declared.entry.SlotEntry.TheVariants.{Native};
 ghost use Rattle.class_model.specs.BuiltIn.{natives_of, object_natives, type_natives, int_natives, function_natives, method_natives, native_function_natives, builtin_method_natives, method_descriptor_natives};
 
-use py_node::entry::{
-    CallableNative, IntNative, NativeEntry, ObjectNative, SlotEntry, SlotId, TypeNative,
+use py_node::{
+    CallableNative, IntNative, NativeEntry, ObjectNative, PyTypeRef, SlotEntry, SlotId, TypeNative,
 };
-use py_node::refs::PyTypeRef;
 
 fn native(native: NativeEntry) -> Option<SlotEntry>
     ensures { result ≡ Some (Native native) }

@@ -1,4 +1,4 @@
-// How a class is found by its number.
+//! How a class is found by its number.
 
 ghost use Rattle.std.specs.Prelude.{◌≡◌, ◌<◌, true, length, slice_get, Some, None, IfSome, IfNone, option_map, option_copied, leb};
 ghost use Rattle.class_model.specs.Class.{class_at, is_class};
@@ -6,7 +6,7 @@ ghost use Rattle.class_model.specs.Numbers.{is_ascending, limit, numbers_of};
 ghost use Rattle.class_table.specs.Kept.{IsHere, class_of, number_at, plain};
 
 use crate::stored::Stored;
-use py_node::refs::PyTypeRef;
+use py_node::PyTypeRef;
 
 // The place of a class, where there is such a class: its number, as long as no number is left out, or else by search.
 pub(crate) fn find_place(classes: &[Stored], class: PyTypeRef) -> Option<usize>

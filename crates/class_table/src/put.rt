@@ -1,4 +1,4 @@
-// An attribute of a class that is set.
+//! An attribute of a class that is set.
 
 ghost use Rattle.std.specs.Prelude.{◌≡◌, true, OnOk, OnErr};
 ghost use Rattle.py_node.specs.Attributes.{is_same_name};
@@ -10,8 +10,7 @@ ghost use Rattle.class_table.specs.Coherent.{IsCoherent};
 use crate::place::place;
 use crate::refresh::refresh;
 use crate::stored::Stored;
-use py_node::memory::OutOfMemory;
-use py_node::refs::{PyObjectRef, PyStrInterned, PyTypeRef};
+use py_node::{OutOfMemory, PyObjectRef, PyStrInterned, PyTypeRef};
 
 // Sets an attribute, and finds the slots anew that change with it.
 pub(crate) fn put(

@@ -1,4 +1,4 @@
-// How a slot is read along a linearisation, and how an attribute is found.
+//! How a slot is read along a linearisation, and how an attribute is found.
 
 ghost use Rattle.std.specs.Prelude.{◌≡◌, ℕ, true, Option};
 ghost use Rattle.py_node.specs.declared.entry.SlotEntry.{SlotEntry as Entry};
@@ -17,9 +17,7 @@ ghost use Rattle.class_table.specs.Table.{table_sort, any_filled};
 
 use crate::place::{find_near, likely, stored_at};
 use crate::stored::Stored;
-use py_node::entry::{SlotEntry, SlotId};
-use py_node::refs::{PyObjectRef, PyStrInterned, PyTypeRef};
-use py_node::slots::Sort;
+use py_node::{PyObjectRef, PyStrInterned, PyTypeRef, SlotEntry, SlotId, Sort};
 
 // A class's own value, where there is such a class.
 pub(crate) fn own_at(

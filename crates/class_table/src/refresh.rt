@@ -1,4 +1,4 @@
-// Slots that are found anew after an attribute was set.
+//! Slots that are found anew after an attribute was set.
 
 ghost use Rattle.std.specs.Prelude.{◌≡◌, ◌<◌, length, slice_set, slice_index_or};
 ghost use Rattle.py_node.specs.Slots.{place_of};
@@ -11,8 +11,7 @@ ghost use Rattle.class_table.specs.Patch.{IsNear, AreNear, IsRefreshed, settled}
 
 use crate::entries::entry;
 use crate::stored::{SLOTS, Stored};
-use py_node::entry::SlotId;
-use py_node::refs::{PyStrInterned, PyTypeRef};
+use py_node::{PyStrInterned, PyTypeRef, SlotId};
 
 // Whether a name is one of a slot's.
 fn is_name_of(slot: SlotId, name: PyStrInterned) -> bool
@@ -31,9 +30,10 @@ fn patch_slot(classes: &mut [Stored], place: usize, slot: SlotId)
     requires lines { HasLines classes.old }
     requires inside { place < length classes.old }
     ensures { (d : Kept) → classes.new ≡
-        slice_set classes.old place (record (slice_index_or classes.old place d)
-        { slots = slice_set (slice_index_or classes.old place d).slots (place_of slot)
-        (entry table_keys natives_of (plain classes.old) (slice_index_or classes.old place d).number slot) }) }
+        slice_set classes.old place (record (slice_index_or classes.old place d) {
+          slots = slice_set (slice_index_or classes.old place d).slots (place_of slot)
+              (entry table_keys natives_of (plain classes.old) (slice_index_or classes.old place d).number slot);
+        }) }
 {
     let found = entry(classes, place, slot);
     classes[place].set_slot(slot, found);

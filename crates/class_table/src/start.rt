@@ -8,11 +8,8 @@ ghost use Rattle.class_model.specs.Start.{built_class};
 ghost use Rattle.class_table.specs.New.{class_of_new};
 
 use crate::stored::NewClass;
-use py_node::attributes::PyAttributes;
-use py_node::built_in::BuiltIn;
-use py_node::known::{Known, all_known};
-use py_node::memory::OutOfMemory;
-use py_node::names::Names;
+use py_node::known::all_known;
+use py_node::{BuiltIn, Known, Names, OutOfMemory, PyAttributes};
 use std::alloc::Global;
 
 // The built-in classes, in the order of their places.

@@ -1,4 +1,4 @@
-// What the table keeps of a class.
+//! What the table keeps of a class.
 
 ghost use Rattle.std.specs.Prelude.{◌≡◌, ℕ, List, ◌++◌, ◌∷◌, [], OnOk, OnErr, option_and_then, slice_get, slice_set};
 ghost use Rattle.py_node.specs.Attributes.{value_of, with_value, is_same_name};
@@ -8,11 +8,10 @@ ghost use Rattle.class_model.specs.Class.{is_heap};
 ghost use Rattle.class_table.specs.Kept.{Kept, class_of};
 ghost use Rattle.class_table.specs.Keys.{numbers, number_of};
 
-use py_node::attributes::PyAttributes;
-use py_node::entry::{SlotEntry, SlotId};
-use py_node::flags::PyTypeFlags;
-use py_node::memory::OutOfMemory;
-use py_node::refs::{PyObjectRef, PyStrInterned, PyTypeRef};
+use py_node::{
+    OutOfMemory, PyAttributes, PyObjectRef, PyStrInterned, PyTypeFlags, PyTypeRef, SlotEntry,
+    SlotId,
+};
 use std::marker::Model;
 
 /// How many slots a class has.

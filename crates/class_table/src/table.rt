@@ -1,4 +1,4 @@
-// The table of classes.
+//! The table of classes.
 
 ghost use Rattle.std.specs.Prelude.{◌≡◌, ◌<◌, ◌≤◌, [], true, length, OnOk, OnErr, IfOk, ◌↔◌, IsTrue, Some, is_some, leb, option_map, slice_get};
 ghost use Rattle.std.specs.List.{All};
@@ -27,12 +27,10 @@ use crate::put::put_in;
 use crate::read::{own_entry, read, value_along, value_past};
 use crate::start::{built_ins, new_class};
 use crate::stored::{NewClass, Stored};
-use py_node::attributes::PyAttributes;
-use py_node::entry::{SlotEntry, SlotId};
-use py_node::flags::PyTypeFlags;
-use py_node::memory::OutOfMemory;
-use py_node::raised::Cause;
-use py_node::refs::{PyObjectRef, PyStrInterned, PyTypeRef};
+use py_node::{
+    Cause, OutOfMemory, PyAttributes, PyObjectRef, PyStrInterned, PyTypeFlags, PyTypeRef,
+    SlotEntry, SlotId,
+};
 use std::alloc::Global;
 use std::marker::Model;
 
@@ -121,10 +119,7 @@ impl ClassTable {
     }
 
     // One more class, with one base or none. Where memory runs out, the table stays as it was.
-    pub(crate) fn add_class(
-        &mut self,
-        new: NewClass,
-    ) -> Result<PyTypeRef, OutOfMemory>
+    pub(crate) fn add_class(&mut self, new: NewClass) -> Result<PyTypeRef, OutOfMemory>
         requires below { IsBelow self.old new.number.0 (numbers new.bases.items) }
         requires one { length new.bases.items ≤ 1 }
         requires fresh { limit self.old ≤ new.number.0 }

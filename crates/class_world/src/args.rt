@@ -1,4 +1,4 @@
-// Arguments and keywords, as tasks take them.
+//! Arguments and keywords, as tasks take them.
 
 ghost use Rattle.std.specs.Prelude.{◌≡◌, [], ◌∷◌, map, IfOk};
 ghost use Rattle.class_world.specs.Held.{Held};
@@ -9,11 +9,11 @@ ghost use Rattle.plain_machine.specs.Args.{two_of, filled};
 ghost use Rattle.plain_machine.specs.Native.{native_task};
 
 use crate::world::World;
-use py_node::attributes::PyAttributes;
-use py_node::entry::NativeEntry;
-use py_node::memory::OutOfMemory;
-use py_node::refs::{PyObjectRef, PyStrInterned};
-use py_node::task::{Args, CallTask, ClassTask, Keywords, OperatorTask, Task};
+use py_node::task::{Args, Keywords};
+use py_node::{
+    CallTask, ClassTask, NativeEntry, OperatorTask, OutOfMemory, PyAttributes, PyObjectRef,
+    PyStrInterned, Task,
+};
 use std::alloc::Global;
 
 /// The arguments with one before them.

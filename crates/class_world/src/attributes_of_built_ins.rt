@@ -13,14 +13,12 @@ ghost use Rattle.class_world.specs.Sound.{IsName, IsNode, Holds, AllHold, Grows,
 
 use crate::world::World;
 use class_table::start::built_ins;
-use py_node::built_in::BuiltIn;
-use py_node::entry::{NativeEntry, Property};
-use py_node::flags::PyMethodFlags;
-use py_node::memory::OutOfMemory;
 use py_node::own_attrs::Attr::{self, ClassMethod, Method, New, ReadOnly, Settable};
 use py_node::own_attrs::{OwnAttr, attrs_of};
-use py_node::payload::{GetSet, MethodDescriptor, NativeFunction, Payload};
-use py_node::refs::{PyObjectRef, PyStrInterned};
+use py_node::{
+    BuiltIn, GetSet, MethodDescriptor, NativeEntry, NativeFunction, OutOfMemory, Payload, Property,
+    PyMethodFlags, PyObjectRef, PyStrInterned,
+};
 use std::alloc::Global;
 
 /// Gives the built-in classes their own attributes.
@@ -49,11 +47,7 @@ fn add_attrs(world: &mut World, class: BuiltIn) -> Result<(), OutOfMemory>
 
 // Adds an own attribute: the object that it holds, under its name in its class.
 #[tactic(auto, unfolding(plain_machine::specs::Start::with_attr))]
-fn add_attr(
-    world: &mut World,
-    class: BuiltIn,
-    attr: OwnAttr,
-) -> Result<(), OutOfMemory>
+fn add_attr(world: &mut World, class: BuiltIn, attr: OwnAttr) -> Result<(), OutOfMemory>
     ensures added { OnOk result ((t : Reading) → Reads t world.new → plain t world.new ≡
         with_attr class (plain t world.old) attr) }
     ensures reads { (t : Reading) → Reads t world.new → Reads t world.old }
@@ -73,8 +67,7 @@ fn add_object(
 ) -> Result<PyObjectRef, OutOfMemory>
     requires { Holds world.old (IsName name) }
     ensures made { OnOk result ((t : Reading) → plain t world.new ≡
-        with_node (plain t world.old) (place_of (attr_class attr)) (attr_datum (place_of class) (t.text name.0) attr))
-        }
+        with_node (plain t world.old) (place_of (attr_class attr)) (attr_datum (place_of class) (t.text name.0) attr)) }
     ensures number { IfOk result (λ r. (t : Reading) → r ≡ next_node (plain t world.old) (place_of (attr_class attr))) }
     ensures reads { (t : Reading) → Reads t world.new → Reads t world.old }
     ensures grows { Grows world.old world.new }

@@ -1,4 +1,4 @@
-// The lines of the classes that scripts made.
+//! The lines of the classes that scripts made.
 
 ghost use Rattle.std.specs.Prelude.{◌≡◌, ◌++◌, ℕ, true, OnOk, codes, map, Some};
 ghost use Rattle.std.specs.List.{flat_map};
@@ -14,11 +14,9 @@ ghost use Rattle.plain_machine.specs.ClassText.{slot_words, own_words, name_at, 
 ghost use Rattle.class_world.specs.Reading.{Reading, Reads, plain};
 
 use crate::world::World;
-use class_table::table::ClassTable;
-use py_node::entry::{SlotEntry, SlotId};
-use py_node::memory::OutOfMemory;
-use py_node::refs::PyTypeRef;
-use py_node::slots::{Sort, slots};
+use class_table::ClassTable;
+use py_node::slots::slots;
+use py_node::{OutOfMemory, PyTypeRef, SlotEntry, SlotId, Sort};
 use reply_text::class::{push_class_head, push_class_member, push_end, push_slot, push_slots_head};
 
 /// Adds the lines of each class that a script made.

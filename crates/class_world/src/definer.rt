@@ -1,10 +1,9 @@
-// The class that defines a function.
+//! The class that defines a function.
 
 ghost use Rattle.std.specs.Prelude.{◌≡◌};
 ghost use Rattle.class_world.specs.Defined.{defined_function, defined_payload, defined_node};
 
-use py_node::payload::{Function, Node, Payload};
-use py_node::refs::PyTypeRef;
+use py_node::{Function, Node, Payload, PyTypeRef};
 
 // A function that no class defines yet is defined by this one.
 fn define_function(function: &mut Function, class: PyTypeRef)

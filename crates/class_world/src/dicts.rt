@@ -1,4 +1,4 @@
-// The dicts of objects: what stands in one under a name, and how that is set and taken out.
+//! The dicts of objects: what stands in one under a name, and how that is set and taken out.
 #![tactic(auto, unfolding(crate::specs::Reading::plain))]
 
 ghost use Rattle.std.specs.Prelude.{◌≡◌, ◌<◌, ◌∷◌, ◌++◌, [], length, map, position, None, IfSome, OnOk};
@@ -14,10 +14,7 @@ ghost use Rattle.class_world.specs.Sound.{IsNode, IsClass, IsOf, IsName, Holding
 
 use crate::entries::{place_of, push_entry, put_value, take_entry};
 use crate::world::World;
-use py_node::built_in::BuiltIn;
-use py_node::memory::OutOfMemory;
-use py_node::payload::Payload;
-use py_node::refs::{PyObjectRef, PyStrInterned, PyTypeRef};
+use py_node::{BuiltIn, OutOfMemory, Payload, PyObjectRef, PyStrInterned, PyTypeRef};
 use std::alloc::Global;
 
 impl World {

@@ -1,4 +1,4 @@
-// The entries of dicts, by their places.
+//! The entries of dicts, by their places.
 
 ghost use Rattle.std.specs.Prelude.{◌≡◌, ◌<◌, ◌∷◌, ◌++◌, [], length, position, OnOk, OnErr};
 ghost use Rattle.std.specs.List.{remove};
@@ -6,9 +6,7 @@ ghost use Rattle.py_node.specs.declared.built_in.BuiltIn.TheVariants.{Dict};
 ghost use Rattle.class_world.specs.Sound.{home_of};
 ghost use Rattle.class_world.specs.Keyed.{entries_of, is_text_of, is_held_key, HasOther, put_at};
 
-use py_node::memory::OutOfMemory;
-use py_node::payload::{Node, Payload};
-use py_node::refs::PyObjectRef;
+use py_node::{Node, OutOfMemory, Payload, PyObjectRef};
 
 // The place of the first key that is a text.
 pub(crate) fn place_of(

@@ -1,4 +1,4 @@
-// Classes as scripts make and change them, and the functions that they define.
+//! Classes as scripts make and change them, and the functions that they define.
 
 ghost use Rattle.std.specs.Prelude.{◌≡◌, ℕ, ◌<◌, length, Some, IfOk, IfSome, OnOk, OnErr};
 ghost use Rattle.std.specs.Option.{option_or};
@@ -15,13 +15,10 @@ ghost use Rattle.class_world.specs.Sound.{IsNode, IsClass, IsOf, IsName, AreName
 
 use crate::definer::define;
 use crate::world::World;
-use class_table::fault::ClassFault;
-use py_node::attributes::PyAttributes;
-use py_node::known::Known;
-use py_node::memory::OutOfMemory;
-use py_node::payload::{Node, Payload};
-use py_node::raised::Cause;
-use py_node::refs::{PyObjectRef, PyStrInterned, PyTypeRef};
+use class_table::ClassFault;
+use py_node::{
+    Cause, Known, Node, OutOfMemory, Payload, PyAttributes, PyObjectRef, PyStrInterned, PyTypeRef,
+};
 use std::alloc::Global;
 
 #[tactic(auto, unfolding(crate::specs::Reading::plain))]
@@ -121,11 +118,7 @@ impl World {
     }
 
     // Refuses a class for its name, unless its bases are refused.
-    fn refuse_name(
-        &self,
-        bases: &[PyTypeRef],
-        cause: Cause,
-    ) -> Result<PyTypeRef, ClassFault>
+    fn refuse_name(&self, bases: &[PyTypeRef], cause: Cause) -> Result<PyTypeRef, ClassFault>
         requires { AllHold self.now (of_each of_class_ref bases.now) }
         ensures why { WithMemory result (refusal result ≡
             option_or (refused_bases self.now.classes (numbers bases.now)) (Some cause)) }
@@ -208,10 +201,7 @@ impl World {
         }
         let number = PyTypeRef(self.nodes.len() as u64);
         self.classes.sound();
-        match self
-            .classes
-            .new_heap(number, name, bases, attrs, members)
-        {
+        match self.classes.new_heap(number, name, bases, attrs, members) {
             Err(fault) => Err(fault),
             Ok(class) => {
                 self.classes.sound();

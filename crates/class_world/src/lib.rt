@@ -1,4 +1,4 @@
-// The world that tasks change: nodes and classes, names, variables, scopes and expressions.
+//! The world that tasks change: nodes and classes, names, variables, scopes and expressions.
 #![tactic(auto)]
 
 pub mod args;
@@ -19,3 +19,6 @@ pub mod store;
 pub mod takes;
 mod variables;
 pub mod world;
+
+pub use scope::Scope;
+pub use world::{Fixed, World};

@@ -1,12 +1,10 @@
-// The table of nodes: objects that are added.
+//! The table of nodes: objects that are added.
 
 ghost use Rattle.std.specs.Prelude.{◌≡◌, ◌<◌, ◌∷◌, [], ◌++◌, length, vec_len, vec_capacity, IfOk, OnOk, OnErr};
 ghost use Rattle.plain_machine.specs.World.{ref};
 ghost use Rattle.class_world.specs.Added.{with_object, number_of_object};
 
-use py_node::memory::OutOfMemory;
-use py_node::payload::{Node, Payload};
-use py_node::refs::{PyObjectRef, PyTypeRef};
+use py_node::{Node, OutOfMemory, Payload, PyObjectRef, PyTypeRef};
 
 /// Adds an object, after the node that is its dict, if it has one. Where memory runs out, there is
 /// neither.

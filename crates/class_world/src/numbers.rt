@@ -1,4 +1,4 @@
-// Whether a number is one of an object, a class, a name or an expression.
+//! Whether a number is one of an object, a class, a name or an expression.
 
 ghost use Rattle.std.specs.Prelude.{◌≡◌, ◌<◌, length, ltb, IsTrue};
 ghost use Rattle.class_model.specs.Class.{is_class};
@@ -6,7 +6,7 @@ ghost use Rattle.class_world.specs.Reading.{Reading, plain};
 ghost use Rattle.class_world.specs.Sound.{IsNode, IsClass, IsName, IsExpression, Holds};
 
 use crate::world::World;
-use py_node::refs::{PyObjectRef, PyStrInterned, PyTypeRef};
+use py_node::{PyObjectRef, PyStrInterned, PyTypeRef};
 
 #[tactic(auto, unfolding(crate::specs::Reading::plain, crate::specs::Sound::Holds))]
 impl World {

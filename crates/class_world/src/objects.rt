@@ -1,4 +1,4 @@
-// What rows read of objects and classes.
+//! What rows read of objects and classes.
 #![tactic(auto, unfolding(crate::specs::Reading::plain))]
 
 ghost use Rattle.std.specs.Prelude.{◌≡◌, Some, IfSome, option_map, nat_lt};
@@ -16,9 +16,7 @@ ghost use Rattle.class_world.specs.Sound.{IsNode, IsClass, IsOf, Holding, Holds}
 
 use crate::world::World;
 use bitflags::Flags;
-use py_node::flags::{PyMethodFlags, PyTypeFlags};
-use py_node::payload::Payload;
-use py_node::refs::{PyObjectRef, PyStrInterned, PyTypeRef};
+use py_node::{Payload, PyMethodFlags, PyObjectRef, PyStrInterned, PyTypeFlags, PyTypeRef};
 
 // How many classes are built in: they are the first.
 const BUILT_INS: u64 = 23;

@@ -1,4 +1,4 @@
-// What is read of classes.
+//! What is read of classes.
 
 ghost use Rattle.std.specs.Prelude.{◌≡◌, ◌^◌, Some, IfSome, IsTrue, option_map};
 ghost use Rattle.class_model.specs.BuiltIn.{natives_of};
@@ -12,10 +12,8 @@ ghost use Rattle.class_world.specs.Reading.{Reading, Reads, plain};
 ghost use Rattle.class_world.specs.Sound.{IsNode, IsClass, CanBeBase, Holds};
 
 use crate::world::World;
-use class_table::candidates::Candidates;
-use py_node::entry::{SlotEntry, SlotId};
-use py_node::flags::PyTypeFlags;
-use py_node::refs::{PyObjectRef, PyStrInterned, PyTypeRef};
+use class_table::Candidates;
+use py_node::{PyObjectRef, PyStrInterned, PyTypeFlags, PyTypeRef, SlotEntry, SlotId};
 
 #[tactic(auto, unfolding(crate::specs::Reading::plain))]
 impl World {

@@ -1,7 +1,6 @@
-// The scope of a running body.
+//! The scope of a running body.
 
-use py_node::attributes::PyAttributes;
-use py_node::refs::PyObjectRef;
+use py_node::{PyAttributes, PyObjectRef};
 
 /// A running body: its function, and its variables.
 #[derive(Drop)]

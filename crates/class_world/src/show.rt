@@ -1,4 +1,4 @@
-// The text of an object, as replies show it.
+//! The text of an object, as replies show it.
 
 ghost use Rattle.std.specs.Prelude.{◌≡◌, ◌++◌, IfOk, OnOk, codes, string_bytes, option_map, map, take, drop};
 ghost use Rattle.reply_text.specs.Escapes.{escaped};
@@ -8,9 +8,7 @@ ghost use Rattle.class_world.specs.Reading.{Reading, plain, datum};
 ghost use Rattle.class_world.specs.Sound.{IsNode, AreNodes, IsClass, Holds, AllHold, of_payload};
 
 use crate::world::World;
-use py_node::memory::OutOfMemory;
-use py_node::payload::Payload;
-use py_node::refs::{PyObjectRef, PyTypeRef};
+use py_node::{OutOfMemory, Payload, PyObjectRef, PyTypeRef};
 use reply_text::escape::{escaped_string, quoted_string};
 use std::alloc::Global;
 
@@ -47,23 +45,14 @@ pub fn show(world: &World, node: PyObjectRef) -> Result<String, OutOfMemory>
 
 // The text of an object, where containers are shown so many deep.
 #[cycle(show)]
-fn text_within(
-    world: &World,
-    depth: u8,
-    node: PyObjectRef,
-) -> Result<String, OutOfMemory>
+fn text_within(world: &World, depth: u8, node: PyObjectRef) -> Result<String, OutOfMemory>
     requires { Holds world.now (IsNode node) }
     ensures { IfOk result (λ s. (t : Reading) → string_bytes s ≡ text_within depth (plain t world.now) node) }
 {
     let alloc = world.alloc();
     match fixed(node) {
         Some(text) => Ok(String::from_str(alloc, text)?),
-        None => show_payload(
-            world,
-            depth,
-            world.class_of(node),
-            world.payload(node),
-        ),
+        None => show_payload(world, depth, world.class_of(node), world.payload(node)),
     }
 }
 
@@ -106,11 +95,7 @@ fn show_payload(
 
 // The text of a tuple of these items.
 #[cycle(show)]
-fn show_tuple(
-    world: &World,
-    depth: u8,
-    items: &Vec<PyObjectRef>,
-) -> Result<String, OutOfMemory>
+fn show_tuple(world: &World, depth: u8, items: &Vec<PyObjectRef>) -> Result<String, OutOfMemory>
     requires { Holds world.now (AreNodes items.now.items) }
     ensures { IfOk result (λ s. (t : Reading) → string_bytes s ≡
         (containers depth (plain t world.now)).tuple items.now.items) }
@@ -143,11 +128,7 @@ fn show_dict(
 
 // The texts of items, the first twenty.
 #[cycle(show)]
-fn item_texts(
-    world: &World,
-    depth: u8,
-    items: &[PyObjectRef],
-) -> Result<Vec<String>, OutOfMemory>
+fn item_texts(world: &World, depth: u8, items: &[PyObjectRef]) -> Result<Vec<String>, OutOfMemory>
     requires { Holds world.now (AreNodes items.now) }
     ensures { IfOk result (λ xs. (t : Reading) → map string_bytes xs.items ≡
         item_texts (text_within depth (plain t world.now)) items.now) }

@@ -1,13 +1,11 @@
-// The nodes of a new machine.
+//! The nodes of a new machine.
 
 ghost use Rattle.std.specs.Prelude.{◌≡◌, map, IfOk};
 ghost use Rattle.py_node.specs.BuiltIns.{all_built_ins};
 ghost use Rattle.class_world.specs.StartNodes.{plain_node as stored, class_node, start_nodes as the_start_nodes};
 
 use class_table::start::built_ins;
-use py_node::memory::OutOfMemory;
-use py_node::payload::{Node, Payload};
-use py_node::refs::PyTypeRef;
+use py_node::{Node, OutOfMemory, Payload, PyTypeRef};
 use std::alloc::Global;
 
 /// The nodes of the built-in classes, and then None, NotImplemented, False and True.

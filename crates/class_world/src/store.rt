@@ -1,4 +1,4 @@
-// Expressions of scripts, put into the world's store: names are interned, and parts go in first.
+//! Expressions of scripts, put into the world's store: names are interned, and parts go in first.
 
 ghost use Rattle.std.specs.Prelude.{◌≡◌, map, IfOk, string_bytes};
 ghost use Rattle.py_node.specs.Tree.{tree_of, part_of, pair_of, texts_of};
@@ -6,10 +6,7 @@ ghost use Rattle.class_world.specs.Reading.{Reading, Reads, plain};
 ghost use Rattle.class_world.specs.Sound.{IsExpression, AreExpressions, AreNames, Holds, Grows};
 
 use crate::world::World;
-use py_node::expr::Expr;
-use py_node::memory::OutOfMemory;
-use py_node::payload::Form;
-use py_node::refs::PyStrInterned;
+use py_node::{Expr, Form, OutOfMemory, PyStrInterned};
 use std::alloc::Global;
 
 /// Puts an expression into the store, and answers its number there.
@@ -121,10 +118,7 @@ fn add_exprs(world: &mut World, exprs: &Vec<Expr>) -> Result<Vec<u64>, OutOfMemo
 
 // The numbers of keys with those of their values, in order.
 #[cycle(store)]
-fn add_pairs(
-    world: &mut World,
-    pairs: &Vec<(Expr, Expr)>,
-) -> Result<Vec<(u64, u64)>, OutOfMemory>
+fn add_pairs(world: &mut World, pairs: &Vec<(Expr, Expr)>) -> Result<Vec<(u64, u64)>, OutOfMemory>
     ensures added { IfOk result (λ ps. (t : Reading) → Reads t world.new →
         map (λ p. (t.tree p.0, t.tree p.1)) ps.items ≡ map pair_of pairs.now.items) }
     ensures same { (t : Reading) → plain t world.new ≡ plain t world.old }
@@ -168,10 +162,7 @@ fn add_entries(
 }
 
 // The names of texts, in order.
-fn intern_all(
-    world: &mut World,
-    texts: &Vec<String>,
-) -> Result<Vec<PyStrInterned>, OutOfMemory>
+fn intern_all(world: &mut World, texts: &Vec<String>) -> Result<Vec<PyStrInterned>, OutOfMemory>
     ensures spelled { IfOk result (λ xs. (t : Reading) → Reads t world.new → map (λ x. t.text x.0) xs.items ≡
         texts_of texts.now.items) }
     ensures same { (t : Reading) → plain t world.new ≡ plain t world.old }

@@ -1,4 +1,4 @@
-// What a native takes: so many arguments and no keyword.
+//! What a native takes: so many arguments and no keyword.
 #![tactic(auto, using(crate::proofs::Items::item_holds))]
 
 ghost use Rattle.std.specs.Prelude.{◌≡◌, Err, IfErr, IfNone, IfOk, IfSome, string_bytes};
@@ -13,10 +13,7 @@ ghost use Rattle.class_world.specs.Reading.{Reading, Reads, bindings, plain};
 ghost use Rattle.class_world.specs.Sound.{AreNodes, IsName, IsNode, Holds, Grows};
 
 use crate::world::World;
-use py_node::memory::OutOfMemory;
-use py_node::payload::Payload;
-use py_node::raised::{Cause, Raised};
-use py_node::refs::{PyObjectRef, PyStrInterned};
+use py_node::{Cause, OutOfMemory, Payload, PyObjectRef, PyStrInterned, Raised};
 use std::alloc::Global;
 
 /// The only argument, or why the arguments are refused.

@@ -1,13 +1,11 @@
-// Variables: of the running body, or else of the machine.
+//! Variables: of the running body, or else of the machine.
 
 ghost use Rattle.std.specs.Prelude.{◌≡◌, ◌<◌, length, OnOk, OnErr};
 ghost use Rattle.py_node.specs.Attributes.{value_of, is_same_name};
 ghost use Rattle.class_world.specs.Bound.{last_value, value_in, bound_vars, bound_scopes};
 
 use crate::scope::Scope;
-use py_node::attributes::PyAttributes;
-use py_node::memory::OutOfMemory;
-use py_node::refs::{PyObjectRef, PyStrInterned};
+use py_node::{OutOfMemory, PyAttributes, PyObjectRef, PyStrInterned};
 
 // A variable of the last of some scopes.
 fn last_value(scopes: &[Scope], name: PyStrInterned) -> Option<PyObjectRef>

@@ -1,4 +1,4 @@
-// The world, and what is read and changed there.
+//! The world, and what is read and changed there.
 
 ghost use Rattle.std.specs.Prelude.{◌≡◌, ◌<◌, ◌-◌, ℕ, suc, List, map, length, take, is_some, Some, None, IfOk, OnOk, OnErr, IfSome, IsTrue, slice_get, string_bytes};
 ghost use Rattle.py_node.specs.Replies.{started_of};
@@ -22,17 +22,12 @@ use crate::nodes::add_object;
 use crate::scope::Scope;
 use crate::start::start_nodes;
 use crate::variables::{bind_in, value_in};
+use class_table::ClassTable;
 use class_table::start::known_names;
-use class_table::table::ClassTable;
-use py_node::attributes::PyAttributes;
-use py_node::built_in::BuiltIn;
-use py_node::flags::PyTypeFlags;
-use py_node::known::Known;
-use py_node::memory::OutOfMemory;
-use py_node::names::Names;
-use py_node::payload::{Form, Node, Payload};
-use py_node::refs::{PyObjectRef, PyStrInterned, PyTypeRef};
-use py_node::reply::BodyCall;
+use py_node::{
+    BodyCall, BuiltIn, Form, Known, Names, Node, OutOfMemory, Payload, PyAttributes, PyObjectRef,
+    PyStrInterned, PyTypeFlags, PyTypeRef,
+};
 use std::alloc::Global;
 use std::marker::Model;
 use std::mem;

@@ -1,3 +1,4 @@
 pub mod Operands
 pub mod ClassForm
 pub mod Keys
+pub mod Arguments

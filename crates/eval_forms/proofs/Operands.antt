@@ -31,11 +31,11 @@ use Rattle.eval_forms.specs.declared.EvalKept.{EvalKept}
 use Rattle.eval_forms.specs.declared.EvalKept.TheVariants.{Operands}
 use Rattle.eval_forms.specs.declared.Own.TheVariants as own
 use Rattle.py_node.specs.declared.expr.Word.{Word}
-use Rattle.eval_forms.specs.Say.{operand_trees, own_say, one_of, func_say, set_attr_say, call_say, op_say, not_yet, class_say, entry_names, eval_say}
+use Rattle.eval_forms.specs.Say.{operand_trees, own_say, one_of, func_say, set_attr_say, attr_say, called_say, op_say, not_yet, class_say, entry_names, eval_say}
 use Rattle.plain_machine.specs.Args.{two_of}
-use Rattle.eval_forms.specs.Rows.{answered, eval_stands, Continues, Closes, TakesAt, Takes, StepsAt, EndsSo, HasValues, IsLater, IsOther, IsOwn, operands, operands_at, has_operand}
+use Rattle.eval_forms.specs.Rows.{answered, eval_stands, Continues, Closes, TakesAt, Takes, StepsAt, EndsSo, HasValues, IsLater, IsOther, IsOwn, operands, operands_at, has_operand, evaluated_tree, args_of}
 
-list_of-trees_of : (ts : List Tree) → list_of (trees_of ts) ≡ ts
+pub list_of-trees_of : (ts : List Tree) → list_of (trees_of ts) ≡ ts
 list_of-trees_of [] = refl
 list_of-trees_of (e ∷ ts) = ap (λ l. e ∷ l) (list_of-trees_of ts)
 
@@ -46,9 +46,8 @@ entry_trees-list : (text : ℕ → Text) (tree : ℕ → Tree) (es : List (PyStr
 entry_trees-list text tree [] = refl
 entry_trees-list text tree (e ∷ es) = ap (λ l. tree e.1 ∷ l) (entry_trees-list text tree es)
 
--- the operands of an expression of the store are those of its tree
-pub operand_trees-form : (text : ℕ → Text) (tree : ℕ → Tree) (f : Form) → operand_trees (form_tree text tree f) ≡ map tree (operands f)
-operand_trees-form text tree (form.Call f es kw) = ap (λ l. tree f ∷ l) (list_of-trees_of (map tree es.items))
+-- what is evaluated for the operands of an expression of the store are the operands of its tree
+pub operand_trees-form : (text : ℕ → Text) (tree : ℕ → Tree) (f : Form) → operand_trees (form_tree text tree f) ≡ map (λ e. evaluated_tree f (tree e)) (operands f)
 operand_trees-form text tree (form.Op word es) = list_of-trees_of (map tree es.items)
 operand_trees-form text tree (form.Class x bs kw es) =
     ap (λ l. l ++ entry_trees (entry_list (map (part text tree) es.items))) (list_of-trees_of (map tree bs.items))
@@ -56,7 +55,7 @@ operand_trees-form text tree (form.Class x bs kw es) =
     ∙ sym (map-append tree bs.items (map (λ e. e.1) es.items))
 operand_trees-form text tree _ = refl
 
-append-nil : {A : Type 0} (xs : List A) → xs ++ [] ≡ xs
+pub append-nil : {A : Type 0} (xs : List A) → xs ++ [] ≡ xs
 append-nil [] = refl
 append-nil (x ∷ xs) = ap (λ l. x ∷ l) (append-nil xs)
 
@@ -110,11 +109,13 @@ append-holds w (x ∷ xs) ys (suc n) e g h k = append-holds w xs ys n e (λ i d 
 pub operand-holds : (w : Held) (f : Form) (n e : ℕ) → AllHold w (of_form f) → slice_get (operands f) n ≡ Some e → Holds w (IsExpression e)
 operand-holds w (form.Bind x b) zero e h p = let same : b ≡ e = cc in subst (λ e. Holds w (IsExpression e)) same h.1.0
 operand-holds w (form.Bind x b) (suc n) e h p = cc
+operand-holds w (form.Attr o x) zero e h p = let same : o ≡ e = cc in subst (λ e. Holds w (IsExpression e)) same h.0
+operand-holds w (form.Attr o x) (suc n) e h p = cc
 operand-holds w (form.SetAttr o x b) zero e h p = let same : o ≡ e = cc in subst (λ e. Holds w (IsExpression e)) same h.0
 operand-holds w (form.SetAttr o x b) (suc zero) e h p = let same : b ≡ e = cc in subst (λ e. Holds w (IsExpression e)) same h.1.1.0
 operand-holds w (form.SetAttr o x b) (suc (suc n)) e h p = cc
 operand-holds w (form.Call f es kw) zero e h p = let same : f ≡ e = cc in subst (λ e. Holds w (IsExpression e)) same h.0
-operand-holds w (form.Call f es kw) (suc n) e h p = expression-in w es.items n e h.1.0 p
+operand-holds w (form.Call f es kw) (suc n) e h p = cc
 operand-holds w (form.Op word es) n e h p = expression-in w es.items n e h.0 p
 operand-holds w (form.Class x bs kw es) n e h p = append-holds w bs.items (map (λ e. e.1) es.items) n e h.1.0 h.1.1.1.1.1.0 p
 operand-holds w _ n e h p = cc
@@ -124,15 +125,16 @@ pub at-tree : (t : Reading) (e : ℕ) (x : Tree) (vs : List PyObjectRef) (old ne
 at-tree t e x vs old new next h k = subst (λ x. StepsAt t x vs old new next) (sym h) k
 
 -- the next operand of an expression is evaluated
-pub goes-on : (w : World) (e n : ℕ) (f : Form) (vs : Vec PyObjectRef) → slice_get w.forms e ≡ Some f → slice_get (operands f) (length vs.items) ≡ Some n → Continues e vs.items w w (Ask (task.Eval (eval.Eval n)) (Operands e vs))
+pub goes-on : (w : World) (e n m : ℕ) (f : Form) (vs : Vec PyObjectRef) → slice_get w.forms e ≡ Some f → slice_get (operands f) (length vs.items) ≡ Some n
+    → ((t : Reading) → Reads t w → t.tree m ≡ evaluated_tree f (t.tree n)) → Continues e vs.items w w (Ask (task.Eval (eval.Eval m)) (Operands e vs))
 unfolding eval_say
-goes-on w e n f vs h k = λ t r. (r, step t (r.trees e f h))
+goes-on w e n m f vs h k l = λ t r. (r, step t (r.trees e f h) (l t r))
   where
-    step : (t : Reading) → t.tree e ≡ form_tree t.text t.tree f → StepsAt t (t.tree e) vs.items w w (Ask (task.Eval (eval.Eval n)) (Operands e vs))
-    step t q =
-        let asks : evaluate (plain t w) (operand_trees (t.tree e)) (own_say (plain t w) (t.tree e)) (map answered vs.items) ≡ Asks (plain t w) [] (ToEval (DoEval (t.tree n))) =
-        evaluate-ask (plain t w) (operand_trees (t.tree e)) (own_say (plain t w) (t.tree e)) vs.items (t.tree n) (ap (λ x. slice_get (operand_trees x) (length vs.items)) q ∙ ap (λ ts. slice_get ts (length vs.items)) (operand_trees-form t.text t.tree f) ∙ got-map t.tree (operands f) (length vs.items) n k) in
-        subst (λ said. Steps eval_say (eval_stands t) t (DoEval (t.tree e)) (map answered vs.items) said (Ask (task.Eval (eval.Eval n)) (Operands e vs)) w) (sym asks) (refl, refl, record { says = λ w r more. ap (λ told. eval_say w (DoEval (t.tree e)) (told ++ Answered r ∷ more)) (append-nil (map answered vs.items)) })
+    step : (t : Reading) → t.tree e ≡ form_tree t.text t.tree f → t.tree m ≡ evaluated_tree f (t.tree n) → StepsAt t (t.tree e) vs.items w w (Ask (task.Eval (eval.Eval m)) (Operands e vs))
+    step t q p =
+        let asks : evaluate (plain t w) (operand_trees (t.tree e)) (own_say (plain t w) (t.tree e)) (map answered vs.items) ≡ Asks (plain t w) [] (ToEval (DoEval (t.tree m))) =
+        evaluate-ask (plain t w) (operand_trees (t.tree e)) (own_say (plain t w) (t.tree e)) vs.items (t.tree m) (ap (λ x. slice_get (operand_trees x) (length vs.items)) q ∙ ap (λ ts. slice_get ts (length vs.items)) (operand_trees-form t.text t.tree f) ∙ got-map (λ x. evaluated_tree f (t.tree x)) (operands f) (length vs.items) n k ∙ ap Some (sym p)) in
+        subst (λ said. Steps eval_say (eval_stands t) t (DoEval (t.tree e)) (map answered vs.items) said (Ask (task.Eval (eval.Eval m)) (Operands e vs)) w) (sym asks) (refl, refl, record { says = λ w r more. ap (λ told. eval_say w (DoEval (t.tree e)) (told ++ Answered r ∷ more)) (append-nil (map answered vs.items)) })
 
 -- an operand that is answered no object ends the expression so
 pub ends-with : (w : World) (e : ℕ) (vs : List PyObjectRef) (s : Result Answer Fault) → IsOther s → Holds w (HasForm e (has_operand (length vs))) → EndsSo e vs w s
@@ -140,7 +142,7 @@ unfolding Holds eval_say
 ends-with w e vs s o h = λ t r.
     let f = h.0 in
     let some = there (operands f) (length vs) (ltb-true (length vs) (length (operands f)) h.2) in
-    let asks = evaluate-other (plain t w) (operand_trees (t.tree e)) (own_say (plain t w) (t.tree e)) vs (t.tree some.0) s [] o (ap (λ x. slice_get (operand_trees x) (length vs)) (r.trees e f h.1) ∙ ap (λ ts. slice_get ts (length vs)) (operand_trees-form t.text t.tree f) ∙ got-map t.tree (operands f) (length vs) some.0 some.1) in
+    let asks = evaluate-other (plain t w) (operand_trees (t.tree e)) (own_say (plain t w) (t.tree e)) vs (evaluated_tree f (t.tree some.0)) s [] o (ap (λ x. slice_get (operand_trees x) (length vs)) (r.trees e f h.1) ∙ ap (λ ts. slice_get ts (length vs)) (operand_trees-form t.text t.tree f) ∙ got-map (λ x. evaluated_tree f (t.tree x)) (operands f) (length vs) some.0 some.1) in
     (r, subst (λ said. Steps eval_say (eval_stands t) t (DoEval (t.tree e)) (map answered vs ++ Answered (ended_of s) ∷ []) said (End s) w) (sym asks) (refl, refl))
 
 pub has-operand : (w : Held) (e n : ℕ) (f : Form) (x : ℕ) → slice_get w.forms e ≡ Some f → slice_get (operands f) n ≡ Some x → Holds w (HasForm e (has_operand n))
@@ -164,7 +166,7 @@ own-row : (u : PlainWorld) (t : Reading) (w : World) (e : ℕ) (f : Form) (vs : 
 unfolding eval_say
 own-row u t w e f vs more r h l =
     let here : length (operand_trees (t.tree e)) ≡ length vs =
-    ap (λ x. length (operand_trees x)) (r.trees e f h) ∙ ap length (operand_trees-form t.text t.tree f) ∙ length-map (operands f) t.tree ∙ l in
+    ap (λ x. length (operand_trees x)) (r.trees e f h) ∙ ap length (operand_trees-form t.text t.tree f) ∙ length-map (operands f) (λ x. evaluated_tree f (t.tree x)) ∙ l in
     evaluate-all u (operand_trees (t.tree e)) (own_say u (t.tree e)) vs more here
 
 own-first : (u : PlainWorld) (t : Reading) (w : World) (e : ℕ) (f : Form) (vs : List PyObjectRef) → Reads t w → slice_get w.forms e ≡ Some f → length (operands f) ≡ length vs → eval_say u (DoEval (t.tree e)) (map answered vs) ≡ own_say u (t.tree e) vs []
@@ -178,25 +180,28 @@ own-closes w new e f vs row (End s) h l says k = λ t r.
     let told = own-first (plain t w) t w e f vs here.0 h l ∙ ap (λ x. own_say (plain t w) x vs []) (here.0.trees e f h) ∙ says t (plain t w) ∙ here.1 in
     (here.0, subst (λ said. Steps eval_say (eval_stands t) t (DoEval (t.tree e)) (map answered vs) said (End s) new) (sym told) (refl, refl))
 
-append-on : {A : Type 0} (xs ys zs : List A) → (xs ++ ys) ++ zs ≡ xs ++ (ys ++ zs)
+pub append-on : {A : Type 0} (xs ys zs : List A) → (xs ++ ys) ++ zs ≡ xs ++ (ys ++ zs)
 append-on [] ys zs = refl
 append-on (x ∷ xs) ys zs = ap (λ l. x ∷ l) (append-on xs ys zs)
 
 -- an expression goes on as the row of its own step says
-pub own-takes : (w new : World) (e : ℕ) (f : Form) (vs : List PyObjectRef) (row : Reading → PlainWorld → Row) (next : Step EvalKept) → slice_get w.forms e ≡ Some f → length (operands f) ≡ length vs → ((t : Reading) (u : PlainWorld) (more : Told) → own_say u (form_tree t.text t.tree f) vs more ≡ row t u more) → Takes row w new next → Continues e vs w new next
-own-takes w new e f vs row next h l says k = λ t r.
+pub own-takes-read : (w new : World) (e : ℕ) (f : Form) (vs : List PyObjectRef) (row : Reading → PlainWorld → Row) (next : Step EvalKept) → slice_get w.forms e ≡ Some f → length (operands f) ≡ length vs → ((t : Reading) → Reads t w → (u : PlainWorld) (more : Told) → own_say u (form_tree t.text t.tree f) vs more ≡ row t u more) → Takes row w new next → Continues e vs w new next
+own-takes-read w new e f vs row next h l says k = λ t r.
     let here = k t r in
-    let told = own-first (plain t w) t w e f vs here.0 h l ∙ ap (λ x. own_say (plain t w) x vs []) (here.0.trees e f h) ∙ says t (plain t w) [] in
+    let told = own-first (plain t w) t w e f vs here.0 h l ∙ ap (λ x. own_say (plain t w) x vs []) (here.0.trees e f h) ∙ says t here.0 (plain t w) [] in
     (here.0, subst (λ said. Steps eval_say (eval_stands t) t (DoEval (t.tree e)) (map answered vs) said next new) (sym told) (go t here.0 (row t (plain t w) []) next here.1))
   where
     on : (t : Reading) → Reads t w → (u : PlainWorld) (more : Told) → eval_say u (DoEval (t.tree e)) (map answered vs ++ more) ≡ row t u more
-    on t r u more = own-row u t w e f vs more r h l ∙ ap (λ x. own_say u x vs more) (r.trees e f h) ∙ says t u more
+    on t r u more = own-row u t w e f vs more r h l ∙ ap (λ x. own_say u x vs more) (r.trees e f h) ∙ says t r u more
 
     go : (t : Reading) → Reads t w → (said : Said) (next : Step EvalKept) → TakesAt (row t) t said next new → Steps eval_say (eval_stands t) t (DoEval (t.tree e)) (map answered vs) said next new
     go t r (Asks u learnt other) (Ask asked kept) k = (k.0, k.1, record { says = λ v s more. ap (eval_say v (DoEval (t.tree e))) (append-on (map answered vs) learnt (Answered s ∷ more)) ∙ on t r v (learnt ++ Answered s ∷ more) ∙ k.2 v s more })
     go t r (Asks u learnt other) (End s) k = absurd k
     go t r (Ends u s) (Ask asked kept) k = absurd k
     go t r (Ends u s) (End x) k = k
+
+pub own-takes : (w new : World) (e : ℕ) (f : Form) (vs : List PyObjectRef) (row : Reading → PlainWorld → Row) (next : Step EvalKept) → slice_get w.forms e ≡ Some f → length (operands f) ≡ length vs → ((t : Reading) (u : PlainWorld) (more : Told) → own_say u (form_tree t.text t.tree f) vs more ≡ row t u more) → Takes row w new next → Continues e vs w new next
+own-takes w new e f vs row next h l says k = own-takes-read w new e f vs row next h l (λ t r. says t) k
 
 -- the text of a name is there, and the fixed nodes are
 pub names-in : (w : Held) (x : PyStrInterned) → Holds w (IsName x) → x.0 < length w.names
@@ -248,10 +253,16 @@ class-row u x bs es vs more kw = own_say u (TClass x bs kw es) vs more
 none-stored : (text : ℕ → Text) (tree : ℕ → Tree) (kw : List (PyStrInterned × ℕ)) → kw ≡ [] → stored_entries text tree kw ≡ no_entries
 none-stored text tree kw h = ap (stored_entries text tree) h
 
-pub says-call : (vs : List PyObjectRef) (f : Form) → IsOwn own.Call f → (t : Reading) (u : PlainWorld) (more : Told) → own_say u (form_tree t.text t.tree f) vs more ≡ call_say u vs more
+pub says-attr : (x : PyStrInterned) (vs : List PyObjectRef) (f : Form) → IsOwn (own.Attr x) f → (t : Reading) (u : PlainWorld) (more : Told) → own_say u (form_tree t.text t.tree f) vs more ≡ attr_say u (t.text x.0) (one_of vs) more
+says-attr x vs (form.Attr a y) o t u more = ap (λ z. attr_say u (t.text z.0) (one_of vs) more) (sym o)
+says-attr x vs _ o t u more = absurd o
+
+pub says-call : (g : ℕ) (vs : List PyObjectRef) (f : Form) → IsOwn (own.Call g) f → (t : Reading) (u : PlainWorld) (more : Told) → own_say u (form_tree t.text t.tree f) vs more ≡ called_say u (t.tree g) (list_of (args_of (form_tree t.text t.tree f))) (one_of vs) more
 unfolding call-row
-says-call vs (form.Call g es kw) o t u more = ap (call-row u (t.tree g) (trees_of (map t.tree es.items)) vs more) (none-stored t.text t.tree kw.items o)
-says-call vs _ o t u more = absurd o
+says-call g vs (form.Call h es kw) o t u more =
+    ap (call-row u (t.tree h) (trees_of (map t.tree es.items)) vs more) (none-stored t.text t.tree kw.items o.1)
+    ∙ ap (λ k. called_say u (t.tree k) (list_of (trees_of (map t.tree es.items))) (one_of vs) more) (sym o.0)
+says-call g vs _ o t u more = absurd o
 
 pub says-op : (word : Word) (vs : List PyObjectRef) (f : Form) → IsOwn (own.Op word) f → (t : Reading) (u : PlainWorld) (more : Told) → own_say u (form_tree t.text t.tree f) vs more ≡ op_say u word vs more
 says-op word vs (form.Op v es) o t u more = ap (λ v. op_say u v vs more) (sym o)
@@ -277,6 +288,7 @@ says-later vs (form.Const k) o t u more = absurd o
 says-later vs (form.Name y) o t u more = absurd o
 says-later vs (form.Bind y e) o t u more = absurd o
 says-later vs (form.Func y ps rest e) o t u more = absurd o
+says-later vs (form.Attr a y) o t u more = absurd o
 says-later vs (form.SetAttr a y b) o t u more = absurd o
 says-later vs (form.Op v es) o t u more = absurd o
 says-later vs (form.Call g es kw) o t u more = call-later u (t.tree g) (trees_of (map t.tree es.items)) vs more t.text t.tree kw.items o
@@ -325,3 +337,12 @@ class-names w x n xs _ o h = absurd o
 pub set-name : (w : Held) (x : PyStrInterned) (f : Form) → IsOwn (own.SetAttr x) f → AllHold w (of_form f) → Holds w (IsName x)
 set-name w x (form.SetAttr a y b) o h = subst (λ z. Holds w (IsName z)) (sym o) h.1.0
 set-name w x _ o h = absurd o
+
+pub attr-name : (w : Held) (x : PyStrInterned) (f : Form) → IsOwn (own.Attr x) f → AllHold w (of_form f) → Holds w (IsName x)
+attr-name w x (form.Attr a y) o h = subst (λ z. Holds w (IsName z)) (sym o) h.1.0
+attr-name w x _ o h = absurd o
+
+-- what a call calls is an expression
+pub call-func : (w : Held) (g : ℕ) (f : Form) → IsOwn (own.Call g) f → AllHold w (of_form f) → Holds w (IsExpression g)
+call-func w g (form.Call h es kw) o k = subst (λ x. Holds w (IsExpression x)) (sym o.0) k.0
+call-func w g _ o k = absurd o

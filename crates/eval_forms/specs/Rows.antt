@@ -7,23 +7,27 @@ use Rattle.py_node.specs.declared.task.PyNumberBinaryOp.TheVariants.{Add}
 use Rattle.py_node.specs.declared.task.Answer.{Answer}
 use Rattle.py_node.specs.declared.task.Answer.TheVariants.{Value}
 use Rattle.py_node.specs.declared.task.EvalTask.{EvalTask}
+use Rattle.py_node.specs.declared.refs.PyStrInterned.{PyStrInterned}
 use Rattle.py_node.specs.declared.task.Step.{Step}
 use Rattle.py_node.specs.declared.task.Step.TheVariants.{Ask, End}
 use Rattle.py_node.specs.declared.payload.Form.{Form}
 use Rattle.py_node.specs.declared.payload.Form.TheVariants as form
-use Rattle.py_node.specs.Tree.{literal_of, Tree, TOp, TSetAttr, tree, no_trees, TConst, LNone}
-use Rattle.plain_machine.specs.Plain.{PlainWorld, EvalJob, DoEval, Ended, Fact, Answered, Told, Said, Asks, Ends}
+use Rattle.py_node.specs.Tree.{literal_of, Tree, TAttr, TCall, TOp, TSetAttr, Trees, tree, no_trees, no_entries, TConst, LNone}
+use Rattle.plain_machine.specs.Plain.{PlainWorld, EvalJob, DoEval, DoInvoke, DoCall, PlainTask, ToAttribute, ToCall, Ended, Fact, Answered, Told, Said, Asks, Ends}
 use Rattle.plain_machine.specs.Row.{Row, value}
 use Rattle.plain_machine.specs.Rows.{Pending, fresh, given}
 use Rattle.class_world.specs.declared.world.World.{World}
-use Rattle.class_world.specs.Reading.{Reading, Reads, plain, eval_job, task_of, ended_of}
+use Rattle.class_world.specs.Reading.{Reading, Reads, plain, eval_job, method_of, method_target, method_func, task_of, ended_of}
 use Rattle.class_world.specs.Rows.{Goes, Steps}
-use Rattle.class_world.specs.Sound.{Claim, AreNodes, IsExpression, HasForm}
+use Rattle.class_world.specs.Claims.{of_method}
+use Rattle.class_world.specs.Sound.{Claim, IsNode, AreNodes, IsExpression, HasForm}
 use Rattle.eval_forms.specs.declared.EvalKept.{EvalKept}
-use Rattle.eval_forms.specs.declared.EvalKept.TheVariants.{Pass, SetDone, Operands}
+use Rattle.eval_forms.specs.declared.EvalKept.TheVariants.{Pass, SetDone, Operands, Load, Arguments}
+use Rattle.eval_forms.specs.declared.call_form.Called.{Called}
+use Rattle.eval_forms.specs.declared.call_form.Called.TheVariants as called
 use Rattle.eval_forms.specs.declared.Own.{Own}
 use Rattle.eval_forms.specs.declared.Own.TheVariants as own
-use Rattle.eval_forms.specs.Say.{eval_say}
+use Rattle.eval_forms.specs.Say.{callee_tree, eval_say}
 
 -- the values of the operands so far, as they were learnt
 abbrev pub answered : PyObjectRef → Fact
@@ -40,17 +44,40 @@ setting = TSetAttr (TConst LNone) [] (TConst LNone)
 abbrev pub passed : List PyObjectRef
 passed = record { 0 = 0 } ∷ record { 0 = 0 } ∷ []
 
+-- the arguments of a call
+abbrev pub args_of : Tree → Trees
+args_of (TCall f es kw) = es
+args_of _ = no_trees
+
+-- a call of a method with arguments, whatever object has it and whatever its name is
+abbrev pub method_call : Trees → Tree
+method_call es = TCall (TAttr (TConst LNone) []) es no_entries
+
+-- a call that has learnt what it calls
+abbrev pub called_tree : Called → Trees → Tree
+called_tree (called.Object f) es = TCall (TConst LNone) es no_entries
+called_tree (called.Method m) es = method_call es
+
+abbrev pub called_told : Called → Told
+called_told (called.Object f) = answered f ∷ []
+called_told (called.Method m) = answered (record { 0 = 0 }) ∷ Answered (Ok (method_of m)) ∷ []
+
 -- the row that goes on, at each answer, just as the row that the code keeps this for
 abbrev pub eval_stands : Reading → EvalKept → Pending EvalJob
 eval_stands t Pass = record { task = DoEval passing; told = map answered passed }
 eval_stands t SetDone = record { task = DoEval setting; told = map answered passed }
 eval_stands t (Operands e vs) = record { task = DoEval (t.tree e); told = map answered vs.items }
+eval_stands t (Load e) =
+    record { task = DoEval (method_call (args_of (t.tree e))); told = answered (record { 0 = 0 }) ∷ [] }
+eval_stands t (Arguments e f vs) =
+    record { task = DoEval (called_tree f (args_of (t.tree e))); told = called_told f ++ map answered vs.items }
 
--- the parts of an expression of the store that are evaluated first, in order
+-- the operands of an expression of the store, in order
 abbrev pub operands : Form → List ℕ
 operands (form.Bind x e) = e ∷ []
+operands (form.Attr o x) = o ∷ []
 operands (form.SetAttr o x e) = o ∷ e ∷ []
-operands (form.Call f es kw) = f ∷ es.items
+operands (form.Call f es kw) = f ∷ []
 operands (form.Op word es) = es.items
 operands (form.Class x bs kw es) = bs.items ++ map (λ e. e.1) es.items
 operands _ = []
@@ -63,17 +90,56 @@ operands_at (Some f) = operands f
 abbrev pub has_operand : ℕ → Form → Bool
 has_operand n f = ltb n (length (operands f))
 
+-- what is evaluated for an operand
+abbrev pub evaluated_tree : Form → Tree → Tree
+evaluated_tree (form.Call f es kw) x = callee_tree x
+evaluated_tree _ x = x
+
+-- the object and the name of an attribute
+abbrev pub attribute : Form → Option (ℕ × PyStrInterned)
+attribute (form.Attr o x) = Some (o, x)
+attribute _ = None
+
+-- the arguments of a call of the store
+abbrev pub arguments : Form → List ℕ
+arguments (form.Call f es kw) = es.items
+arguments _ = []
+
+abbrev pub arguments_at : Option Form → List ℕ
+arguments_at None = []
+arguments_at (Some f) = arguments f
+
+-- a call of more arguments than so many
+abbrev pub has_argument : ℕ → Form → Bool
+has_argument n f = ltb n (length (arguments f))
+
+-- the task that calls it
+abbrev pub called_task : Called → List PyObjectRef → PlainTask
+called_task (called.Object f) args = ToCall (DoCall f args [])
+called_task (called.Method m) args = ToAttribute (DoInvoke (method_target m) (method_func m) args [])
+
+abbrev pub of_called : Called → List Claim
+of_called (called.Object f) = IsNode f ∷ []
+of_called (called.Method m) = of_method m
+
 -- what is said of what is kept
 abbrev pub of_eval_kept : EvalKept → List Claim
 of_eval_kept Pass = []
 of_eval_kept SetDone = []
 of_eval_kept (Operands e vs) = IsExpression e ∷ HasForm e (has_operand (length vs.items)) ∷ AreNodes vs.items ∷ []
+of_eval_kept (Load e) = IsExpression e ∷ []
+of_eval_kept (Arguments e f vs) =
+    IsExpression e ∷ HasForm e (has_argument (length vs.items)) ∷ AreNodes vs.items ∷ of_called f
 
 abbrev pub Begins : EvalTask → World → World → Step EvalKept → Type 0
 Begins task = Goes eval_say eval_stands (λ t. fresh (eval_job t task))
 
 abbrev pub Resumes : EvalKept → Result Answer Fault → World → World → Step EvalKept → Type 0
 Resumes kept r = Goes eval_say eval_stands (λ t. given (eval_stands t kept) (ended_of r))
+
+-- a row that the code could keep this for
+abbrev pub GoesOn : EvalKept → World → World → Step EvalKept → Type 0
+GoesOn kept = Goes eval_say eval_stands (λ t. eval_stands t kept)
 
 -- the row of an expression whose operands have these values so far
 abbrev pub Continues : ℕ → List PyObjectRef → World → World → Step EvalKept → Type 0
@@ -89,6 +155,7 @@ IsLater (form.Const k) = ⊥
 IsLater (form.Name x) = ⊥
 IsLater (form.Bind x e) = ⊥
 IsLater (form.Func x ps rest e) = ⊥
+IsLater (form.Attr o x) = ⊥
 IsLater (form.SetAttr o x e) = ⊥
 IsLater (form.Op word es) = ⊥
 IsLater (form.Call f es kw) = 0 < length kw.items
@@ -107,10 +174,12 @@ IsOwn (own.Func x ps rest e) (form.Func y qs more b) = (x ≡ y) × (ps.items �
 IsOwn (own.Func x ps rest e) _ = ⊥
 IsOwn (own.Op word) (form.Op other es) = word ≡ other
 IsOwn (own.Op word) _ = ⊥
+IsOwn (own.Attr x) (form.Attr o y) = x ≡ y
+IsOwn (own.Attr x) _ = ⊥
 IsOwn (own.SetAttr x) (form.SetAttr o y e) = x ≡ y
 IsOwn (own.SetAttr x) _ = ⊥
-IsOwn own.Call (form.Call f es kw) = kw.items ≡ []
-IsOwn own.Call _ = ⊥
+IsOwn (own.Call f) (form.Call g es kw) = (f ≡ g) × (kw.items ≡ [])
+IsOwn (own.Call f) _ = ⊥
 IsOwn (own.Class x n xs) (form.Class y bs kw es) =
     (x ≡ y) × (n ≡ length bs.items) × (xs.items ≡ map (λ e. e.0) es.items) × (kw.items ≡ [])
 IsOwn (own.Class x n xs) _ = ⊥

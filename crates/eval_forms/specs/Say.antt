@@ -1,12 +1,12 @@
 -- What the rows of expressions say.
-use Rattle.std.specs.Prelude.{ℕ, Bool, if◌then◌else◌, bytes_eq, codes, List, [], ◌∷◌, ◌++◌, Option, Some, None, length, take, drop, slice_get}
+use Rattle.std.specs.Prelude.{ℕ, Bool, if◌then◌else◌, bytes_eq, codes, List, [], ◌∷◌, ◌++◌, Option, Some, None, Ok, length, take, drop, slice_get}
 use Rattle.py_node.specs.declared.refs.PyObjectRef.{PyObjectRef}
 use Rattle.py_node.specs.declared.raised.Cause.TheVariants.{ArgCount, NotYet, Unbound}
 use Rattle.py_node.specs.declared.expr.Word.{Word}
 use Rattle.py_node.specs.declared.expr.Word.TheVariants as word
 use Rattle.py_node.specs.declared.task.PyNumberBinaryOp.TheVariants as op
-use Rattle.py_node.specs.Tree.{Text, Tree, TConst, TName, TBind, TFunc, TSetAttr, TCall, TOp, TClass, Entries, no_entries, entry, Literal, LNone, LFalse, LTrue, LInt, LText, list_of, entry_trees}
-use Rattle.plain_machine.specs.Plain.{ANumber, AText, ATuple, ADict, AFunction, PlainWorld, Bindings, EvalJob, DoEval, DoAdd, DoSetAttr, DoCall, ToAttribute, ToCall, ToOperator, Said}
+use Rattle.py_node.specs.Tree.{Text, Tree, TConst, TName, TBind, TFunc, TAttr, TSetAttr, TCall, TOp, TClass, Entries, no_entries, entry, Literal, LNone, LFalse, LTrue, LInt, LText, list_of, entry_trees}
+use Rattle.plain_machine.specs.Plain.{ANumber, AText, ATuple, ADict, AFunction, PlainWorld, Bindings, EvalJob, DoEval, DoAdd, DoGetAttr, DoSetAttr, DoLoadMethod, DoInvoke, DoCall, AsFunction, AsAttribute, Ended, ToAttribute, ToCall, ToOperator, Said}
 use Rattle.plain_machine.specs.World.{ref, variable, or_else_var, with_binding, with_node, next_node}
 use Rattle.plain_machine.specs.Args.{two_of, filled}
 use Rattle.plain_machine.specs.Known.{the_type, the_int, the_str, the_tuple, the_dict, the_function}
@@ -82,10 +82,33 @@ abbrev pub set_attr_say : PlainWorld → Text → Option (PyObjectRef × PyObjec
 set_attr_say w x None = end w (fault ArgCount)
 set_attr_say w x (Some p) = ask w (ToAttribute (DoSetAttr p.0 x (Some p.1))) (λ r. on_done w r (end w (value none)))
 
--- the first operand is called with the others
-abbrev pub call_say : PlainWorld → List PyObjectRef → Row
-call_say w [] = end w (fault ArgCount)
-call_say w (f ∷ args) = start (pass w (ToCall (DoCall f args []))) (end w)
+-- an attribute of the operand
+abbrev pub attr_say : PlainWorld → Text → Option PyObjectRef → Row
+attr_say w x None = end w (fault ArgCount)
+attr_say w x (Some o) = start (pass w (ToAttribute (DoGetAttr o x))) (end w)
+
+-- the arguments are evaluated, and an object is called with them
+abbrev pub call_say : PlainWorld → List Tree → PyObjectRef → Row
+call_say w es f = evaluate w es (λ args. start (pass w (ToCall (DoCall f args []))) (end w))
+
+-- the arguments are evaluated, and a method is invoked with them
+abbrev pub invoke_say : PlainWorld → List Tree → Option PyObjectRef → PyObjectRef → Row
+invoke_say w es target f = evaluate w es (λ args. start (pass w (ToAttribute (DoInvoke target f args []))) (end w))
+
+-- a method that was loaded: the object that goes before its arguments, if any, and what is called
+abbrev pub on_method : PlainWorld → Ended → (Option PyObjectRef → PyObjectRef → Row) → Row
+on_method w (Ok (AsFunction o f)) go = go (Some o) f
+on_method w (Ok (AsAttribute f)) go = go None f
+on_method w other go = end w other
+
+-- the operand is called, or else an attribute of it, which is loaded as a method before the arguments are evaluated
+abbrev pub callee_say : PlainWorld → Tree → List Tree → PyObjectRef → Row
+callee_say w (TAttr o x) es v = ask w (ToAttribute (DoLoadMethod v x)) (λ r. on_method w r (invoke_say w es))
+callee_say w f es v = call_say w es v
+
+abbrev pub called_say : PlainWorld → Tree → List Tree → Option PyObjectRef → Row
+called_say w f es None = end w (fault ArgCount)
+called_say w f es (Some v) = callee_say w f es v
 
 -- a class: its name is a new text, its bases are a new tuple, its entries are a new dict, with a new text for each name, and the class of the first base, or `type`, is called with these
 
@@ -120,11 +143,17 @@ abbrev pub entry_names : Entries → List Text
 entry_names no_entries = []
 entry_names (entry x e es) = x ∷ entry_names es
 
+-- what a call evaluates first: what it calls, or the object whose method it calls
+abbrev pub callee_tree : Tree → Tree
+callee_tree (TAttr o x) = o
+callee_tree f = f
+
 -- the parts of an expression that are evaluated first, in order. A form that no stage so far has named has none
 abbrev pub operand_trees : Tree → List Tree
 operand_trees (TBind x e) = e ∷ []
+operand_trees (TAttr o x) = o ∷ []
 operand_trees (TSetAttr o x e) = o ∷ e ∷ []
-operand_trees (TCall f es kw) = f ∷ list_of es
+operand_trees (TCall f es kw) = callee_tree f ∷ []
 operand_trees (TOp word es) = list_of es
 operand_trees (TClass x bs kw es) = list_of bs ++ entry_trees es
 operand_trees _ = []
@@ -135,8 +164,9 @@ own_say w (TConst k) vs = const_say w k
 own_say w (TName x) vs = name_say w x
 own_say w (TBind x e) vs = bind_say w x (one_of vs)
 own_say w (TFunc x ps rest e) vs = func_say w x ps rest e
+own_say w (TAttr o x) vs = attr_say w x (one_of vs)
 own_say w (TSetAttr o x e) vs = set_attr_say w x (two_of vs)
-own_say w (TCall f es no_entries) vs = call_say w vs
+own_say w (TCall f es no_entries) vs = called_say w f (list_of es) (one_of vs)
 own_say w (TOp word es) vs = op_say w word vs
 own_say w (TClass x bs no_entries es) vs = class_say w x (length (list_of bs)) (entry_names es) vs
 own_say w _ vs = not_yet w

@@ -1,4 +1,4 @@
-// The class form: a class's name, bases and entries are new objects, and a metaclass is called with them.
+//! The class form: a class's name, bases and entries are new objects, and a metaclass is called with them.
 
 ghost use Rattle.std.specs.Prelude.{◌≡◌, ◌+◌, [], ◌∷◌, length, map, slice_get, IfOk, OnOk};
 ghost use Rattle.plain_machine.specs.World.{with_node, next_node};
@@ -14,14 +14,11 @@ ghost use Rattle.eval_forms.specs.ClassForm.{ArePairs};
 ghost use Rattle.eval_forms.specs.Rows.{Takes, of_eval_kept};
 
 use crate::EvalKept;
+use class_world::World;
 use class_world::args::{copy_args, filled};
-use class_world::world::World;
-use py_node::attributes::PyAttributes;
-use py_node::built_in::BuiltIn;
-use py_node::memory::OutOfMemory;
-use py_node::payload::Payload;
-use py_node::refs::{PyObjectRef, PyStrInterned};
-use py_node::task::{CallTask, Step, Task};
+use py_node::{
+    BuiltIn, CallTask, OutOfMemory, Payload, PyAttributes, PyObjectRef, PyStrInterned, Step, Task,
+};
 use std::alloc::Global;
 
 // A class, with the values of its bases and of its entries.
@@ -75,10 +72,7 @@ fn call_metaclass(
 
 // A new tuple.
 #[tactic(auto, unfolding(py_node::specs::BuiltIns::place_of))]
-fn new_tuple(
-    world: &mut World,
-    items: &[PyObjectRef],
-) -> Result<PyObjectRef, OutOfMemory>
+fn new_tuple(world: &mut World, items: &[PyObjectRef]) -> Result<PyObjectRef, OutOfMemory>
     requires { Holds world.old (AreNodes items.now) }
     ensures made { OnOk result ((t : Reading) → plain t world.new ≡
         with_node (plain t world.old) the_tuple (ATuple items.now)) }
@@ -95,10 +89,7 @@ fn new_tuple(
 
 // A new dict: a new text for each name, with its value.
 #[tactic(auto, unfolding(py_node::specs::BuiltIns::place_of))]
-fn new_dict(
-    world: &mut World,
-    entries: &PyAttributes,
-) -> Result<PyObjectRef, OutOfMemory>
+fn new_dict(world: &mut World, entries: &PyAttributes) -> Result<PyObjectRef, OutOfMemory>
     requires { AllHold world.old (of_each of_binding entries.now) }
     ensures made { IfOk result (λ r. (t : Reading) → Reads t world.new →
         with_dict (keyed (plain t world.old) [] (bindings t entries.now)) ≡ (plain t world.new, r)) }
@@ -136,10 +127,7 @@ fn metaclass(world: &World, first: Option<PyObjectRef>) -> PyObjectRef
 
 // A new text: that of a name.
 #[tactic(auto, unfolding(py_node::specs::BuiltIns::place_of))]
-fn new_text(
-    world: &mut World,
-    name: PyStrInterned,
-) -> Result<PyObjectRef, OutOfMemory>
+fn new_text(world: &mut World, name: PyStrInterned) -> Result<PyObjectRef, OutOfMemory>
     requires { Holds world.old (IsName name) }
     ensures made { OnOk result ((t : Reading) → Reads t world.old → plain t world.new ≡
         with_node (plain t world.old) the_str (AText (t.text name.0))) }

@@ -1,4 +1,4 @@
-// The rows of expressions, each a small automaton: `begin` and `resume`.
+//! The rows of expressions, each a small automaton: `begin` and `resume`.
 #![tactic(auto, unfolding(crate::specs::Say::eval_say))]
 
 ghost use Rattle.std.specs.Prelude.{◌≡◌, ◌≤◌, ◌++◌, [], ◌∷◌, map, length, slice_get, Ok, IfOk, IfErr, OnOk, IfSome};
@@ -6,27 +6,25 @@ ghost use Rattle.py_node.specs.Faults.{raised};
 ghost use Rattle.class_world.specs.Sound.{AllHold, Holds, IsExpression, IsName, IsNode, AreNodes, of_form, of_node_ref, of_option};
 ghost use Rattle.class_world.specs.Claims.{of_eval_task, of_ended, of_step, Leaves};
 ghost use Rattle.class_world.specs.Reading.{Reading, Reads};
-ghost use Rattle.eval_forms.specs.Say.{one_of, bind_say, func_say, set_attr_say, call_say, add_of, op_say};
+ghost use Rattle.eval_forms.specs.Say.{one_of, bind_say, func_say, add_of, op_say};
 ghost use Rattle.plain_machine.specs.Args.{two_of};
 ghost use Rattle.py_node.specs.Tree.{TConst, literal_of};
 ghost use Rattle.eval_forms.specs.Rows.{Begins, Resumes, Continues, ContinuesTree, Closes, Takes, IsOwn, HasValues, IsLater, IsOther, of_eval_kept, operands, operands_at};
 
+mod attr;
+mod call_form;
 mod class_form;
 mod names;
 
+use attr::{attr_step, set_attr_step};
+use call_form::{Called, argued, call_step, evaluated, loaded};
 use class_form::class_step;
-use class_world::args::{copy_args, two_of};
-use class_world::world::{Fixed, World};
+use class_world::args::two_of;
+use class_world::{Fixed, World};
 use names::name_step;
-use py_node::built_in::BuiltIn;
-use py_node::expr::{Constant, Word};
-use py_node::memory::OutOfMemory;
-use py_node::payload::{Form, Function, Payload};
-use py_node::raised::{Cause, Raised};
-use py_node::refs::{PyObjectRef, PyStrInterned};
-use py_node::task::{
-    Answer, AttributeTask, CallTask, EvalTask, OperatorTask, PyNumberBinaryOp, PySetterValue, Step,
-    Task,
+use py_node::{
+    Answer, BuiltIn, Cause, Constant, EvalTask, Form, Function, OperatorTask, OutOfMemory, Payload,
+    PyNumberBinaryOp, PyObjectRef, PyStrInterned, Raised, Step, Task, Word,
 };
 use std::alloc::Global;
 
@@ -39,13 +37,14 @@ pub enum EvalKept {
     SetDone,
     /// The expression, and the values of its operands so far.
     Operands(u64, Vec<PyObjectRef>),
+    /// The call whose method is being loaded.
+    Load(u64),
+    /// The call, what it calls, and the values of its arguments so far.
+    Arguments(u64, Called, Vec<PyObjectRef>),
 }
 
 /// Begins a task.
-pub fn begin(
-    world: &mut World,
-    task: EvalTask,
-) -> Result<Step<EvalKept>, OutOfMemory>
+pub fn begin(world: &mut World, task: EvalTask) -> Result<Step<EvalKept>, OutOfMemory>
     requires { AllHold world.old (of_eval_task task) }
     ensures goes { IfOk result (λ step. Begins task world.old world.new step) }
     ensures safe { Leaves of_eval_kept world.old world.new result }
@@ -73,6 +72,11 @@ pub fn resume(
             Ok(value) => one_more(world, e, values, value),
             Err(other) => Ok(Step::End(other)),
         },
+        EvalKept::Load(e) => {
+            let step = loaded(world, e, answer);
+            Ok(step)
+        }
+        EvalKept::Arguments(e, called, values) => argued(world, e, called, values, answer),
         EvalKept::SetDone => {
             let step = set_done(world, answer);
             Ok(step)
@@ -81,7 +85,9 @@ pub fn resume(
 }
 
 // The object that was answered, or else the answer as it is.
-fn object_of(answer: Result<Answer, Raised>) -> Result<PyObjectRef, Result<Answer, Raised>>
+pub(crate) fn object_of(
+    answer: Result<Answer, Raised>,
+) -> Result<PyObjectRef, Result<Answer, Raised>>
     ensures object { IfOk result (λ r. answer ≡ Ok (Answer.Value r)) }
     ensures same { IfErr result (λ other. other ≡ answer) }
     ensures other { IfErr result (λ _. IsOther answer) }
@@ -120,7 +126,10 @@ fn one_more(
 }
 
 // The values with one more.
-fn with_value(values: Vec<PyObjectRef>, value: PyObjectRef) -> Result<Vec<PyObjectRef>, OutOfMemory>
+pub(crate) fn with_value(
+    values: Vec<PyObjectRef>,
+    value: PyObjectRef,
+) -> Result<Vec<PyObjectRef>, OutOfMemory>
     ensures { IfOk result (λ v. v.items ≡ values.items ++ value ∷ []) }
 {
     let mut values = values;
@@ -140,9 +149,10 @@ fn next_operand(
     ensures goes { IfOk result (λ step. Continues e values.items world.old world.new step) }
     ensures safe { Leaves of_eval_kept world.old world.new result }
 {
-    match operand(world.form(e), values.len()) {
+    let form = world.form(e);
+    match operand(form, values.len()) {
         Some(operand) => Ok(Step::Ask(
-            Task::Eval(EvalTask::Eval(operand)),
+            Task::Eval(EvalTask::Eval(evaluated(world, form, operand))),
             EvalKept::Operands(e, values),
         )),
         None => own_step(world, e, values),
@@ -155,6 +165,7 @@ fn operand(form: &Form, place: usize) -> Option<u64>
 {
     match form {
         Form::Bind(_, value) => first_of(*value, place),
+        Form::Attr(target, _) => first_of(*target, place),
         Form::SetAttr(target, _, value) => {
             if place == 0 {
                 Some(*target)
@@ -162,13 +173,7 @@ fn operand(form: &Form, place: usize) -> Option<u64>
                 first_of(*value, place - 1)
             }
         }
-        Form::Call(func, args, _) => {
-            if place == 0 {
-                Some(*func)
-            } else {
-                args.get(place - 1).copied()
-            }
-        }
+        Form::Call(func, _, _) => first_of(*func, place),
         Form::Op(_, operands) => operands.get(place).copied(),
         Form::Class(_, bases, _, entries) => {
             if place < bases.len() {
@@ -199,8 +204,10 @@ pub enum Own {
     Bind(PyStrInterned),
     /// The function's name, its parameters, whether the last one takes the rest, and its body.
     Func(PyStrInterned, Vec<PyStrInterned>, bool, u64),
+    Attr(PyStrInterned),
     SetAttr(PyStrInterned),
-    Call,
+    /// The expression of what is called.
+    Call(u64),
     Op(Word),
     /// The class's name, how many bases it has, and the names of its entries.
     Class(PyStrInterned, usize, Vec<PyStrInterned>),
@@ -229,11 +236,18 @@ fn own_step(
         }
         Own::Bind(name) => bind_step(world, name, one_of(&values)),
         Own::Func(name, params, rest, body) => func_step(world, name, params, rest, body),
+        Own::Attr(name) => {
+            let step = attr_step(name, one_of(&values));
+            Ok(step)
+        }
         Own::SetAttr(name) => {
             let step = set_attr_step(name, &values);
             Ok(step)
         }
-        Own::Call => call_step(alloc, &values),
+        Own::Call(func) => {
+            let step = call_step(world, e, func, one_of(&values));
+            Ok(step)
+        }
         Own::Op(word) => {
             let step = op_step(word, &values);
             Ok(step)
@@ -258,10 +272,11 @@ fn own_of(alloc: Global, form: &Form) -> Result<Own, OutOfMemory>
             let copy = params.clone()?;
             Ok(Own::Func(*name, copy, *rest, *body))
         }
+        Form::Attr(_, name) => Ok(Own::Attr(*name)),
         Form::SetAttr(_, name, _) => Ok(Own::SetAttr(*name)),
-        Form::Call(_, _, keywords) => {
+        Form::Call(func, _, keywords) => {
             if keywords.is_empty() {
-                Ok(Own::Call)
+                Ok(Own::Call(*func))
             } else {
                 Ok(Own::NotYet)
             }
@@ -295,10 +310,7 @@ fn names_of(
 
 // A constant is a fixed object, or a new one.
 #[tactic(auto, unfolding(crate::specs::Say::eval_say, py_node::specs::BuiltIns::place_of))]
-fn const_step(
-    world: &mut World,
-    constant: Constant,
-) -> Result<Step<EvalKept>, OutOfMemory>
+fn const_step(world: &mut World, constant: Constant) -> Result<Step<EvalKept>, OutOfMemory>
     ensures goes { IfOk result (λ step. ContinuesTree (λ t. TConst (literal_of constant)) [] world.old world.new step) }
     ensures safe { Leaves of_eval_kept world.old world.new result }
 {
@@ -361,8 +373,7 @@ fn func_step(
     requires parts { AllHold world.old (of_form (Form.Func name params rest body)) }
     ensures goes { IfOk result (λ step.
         Closes (λ t w.
-        func_say w (t.text name.0) (map (λ p. t.text p.0) params.items) rest (t.tree body)) world.old world.new step)
-        }
+        func_say w (t.text name.0) (map (λ p. t.text p.0) params.items) rest (t.tree body)) world.old world.new step) }
     ensures safe { Leaves of_eval_kept world.old world.new result }
 {
     let class = world.built_in(BuiltIn::Function);
@@ -375,37 +386,6 @@ fn func_step(
     };
     let node = world.make_node(class, Payload::Function(function))?;
     Ok(Step::End(Ok(Answer::Value(node))))
-}
-
-// An attribute is set to the second operand.
-fn set_attr_step(name: PyStrInterned, values: &[PyObjectRef]) -> Step<EvalKept>
-    ensures goes { (w : World) → Takes (λ t u. set_attr_say u (t.text name.0) (two_of values.now)) w w result }
-    ensures safe { (w : World) → Holds w (IsName name) → Holds w (AreNodes values.now) →
-        AllHold w (of_step of_eval_kept result) }
-{
-    match two_of(values) {
-        None => Step::raise(Cause::ArgCount),
-        Some((target, value)) => Step::Ask(
-            Task::Attribute(AttributeTask::SetAttr(target, name, PySetterValue::Assign(value))),
-            EvalKept::SetDone,
-        ),
-    }
-}
-
-// The first operand is called with the others.
-fn call_step(alloc: Global, values: &[PyObjectRef]) -> Result<Step<EvalKept>, OutOfMemory>
-    ensures goes { IfOk result (λ step. (w : World) → Takes (λ t u. call_say u values.now) w w step) }
-    ensures safe { IfOk result (λ step. (w : World) → Holds w (AreNodes values.now) →
-        AllHold w (of_step of_eval_kept step)) }
-{
-    match values {
-        [] => Ok(Step::raise(Cause::ArgCount)),
-        [func, args @ ..] => {
-            let args = copy_args(alloc, args)?;
-            let task = CallTask::Call(*func, args, Vec::new(alloc));
-            Ok(Step::Ask(Task::Call(task), EvalKept::Pass))
-        }
-    }
 }
 
 // The word's task, with the values of the operands.
@@ -436,4 +416,3 @@ fn not_yet() -> Step<EvalKept>
 {
     Step::raise(Cause::NotYet)
 }
-

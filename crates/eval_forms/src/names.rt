@@ -1,4 +1,4 @@
-// What a name names: a variable, or a built-in object.
+//! What a name names: a variable, or a built-in object.
 
 ghost use Rattle.std.specs.Prelude.{◌≡◌, ◌≤◌, IfSome};
 ghost use Rattle.class_world.specs.Sound.{AllHold, Holds, IsName, IsNode};
@@ -8,10 +8,8 @@ ghost use Rattle.eval_forms.specs.Say.{built_in_named, name_say};
 ghost use Rattle.eval_forms.specs.Rows.{Closes, of_eval_kept};
 
 use crate::EvalKept;
-use class_world::world::{Fixed, World};
-use py_node::raised::Cause;
-use py_node::refs::{PyObjectRef, PyStrInterned};
-use py_node::task::{Answer, Step};
+use class_world::{Fixed, World};
+use py_node::{Answer, Cause, PyObjectRef, PyStrInterned, Step};
 
 // A name is that of a variable, or else of a built-in object.
 pub(crate) fn name_step(world: &World, name: PyStrInterned) -> Step<EvalKept>

@@ -5,18 +5,12 @@
 ghost use Rattle.std.specs.Prelude.{◌≡◌, [], ◌∷◌, IfOk};
 ghost use Rattle.class_world.specs.Sound.{Holds, IsClass};
 
-use class_table::fault::ClassFault;
-use class_world::world::Fixed;
-use py_node::attributes::PyAttributes;
-use py_node::built_in::BuiltIn;
-use py_node::expr::{Command, Constant, Expr, Word};
-use py_node::memory::OutOfMemory;
-use py_node::refs::PyTypeRef;
-use py_node::reply::{Reply, ReplyAnswer};
-use py_node::task::PyNumberBinaryOp;
+use class_table::ClassFault;
+use class_world::Fixed;
+use py_node::{BuiltIn, Command, Constant, Expr, OutOfMemory, PyAttributes, PyNumberBinaryOp, PyTypeRef, Reply, ReplyAnswer, Word};
 use std::alloc::Global;
 use std::io;
-use vm_eval::machine::{RunFault, VirtualMachine};
+use vm_eval::{RunFault, VirtualMachine};
 
 fn main(rt: HostRuntime) -> io::Result<()> {
     let Ok(mut vm) = VirtualMachine::new(rt.alloc()) else {

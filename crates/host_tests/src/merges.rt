@@ -1,6 +1,6 @@
-use mro_merge::fault::MroFault;
+use mro_merge::MroFault;
 use mro_merge::laws::{linearise_mro, resolve_mro};
-use py_node::refs::PyTypeRef;
+use py_node::PyTypeRef;
 use std::test::Fail;
 
 const OBJECT: PyTypeRef = PyTypeRef(0);
@@ -16,7 +16,7 @@ fn merges_lists(rt: HostRuntime) -> Result<(), Fail> {
     let first = vec![in alloc; FIRST, OBJECT]?;
     let second = vec![in alloc; SECOND, OBJECT]?;
     let line = linearise_mro(alloc, vec![in alloc; first, second]?)?;
-    assert_eq!(rt; line.as_slice(), [FIRST, SECOND, OBJECT].as_slice());
+    assert!(rt; line.as_slice() == [FIRST, SECOND, OBJECT].as_slice());
 
     let first = vec![in alloc; FIRST]?;
     let second = vec![in alloc; SECOND]?;
@@ -33,6 +33,6 @@ fn resolves_bases(rt: HostRuntime) -> Result<(), Fail> {
     let first = vec![in alloc; FIRST, OBJECT]?;
     let second = vec![in alloc; SECOND]?;
     let line = resolve_mro(alloc, &[FIRST, SECOND], vec![in alloc; first, second]?)?;
-    assert_eq!(rt; line.as_slice(), [FIRST, OBJECT, SECOND].as_slice());
+    assert!(rt; line.as_slice() == [FIRST, OBJECT, SECOND].as_slice());
     Ok(())
 }

@@ -1,13 +1,6 @@
-// Each call that can find no memory, once with ample memory.
+//! Each call that can find no memory, once with ample memory.
 
-use py_node::attributes::PyAttributes;
-use py_node::expr::{Command, Constant, Expr, Word};
-use py_node::flags::PyTypeFlags;
-use py_node::names::Names;
-use py_node::raised::{Cause, Kind, Raised};
-use py_node::refs::{PyObjectRef, PyStrInterned};
-use py_node::reply::{BodyCall, Reply, ReplyAnswer};
-use py_node::task::PyNumberBinaryOp;
+use py_node::{BodyCall, Cause, Command, Constant, Expr, Kind, Names, PyAttributes, PyNumberBinaryOp, PyObjectRef, PyStrInterned, PyTypeFlags, Raised, Reply, ReplyAnswer, Word};
 use std::alloc::Global;
 use std::test::Fail;
 
@@ -15,13 +8,13 @@ use std::test::Fail;
 fn interns_a_text_once(rt: HostRuntime) -> Result<(), Fail> {
     let alloc = rt.alloc();
     let mut names = Names::new(alloc);
-    assert_eq!(rt; names.intern("x")?, PyStrInterned(0));
-    assert_eq!(rt; names.intern("y")?, PyStrInterned(1));
-    assert_eq!(rt; names.intern("x")?, PyStrInterned(0));
-    assert_eq!(rt; names.len(), 2);
-    assert_eq!(rt; names.interned_str("y"), Some(PyStrInterned(1)));
-    assert_eq!(rt; names.interned_str("z"), None);
-    assert_eq!(rt; names.text(PyStrInterned(1)), "y");
+    assert!(rt; names.intern("x")? == PyStrInterned(0));
+    assert!(rt; names.intern("y")? == PyStrInterned(1));
+    assert!(rt; names.intern("x")? == PyStrInterned(0));
+    assert!(rt; names.len() == 2);
+    assert!(rt; names.interned_str("y") == Some(PyStrInterned(1)));
+    assert!(rt; names.interned_str("z") == None);
+    assert!(rt; names.text(PyStrInterned(1)) == "y");
     Ok(())
 }
 
@@ -32,12 +25,12 @@ fn attributes_keep_their_places(rt: HostRuntime) -> Result<(), Fail> {
     attributes.insert(PyStrInterned(5), PyObjectRef(10))?;
     attributes.insert(PyStrInterned(3), PyObjectRef(11))?;
     attributes.insert(PyStrInterned(5), PyObjectRef(12))?;
-    assert_eq!(rt; attributes.get(PyStrInterned(5)), Some(PyObjectRef(12)));
+    assert!(rt; attributes.get(PyStrInterned(5)) == Some(PyObjectRef(12)));
     assert!(rt; !attributes.contains(PyStrInterned(4)));
     let copy = attributes.try_clone(alloc)?;
-    assert_eq!(rt; copy.len(), 2);
-    assert_eq!(rt; copy.at(0), (PyStrInterned(5), PyObjectRef(12)));
-    assert_eq!(rt; copy.at(1), (PyStrInterned(3), PyObjectRef(11)));
+    assert!(rt; copy.len() == 2);
+    assert!(rt; copy.at(0) == (PyStrInterned(5), PyObjectRef(12)));
+    assert!(rt; copy.at(1) == (PyStrInterned(3), PyObjectRef(11)));
     Ok(())
 }
 
@@ -52,7 +45,7 @@ fn copies_a_constant(rt: HostRuntime) -> Result<(), Fail> {
     let alloc = rt.alloc();
     let constant = Constant::Str(String::from_str(alloc, "text")?);
     match constant.try_clone(alloc)? {
-        Constant::Str(text) => assert_eq!(rt; text.as_str(), "text"),
+        Constant::Str(text) => assert!(rt; text.as_str() == "text"),
         _ => return Err("no text".into()),
     }
     Ok(())
@@ -67,9 +60,9 @@ fn copies_an_operation(rt: HostRuntime) -> Result<(), Fail> {
     let copy = command.try_clone(alloc)?;
     match &copy.expr {
         Expr::Op(Word::Binary(PyNumberBinaryOp::Add), operands) => {
-            assert_eq!(rt; operands.len(), 1);
+            assert!(rt; operands.len() == 1);
             match &operands[0] {
-                Expr::Const(Constant::Int(value)) => assert_eq!(rt; *value, 1),
+                Expr::Const(Constant::Int(value)) => assert!(rt; *value == 1),
                 _ => return Err("no number".into()),
             }
         }
@@ -96,11 +89,11 @@ fn copies_a_reply(rt: HostRuntime) -> Result<(), Fail> {
     };
     let copy = reply.try_clone(alloc)?;
     match copy.answer {
-        ReplyAnswer::Raised(raised) => assert_eq!(rt; raised, fault),
+        ReplyAnswer::Raised(raised) => assert!(rt; raised == fault),
         _ => return Err("no fault".into()),
     }
-    assert_eq!(rt; copy.calls.len(), 1);
-    assert_eq!(rt; copy.calls[0].name.as_str(), "f");
+    assert!(rt; copy.calls.len() == 1);
+    assert!(rt; copy.calls[0].name.as_str() == "f");
     Ok(())
 }
 

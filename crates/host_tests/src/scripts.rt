@@ -1,8 +1,8 @@
-// Scripts that are refused, and one that is read.
+//! Scripts that are refused, and one that is read.
 
-use py_node::expr::{Constant, Expr, Word};
-use py_node::task::PyNumberBinaryOp;
-use script_text::read::{ScriptFault, read_script};
+use py_node::{Constant, Expr, PyNumberBinaryOp, Word};
+use script_text::ScriptFault;
+use script_text::read::read_script;
 use std::alloc::Global;
 use std::test::Fail;
 
@@ -44,9 +44,9 @@ fn refuses_in_order(rt: HostRuntime) -> Result<(), Fail> {
         ),
         ("[[\"setattr\",1,\"x\",[\"bind\",\"y\",true]]]", "read"),
     ] {
-        assert_eq!(rt; refusal(rt.alloc(), text.as_bytes()), word, "{text}");
+        assert!(rt; refusal(rt.alloc(), text.as_bytes()) == word, "{text}");
     }
-    assert_eq!(rt; refusal(rt.alloc(), b"[\"\xff\"]"), "NotJson");
+    assert!(rt; refusal(rt.alloc(), b"[\"\xff\"]") == "NotJson");
     Ok(())
 }
 
@@ -55,11 +55,11 @@ fn reads_a_sum(rt: HostRuntime) -> Result<(), Fail> {
     let Ok(commands) = read_script(rt.alloc(), b"[[\"op\",\"+\",33,12]]") else {
         panic!(rt; "it is a script")
     };
-    assert_eq!(rt; commands.len(), 1);
+    assert!(rt; commands.len() == 1);
     let Expr::Op(Word::Binary(PyNumberBinaryOp::Add), parts) = &commands[0].expr else {
         panic!(rt; "it is a sum")
     };
-    assert_eq!(rt; parts.len(), 2);
+    assert!(rt; parts.len() == 2);
     assert!(rt; matches!(&parts[0], Expr::Const(Constant::Int(33))));
     assert!(rt; matches!(&parts[1], Expr::Const(Constant::Int(12))));
     Ok(())

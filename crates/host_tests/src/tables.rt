@@ -1,10 +1,6 @@
-use class_table::fault::ClassFault;
+use class_table::{ClassFault, ClassTable};
 use class_table::start::known_names;
-use class_table::table::ClassTable;
-use py_node::attributes::PyAttributes;
-use py_node::entry::{SlotEntry, SlotId};
-use py_node::raised::Cause;
-use py_node::refs::{PyObjectRef, PyStrInterned, PyTypeRef};
+use py_node::{Cause, PyAttributes, PyObjectRef, PyStrInterned, PyTypeRef, SlotEntry, SlotId};
 use std::alloc::Global;
 use std::test::Fail;
 
@@ -44,10 +40,10 @@ fn numbers_have_gaps(rt: HostRuntime) -> Result<(), Fail> {
         PyTypeRef(0),
     ];
     if table.has_class(PyTypeRef(1000)) {
-        assert_eq!(rt; table.mro(PyTypeRef(1000)), line.as_slice());
+        assert!(rt; table.mro(PyTypeRef(1000)) == line.as_slice());
     }
     assert!(rt; !table.has_class(PyTypeRef(23)));
-    assert_eq!(rt; table.len(), 26);
+    assert!(rt; table.len() == 26);
     Ok(())
 }
 
@@ -63,26 +59,20 @@ fn child_follows_its_base(rt: HostRuntime) -> Result<(), Fail> {
     assert!(rt; grow(&mut table, alloc, first.0, 0)?);
     assert!(rt; grow(&mut table, alloc, child.0, first.0)?);
     if table.has_class(first) && table.has_class(child) {
-        assert_eq!(rt; table.slot(child, SlotId::Add), None);
+        assert!(rt; table.slot(child, SlotId::Add) == None);
         table.set_attr(first, add, PyObjectRef(8))?;
     }
     if table.has_class(child) {
-        assert_eq!(rt; table.get_attr(child, add), Some(PyObjectRef(8)));
-        assert_eq!(rt;
-            table.slot(child, SlotId::Add),
-            Some(SlotEntry::Wrapper(SlotId::Add))
-        );
+        assert!(rt; table.get_attr(child, add) == Some(PyObjectRef(8)));
+        assert!(rt; table.slot(child, SlotId::Add) == Some(SlotEntry::Wrapper(SlotId::Add)));
         assert!(rt; table.fast_issubclass(child, first));
-        assert_eq!(rt; table.mro(child), [child, first, PyTypeRef(0)].as_slice());
+        assert!(rt; table.mro(child) == [child, first, PyTypeRef(0)].as_slice());
     }
     if table.has_class(first) {
-        assert_eq!(rt; table.subclasses(first), [child].as_slice());
+        assert!(rt; table.subclasses(first) == [child].as_slice());
     }
     if table.has_class(PyTypeRef(0)) {
-        assert_eq!(rt;
-            table.set_attr(PyTypeRef(0), PyStrInterned(0), PyObjectRef(8)),
-            Err(ClassFault::Refused(Cause::ImmutableType))
-        );
+        assert!(rt; table.set_attr(PyTypeRef(0), PyStrInterned(0), PyObjectRef(8)) == Err(ClassFault::Refused(Cause::ImmutableType)));
     }
     Ok(())
 }

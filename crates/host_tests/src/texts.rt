@@ -1,9 +1,6 @@
-// Replies, classes and texts, and what is written for them.
+//! Replies, classes and texts, and what is written for them.
 
-use py_node::memory::OutOfMemory;
-use py_node::raised::{Cause, Kind, Raised};
-use py_node::refs::PyObjectRef;
-use py_node::reply::{BodyCall, Reply, ReplyAnswer};
+use py_node::{BodyCall, Cause, Kind, OutOfMemory, PyObjectRef, Raised, Reply, ReplyAnswer};
 use reply_text::class::push_class_lines;
 use reply_text::escape::{escaped_string, quoted_string};
 use reply_text::write::write_replies;
@@ -57,7 +54,7 @@ fn writes_replies(rt: HostRuntime) -> Result<(), OutOfMemory> {
     let alloc = rt.alloc();
     let all = replies(alloc)?;
     let text = write_replies(alloc, &all)?;
-    assert_eq!(rt; text.as_slice(), WANTED.as_bytes());
+    assert!(rt; text.as_slice() == WANTED.as_bytes());
     Ok(())
 }
 
@@ -74,11 +71,8 @@ fn writes_classes_and_texts(rt: HostRuntime) -> Result<(), OutOfMemory> {
     push_class_lines(&mut out, "object", &["object"], &[])?;
     let wanted =
         "class B\\tC: B\\tC, A, object\nslots B\\tC: __repr__ hash!\nclass object: object\nslots object:\n";
-    assert_eq!(rt; out.as_slice(), wanted.as_bytes());
-    assert_eq!(rt; escaped_string(alloc, "é\r\u{7f}")?.as_str(), "é\\r\u{7f}");
-    assert_eq!(rt;
-        quoted_string(alloc, "say \"é\"")?.as_str(),
-        "\"say \\\"é\\\"\""
-    );
+    assert!(rt; out.as_slice() == wanted.as_bytes());
+    assert!(rt; escaped_string(alloc, "é\r\u{7f}")?.as_str() == "é\\r\u{7f}");
+    assert!(rt; quoted_string(alloc, "say \"é\"")?.as_str() == "\"say \\\"é\\\"\"");
     Ok(())
 }

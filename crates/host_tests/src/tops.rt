@@ -1,7 +1,8 @@
-// Calls whose scripts are no files of the worked ones: every front of a script, and a script of the greatest length.
-use outside::memory::{MemorySink, MemorySource};
-use script_text::read::ScriptError;
-use serve::status::Status;
+//! Calls whose scripts are no files of the worked ones: every front of a script, and a script of the greatest length.
+
+use outside::{MemorySink, MemorySource};
+use script_text::ScriptError;
+use serve::Status;
 use serve::top::serve;
 use std::alloc::{AllocError, Global};
 use std::test::Fail;
@@ -26,7 +27,7 @@ fn a_front_of_a_script_is_no_json(rt: HostRuntime) -> Result<(), Fail> {
     let script = FIRST_RUN.as_bytes();
     for length in 0..script.len() {
         let (status, written) = served(rt.alloc(), &script[..length])?;
-        assert_eq!(rt; status, Status::Script(ScriptError::NotJson), "at {length}");
+        assert!(rt; status == Status::Script(ScriptError::NotJson), "at {length}");
         assert!(rt; written.is_empty(), "at {length}");
     }
     Ok(())
@@ -41,7 +42,7 @@ fn a_script_has_a_limit(rt: HostRuntime) -> Result<(), Fail> {
         let mut script = b"[1]".to_vec(rt.alloc())?;
         script.extend_from_slice(&vec![in rt.alloc(); b' '; blanks]?)?;
         let (status, written) = served(rt.alloc(), &script)?;
-        assert_eq!(rt; status, wanted, "at {blanks}");
+        assert!(rt; status == wanted, "at {blanks}");
         assert!(rt; written.as_slice() == text.as_bytes(), "at {blanks}");
     }
     Ok(())

@@ -1,16 +1,11 @@
-// What no script reaches: numbers that a host may have, and the refusals of a class in their order.
+//! What no script reaches: numbers that a host may have, and the refusals of a class in their order.
 
 ghost use Rattle.std.specs.Prelude.{◌≤◌, length};
 ghost use Rattle.class_world.specs.Sound.{AllHold, of_class_ref, of_each};
 
-use class_table::fault::ClassFault;
-use class_world::world::{Fixed, World};
-use py_node::attributes::PyAttributes;
-use py_node::built_in::BuiltIn;
-use py_node::known::Known;
-use py_node::memory::OutOfMemory;
-use py_node::raised::Cause;
-use py_node::refs::{PyObjectRef, PyStrInterned, PyTypeRef};
+use class_table::ClassFault;
+use class_world::{Fixed, World};
+use py_node::{BuiltIn, Cause, Known, OutOfMemory, PyAttributes, PyObjectRef, PyStrInterned, PyTypeRef};
 use std::alloc::Global;
 use std::test::Fail;
 
@@ -55,19 +50,10 @@ fn refuses_a_class_in_order(rt: HostRuntime) -> Result<(), Fail> {
     let alloc = rt.alloc();
     let mut world = World::new(alloc)?;
     let none = Vec::new(alloc);
-    assert_eq!(rt;
-        refusal(&mut world, none, Fixed::None)?,
-        Some(Cause::EmptyBases)
-    );
+    assert!(rt; refusal(&mut world, none, Fixed::None)? == Some(Cause::EmptyBases));
     let bool = vec![in alloc; world.built_in(BuiltIn::Bool)]?;
-    assert_eq!(rt;
-        refusal(&mut world, bool, Fixed::None)?,
-        Some(Cause::NotBaseType)
-    );
+    assert!(rt; refusal(&mut world, bool, Fixed::None)? == Some(Cause::NotBaseType));
     let object = vec![in alloc; world.built_in(BuiltIn::Object)]?;
-    assert_eq!(rt;
-        refusal(&mut world, object, Fixed::None)?,
-        Some(Cause::QualnameType)
-    );
+    assert!(rt; refusal(&mut world, object, Fixed::None)? == Some(Cause::QualnameType));
     Ok(())
 }

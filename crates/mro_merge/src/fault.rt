@@ -1,7 +1,6 @@
-// Why lists have no merge.
+//! Why lists have no merge.
 
-use py_node::memory::OutOfMemory;
-use py_node::refs::PyTypeRef;
+use py_node::{OutOfMemory, PyTypeRef};
 use std::alloc::AllocFailed;
 use thiserror::Error;
 

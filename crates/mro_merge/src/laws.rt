@@ -1,4 +1,4 @@
-// The order of classes that several lists allow.
+//! The order of classes that several lists allow.
 
 ghost use Rattle.std.specs.Prelude.{◌≡◌, ◌↔◌, [], Err, IfOk, IfErr};
 ghost use Rattle.py_node.specs.declared.refs.PyTypeRef.{PyTypeRef};
@@ -13,7 +13,7 @@ ghost use Rattle.mro_merge.specs.Merge.{IsRest, HasNoOrder};
 
 use crate::fault::MroFault;
 use crate::merge::{has, heads, merge, stands_past};
-use py_node::refs::PyTypeRef;
+use py_node::PyTypeRef;
 use std::alloc::Global;
 
 // Whether a head stands past the head of a later list.

@@ -1,4 +1,4 @@
-// The merge, a member at a time.
+//! The merge, a member at a time.
 
 ghost use Rattle.std.specs.Prelude.{◌≡◌, false, IfOk, option_map};
 ghost use Rattle.class_model.specs.Order.{has, without, unique};
@@ -8,8 +8,7 @@ ghost use Rattle.mro_merge.specs.Lists.{numbers, number_of, rows};
 ghost use Rattle.mro_merge.specs.Merge.{heads, AreLines};
 ghost use Rattle.mro_merge.specs.Steps.{first_free, are_empty, struck, merged};
 
-use py_node::memory::OutOfMemory;
-use py_node::refs::PyTypeRef;
+use py_node::{OutOfMemory, PyTypeRef};
 use std::alloc::Global;
 
 // Whether a list holds a class.

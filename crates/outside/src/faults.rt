@@ -1,4 +1,5 @@
-// A count of faults, and a plan of the calls that are to fail.
+//! A count of faults, and a plan of the calls that are to fail.
+
 ghost use Rattle.std.specs.Prelude.{◌≡◌, ◌==◌, ◌+◌, ◌-◌, ◌^◌, ◌≤◌, min, false};
 ghost use Rattle.std.specs.Bool.{OnTrue};
 ghost use Rattle.std.specs.List.{list_any};

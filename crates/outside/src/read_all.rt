@@ -1,4 +1,5 @@
-// All that a source has to give, up to a limit.
+//! All that a source has to give, up to a limit.
+
 ghost use Rattle.std.specs.Prelude.{◌≡◌, ℕ, ◌+◌, ◌-◌, ◌^◌, ◌<◌, ◌≤◌, [], ◌++◌, length, take, drop, Some, vec_len, IfOk, OnOk, IsErrOf};
 ghost use Rattle.std.specs.Option.{ForSome};
 ghost use Rattle.outside.specs.Count.{Rose};

@@ -1,5 +1,6 @@
-// Standard input as a source and standard output as a sink, or any other reader and writer. They tell no
-// bytes, and count each error.
+//! Standard input as a source and standard output as a sink, or any other reader and writer. They tell no
+//! bytes, and count each error.
+
 ghost use Rattle.std.specs.Prelude.{◌≡◌, None};
 
 use crate::faults::one_more;

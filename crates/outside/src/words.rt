@@ -1,4 +1,5 @@
-// The words that the program is called with: `run N` runs N units.
+//! The words that the program is called with: `run N` runs N units.
+
 ghost use Rattle.std.specs.Prelude.{◌≡◌, length, map, string_bytes};
 ghost use Rattle.outside.specs.Words.{units_in, units_written, is_numeral};
 ghost use Rattle.std.specs.List.{list_all};

@@ -1,4 +1,4 @@
-// Laws of the plain world, each the contract of a function that does nothing.
+//! Laws of the plain world, each the contract of a function that does nothing.
 
 ghost use Rattle.plain_machine.specs.Change.{Change, apply};
 ghost use Rattle.plain_machine.specs.Conditions.{Allowed};

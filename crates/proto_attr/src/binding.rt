@@ -1,4 +1,4 @@
-// How a value that was found is bound.
+//! How a value that was found is bound.
 #![tactic(auto, unfolding(crate::specs::Say::attribute_say))]
 
 ghost use Rattle.class_world.specs.Sound.{AllHold};
@@ -7,10 +7,8 @@ ghost use Rattle.py_node.specs.declared.task.AttributeTask.TheVariants as attrib
 ghost use Rattle.proto_attr.specs.Rows.{Begins, of_attribute_kept};
 
 use crate::AttributeKept;
-use class_world::world::World;
-use py_node::entry::SlotId;
-use py_node::refs::PyObjectRef;
-use py_node::task::{Answer, DescriptorTask, Step, Task};
+use class_world::World;
+use py_node::{Answer, DescriptorTask, PyObjectRef, SlotId, Step, Task};
 
 // A value is bound where its class has an entry for that.
 pub(crate) fn bind(

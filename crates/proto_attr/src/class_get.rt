@@ -1,4 +1,4 @@
-// How classes read attributes.
+//! How classes read attributes.
 #![tactic(auto, unfolding(crate::specs::Say::attribute_say))]
 
 ghost use Rattle.class_world.specs.Sound.{AllHold, Holds, IsNode};
@@ -11,9 +11,8 @@ ghost use Rattle.proto_attr.specs.Rows.{Begins, Starts, of_attribute_kept};
 use crate::AttributeKept;
 use crate::find::{gives, is_data};
 use crate::generic::{descriptor_get, no_attribute};
-use class_world::world::World;
-use py_node::refs::{PyObjectRef, PyStrInterned, PyTypeRef};
-use py_node::task::{Answer, DescriptorTask, Step, Task};
+use class_world::World;
+use py_node::{Answer, DescriptorTask, PyObjectRef, PyStrInterned, PyTypeRef, Step, Task};
 
 // A class's attribute: of a data descriptor of its metaclass, or else of the class and those that it derives
 // from, or else of its metaclass.

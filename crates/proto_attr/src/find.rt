@@ -1,4 +1,4 @@
-// What an attribute's search finds.
+//! What an attribute's search finds.
 #![tactic(auto)]
 
 ghost use Rattle.std.specs.Prelude.{◌≡◌};
@@ -7,9 +7,8 @@ ghost use Rattle.class_world.specs.Sound.{AllHold, Claim, Holds, IsNode, of_opti
 ghost use Rattle.proto_attr.specs.Say.{gives, is_data, of_value, find};
 ghost use Rattle.proto_attr.specs.Rows.{of_found};
 
-use class_world::world::World;
-use py_node::entry::SlotId;
-use py_node::refs::PyObjectRef;
+use class_world::World;
+use py_node::{PyObjectRef, SlotId};
 
 /// What an attribute's search finds.
 #[derive(Clone, Copy, PartialEq, Eq, Debug)]

@@ -1,4 +1,4 @@
-// How objects and classes read attributes.
+//! How objects and classes read attributes.
 #![tactic(auto, unfolding(crate::specs::Say::attribute_say))]
 
 ghost use Rattle.std.specs.Prelude.{◌≡◌, Some, Err};
@@ -14,10 +14,8 @@ ghost use Rattle.proto_attr.specs.Rows.{Begins, of_attribute_kept};
 
 use crate::AttributeKept;
 use crate::find::{Found, find};
-use class_world::world::World;
-use py_node::raised::Cause;
-use py_node::refs::{PyObjectRef, PyStrInterned};
-use py_node::task::{Answer, DescriptorTask, Step, Task};
+use class_world::World;
+use py_node::{Answer, Cause, DescriptorTask, PyObjectRef, PyStrInterned, Step, Task};
 
 // An object's attribute: of a data descriptor of its class, or else of its own dict, or else of its class.
 pub(crate) fn generic(world: &World, o: PyObjectRef, name: PyStrInterned) -> Step<AttributeKept>

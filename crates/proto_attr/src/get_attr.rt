@@ -1,4 +1,4 @@
-// How an object's attribute is read.
+//! How an object's attribute is read.
 #![tactic(auto, unfolding(crate::specs::Say::attribute_say))]
 
 ghost use Rattle.std.specs.Prelude.{◌≡◌, ◌∷◌, [], Err, IfOk};
@@ -13,13 +13,8 @@ ghost use Rattle.proto_attr.specs.Rows.{Begins, Starts, Resumes, of_attribute_ke
 use crate::AttributeKept;
 use crate::named::by_name;
 use crate::setting::asked;
-use class_world::world::World;
-use py_node::entry::{NativeEntry, SlotEntry, SlotId, TypeNative};
-use py_node::known::Known;
-use py_node::memory::OutOfMemory;
-use py_node::raised::{Kind, Raised};
-use py_node::refs::{PyObjectRef, PyStrInterned};
-use py_node::task::{Answer, AttributeTask, Step};
+use class_world::World;
+use py_node::{Answer, AttributeTask, Kind, Known, NativeEntry, OutOfMemory, PyObjectRef, PyStrInterned, Raised, SlotEntry, SlotId, Step, TypeNative};
 use std::alloc::Global;
 
 // An object's attribute is read as its class's entry for that says.

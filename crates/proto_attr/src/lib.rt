@@ -1,5 +1,5 @@
-// The rows of attributes and special methods, each a small automaton: `begin` and
-// `resume`.
+//! The rows of attributes and special methods, each a small automaton: `begin` and
+//! `resume`.
 #![tactic(auto, unfolding(crate::specs::Say::attribute_say))]
 
 ghost use Rattle.std.specs.Prelude.{◌≡◌, Some, IfOk};
@@ -23,11 +23,9 @@ mod object_set;
 mod setting;
 mod special;
 
-use class_world::world::World;
-use py_node::memory::OutOfMemory;
-use py_node::raised::Raised;
-use py_node::refs::{PyObjectRef, PyStrInterned};
-use py_node::task::{Answer, Args, AttributeTask, CallTask, Keywords, PyMethod, Step, Task};
+use class_world::World;
+use py_node::{Answer, AttributeTask, CallTask, OutOfMemory, PyMethod, PyObjectRef, PyStrInterned, Raised, Step, Task};
+use py_node::task::{Args, Keywords};
 use std::alloc::Global;
 
 /// What a row of an attribute keeps while it waits for an answer.

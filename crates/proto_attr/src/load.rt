@@ -1,4 +1,4 @@
-// How methods are loaded, and called.
+//! How methods are loaded, and called.
 #![tactic(auto, unfolding(crate::specs::Say::attribute_say))]
 
 ghost use Rattle.std.specs.Prelude.{◌≡◌, Ok, IfOk};
@@ -17,11 +17,9 @@ use crate::AttributeKept;
 use crate::find::{Found, find};
 use crate::generic::{descriptor_get, no_attribute};
 use crate::special::bound;
-use class_world::world::World;
-use py_node::entry::{NativeEntry, ObjectNative, SlotEntry, SlotId};
-use py_node::memory::OutOfMemory;
-use py_node::refs::{PyObjectRef, PyStrInterned};
-use py_node::task::{Answer, Args, AttributeTask, CallTask, Keywords, PyMethod, Step, Task};
+use class_world::World;
+use py_node::{Answer, AttributeTask, CallTask, NativeEntry, ObjectNative, OutOfMemory, PyMethod, PyObjectRef, PyStrInterned, SlotEntry, SlotId, Step, Task};
+use py_node::task::{Args, Keywords};
 use std::alloc::Global;
 
 // A method is loaded to be called at once. Where its class reads attributes in its own way, it is what the

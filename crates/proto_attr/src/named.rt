@@ -1,4 +1,4 @@
-// Special methods that are given a name as a new text.
+//! Special methods that are given a name as a new text.
 #![tactic(auto, unfolding(py_node::specs::BuiltIns::place_of))]
 
 ghost use Rattle.std.specs.Prelude.{◌≡◌, IfOk, OnOk};
@@ -8,12 +8,8 @@ ghost use Rattle.class_world.specs.Sound.{AllHold, Grows, Holds, IsName, IsNode}
 ghost use Rattle.proto_attr.specs.Say.{with_text, by_name};
 
 use class_world::args::alone;
-use class_world::world::World;
-use py_node::built_in::BuiltIn;
-use py_node::memory::OutOfMemory;
-use py_node::payload::Payload;
-use py_node::refs::{PyObjectRef, PyStrInterned};
-use py_node::task::{AttributeTask, Task};
+use class_world::World;
+use py_node::{AttributeTask, BuiltIn, OutOfMemory, Payload, PyObjectRef, PyStrInterned, Task};
 use std::alloc::Global;
 
 // The call of an object's special method with a name.

@@ -1,4 +1,4 @@
-// How objects set and take out attributes.
+//! How objects set and take out attributes.
 #![tactic(auto, unfolding(crate::specs::Say::attribute_say))]
 
 ghost use Rattle.std.specs.Prelude.{IfOk};
@@ -13,10 +13,8 @@ ghost use Rattle.proto_attr.specs.Rows.{Begins, Starts, of_attribute_kept};
 use crate::AttributeKept;
 use crate::generic::no_attribute;
 use crate::setting::setter;
-use class_world::world::World;
-use py_node::memory::OutOfMemory;
-use py_node::refs::{PyObjectRef, PyStrInterned};
-use py_node::task::{Answer, DescriptorTask, PySetterValue, Step, Task};
+use class_world::World;
+use py_node::{Answer, DescriptorTask, OutOfMemory, PyObjectRef, PySetterValue, PyStrInterned, Step, Task};
 use std::alloc::Global;
 
 // An object's attribute is set or taken out by what its class has under the name, or else in its dict.

@@ -1,4 +1,4 @@
-// How attributes are set and taken out.
+//! How attributes are set and taken out.
 #![tactic(auto, unfolding(crate::specs::Say::attribute_say, py_node::specs::BuiltIns::place_of))]
 
 ghost use Rattle.std.specs.Prelude.{◌≡◌, Some, IfOk};
@@ -12,17 +12,10 @@ ghost use Rattle.proto_attr.specs.Say.{set_by_method, setter, own_set};
 ghost use Rattle.proto_attr.specs.Rows.{Begins, Starts, of_attribute_kept};
 
 use crate::AttributeKept;
-use class_table::fault::ClassFault;
+use class_table::ClassFault;
 use class_world::args::{alone, both};
-use class_world::world::World;
-use py_node::built_in::BuiltIn;
-use py_node::known::Known;
-use py_node::entry::{NativeEntry, SlotEntry, SlotId, TypeNative};
-use py_node::memory::OutOfMemory;
-use py_node::payload::Payload;
-use py_node::raised::Cause;
-use py_node::refs::{PyObjectRef, PyStrInterned, PyTypeRef};
-use py_node::task::{Answer, AttributeTask, DescriptorTask, PySetterValue, Step, Task};
+use class_world::World;
+use py_node::{Answer, AttributeTask, BuiltIn, Cause, DescriptorTask, Known, NativeEntry, OutOfMemory, Payload, PyObjectRef, PySetterValue, PyStrInterned, PyTypeRef, SlotEntry, SlotId, Step, Task, TypeNative};
 use std::alloc::Global;
 
 // An object's attribute is set or taken out, as its class's entry for that says.

@@ -1,4 +1,4 @@
-// How special methods are called.
+//! How special methods are called.
 #![tactic(auto, unfolding(crate::specs::Say::attribute_say))]
 
 ghost use Rattle.std.specs.Prelude.{◌≡◌, ◌∷◌, IfOk};
@@ -9,11 +9,9 @@ ghost use Rattle.proto_attr.specs.Rows.{Begins, of_attribute_kept};
 
 use crate::AttributeKept;
 use class_world::args::with_first;
-use class_world::world::World;
-use py_node::memory::OutOfMemory;
-use py_node::raised::Cause;
-use py_node::refs::{PyObjectRef, PyStrInterned};
-use py_node::task::{Args, AttributeTask, CallTask, Keywords, Step, Task};
+use class_world::World;
+use py_node::{AttributeTask, CallTask, Cause, OutOfMemory, PyObjectRef, PyStrInterned, Step, Task};
+use py_node::task::{Args, Keywords};
 use std::alloc::Global;
 
 // The special method of a name is called: one that is fast with its object before the arguments, and

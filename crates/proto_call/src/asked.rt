@@ -1,4 +1,4 @@
-// What several rows ask, and how they refuse.
+//! What several rows ask, and how they refuse.
 
 ghost use Rattle.std.specs.Prelude.{◌≡◌, ◌∷◌, IfOk};
 ghost use Rattle.py_node.specs.Known.{known_text};
@@ -9,11 +9,9 @@ ghost use Rattle.class_world.specs.Reading.{Reading, Reads, bindings, task_of};
 
 use crate::CallKept;
 use class_world::args::with_first;
-use class_world::world::World;
-use py_node::known::Known;
-use py_node::memory::OutOfMemory;
-use py_node::refs::PyObjectRef;
-use py_node::task::{Args, AttributeTask, Keywords, Step, Task};
+use class_world::World;
+use py_node::{AttributeTask, Known, OutOfMemory, PyObjectRef, Step, Task};
+use py_node::task::{Args, Keywords};
 use std::alloc::Global;
 
 /// The arguments with an object before them.

@@ -1,4 +1,4 @@
-// The row of a body: arguments and keywords fill the parameters of its function, and its scope opens.
+//! The row of a body: arguments and keywords fill the parameters of its function, and its scope opens.
 
 ghost use Rattle.std.specs.Prelude.{◌≡◌, [], ◌∷◌, map, string_bytes, IfOk, IfSome, OnOk};
 ghost use Rattle.py_node.specs.Replies.{started_of};
@@ -20,15 +20,9 @@ use crate::CallKept;
 use crate::parameters::{all_filled, left_over, single, with_keywords};
 use class_world::args::{copy_args, filled};
 use class_world::show::show;
-use class_world::world::World;
-use py_node::attributes::PyAttributes;
-use py_node::built_in::BuiltIn;
-use py_node::memory::OutOfMemory;
-use py_node::payload::{Function, Payload};
-use py_node::raised::Cause;
-use py_node::refs::{PyObjectRef, PyStrInterned};
-use py_node::reply::BodyCall;
-use py_node::task::{Args, EvalTask, Keywords, Step, Task};
+use class_world::World;
+use py_node::{BodyCall, BuiltIn, Cause, EvalTask, Function, OutOfMemory, Payload, PyAttributes, PyObjectRef, PyStrInterned, Step, Task};
+use py_node::task::{Args, Keywords};
 use std::alloc::Global;
 
 /// Runs the body of a function.

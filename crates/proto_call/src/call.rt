@@ -1,4 +1,4 @@
-// The call of an object.
+//! The call of an object.
 
 ghost use Rattle.std.specs.Prelude.{◌≡◌, ◌∷◌, Some, IfOk, option_map};
 ghost use Rattle.py_node.specs.declared.task.CallTask.TheVariants as call;
@@ -12,14 +12,9 @@ ghost use Rattle.proto_call.specs.Rows.{Begins, Decides, OpensNone, LeavesNone};
 use crate::CallKept;
 use crate::asked::{bound, special};
 use class_world::args::native_task;
-use class_world::world::World;
-use py_node::entry::{CallableNative, NativeEntry, SlotEntry, SlotId, TypeNative};
-use py_node::known::Known;
-use py_node::memory::OutOfMemory;
-use py_node::payload::Payload;
-use py_node::raised::Cause;
-use py_node::refs::PyObjectRef;
-use py_node::task::{Args, CallTask, Keywords, Step, Task};
+use class_world::World;
+use py_node::{CallTask, CallableNative, Cause, Known, NativeEntry, OutOfMemory, Payload, PyObjectRef, SlotEntry, SlotId, Step, Task, TypeNative};
+use py_node::task::{Args, Keywords};
 use std::alloc::Global;
 
 /// An object is called as its class's entry for calls says: by a native, or by the special method.

@@ -1,4 +1,4 @@
-// The call of a class, and the making of its object.
+//! The call of a class, and the making of its object.
 
 ghost use Rattle.std.specs.Prelude.{◌≡◌, ◌&&◌, ◌∷◌, Ok, eqb, cond, IfOk};
 ghost use Rattle.py_node.specs.declared.task.CallTask.TheVariants as call;
@@ -14,14 +14,9 @@ ghost use Rattle.proto_call.specs.Rows.{Begins, Decides, Continues, Resumes, Ope
 use crate::CallKept;
 use crate::asked::bound;
 use class_world::args::{copy_args, copy_keywords, native_task};
-use class_world::world::World;
-use py_node::built_in::BuiltIn;
-use py_node::entry::{SlotEntry, SlotId};
-use py_node::known::Known;
-use py_node::memory::OutOfMemory;
-use py_node::raised::Cause;
-use py_node::refs::{PyObjectRef, PyStrInterned, PyTypeRef};
-use py_node::task::{Answer, Args, CallTask, Keywords, Step, Task};
+use class_world::World;
+use py_node::{Answer, BuiltIn, CallTask, Cause, Known, OutOfMemory, PyObjectRef, PyStrInterned, PyTypeRef, SlotEntry, SlotId, Step, Task};
+use py_node::task::{Args, Keywords};
 use std::alloc::Global;
 
 /// The call of a class: first the object is made, of the same arguments.

@@ -1,4 +1,4 @@
-// The initialisation of an object.
+//! The initialisation of an object.
 
 ghost use Rattle.std.specs.Prelude.{◌≡◌, ◌∷◌, Ok, IfOk};
 ghost use Rattle.py_node.specs.declared.task.CallTask.TheVariants as call;
@@ -9,13 +9,9 @@ ghost use Rattle.proto_call.specs.Rows.{Begins, Resumes, OpensNone, LeavesNone};
 use crate::CallKept;
 use crate::asked::{bound, special};
 use class_world::args::native_task;
-use class_world::world::{Fixed, World};
-use py_node::entry::{SlotEntry, SlotId};
-use py_node::known::Known;
-use py_node::memory::OutOfMemory;
-use py_node::raised::Cause;
-use py_node::refs::PyObjectRef;
-use py_node::task::{Answer, Args, Keywords, Step};
+use class_world::{Fixed, World};
+use py_node::{Answer, Cause, Known, OutOfMemory, PyObjectRef, SlotEntry, SlotId, Step};
+use py_node::task::{Args, Keywords};
 use std::alloc::Global;
 
 /// An object is initialised as its class's entry for that says, if there is one: by a native, or by the

@@ -1,4 +1,4 @@
-// The rows of calls, each a small automaton: `begin` and `resume`.
+//! The rows of calls, each a small automaton: `begin` and `resume`.
 #![tactic(auto, unfolding(crate::specs::Say::call_job_say))]
 
 ghost use Rattle.std.specs.Prelude.{IfOk};
@@ -11,11 +11,9 @@ use crate::call::begin_call;
 use crate::create::{begin_new, begin_type_call, resume_type_call};
 use crate::init::{begin_init, resume_init};
 use crate::object::{begin_object, native_end};
-use class_world::world::World;
-use py_node::memory::OutOfMemory;
-use py_node::raised::Raised;
-use py_node::refs::{PyObjectRef, PyTypeRef};
-use py_node::task::{Answer, Args, CallTask, Keywords, Step};
+use class_world::World;
+use py_node::{Answer, CallTask, OutOfMemory, PyObjectRef, PyTypeRef, Raised, Step};
+use py_node::task::{Args, Keywords};
 use std::alloc::Global;
 
 mod asked;

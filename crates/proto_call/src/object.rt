@@ -1,4 +1,4 @@
-// The natives of `object`.
+//! The natives of `object`.
 
 ghost use Rattle.std.specs.Prelude.{◌≡◌, Some, IfOk, option_map};
 ghost use Rattle.py_node.specs.declared.task.CallTask.TheVariants as call;
@@ -14,15 +14,9 @@ ghost use Rattle.proto_call.specs.Rows.{Begins, Resumes, Closes, Does, OpensNone
 
 use crate::CallKept;
 use class_world::takes::{one, three, two};
-use class_world::world::{Fixed, World};
-use py_node::built_in::BuiltIn;
-use py_node::entry::ObjectNative;
-use py_node::known::Known;
-use py_node::memory::OutOfMemory;
-use py_node::payload::Payload;
-use py_node::raised::{Cause, Raised};
-use py_node::refs::{PyObjectRef, PyStrInterned, PyTypeRef};
-use py_node::task::{Answer, Args, AttributeTask, Keywords, PySetterValue, Step, Task};
+use class_world::{Fixed, World};
+use py_node::{Answer, AttributeTask, BuiltIn, Cause, Known, ObjectNative, OutOfMemory, Payload, PyObjectRef, PySetterValue, PyStrInterned, PyTypeRef, Raised, Step, Task};
+use py_node::task::{Args, Keywords};
 use std::alloc::Global;
 
 /// A native of `object`.

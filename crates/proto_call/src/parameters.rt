@@ -1,4 +1,4 @@
-// How the arguments of a call fill the parameters of a function.
+//! How the arguments of a call fill the parameters of a function.
 
 ghost use Rattle.std.specs.Prelude.{◌≡◌, ◌&&◌, true, map, is_none, IsTrue, IfOk, IfSome, option_map};
 ghost use Rattle.std.specs.List.{All};
@@ -8,9 +8,7 @@ ghost use Rattle.class_world.specs.Reading.{Reading, spelled, bindings};
 ghost use Rattle.class_world.specs.Sound.{AllHold, AreNames, AreNodes, Holds, has_value, of_binding, of_each};
 ghost use Rattle.proto_call.specs.Say.{single, left_over, is_member, value_at, with_keywords, all_filled};
 
-use py_node::attributes::PyAttributes;
-use py_node::memory::OutOfMemory;
-use py_node::refs::{PyObjectRef, PyStrInterned};
+use py_node::{OutOfMemory, PyAttributes, PyObjectRef, PyStrInterned};
 
 /// The parameters that take one argument each: all, or all but the last where that takes the rest.
 pub(crate) fn single(params: &[PyStrInterned], rest: bool) -> &[PyStrInterned]

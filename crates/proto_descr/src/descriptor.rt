@@ -1,4 +1,4 @@
-// What descriptors give.
+//! What descriptors give.
 #![tactic(auto, unfolding(crate::specs::Say::descriptor_say, py_node::specs::BuiltIns::place_of))]
 
 ghost use Rattle.std.specs.Prelude.{◌≡◌, ◌∷◌, ◌++◌, Option, Some, IfOk};
@@ -17,16 +17,8 @@ ghost use Rattle.proto_descr.specs.Rows.{Begins, Starts, Closes, number, describ
 use crate::DescriptorKept;
 use bitflags::Flags;
 use class_world::args::both;
-use class_world::world::{Fixed, World};
-use py_node::built_in::BuiltIn;
-use py_node::entry::{CallableNative, NativeEntry, SlotEntry, SlotId};
-use py_node::flags::PyMethodFlags;
-use py_node::known::Known;
-use py_node::memory::OutOfMemory;
-use py_node::payload::{BoundMethod, BuiltinMethod, MethodDescriptor, Payload};
-use py_node::raised::{Cause, Raised};
-use py_node::refs::{PyObjectRef, PyTypeRef};
-use py_node::task::{Answer, AttributeTask, Step, Task};
+use class_world::{Fixed, World};
+use py_node::{Answer, AttributeTask, BoundMethod, BuiltIn, BuiltinMethod, CallableNative, Cause, Known, MethodDescriptor, NativeEntry, OutOfMemory, Payload, PyMethodFlags, PyObjectRef, PyTypeRef, Raised, SlotEntry, SlotId, Step, Task};
 use std::alloc::Global;
 
 // How a row ends.

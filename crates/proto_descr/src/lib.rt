@@ -1,4 +1,4 @@
-// The rows of descriptors, each a small automaton: `begin` and `resume`.
+//! The rows of descriptors, each a small automaton: `begin` and `resume`.
 #![tactic(auto, unfolding(crate::specs::Say::descriptor_say))]
 
 ghost use Rattle.std.specs.Prelude.{◌≡◌, IfOk};
@@ -8,10 +8,8 @@ ghost use Rattle.proto_descr.specs.Rows.{Begins, Resumes, of_descriptor_kept};
 
 mod descriptor;
 
-use class_world::world::World;
-use py_node::memory::OutOfMemory;
-use py_node::raised::Raised;
-use py_node::task::{Answer, DescriptorTask, Step};
+use class_world::World;
+use py_node::{Answer, DescriptorTask, OutOfMemory, Raised, Step};
 use std::alloc::Global;
 
 /// What a row of a descriptor keeps while it waits for an answer.

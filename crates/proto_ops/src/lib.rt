@@ -1,4 +1,4 @@
-// The rows of operators, each a small automaton: `begin` and `resume`.
+//! The rows of operators, each a small automaton: `begin` and `resume`.
 #![tactic(auto, unfolding(crate::specs::Say::operator_say))]
 
 ghost use Rattle.std.specs.Prelude.{◌≡◌, [], ◌∷◌, IfOk};
@@ -10,18 +10,11 @@ ghost use Rattle.proto_ops.specs.Say.{total, in_order, is_not_implemented};
 ghost use Rattle.plain_machine.specs.Args.{two_of};
 ghost use Rattle.proto_ops.specs.Rows.{Begins, Resumes, Sums, joining, entered, of_operator_kept};
 
-use class_table::candidates::Candidates;
+use class_table::Candidates;
 use class_world::args::{alone, both, native_task, two_of};
-use class_world::world::{Fixed, World};
-use py_node::built_in::BuiltIn;
-use py_node::entry::{IntNative, SlotEntry, SlotId};
-use py_node::memory::OutOfMemory;
-use py_node::payload::Payload;
-use py_node::raised::{Cause, Raised};
-use py_node::refs::PyObjectRef;
-use py_node::task::{
-    Answer, Args, AttributeTask, Keywords, OperatorTask, PyNumberBinaryOp, Step, Task,
-};
+use class_world::{Fixed, World};
+use py_node::{Answer, AttributeTask, BuiltIn, Cause, IntNative, OperatorTask, OutOfMemory, Payload, PyNumberBinaryOp, PyObjectRef, Raised, SlotEntry, SlotId, Step, Task};
+use py_node::task::{Args, Keywords};
 use std::alloc::Global;
 
 /// What a row of an operator keeps while it waits for an answer.

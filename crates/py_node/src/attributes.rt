@@ -1,4 +1,4 @@
-// The attributes of an object or a class: names with values, in the order in which they came.
+//! The attributes of an object or a class: names with values, in the order in which they came.
 
 ghost use Rattle.std.specs.Prelude.{◌≡◌, ◌<◌, [], length, is_some, Some, slice_get, IfOk, OnOk, OnErr};
 ghost use Rattle.py_node.specs.Attributes.{value_of, with_value, is_same_name, AreNamesDistinct};

@@ -1,4 +1,4 @@
-// The built-in classes, as data: a class's place is the number of its case.
+//! The built-in classes, as data: a class's place is the number of its case.
 
 ghost use Rattle.std.specs.Prelude.{◌≡◌, option_map};
 ghost use Rattle.py_node.specs.BuiltIns.{place_of, name_of, base_of, flags_of};
@@ -8,7 +8,7 @@ use crate::refs::PyTypeRef;
 use bitflags::Flags;
 
 /// A built-in class, in the order of the classes' places.
-#[derive(Clone, Copy, PartialEq, Eq, Debug)]
+#[derive(Clone, Copy, PartialEq, Eq)]
 pub enum BuiltIn {
     Object,
     TypeType,

@@ -1,4 +1,4 @@
-// Copies of expressions, commands and replies, which stand for the same trees and replies.
+//! Copies of expressions, commands and replies, which stand for the same trees and replies.
 
 ghost use Rattle.std.specs.Prelude.{◌≡◌, map, string_bytes, IfOk};
 ghost use Rattle.py_node.specs.Tree.{literal_of, texts_of, tree_of, part_of, pair_of};

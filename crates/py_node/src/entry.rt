@@ -7,7 +7,7 @@ use crate::built_in::BuiltIn;
 
 /// A slot of a class, in the order in which slots are printed. Each stands for special methods of
 /// the data model.
-#[derive(Clone, Copy, PartialEq, Eq, Debug)]
+#[derive(Clone, Copy, PartialEq, Eq)]
 pub enum SlotId {
     Add,
     RightAdd,
@@ -85,7 +85,7 @@ pub enum SlotId {
 }
 
 /// A native of `object`.
-#[derive(Clone, Copy, PartialEq, Eq, Debug)]
+#[derive(Clone, Copy, PartialEq, Eq)]
 pub enum ObjectNative {
     New,
     Init,
@@ -109,7 +109,7 @@ pub enum ObjectNative {
 }
 
 /// A native of `type`.
-#[derive(Clone, Copy, PartialEq, Eq, Debug)]
+#[derive(Clone, Copy, PartialEq, Eq)]
 pub enum TypeNative {
     New,
     Call,
@@ -127,14 +127,14 @@ pub enum TypeNative {
 }
 
 /// A native of `int`.
-#[derive(Clone, Copy, PartialEq, Eq, Debug)]
+#[derive(Clone, Copy, PartialEq, Eq)]
 pub enum IntNative {
     Add,
     RightAdd,
 }
 
 /// A native of None or NotImplemented.
-#[derive(Clone, Copy, PartialEq, Eq, Debug)]
+#[derive(Clone, Copy, PartialEq, Eq)]
 pub enum FixedNative {
     NoneRepr,
     NoneBoolean,
@@ -142,7 +142,7 @@ pub enum FixedNative {
 }
 
 /// A native of whole numbers and truth values on one of them.
-#[derive(Clone, Copy, PartialEq, Eq, Debug)]
+#[derive(Clone, Copy, PartialEq, Eq)]
 pub enum NumberNative {
     Repr,
     Hash,
@@ -158,7 +158,7 @@ pub enum NumberNative {
 }
 
 /// A native of whole numbers that reckons with two of them, but for their sums.
-#[derive(Clone, Copy, PartialEq, Eq, Debug)]
+#[derive(Clone, Copy, PartialEq, Eq)]
 pub enum ArithmeticNative {
     Subtract,
     RightSubtract,
@@ -175,7 +175,7 @@ pub enum ArithmeticNative {
 }
 
 /// A native on the bits of two whole numbers, or on two truth values.
-#[derive(Clone, Copy, PartialEq, Eq, Debug)]
+#[derive(Clone, Copy, PartialEq, Eq)]
 pub enum BitNative {
     Lshift,
     RightLshift,
@@ -196,7 +196,7 @@ pub enum BitNative {
 }
 
 /// A native of `str`.
-#[derive(Clone, Copy, PartialEq, Eq, Debug)]
+#[derive(Clone, Copy, PartialEq, Eq)]
 pub enum StrNative {
     Repr,
     Str,
@@ -212,7 +212,7 @@ pub enum StrNative {
 }
 
 /// A native of `tuple`.
-#[derive(Clone, Copy, PartialEq, Eq, Debug)]
+#[derive(Clone, Copy, PartialEq, Eq)]
 pub enum TupleNative {
     Repr,
     Hash,
@@ -226,7 +226,7 @@ pub enum TupleNative {
 }
 
 /// A native of `list`.
-#[derive(Clone, Copy, PartialEq, Eq, Debug)]
+#[derive(Clone, Copy, PartialEq, Eq)]
 pub enum ListNative {
     Init,
     Repr,
@@ -245,7 +245,7 @@ pub enum ListNative {
 }
 
 /// A native of `dict`.
-#[derive(Clone, Copy, PartialEq, Eq, Debug)]
+#[derive(Clone, Copy, PartialEq, Eq)]
 pub enum DictNative {
     Init,
     Repr,
@@ -263,7 +263,7 @@ pub enum DictNative {
 }
 
 /// A comparison that a class does by itself.
-#[derive(Clone, Copy, PartialEq, Eq, Debug)]
+#[derive(Clone, Copy, PartialEq, Eq)]
 pub enum CompareNative {
     /// All six, as a slot holds them.
     All,
@@ -276,7 +276,7 @@ pub enum CompareNative {
 }
 
 /// A native of the classes whose objects are called or bound.
-#[derive(Clone, Copy, PartialEq, Eq, Debug)]
+#[derive(Clone, Copy, PartialEq, Eq)]
 pub enum CallableNative {
     CallFunction,
     GetFunction,
@@ -289,7 +289,7 @@ pub enum CallableNative {
 }
 
 /// A native of the descriptors of getters and setters, and of those of members.
-#[derive(Clone, Copy, PartialEq, Eq, Debug)]
+#[derive(Clone, Copy, PartialEq, Eq)]
 pub enum DescriptorNative {
     GetSetGet,
     GetSetSet,
@@ -301,7 +301,7 @@ pub enum DescriptorNative {
 }
 
 /// A native of `property`.
-#[derive(Clone, Copy, PartialEq, Eq, Debug)]
+#[derive(Clone, Copy, PartialEq, Eq)]
 pub enum PropertyNative {
     Init,
     Get,
@@ -314,7 +314,7 @@ pub enum PropertyNative {
 }
 
 /// A native of `classmethod` or `staticmethod`.
-#[derive(Clone, Copy, PartialEq, Eq, Debug)]
+#[derive(Clone, Copy, PartialEq, Eq)]
 pub enum WrapperNative {
     ClassGet,
     ClassRepr,
@@ -325,7 +325,7 @@ pub enum WrapperNative {
 }
 
 /// A native of `super`.
-#[derive(Clone, Copy, PartialEq, Eq, Debug)]
+#[derive(Clone, Copy, PartialEq, Eq)]
 pub enum SuperNative {
     Init,
     GetAttribute,
@@ -334,14 +334,14 @@ pub enum SuperNative {
 }
 
 /// A native of iterators.
-#[derive(Clone, Copy, PartialEq, Eq, Debug)]
+#[derive(Clone, Copy, PartialEq, Eq)]
 pub enum IteratorNative {
     Iter,
     Next,
 }
 
 /// An attribute that a getter reads, and a setter sets, of a class or an object.
-#[derive(Clone, Copy, PartialEq, Eq, Debug)]
+#[derive(Clone, Copy, PartialEq, Eq)]
 pub enum Property {
     Class,
     Name,
@@ -360,7 +360,7 @@ pub enum Property {
 }
 
 /// What a getter reads, and a setter sets, of the objects of a built-in class other than `object` and `type`.
-#[derive(Clone, Copy, PartialEq, Eq, Debug)]
+#[derive(Clone, Copy, PartialEq, Eq)]
 pub enum Detail {
     Name,
     Qualname,
@@ -385,7 +385,7 @@ pub enum Detail {
 }
 
 /// A native: what a slot or a method of a built-in class does.
-#[derive(Clone, Copy, PartialEq, Eq, Debug)]
+#[derive(Clone, Copy, PartialEq, Eq)]
 pub enum NativeEntry {
     OfObject(ObjectNative),
     OfType(TypeNative),
@@ -418,7 +418,7 @@ pub enum NativeEntry {
 
 /// What a slot holds: a native, the wrapper that looks a special method up by the name of its slot,
 /// or the mark of a class whose objects have no hash.
-#[derive(Clone, Copy, PartialEq, Eq, Debug)]
+#[derive(Clone, Copy, PartialEq, Eq)]
 pub enum SlotEntry {
     Native(NativeEntry),
     Wrapper(SlotId),

@@ -1,4 +1,4 @@
-// Expressions and commands of a script.
+//! Expressions and commands of a script.
 
 use crate::raised::Kind;
 use crate::task::{PyComparisonOp, PyNumberBinaryOp, PyNumberUnaryOp};
@@ -14,7 +14,7 @@ pub enum Constant {
 }
 
 /// The word of an operation.
-#[derive(Clone, Copy, PartialEq, Eq, Debug)]
+#[derive(Clone, Copy, PartialEq, Eq)]
 pub enum Word {
     Binary(PyNumberBinaryOp),
     /// A binary operator in place, as `+=`.
@@ -30,7 +30,7 @@ pub enum Word {
 }
 
 /// The word of an operation on a sequence or a mapping, or on what iterates over one.
-#[derive(Clone, Copy, PartialEq, Eq, Debug)]
+#[derive(Clone, Copy, PartialEq, Eq)]
 pub enum SequenceWord {
     In,
     GetItem,
@@ -55,7 +55,7 @@ pub enum SequenceWord {
 }
 
 /// The word of an operation on an object of any class.
-#[derive(Clone, Copy, PartialEq, Eq, Debug)]
+#[derive(Clone, Copy, PartialEq, Eq)]
 pub enum ObjectWord {
     Is,
     Not,

@@ -1,4 +1,4 @@
-// The flags of classes and of native methods.
+//! The flags of classes and of native methods.
 
 ghost use Rattle.std.specs.Prelude.{⊤, ◌+◌, ◌≡◌, ◌==◌, [], ◌∷◌, codes};
 ghost use Rattle.std.specs.Int.RustNames.{bit_and};

@@ -1,4 +1,4 @@
-// The one answer that is free: that memory could not be had.
+//! The one answer that is free: that memory could not be had.
 
 use std::alloc::{AllocError, AllocFailed};
 use thiserror::Error;

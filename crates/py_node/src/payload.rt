@@ -1,4 +1,4 @@
-// What the nodes of the machine hold.
+//! What the nodes of the machine hold.
 
 use crate::entry::NativeEntry;
 use crate::refs::{PyObjectRef, PyStrInterned, PyTypeRef};

@@ -1,4 +1,4 @@
-// Tasks on comparisons, on containers and numbers, and on what all objects can do.
+//! Tasks on comparisons, on containers and numbers, and on what all objects can do.
 
 use crate::refs::PyObjectRef;
 use crate::task::PyComparisonOp;

@@ -1,4 +1,4 @@
-// The numbers by which objects, classes and names are known.
+//! The numbers by which objects, classes and names are known.
 
 /// An object: the number of its node in the machine.
 #[derive(Clone, Copy, PartialEq, Eq, Hash, Debug)]

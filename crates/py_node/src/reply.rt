@@ -1,4 +1,4 @@
-// What a command is answered with: the bodies that were started, and its value or fault.
+//! What a command is answered with: the bodies that were started, and its value or fault.
 
 use crate::raised::Raised;
 use crate::refs::PyObjectRef;

@@ -7,7 +7,7 @@ use crate::entry::SlotId;
 use crate::known::Known;
 
 /// How a slot is read along a linearisation.
-#[derive(Clone, Copy, PartialEq, Eq, Debug)]
+#[derive(Clone, Copy, PartialEq, Eq)]
 pub enum Sort {
     /// From the class itself.
     ByItself,

@@ -1,4 +1,4 @@
-// Tasks, what they answer, and the steps of their rows.
+//! Tasks, what they answer, and the steps of their rows.
 
 ghost use Rattle.std.specs.Prelude.{◌≡◌, Err};
 ghost use Rattle.py_node.specs.Faults.{raised};
@@ -9,7 +9,7 @@ use crate::raised::{Cause, Raised};
 use crate::refs::{PyObjectRef, PyStrInterned, PyTypeRef};
 
 /// A binary operator of numbers.
-#[derive(Clone, Copy, PartialEq, Eq, Debug)]
+#[derive(Clone, Copy, PartialEq, Eq)]
 pub enum PyNumberBinaryOp {
     Add,
     Subtract,
@@ -27,7 +27,7 @@ pub enum PyNumberBinaryOp {
 }
 
 /// An operator of one number.
-#[derive(Clone, Copy, PartialEq, Eq, Debug)]
+#[derive(Clone, Copy, PartialEq, Eq)]
 pub enum PyNumberUnaryOp {
     Negative,
     Positive,
@@ -36,7 +36,7 @@ pub enum PyNumberUnaryOp {
 }
 
 /// A comparison.
-#[derive(Clone, Copy, PartialEq, Eq, Debug)]
+#[derive(Clone, Copy, PartialEq, Eq)]
 pub enum PyComparisonOp {
     Lt,
     Gt,
@@ -47,7 +47,7 @@ pub enum PyComparisonOp {
 }
 
 /// What an attribute is given: a value, or that it is taken out.
-#[derive(Clone, Copy, PartialEq, Eq, Debug)]
+#[derive(Clone, Copy, PartialEq, Eq)]
 pub enum PySetterValue {
     Assign(PyObjectRef),
     Delete,
@@ -55,7 +55,7 @@ pub enum PySetterValue {
 
 /// A method that was loaded to be called at once: a function with the object that goes before its
 /// arguments, or what the attribute gave.
-#[derive(Clone, Copy, PartialEq, Eq, Debug)]
+#[derive(Clone, Copy, PartialEq, Eq)]
 pub enum PyMethod {
     Function {
         target: PyObjectRef,
@@ -88,7 +88,7 @@ pub enum Answer {
 }
 
 /// How a command or a task that is asked from outside ends.
-#[derive(Clone, Copy, PartialEq, Eq, Debug)]
+#[derive(Clone, Copy, PartialEq, Eq)]
 pub enum PyResult<T> {
     Done(T),
     Raised(Raised),

@@ -1,4 +1,4 @@
-// The lines of classes, whole or piece by piece.
+//! The lines of classes, whole or piece by piece.
 
 ghost use Rattle.std.specs.Prelude.{◌≡◌, ◌++◌, map, codes, OnOk};
 ghost use Rattle.std.specs.List.{flat_map};
@@ -7,7 +7,7 @@ ghost use Rattle.reply_text.specs.Lines.{joined, end_of_line};
 ghost use Rattle.reply_text.specs.Classes.{class_head, class_member, slots_head, slot_word, class_lines};
 
 use crate::escape::push_escaped;
-use py_node::memory::OutOfMemory;
+use py_node::OutOfMemory;
 
 /// Adds both lines of a class: the names along its linearisation, and its filled slots.
 pub fn push_class_lines(

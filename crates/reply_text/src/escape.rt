@@ -1,11 +1,11 @@
-// Names and texts as they are written, each on one line.
+//! Names and texts as they are written, each on one line.
 
 ghost use Rattle.std.specs.Prelude.{◌≡◌, ◌++◌, ◌<◌, OnOk, IfOk, string_bytes};
 ghost use Rattle.std.specs.Char.{digit_char};
 ghost use Rattle.std.specs.Str.{IsUtf8};
 ghost use Rattle.reply_text.specs.Escapes.{escaped, escaped_byte, quoted};
 
-use py_node::memory::OutOfMemory;
+use py_node::OutOfMemory;
 use std::alloc::Global;
 
 /// Adds a text as names are written.

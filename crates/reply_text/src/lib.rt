@@ -1,4 +1,4 @@
-// The lines that answer a script: the bodies that were started, values, faults and classes.
+//! The lines that answer a script: the bodies that were started, values, faults and classes.
 #![tactic(auto)]
 
 pub mod class;

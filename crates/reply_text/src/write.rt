@@ -1,12 +1,11 @@
-// The lines of replies, as they are written.
+//! The lines of replies, as they are written.
 
 ghost use Rattle.std.specs.Prelude.{◌≡◌, ◌++◌, map, codes, OnOk, IfOk, string_bytes};
 ghost use Rattle.py_node.specs.Replies.{reply_of, told_of, started_of};
 ghost use Rattle.reply_text.specs.Lines.{joined, call_line, answer_line, reply_lines, replies_text};
 
 use crate::escape::push_escaped;
-use py_node::memory::OutOfMemory;
-use py_node::reply::{BodyCall, Reply, ReplyAnswer};
+use py_node::{BodyCall, OutOfMemory, Reply, ReplyAnswer};
 use std::alloc::Global;
 
 /// The text of replies, one after another.

@@ -8,7 +8,7 @@ use Rattle.py_node.specs.declared.expr.Expr.{Expr}
 use Rattle.py_node.specs.declared.expr.Word.{Word}
 use Rattle.py_node.specs.declared.expr.Word.TheVariants.{Binary}
 use Rattle.py_node.specs.declared.task.PyNumberBinaryOp.TheVariants.{Add}
-use Rattle.py_node.specs.Tree.{Text, LNone, LFalse, LTrue, LInt, LText, Tree, TConst, TName, TBind, TFunc, TSetAttr, TCall, TOp, TClass, Entries, no_entries, entry, trees_of, tree_of}
+use Rattle.py_node.specs.Tree.{Text, LNone, LFalse, LTrue, LInt, LText, Tree, TConst, TName, TBind, TFunc, TAttr, TSetAttr, TCall, TOp, TClass, Entries, no_entries, entry, trees_of, tree_of}
 
 -- f of two parts, where both are there
 abbrev pub of_two : {A B C : Type 0} → (A → B → C) → Option A → Option B → Option C
@@ -109,11 +109,12 @@ unfoldable mutual
       if bytes_eq word (codes "name") then name_of ds
       else (if bytes_eq word (codes "bind") then bind_of ds
       else (if bytes_eq word (codes "func") then func_of ds
+      else (if bytes_eq word (codes "attr") then attr_of ds
       else (if bytes_eq word (codes "setattr") then setattr_of ds
       else (if bytes_eq word (codes "call") then call_of ds
       else (if bytes_eq word (codes "op") then op_of ds
       else (if bytes_eq word (codes "class") then class_of ds
-      else None))))))) (as_str head)
+      else None)))))))) (as_str head)
 
   -- a name
   pub name_of : Items → Option Tree
@@ -129,6 +130,11 @@ unfoldable mutual
   pub func_of : Items → Option Tree
   func_of (item n (item ps (item e no_items))) = of_three func (as_str n) (params_of ps) (expr_of e)
   func_of _ = None
+
+  -- an object, and the name of an attribute
+  pub attr_of : Items → Option Tree
+  attr_of (item o (item n no_items)) = of_two TAttr (expr_of o) (as_str n)
+  attr_of _ = None
 
   -- an object, the name of an attribute, and what it is set to
   pub setattr_of : Items → Option Tree

@@ -1,14 +1,13 @@
-// The forms of expressions.
+//! The forms of expressions.
 
 ghost use Rattle.std.specs.Prelude.{◌≡◌, Some, None, Err, IfOk, IfErr, ok_or, is_ok, nat_le, length, map, string_bytes};
 ghost use Rattle.serde_json.specs.Find.{as_str};
 ghost use Rattle.serde_json.specs.View.{view, items_view};
 ghost use Rattle.py_node.specs.Tree.{tree_of, texts_of};
-ghost use Rattle.script_text.specs.Forms.{word_of, operation_of, texts_in, all_differ, params_of, nothing_in, expr_of, array_of, name_of, bind_of, func_of, setattr_of, call_of, op_of, class_of, list_of, exprs_of, body_of, entries_in, entry_of, named_of, differing, named};
+ghost use Rattle.script_text.specs.Forms.{word_of, operation_of, texts_in, all_differ, params_of, nothing_in, expr_of, array_of, name_of, bind_of, func_of, attr_of, setattr_of, call_of, op_of, class_of, list_of, exprs_of, body_of, entries_in, entry_of, named_of, differing, named};
 
 use crate::parts::{Unread, next, no_more, one, three, three_and_rest, two, two_and_rest};
-use py_node::expr::{Constant, Expr, Word};
-use py_node::task::PyNumberBinaryOp;
+use py_node::{Constant, Expr, PyNumberBinaryOp, Word};
 use serde_json::Value;
 use std::alloc::{AllocError, Global};
 use std::collections::BTreeSet;
@@ -153,6 +152,8 @@ fn read_array(alloc: Global, items: &[Value]) -> Result<Expr, Unread>
         read_bind(alloc, rest)
     } else if word == "func" {
         read_func(alloc, rest)
+    } else if word == "attr" {
+        read_attr(alloc, rest)
     } else if word == "setattr" {
         read_setattr(alloc, rest)
     } else if word == "call" {
@@ -202,6 +203,19 @@ fn read_func(alloc: Global, items: &[Value]) -> Result<Expr, Unread>
     let texts = read_params(alloc, params)?;
     let expr = read_expr(alloc, body)?;
     Ok(Expr::Func(text, texts, false, Box::new(alloc, expr)?))
+}
+
+// An object, and the name of an attribute.
+#[tactic(auto, unfolding(crate::specs::Forms::attr_of))]
+#[cycle(forms)]
+fn read_attr(alloc: Global, items: &[Value]) -> Result<Expr, Unread>
+    ensures ok { IfOk result (λ e. attr_of (items_view items.now) ≡ Some (tree_of e)) }
+    ensures shape { result ≡ Err Unread.Shape → attr_of (items_view items.now) ≡ None }
+{
+    let (object, name) = two(items)?;
+    let target = read_expr(alloc, object)?;
+    let text = read_text(alloc, name)?;
+    Ok(Expr::Attr(Box::new(alloc, target)?, text))
 }
 
 // An object, the name of an attribute, and what it is set to.

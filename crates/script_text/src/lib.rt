@@ -1,6 +1,8 @@
-// The commands that the text of a script spells.
+//! The commands that the text of a script spells.
 #![tactic(auto)]
 
 mod forms;
 mod parts;
 pub mod read;
+
+pub use read::{ScriptError, ScriptFault};

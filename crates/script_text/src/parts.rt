@@ -1,4 +1,4 @@
-// The items of a list, one by one.
+//! The items of a list, one by one.
 
 ghost use Rattle.std.specs.Prelude.{◌≡◌, List, [], ◌∷◌, IfOk, IfErr};
 ghost use Rattle.serde_json.specs.declared.value.Value.{Value as JsonValue};

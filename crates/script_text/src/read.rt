@@ -1,4 +1,4 @@
-// The commands of a script.
+//! The commands of a script.
 
 ghost use Rattle.std.specs.Prelude.{◌≡◌, Some, None, IfOk, map};
 ghost use Rattle.serde_json.specs.View.{view, items_view, members_view};
@@ -8,8 +8,7 @@ ghost use Rattle.script_text.specs.Script.{script_of, value_of, has_bad_number, 
 
 use crate::forms::read_exprs;
 use crate::parts::Unread;
-use py_node::expr::{Command, Expr};
-use py_node::memory::OutOfMemory;
+use py_node::{Command, Expr, OutOfMemory};
 use serde_json::{Map, Value};
 use std::alloc::{AllocError, AllocFailed, Global};
 use thiserror::Error;

@@ -1,5 +1,7 @@
-// The one top call, from words and bytes to bytes, and how it ends.
+//! The one top call, from words and bytes to bytes, and how it ends.
 #![tactic(auto)]
 
 pub mod status;
 pub mod top;
+
+pub use status::Status;

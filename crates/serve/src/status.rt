@@ -1,9 +1,9 @@
-// How the program ends.
+//! How the program ends.
 
 ghost use Rattle.std.specs.Prelude.{◌≡◌, option_map};
 ghost use Rattle.serve.specs.Status.{exit_of, word_of};
 
-use script_text::read::ScriptError;
+use script_text::ScriptError;
 
 /// How a call of the program ended.
 #[derive(Clone, Copy, PartialEq, Eq, Debug)]

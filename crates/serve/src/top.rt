@@ -1,4 +1,4 @@
-// The one top call: words, a source and a sink.
+//! The one top call: words, a source and a sink.
 
 ghost use Rattle.std.specs.Prelude.{◌≡◌, ◌<◌, ◌≤◌, ◌+◌, ◌^◌, [], ◌++◌, ℕ, List, length, take, drop, map, string_bytes, Some, None, IfOk, Ok, Err};
 ghost use Rattle.std.specs.Option.{ForSome};
@@ -13,17 +13,16 @@ ghost use Rattle.vm_eval.specs.Runs.{trees_in};
 
 use crate::status::Status;
 use class_world::classes::push_classes;
-use outside::read_all::{ReadEnd, read_all};
-use outside::sink::Sink;
-use outside::source::Source;
+use outside::{ReadEnd, Sink, Source};
+use outside::read_all::read_all;
 use outside::words::units_of;
 use outside::write_all::write_all;
-use py_node::expr::Command;
-use py_node::memory::OutOfMemory;
+use py_node::{Command, OutOfMemory};
 use reply_text::write::write_replies;
-use script_text::read::{ScriptFault, read_script};
+use script_text::ScriptFault;
+use script_text::read::read_script;
 use std::alloc::Global;
-use vm_eval::machine::VirtualMachine;
+use vm_eval::VirtualMachine;
 
 /// Reads a script to the source's end, runs each command of it with the units that the words give, and
 /// writes the replies and the classes that it made to the sink. Nothing is written before all was read and run.

@@ -1,8 +1,8 @@
-// The program: it reads a script from standard input, runs it and writes the replies.
+//! The program: it reads a script from standard input, runs it and writes the replies.
 #![tactic(auto)]
 
-use outside::standard::{StdSink, StdSource};
-use serve::status::Status;
+use outside::{StdSink, StdSource};
+use serve::Status;
 use serve::top::serve;
 use std::process::ExitCode;
 use std::{env, io};

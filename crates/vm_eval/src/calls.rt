@@ -1,5 +1,5 @@
-// What a host does with a machine beside running commands: it looks at the classes, gives names and
-// expressions, and makes and changes classes. Want of memory sets the machine's mark, as in a run.
+//! What a host does with a machine beside running commands: it looks at the classes, gives names and
+//! expressions, and makes and changes classes. Want of memory sets the machine's mark, as in a run.
 
 ghost use Rattle.std.specs.Prelude.{◌≡◌, ℕ, Some, IfOk, OnOk, OnErr, IsTrue, length};
 ghost use Rattle.py_node.specs.Tree.{tree_of};
@@ -15,13 +15,9 @@ ghost use Rattle.class_world.specs.Sound.{AllHold, Holds, Grows, IsNode, IsName,
 ghost use Rattle.vm_eval.specs.State.{MadeHeap, MarkedBy, MarkedAs};
 
 use crate::machine::VirtualMachine;
-use class_table::fault::ClassFault;
-use class_table::table::ClassTable;
+use class_table::{ClassFault, ClassTable};
 use class_world::store;
-use py_node::attributes::PyAttributes;
-use py_node::expr::Expr;
-use py_node::memory::OutOfMemory;
-use py_node::refs::{PyObjectRef, PyStrInterned, PyTypeRef};
+use py_node::{Expr, OutOfMemory, PyAttributes, PyObjectRef, PyStrInterned, PyTypeRef};
 use std::alloc::Global;
 
 impl VirtualMachine {

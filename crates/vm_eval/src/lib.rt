@@ -1,7 +1,9 @@
-// The machine: rows on an explicit stack of frames, with a budget of units and a limit on the depth.
+//! The machine: rows on an explicit stack of frames, with a budget of units and a limit on the depth.
 #![tactic(auto)]
 
 pub mod calls;
 pub mod machine;
 mod run;
 mod stack;
+
+pub use machine::{RunFault, VirtualMachine};

@@ -1,4 +1,4 @@
-// The virtual machine: a world, and whether a run of it found no memory.
+//! The virtual machine: a world, and whether a run of it found no memory.
 
 ghost use Rattle.std.specs.Prelude.{◌≡◌, ◌≤◌, [], IfErr, IfOk, OnOk, OnErr, Err, IsTrue, false, true};
 ghost use Rattle.plain_machine.specs.Start.{start};
@@ -9,10 +9,8 @@ ghost use Rattle.vm_eval.specs.Runs.{Runs};
 
 use crate::run::replies;
 use crate::stack::{DEPTH, Kept};
-use class_world::world::World;
-use py_node::expr::Command;
-use py_node::memory::OutOfMemory;
-use py_node::reply::Reply;
+use class_world::World;
+use py_node::{Command, OutOfMemory, Reply};
 use std::alloc::Global;
 use std::marker::Model;
 

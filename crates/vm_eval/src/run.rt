@@ -1,4 +1,4 @@
-// Commands, one after another.
+//! Commands, one after another.
 
 ghost use Rattle.std.specs.Prelude.{◌≡◌, [], IfErr, ◌∷◌, ◌++◌, IfOk, OnOk};
 ghost use Rattle.py_node.specs.Tree.{tree_of};
@@ -13,12 +13,8 @@ ghost use Rattle.vm_eval.specs.Runs.{Replied, Runs};
 use crate::stack::{End, Kept, drive};
 use class_world::show::show;
 use class_world::store::add_expr;
-use class_world::world::{Fixed, World};
-use py_node::expr::Command;
-use py_node::memory::OutOfMemory;
-use py_node::refs::PyObjectRef;
-use py_node::reply::{Reply, ReplyAnswer};
-use py_node::task::{Answer, EvalTask, Task};
+use class_world::{Fixed, World};
+use py_node::{Answer, Command, EvalTask, OutOfMemory, PyObjectRef, Reply, ReplyAnswer, Task};
 use std::alloc::Global;
 
 // The replies to commands, each of which may use so many units.

@@ -1,4 +1,4 @@
-// The stack of frames: one turn at a time, until a task is answered or its units are used up.
+//! The stack of frames: one turn at a time, until a task is answered or its units are used up.
 
 ghost use Rattle.std.specs.Prelude.{◌≡◌, ◌<◌, ℕ, [], ◌∷◌, ◌++◌, IfOk, OnErr, OnOk};
 ghost use Rattle.class_world.specs.Sound.{AllHold, Lasts, of_each};
@@ -13,15 +13,13 @@ ghost use Rattle.vm_eval.specs.Say.{Begins, Resumes, step_among, of_kept, bodies
 ghost use Rattle.vm_eval.specs.Stack.{Answers, Reaches, Keeps, RunsAbove, AsDeep, EndsDeep, turns_left, of_turn, of_end};
 
 use class_make::ClassKept;
-use class_world::world::World;
+use class_world::World;
 use eval_forms::EvalKept;
 use proto_attr::AttributeKept;
 use proto_call::CallKept;
 use proto_descr::DescriptorKept;
 use proto_ops::OperatorKept;
-use py_node::memory::OutOfMemory;
-use py_node::raised::{Cause, Raised};
-use py_node::task::{Answer, Step, Task};
+use py_node::{Answer, Cause, OutOfMemory, Raised, Step, Task};
 use std::alloc::Global;
 
 // No task stands so deep.

@@ -1,4 +1,4 @@
-// The index of the worked scripts: a line for each call of the program.
+//! The index of the worked scripts: a line for each call of the program.
 
 use std::alloc::{AllocError, Global};
 

@@ -1,13 +1,12 @@
-// Runs the worked scripts: each line of the file `index` is a call of the program, over a source and a sink in memory
-// that move a byte at a time. Writes of each its name, the word for how it ended, and the text that the sink has taken.
-// The files are looked for where it runs, or in the folder that its first word names.
+//! Runs the worked scripts: each line of the file `index` is a call of the program, over a source and a sink in memory
+//! that move a byte at a time. Writes of each its name, the word for how it ended, and the text that the sink has taken.
+//! The files are looked for where it runs, or in the folder that its first word names.
 #![tactic(auto)]
 
 mod index;
 
 use index::{Case, case_of};
-use outside::memory::{MemorySink, MemorySource};
-use outside::standard::StdSink;
+use outside::{MemorySink, MemorySource, StdSink};
 use outside::write_all::write_all;
 use serve::top::serve;
 use std::alloc::{AllocError, Global};

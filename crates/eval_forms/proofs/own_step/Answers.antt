@@ -1,16 +1,14 @@
 use Rattle.std.proofs.Common.{length, map, refl, ap, sym, subst, ◌∙◌}
 use Rattle.py_node.specs.declared.refs.PyStrInterned.{PyStrInterned}
+use Rattle.py_node.specs.Tree.{list_of}
 use Rattle.plain_machine.specs.Plain.{PlainWorld}
-use Rattle.class_world.specs.declared.world.World.{World}
-use Rattle.class_world.specs.Claims.{of_step}
 use Rattle.class_world.specs.Reading.{Reading}
-use Rattle.class_world.specs.Sound.{Holds, AllHold, AreNodes}
 use Rattle.class_world.proofs.Stored.{ok-map}
-use Rattle.eval_forms.specs.Say.{set_attr_say, call_say, op_say, class_say}
+use Rattle.eval_forms.specs.Say.{one_of, attr_say, set_attr_say, called_say, op_say, class_say}
 use Rattle.plain_machine.specs.Args.{two_of}
-use Rattle.eval_forms.specs.Rows.{IsOwn, Takes, Continues, of_eval_kept, operands_at}
+use Rattle.eval_forms.specs.Rows.{IsOwn, Takes, Continues, operands_at, args_of}
 use Rattle.eval_forms.proofs.ClassForm.{takes-same}
-use Rattle.eval_forms.proofs.Operands.{own-takes, says-set, says-call, says-op, says-class, class-long, class-names, set-name, one-holds, own-func, own-later}
+use Rattle.eval_forms.proofs.Operands.{own-takes, own-takes-read, says-attr, says-set, says-call, attr-name, call-func, says-op, says-class, class-long, class-names, set-name, one-holds, own-func, own-later}
 use Rattle.class_world.proofs.Growth.{grows-itself}
 use Rattle.eval_forms.proofs.own_step.Goals as goal
 
@@ -31,22 +29,52 @@ returns-in-SetAttr-clause-safe c =
     let safe = rw c.deref-in-SetAttr.ensures.value at c.set_attr_step-step.ensures.safe in
     (grows-itself w, safe w (set-name w c.in-SetAttr.name f own c.form.ensures.holds) c.requires.values)
 
-pub returns-in-Call-clause-goes : goal.returns-in-Call-clause-goes
-returns-in-Call-clause-goes c =
+pub returns-in-Attr-clause-goes : goal.returns-in-Attr-clause-goes
+returns-in-Attr-clause-goes c =
     let w = c.args.world.now in
     let f = c.form.result.now in
     let vs = c.args.values.items in
+    let own = subst (λ o. IsOwn o f) c.in-Attr.is c.in_ok-constant.ensures in
+    let long = ap (λ o. length (operands_at o)) (sym c.form.ensures.stored) ∙ c.requires.all in
+    let is = rw c.deref-in-Attr.ensures.value at c.one_of-in-Attr.ensures in
+    let goes = rw is at c.attr_step-step.ensures.goes in
+    own-takes w w c.args.e f vs (λ t u. attr_say u (t.text c.in-Attr.name.0) (one_of vs)) c.attr_step-step.result c.form.ensures.stored long (says-attr c.in-Attr.name vs f own) (goes w)
+
+pub returns-in-Attr-clause-safe : goal.returns-in-Attr-clause-safe
+returns-in-Attr-clause-safe c =
+    let w = c.args.world.now in
+    let f = c.form.result.now in
+    let own = subst (λ o. IsOwn o f) c.in-Attr.is c.in_ok-constant.ensures in
+    let is = rw c.deref-in-Attr.ensures.value at c.one_of-in-Attr.ensures in
+    let safe = rw is at c.attr_step-step.ensures.safe in
+    (grows-itself w, safe w (attr-name w c.in-Attr.name f own c.form.ensures.holds) (one-holds w c.args.values.items c.requires.values))
+
+pub call_step-step-requires-clause-func : goal.call_step-step-requires-clause-func
+call_step-step-requires-clause-func c =
+    let f = c.form.result.now in
+    let own = subst (λ o. IsOwn o f) c.in-Call.is c.in_ok-constant.ensures in
+    call-func c.args.world.now c.in-Call.func f own c.form.ensures.holds
+
+pub call_step-step-requires-clause-value : goal.call_step-step-requires-clause-value
+call_step-step-requires-clause-value c =
+    let is = rw c.deref-in-Call.ensures.value at c.one_of-in-Call.ensures in
+    rw is (one-holds c.args.world.now c.args.values.items c.requires.values)
+
+pub returns-in-Call-clause-goes : goal.returns-in-Call-clause-goes
+returns-in-Call-clause-goes c =
+    let w = c.args.world.now in
+    let e = c.args.e in
+    let f = c.form.result.now in
+    let vs = c.args.values.items in
+    let g = c.in-Call.func in
     let own = subst (λ o. IsOwn o f) c.in-Call.is c.in_ok-constant.ensures in
     let long = ap (λ o. length (operands_at o)) (sym c.form.ensures.stored) ∙ c.requires.all in
-    let goes = rw c.deref-in-Call.ensures.value at c.call_step.ensures.goes in
-    ok-map (λ step. (v : World) → Takes (λ t u. call_say u vs) v v step) (λ step. Continues c.args.e vs w w step) c.call_step.result (λ step k. own-takes w w c.args.e f vs (λ t u. call_say u vs) step c.form.ensures.stored long (says-call vs f own) (k w)) goes
-
-pub returns-in-Call-clause-safe : goal.returns-in-Call-clause-safe
-returns-in-Call-clause-safe c =
-    let w = c.args.world.now in
-    let vs = c.args.values.items in
-    let safe = rw c.deref-in-Call.ensures.value at c.call_step.ensures.safe in
-    (grows-itself w, ok-map (λ step. (v : World) → Holds v (AreNodes vs) → AllHold v (of_step of_eval_kept step)) (λ step. AllHold w (of_step of_eval_kept step)) c.call_step.result (λ step k. k w c.requires.values) safe)
+    let is = rw c.deref-in-Call.ensures.value at c.one_of-in-Call.ensures in
+    let goes = rw is at c.call_step-step.ensures.goes in
+    let row = λ (t : Reading) (u : PlainWorld). called_say u (t.tree g) (list_of (args_of (t.tree e))) (one_of vs) in
+    own-takes-read w w e f vs row c.call_step-step.result c.form.ensures.stored long (λ t r u more.
+    says-call g vs f own t u more
+    ∙ ap (λ x. called_say u (t.tree g) (list_of (args_of x)) (one_of vs) more) (sym (r.trees e f c.form.ensures.stored))) goes
 
 pub returns-in-Op-clause-goes : goal.returns-in-Op-clause-goes
 returns-in-Op-clause-goes c =

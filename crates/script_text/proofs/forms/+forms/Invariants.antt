@@ -18,6 +18,9 @@ decreases-read_bind l = 4 * items_depth (items_view l.items.now) + 2
 abbrev pub decreases-read_func : goal.decreases-read_func
 decreases-read_func l = 4 * items_depth (items_view l.items.now) + 2
 
+abbrev pub decreases-read_attr : goal.decreases-read_attr
+decreases-read_attr l = 4 * items_depth (items_view l.items.now) + 2
+
 abbrev pub decreases-read_setattr : goal.decreases-read_setattr
 decreases-read_setattr l = 4 * items_depth (items_view l.items.now) + 2
 
