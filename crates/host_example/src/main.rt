@@ -7,7 +7,10 @@ ghost use Rattle.class_world.specs.Sound.{Holds, IsClass};
 
 use class_table::ClassFault;
 use class_world::Fixed;
-use py_node::{BuiltIn, Command, Constant, Expr, OutOfMemory, PyAttributes, PyNumberBinaryOp, PyTypeRef, Reply, ReplyAnswer, Word};
+use py_node::{
+    BuiltIn, Command, Constant, Expr, OutOfMemory, PyAttributes, PyNumberBinaryOp, PyTypeRef,
+    Reply, ReplyAnswer, Word,
+};
 use std::alloc::Global;
 use std::io;
 use vm_eval::{RunFault, VirtualMachine};

@@ -1,6 +1,9 @@
 //! Each call that can find no memory, once with ample memory.
 
-use py_node::{BodyCall, Cause, Command, Constant, Expr, Kind, Names, PyAttributes, PyNumberBinaryOp, PyObjectRef, PyStrInterned, PyTypeFlags, Raised, Reply, ReplyAnswer, Word};
+use py_node::{
+    BodyCall, Cause, Command, Constant, Expr, Kind, Names, PyAttributes, PyNumberBinaryOp,
+    PyObjectRef, PyStrInterned, PyTypeFlags, Raised, Reply, ReplyAnswer, Word,
+};
 use std::alloc::Global;
 use std::test::Fail;
 

@@ -2,10 +2,10 @@
 
 ghost use Rattle.std.specs.Prelude.{◌<◌};
 
-use outside::{MemorySink, MemorySource, QuietSink, QuietSource, ReadEnd, StdSink, StdSource};
 use outside::read_all::{LIMIT, read_all};
 use outside::words::units_of;
 use outside::write_all::write_all;
+use outside::{MemorySink, MemorySource, QuietSink, QuietSource, ReadEnd, StdSink, StdSource};
 use std::alloc::{AllocError, Global};
 use std::test::Fail;
 

@@ -1,5 +1,5 @@
-use class_table::{ClassFault, ClassTable};
 use class_table::start::known_names;
+use class_table::{ClassFault, ClassTable};
 use py_node::{Cause, PyAttributes, PyObjectRef, PyStrInterned, PyTypeRef, SlotEntry, SlotId};
 use std::alloc::Global;
 use std::test::Fail;
@@ -72,7 +72,10 @@ fn child_follows_its_base(rt: HostRuntime) -> Result<(), Fail> {
         assert!(rt; table.subclasses(first) == [child].as_slice());
     }
     if table.has_class(PyTypeRef(0)) {
-        assert!(rt; table.set_attr(PyTypeRef(0), PyStrInterned(0), PyObjectRef(8)) == Err(ClassFault::Refused(Cause::ImmutableType)));
+        assert!(rt;
+            table.set_attr(PyTypeRef(0), PyStrInterned(0), PyObjectRef(8))
+                == Err(ClassFault::Refused(Cause::ImmutableType))
+        );
     }
     Ok(())
 }

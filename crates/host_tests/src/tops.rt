@@ -27,7 +27,10 @@ fn a_front_of_a_script_is_no_json(rt: HostRuntime) -> Result<(), Fail> {
     let script = FIRST_RUN.as_bytes();
     for length in 0..script.len() {
         let (status, written) = served(rt.alloc(), &script[..length])?;
-        assert!(rt; status == Status::Script(ScriptError::NotJson), "at {length}");
+        assert!(rt;
+            status == Status::Script(ScriptError::NotJson),
+            "at {length}"
+        );
         assert!(rt; written.is_empty(), "at {length}");
     }
     Ok(())

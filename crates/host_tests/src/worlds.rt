@@ -5,7 +5,9 @@ ghost use Rattle.class_world.specs.Sound.{AllHold, of_class_ref, of_each};
 
 use class_table::ClassFault;
 use class_world::{Fixed, World};
-use py_node::{BuiltIn, Cause, Known, OutOfMemory, PyAttributes, PyObjectRef, PyStrInterned, PyTypeRef};
+use py_node::{
+    BuiltIn, Cause, Known, OutOfMemory, PyAttributes, PyObjectRef, PyStrInterned, PyTypeRef,
+};
 use std::alloc::Global;
 use std::test::Fail;
 

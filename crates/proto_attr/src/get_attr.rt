@@ -14,7 +14,10 @@ use crate::AttributeKept;
 use crate::named::by_name;
 use crate::setting::asked;
 use class_world::World;
-use py_node::{Answer, AttributeTask, Kind, Known, NativeEntry, OutOfMemory, PyObjectRef, PyStrInterned, Raised, SlotEntry, SlotId, Step, TypeNative};
+use py_node::{
+    Answer, AttributeTask, Kind, Known, NativeEntry, OutOfMemory, PyObjectRef, PyStrInterned,
+    Raised, SlotEntry, SlotId, Step, TypeNative,
+};
 use std::alloc::Global;
 
 // An object's attribute is read as its class's entry for that says.

@@ -24,8 +24,11 @@ mod setting;
 mod special;
 
 use class_world::World;
-use py_node::{Answer, AttributeTask, CallTask, OutOfMemory, PyMethod, PyObjectRef, PyStrInterned, Raised, Step, Task};
 use py_node::task::{Args, Keywords};
+use py_node::{
+    Answer, AttributeTask, CallTask, OutOfMemory, PyMethod, PyObjectRef, PyStrInterned, Raised,
+    Step, Task,
+};
 use std::alloc::Global;
 
 /// What a row of an attribute keeps while it waits for an answer.
@@ -44,10 +47,7 @@ pub enum AttributeKept {
 }
 
 /// Begins a task.
-pub fn begin(
-    world: &mut World,
-    task: AttributeTask,
-) -> Result<Step<AttributeKept>, OutOfMemory>
+pub fn begin(world: &mut World, task: AttributeTask) -> Result<Step<AttributeKept>, OutOfMemory>
     requires { AllHold world.old (of_attribute_task task) }
     ensures goes { IfOk result (λ step. Begins task world.old world.new step) }
     ensures safe { Leaves of_attribute_kept world.old world.new result }
@@ -64,9 +64,7 @@ pub fn begin(
         }
         AttributeTask::SetAttr(o, name, value) => setting::set_attr(world, o, name, value),
         AttributeTask::TypeSet(class, name, value) => setting::type_set(world, class, name, value),
-        AttributeTask::Special(o, name, args, kw) => {
-            special::special(world, o, name, args, kw)
-        }
+        AttributeTask::Special(o, name, args, kw) => { special::special(world, o, name, args, kw) }
         AttributeTask::Bind(m, o, class) => Ok(binding::bind(world, m, o, class)),
         AttributeTask::HasAttr(_, _) => Ok(Step::not_yet()),
     }

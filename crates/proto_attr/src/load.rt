@@ -18,8 +18,11 @@ use crate::find::{Found, find};
 use crate::generic::{descriptor_get, no_attribute};
 use crate::special::bound;
 use class_world::World;
-use py_node::{Answer, AttributeTask, CallTask, NativeEntry, ObjectNative, OutOfMemory, PyMethod, PyObjectRef, PyStrInterned, SlotEntry, SlotId, Step, Task};
 use py_node::task::{Args, Keywords};
+use py_node::{
+    Answer, AttributeTask, CallTask, NativeEntry, ObjectNative, OutOfMemory, PyMethod, PyObjectRef,
+    PyStrInterned, SlotEntry, SlotId, Step, Task,
+};
 use std::alloc::Global;
 
 // A method is loaded to be called at once. Where its class reads attributes in its own way, it is what the

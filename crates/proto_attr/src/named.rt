@@ -7,8 +7,8 @@ ghost use Rattle.class_world.specs.Reading.{Reading, Reads, plain, spelled, task
 ghost use Rattle.class_world.specs.Sound.{AllHold, Grows, Holds, IsName, IsNode};
 ghost use Rattle.proto_attr.specs.Say.{with_text, by_name};
 
-use class_world::args::alone;
 use class_world::World;
+use class_world::args::alone;
 use py_node::{AttributeTask, BuiltIn, OutOfMemory, Payload, PyObjectRef, PyStrInterned, Task};
 use std::alloc::Global;
 

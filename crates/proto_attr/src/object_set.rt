@@ -14,7 +14,9 @@ use crate::AttributeKept;
 use crate::generic::no_attribute;
 use crate::setting::setter;
 use class_world::World;
-use py_node::{Answer, DescriptorTask, OutOfMemory, PyObjectRef, PySetterValue, PyStrInterned, Step, Task};
+use py_node::{
+    Answer, DescriptorTask, OutOfMemory, PyObjectRef, PySetterValue, PyStrInterned, Step, Task,
+};
 use std::alloc::Global;
 
 // An object's attribute is set or taken out by what its class has under the name, or else in its dict.

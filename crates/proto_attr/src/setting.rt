@@ -13,9 +13,13 @@ ghost use Rattle.proto_attr.specs.Rows.{Begins, Starts, of_attribute_kept};
 
 use crate::AttributeKept;
 use class_table::ClassFault;
-use class_world::args::{alone, both};
 use class_world::World;
-use py_node::{Answer, AttributeTask, BuiltIn, Cause, DescriptorTask, Known, NativeEntry, OutOfMemory, Payload, PyObjectRef, PySetterValue, PyStrInterned, PyTypeRef, SlotEntry, SlotId, Step, Task, TypeNative};
+use class_world::args::{alone, both};
+use py_node::{
+    Answer, AttributeTask, BuiltIn, Cause, DescriptorTask, Known, NativeEntry, OutOfMemory,
+    Payload, PyObjectRef, PySetterValue, PyStrInterned, PyTypeRef, SlotEntry, SlotId, Step, Task,
+    TypeNative,
+};
 use std::alloc::Global;
 
 // An object's attribute is set or taken out, as its class's entry for that says.

@@ -8,10 +8,12 @@ ghost use Rattle.py_node.specs.declared.task.AttributeTask.TheVariants as attrib
 ghost use Rattle.proto_attr.specs.Rows.{Begins, of_attribute_kept};
 
 use crate::AttributeKept;
-use class_world::args::with_first;
 use class_world::World;
-use py_node::{AttributeTask, CallTask, Cause, OutOfMemory, PyObjectRef, PyStrInterned, Step, Task};
+use class_world::args::with_first;
 use py_node::task::{Args, Keywords};
+use py_node::{
+    AttributeTask, CallTask, Cause, OutOfMemory, PyObjectRef, PyStrInterned, Step, Task,
+};
 use std::alloc::Global;
 
 // The special method of a name is called: one that is fast with its object before the arguments, and

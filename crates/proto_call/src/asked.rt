@@ -8,10 +8,10 @@ ghost use Rattle.class_world.specs.Claims.{of_args, of_task};
 ghost use Rattle.class_world.specs.Reading.{Reading, Reads, bindings, task_of};
 
 use crate::CallKept;
-use class_world::args::with_first;
 use class_world::World;
-use py_node::{AttributeTask, Known, OutOfMemory, PyObjectRef, Step, Task};
+use class_world::args::with_first;
 use py_node::task::{Args, Keywords};
+use py_node::{AttributeTask, Known, OutOfMemory, PyObjectRef, Step, Task};
 use std::alloc::Global;
 
 /// The arguments with an object before them.
@@ -39,4 +39,3 @@ pub(crate) fn special(
 {
     Task::Attribute(AttributeTask::Special(object, world.known(name), args, kw))
 }
-

@@ -18,11 +18,14 @@ ghost use Rattle.proto_call.specs.Bodies.{Enters, LastFilled, RestFilled, RunsAs
 
 use crate::CallKept;
 use crate::parameters::{all_filled, left_over, single, with_keywords};
+use class_world::World;
 use class_world::args::{copy_args, filled};
 use class_world::show::show;
-use class_world::World;
-use py_node::{BodyCall, BuiltIn, Cause, EvalTask, Function, OutOfMemory, Payload, PyAttributes, PyObjectRef, PyStrInterned, Step, Task};
 use py_node::task::{Args, Keywords};
+use py_node::{
+    BodyCall, BuiltIn, Cause, EvalTask, Function, OutOfMemory, Payload, PyAttributes, PyObjectRef,
+    PyStrInterned, Step, Task,
+};
 use std::alloc::Global;
 
 /// Runs the body of a function.
@@ -43,10 +46,7 @@ pub(crate) fn begin_body(
 }
 
 // The function that an object is, if it is one.
-fn function_at(
-    world: &World,
-    node: PyObjectRef,
-) -> Result<Option<Function>, OutOfMemory>
+fn function_at(world: &World, node: PyObjectRef) -> Result<Option<Function>, OutOfMemory>
     requires { Holds world.now (IsNode node) }
     ensures params { IfOk result (λ o. IfSome o (λ g. Holds world.now (HasParams node g.params.items))) }
     ensures runs { IfOk result (λ o. (t : Reading) → RunsAs (datum_at (plain t world.now) node) (datum_of t o)) }
@@ -115,8 +115,7 @@ fn with_rest(
     requires params { Holds world.old (AreNames params.now) }
     requires args { Holds world.old (AreNodes args.now) }
     ensures made { OnOk result ((t : Reading) → plain t world.new ≡
-        with_node (plain t world.old) the_tuple (ATuple (left_over (but_last (map (spelled t) params.now)) args.now)))
-        }
+        with_node (plain t world.old) the_tuple (ATuple (left_over (but_last (map (spelled t) params.now)) args.now))) }
     ensures vars { IfOk result (λ vars. (t : Reading) → Reads t world.new → bindings t vars ≡
         with_value is_text (filled [] (but_last (map (spelled t) params.now)) args.now)
         (last_of (map (spelled t) params.now)) (next_node (plain t world.old) the_tuple)) }
@@ -135,10 +134,7 @@ fn with_rest(
 }
 
 // The last of some names, or else the name of no characters.
-fn last_name(
-    world: &mut World,
-    names: &[PyStrInterned],
-) -> Result<PyStrInterned, OutOfMemory>
+fn last_name(world: &mut World, names: &[PyStrInterned]) -> Result<PyStrInterned, OutOfMemory>
     requires { Holds world.old (AreNames names.now) }
     ensures spelled { IfOk result (λ x. (t : Reading) → Reads t world.new → spelled t x ≡
         last_of (map (spelled t) names.now)) }
@@ -155,10 +151,7 @@ fn last_name(
 }
 
 // A new tuple.
-fn make_tuple(
-    world: &mut World,
-    items: &[PyObjectRef],
-) -> Result<PyObjectRef, OutOfMemory>
+fn make_tuple(world: &mut World, items: &[PyObjectRef]) -> Result<PyObjectRef, OutOfMemory>
     requires { Holds world.old (AreNodes items.now) }
     ensures made { OnOk result ((t : Reading) → plain t world.new ≡
         with_node (plain t world.old) the_tuple (ATuple items.now)) }
@@ -223,11 +216,7 @@ fn opened(
 }
 
 // The note of a body's start: its function's name, and the texts of its parameters' values.
-fn started(
-    world: &World,
-    function: &Function,
-    vars: &PyAttributes,
-) -> Result<BodyCall, OutOfMemory>
+fn started(world: &World, function: &Function, vars: &PyAttributes) -> Result<BodyCall, OutOfMemory>
     requires function { AllHold world.now (of_function function.now) }
     requires vars { AllHold world.now (of_each of_binding vars.now) }
     ensures { IfOk result (λ c. (t : Reading) → Reads t world.now → started_of c ≡
@@ -258,11 +247,7 @@ fn texts(
 }
 
 // The text of a parameter's value.
-fn shown(
-    world: &World,
-    vars: &PyAttributes,
-    param: PyStrInterned,
-) -> Result<String, OutOfMemory>
+fn shown(world: &World, vars: &PyAttributes, param: PyStrInterned) -> Result<String, OutOfMemory>
     requires { AllHold world.now (of_each of_binding vars.now) }
     ensures { IfOk result (λ s. (t : Reading) → string_bytes s ≡
         shown (plain t world.now) (bindings t vars.now) (spelled t param)) }
@@ -271,10 +256,7 @@ fn shown(
 }
 
 // The text of a value, which is empty where there is none.
-fn value_text(
-    world: &World,
-    value: Option<PyObjectRef>,
-) -> Result<String, OutOfMemory>
+fn value_text(world: &World, value: Option<PyObjectRef>) -> Result<String, OutOfMemory>
     requires { AllHold world.now (of_option of_node_ref value) }
     ensures { IfOk result (λ s. (t : Reading) → string_bytes s ≡ value_text (plain t world.now) value) }
 {

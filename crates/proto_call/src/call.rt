@@ -11,10 +11,13 @@ ghost use Rattle.proto_call.specs.Rows.{Begins, Decides, OpensNone, LeavesNone};
 
 use crate::CallKept;
 use crate::asked::{bound, special};
-use class_world::args::native_task;
 use class_world::World;
-use py_node::{CallTask, CallableNative, Cause, Known, NativeEntry, OutOfMemory, Payload, PyObjectRef, SlotEntry, SlotId, Step, Task, TypeNative};
+use class_world::args::native_task;
 use py_node::task::{Args, Keywords};
+use py_node::{
+    CallTask, CallableNative, Cause, Known, NativeEntry, OutOfMemory, Payload, PyObjectRef,
+    SlotEntry, SlotId, Step, Task, TypeNative,
+};
 use std::alloc::Global;
 
 /// An object is called as its class's entry for calls says: by a native, or by the special method.

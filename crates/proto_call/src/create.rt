@@ -13,10 +13,13 @@ ghost use Rattle.proto_call.specs.Rows.{Begins, Decides, Continues, Resumes, Ope
 
 use crate::CallKept;
 use crate::asked::bound;
-use class_world::args::{copy_args, copy_keywords, native_task};
 use class_world::World;
-use py_node::{Answer, BuiltIn, CallTask, Cause, Known, OutOfMemory, PyObjectRef, PyStrInterned, PyTypeRef, SlotEntry, SlotId, Step, Task};
+use class_world::args::{copy_args, copy_keywords, native_task};
 use py_node::task::{Args, Keywords};
+use py_node::{
+    Answer, BuiltIn, CallTask, Cause, Known, OutOfMemory, PyObjectRef, PyStrInterned, PyTypeRef,
+    SlotEntry, SlotId, Step, Task,
+};
 use std::alloc::Global;
 
 /// The call of a class: first the object is made, of the same arguments.

@@ -12,8 +12,8 @@ use crate::create::{begin_new, begin_type_call, resume_type_call};
 use crate::init::{begin_init, resume_init};
 use crate::object::{begin_object, native_end};
 use class_world::World;
-use py_node::{Answer, CallTask, OutOfMemory, PyObjectRef, PyTypeRef, Raised, Step};
 use py_node::task::{Args, Keywords};
+use py_node::{Answer, CallTask, OutOfMemory, PyObjectRef, PyTypeRef, Raised, Step};
 use std::alloc::Global;
 
 mod asked;
@@ -42,10 +42,7 @@ pub enum CallKept {
 }
 
 /// Begins a task.
-pub fn begin(
-    world: &mut World,
-    task: CallTask,
-) -> Result<Step<CallKept>, OutOfMemory>
+pub fn begin(world: &mut World, task: CallTask) -> Result<Step<CallKept>, OutOfMemory>
     requires { AllHold world.old (of_call_task task) }
     ensures goes { IfOk result (λ step. Begins task world.old world.new step) }
     ensures safe { LeavesOpen of_call_kept bodies_of 0 world.old world.new result }

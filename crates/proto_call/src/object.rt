@@ -15,8 +15,11 @@ ghost use Rattle.proto_call.specs.Rows.{Begins, Resumes, Closes, Does, OpensNone
 use crate::CallKept;
 use class_world::takes::{one, three, two};
 use class_world::{Fixed, World};
-use py_node::{Answer, AttributeTask, BuiltIn, Cause, Known, ObjectNative, OutOfMemory, Payload, PyObjectRef, PySetterValue, PyStrInterned, PyTypeRef, Raised, Step, Task};
 use py_node::task::{Args, Keywords};
+use py_node::{
+    Answer, AttributeTask, BuiltIn, Cause, Known, ObjectNative, OutOfMemory, Payload, PyObjectRef,
+    PySetterValue, PyStrInterned, PyTypeRef, Raised, Step, Task,
+};
 use std::alloc::Global;
 
 /// A native of `object`.
@@ -59,10 +62,7 @@ fn object_by(
 // A new object of the class that is the first argument: its objects must be plain ones, and it may leave
 // no method abstract.
 #[tactic(auto, using(crate::proofs::Items::item_holds), unfolding(crate::specs::Say::call_job_say, py_node::specs::BuiltIns::place_of))]
-fn object_new(
-    world: &mut World,
-    args: &[PyObjectRef],
-) -> Result<Step<CallKept>, OutOfMemory>
+fn object_new(world: &mut World, args: &[PyObjectRef]) -> Result<Step<CallKept>, OutOfMemory>
     requires { Holds world.old (AreNodes args.now) }
     ensures goes { IfOk result (λ step. Closes (λ t u. object_new u args.now) world.old world.new step) }
     ensures safe { LeavesNone world.old world.new result }

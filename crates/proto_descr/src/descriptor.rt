@@ -18,7 +18,11 @@ use crate::DescriptorKept;
 use bitflags::Flags;
 use class_world::args::both;
 use class_world::{Fixed, World};
-use py_node::{Answer, AttributeTask, BoundMethod, BuiltIn, BuiltinMethod, CallableNative, Cause, Known, MethodDescriptor, NativeEntry, OutOfMemory, Payload, PyMethodFlags, PyObjectRef, PyTypeRef, Raised, SlotEntry, SlotId, Step, Task};
+use py_node::{
+    Answer, AttributeTask, BoundMethod, BuiltIn, BuiltinMethod, CallableNative, Cause, Known,
+    MethodDescriptor, NativeEntry, OutOfMemory, Payload, PyMethodFlags, PyObjectRef, PyTypeRef,
+    Raised, SlotEntry, SlotId, Step, Task,
+};
 use std::alloc::Global;
 
 // How a row ends.

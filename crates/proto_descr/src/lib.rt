@@ -20,10 +20,7 @@ pub enum DescriptorKept {
 }
 
 /// Begins a task.
-pub fn begin(
-    world: &mut World,
-    task: DescriptorTask,
-) -> Result<Step<DescriptorKept>, OutOfMemory>
+pub fn begin(world: &mut World, task: DescriptorTask) -> Result<Step<DescriptorKept>, OutOfMemory>
     requires { AllHold world.old (of_descriptor_task task) }
     ensures goes { IfOk result (λ step. Begins task world.old world.new step) }
     ensures safe { Leaves of_descriptor_kept world.old world.new result }

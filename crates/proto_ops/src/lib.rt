@@ -13,8 +13,11 @@ ghost use Rattle.proto_ops.specs.Rows.{Begins, Resumes, Sums, joining, entered, 
 use class_table::Candidates;
 use class_world::args::{alone, both, native_task, two_of};
 use class_world::{Fixed, World};
-use py_node::{Answer, AttributeTask, BuiltIn, Cause, IntNative, OperatorTask, OutOfMemory, Payload, PyNumberBinaryOp, PyObjectRef, Raised, SlotEntry, SlotId, Step, Task};
 use py_node::task::{Args, Keywords};
+use py_node::{
+    Answer, AttributeTask, BuiltIn, Cause, IntNative, OperatorTask, OutOfMemory, Payload,
+    PyNumberBinaryOp, PyObjectRef, Raised, SlotEntry, SlotId, Step, Task,
+};
 use std::alloc::Global;
 
 /// What a row of an operator keeps while it waits for an answer.
@@ -29,10 +32,7 @@ pub enum OperatorKept {
 }
 
 /// Begins a task.
-pub fn begin(
-    world: &mut World,
-    task: OperatorTask,
-) -> Result<Step<OperatorKept>, OutOfMemory>
+pub fn begin(world: &mut World, task: OperatorTask) -> Result<Step<OperatorKept>, OutOfMemory>
     requires { AllHold world.old (of_operator_task task) }
     ensures goes { IfOk result (λ step. Begins task world.old world.new step) }
     ensures safe { Leaves of_operator_kept world.old world.new result }
@@ -258,11 +258,7 @@ fn int(
 }
 
 // The sum of two whole numbers, or NotImplemented where one is none.
-fn sum(
-    world: &mut World,
-    a: PyObjectRef,
-    b: PyObjectRef,
-) -> Result<Step<OperatorKept>, OutOfMemory>
+fn sum(world: &mut World, a: PyObjectRef, b: PyObjectRef) -> Result<Step<OperatorKept>, OutOfMemory>
     requires a { Holds world.old (IsNode a) }
     requires b { Holds world.old (IsNode b) }
     ensures goes { IfOk result (λ step. Sums a b world.old world.new step) }

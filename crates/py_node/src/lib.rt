@@ -22,17 +22,29 @@ pub mod task;
 
 pub use attributes::PyAttributes;
 pub use built_in::BuiltIn;
-pub use entry::{ArithmeticNative, BitNative, CallableNative, CompareNative, DescriptorNative, Detail, DictNative, FixedNative, IntNative, IteratorNative, ListNative, NativeEntry, NumberNative, ObjectNative, Property, PropertyNative, SlotEntry, SlotId, StrNative, SuperNative, TupleNative, TypeNative, WrapperNative};
+pub use entry::{
+    ArithmeticNative, BitNative, CallableNative, CompareNative, DescriptorNative, Detail,
+    DictNative, FixedNative, IntNative, IteratorNative, ListNative, NativeEntry, NumberNative,
+    ObjectNative, Property, PropertyNative, SlotEntry, SlotId, StrNative, SuperNative, TupleNative,
+    TypeNative, WrapperNative,
+};
 pub use expr::{Command, Constant, Expr, ObjectWord, SequenceWord, Word};
 pub use flags::{PyMethodFlags, PyTypeFlags};
 pub use known::Known;
 pub use memory::OutOfMemory;
 pub use names::Names;
 pub use own_attrs::Attr;
-pub use payload::{BoundMethod, BuiltinMethod, Form, Function, GetSet, MethodDescriptor, NativeFunction, Node, Payload};
+pub use payload::{
+    BoundMethod, BuiltinMethod, Form, Function, GetSet, MethodDescriptor, NativeFunction, Node,
+    Payload,
+};
 pub use protocol::{CompareTask, ObjectTask, ProtocolTask};
 pub use raised::{Cause, Kind, Raised};
 pub use refs::{PyObjectRef, PyStrInterned, PyTypeRef};
 pub use reply::{BodyCall, Reply, ReplyAnswer};
 pub use slots::Sort;
-pub use task::{Answer, AttributeTask, CallTask, ClassTask, DescriptorTask, EvalTask, OperatorTask, PyComparisonOp, PyMethod, PyNumberBinaryOp, PyNumberUnaryOp, PyResult, PySetterValue, Step, Task};
+pub use task::{
+    Answer, AttributeTask, CallTask, ClassTask, DescriptorTask, EvalTask, OperatorTask,
+    PyComparisonOp, PyMethod, PyNumberBinaryOp, PyNumberUnaryOp, PyResult, PySetterValue, Step,
+    Task,
+};

@@ -13,10 +13,10 @@ ghost use Rattle.vm_eval.specs.Runs.{trees_in};
 
 use crate::status::Status;
 use class_world::classes::push_classes;
-use outside::{ReadEnd, Sink, Source};
 use outside::read_all::read_all;
 use outside::words::units_of;
 use outside::write_all::write_all;
+use outside::{ReadEnd, Sink, Source};
 use py_node::{Command, OutOfMemory};
 use reply_text::write::write_replies;
 use script_text::ScriptFault;

@@ -113,10 +113,7 @@ impl VirtualMachine {
         ensures node { IfOk result (λ c. Holds self.new.world (IsNode (ref c.0))) }
         ensures mark { MarkedAs self.old self.new result }
     {
-        match self
-            .world
-            .new_heap(name, bases, attrs, members, metaclass)
-        {
+        match self.world.new_heap(name, bases, attrs, members, metaclass) {
             Err(ClassFault::OutOfMemory) => {
                 self.failed = true;
                 Err(ClassFault::OutOfMemory)

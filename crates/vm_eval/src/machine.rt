@@ -77,11 +77,7 @@ impl VirtualMachine {
     /// is the world after them, which is sound; however the commands end, no body is left running.
     /// Where memory cannot be had, this run and every later one fails, and the world is sound all the
     /// same; no commands take no memory.
-    pub fn run(
-        &mut self,
-        commands: &[Command],
-        units: u64,
-    ) -> Result<Vec<Reply>, RunFault>
+    pub fn run(&mut self, commands: &[Command], units: u64) -> Result<Vec<Reply>, RunFault>
         ensures runs { IfOk result (λ replies. Runs commands.now self.old.world units self.new.world replies.items) }
         ensures grows { Grows self.old.world self.new.world }
         ensures rests { (t : Reading) → (plain t self.new.world).scopes ≡ [] }

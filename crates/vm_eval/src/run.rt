@@ -59,12 +59,7 @@ fn reply(
     ensures bodies { OnOk result (AsDeep world.old world.new) }
 {
     let number = add_expr(world, &command.expr)?;
-    let end = drive(
-        world,
-        stack,
-        Task::Eval(EvalTask::Eval(number)),
-        units,
-    )?;
+    let end = drive(world, stack, Task::Eval(EvalTask::Eval(number)), units)?;
     let answer = answering(world, end)?;
     let calls = world.take_calls();
     Ok(Reply { answer, calls })

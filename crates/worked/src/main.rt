@@ -6,8 +6,8 @@
 mod index;
 
 use index::{Case, case_of};
-use outside::{MemorySink, MemorySource, StdSink};
 use outside::write_all::write_all;
+use outside::{MemorySink, MemorySource, StdSink};
 use serve::top::serve;
 use std::alloc::{AllocError, Global};
 use std::process::ExitCode;
