@@ -1,16 +1,17 @@
 -- What a class gets that is made with some bases, whatever their number: its linearisation, its best base and its solid class.
-use Rattle.std.proofs.Common.{◌≡◌, ℕ, ◌<◌, ◌≤◌, true, not, cond, ◌||◌, List, [], ◌∷◌, map, length, Option, Some, None, inl, inr, refl, sym, ap, subst, ◌∙◌, arith}
+use Rattle.std.proofs.Common.{◌≡◌, ℕ, zero, suc, ◌<◌, ◌≤◌, true, not, cond, ◌||◌, List, [], ◌∷◌, map, length, Option, Some, None, inl, inr, refl, sym, ap, subst, ◌∙◌, arith}
 use Rattle.std.specs.Prelude.{nat_lt, option_map, option_and_then}
-use Rattle.class_model.specs.Order.{least_order, all_some, Holds, Distinct, Subsequence}
+use Rattle.class_model.proofs.Arranged.{least_order-order}
+use Rattle.class_model.specs.Order.{linear, least_order, all_some, Holds, Distinct, Subsequence}
 use Rattle.class_model.specs.Class.{Class, Classes, is_class, bases_of, lin}
 use Rattle.class_model.specs.Numbers.{limit}
 use Rattle.class_model.specs.Change.{with_class}
 use Rattle.class_model.specs.Layout.{built_ins, is_empty, first_best, solid_within, solid, best_of, base}
 use Rattle.class_model.specs.Sound.{AreSound}
-use Rattle.class_model.proofs.Held.{Holds-equal, Subsequence-holds}
-use Rattle.class_model.proofs.Linear.{all_some-holds}
+use Rattle.class_model.proofs.Held.{Holds-equal, Subsequence-holds, Subsequence-itself, from_flat_map}
+use Rattle.class_model.proofs.Linear.{linear-made, linear-zero, all_some-holds}
 use Rattle.class_model.proofs.Agreed.{bind-agrees}
-use Rattle.class_model.proofs.Rule.{lin-classes, lin-below, lin-least}
+use Rattle.class_model.proofs.Rule.{lin-from, lin-classes, lin-below, lin-least}
 use Rattle.class_model.proofs.Changed.{bases_of-before, bases_of-last, lin-by}
 use Rattle.class_model.proofs.Solid.{first_best-agrees, first_best-held, solid-held, is_solid-push, is_solid-last}
 use Rattle.class_model.proofs.Made.{lined, lin-made, solid-old, deep, base-last, solid-last}
@@ -33,6 +34,14 @@ subsequence-distinct (b ∷ bs) (x ∷ xs) (inl p) d =
     (λ h. d.0 (Holds-equal xs b x p.0 (Subsequence-holds bs xs b p.1 h)), subsequence-distinct bs xs p.1 d.1)
 subsequence-distinct (b ∷ bs) (x ∷ xs) (inr s) d = subsequence-distinct (b ∷ bs) xs s d.1
 
+subsequence-trans : (l m xs : List ℕ) → Subsequence l m → Subsequence m xs → Subsequence l xs
+subsequence-trans [] m xs s r = tt
+subsequence-trans (x ∷ l) [] xs s r = absurd s
+subsequence-trans (x ∷ l) (y ∷ m) [] s r = absurd r
+subsequence-trans (x ∷ l) (y ∷ m) (z ∷ xs) (inl p) (inl q) = inl (p.0 ∙ q.0, subsequence-trans l m xs p.1 q.1)
+subsequence-trans (x ∷ l) (y ∷ m) (z ∷ xs) (inr s) (inl q) = inr (subsequence-trans (x ∷ l) m xs s q.1)
+subsequence-trans (x ∷ l) (y ∷ m) (z ∷ xs) s (inr r) = inr (subsequence-trans (x ∷ l) (y ∷ m) xs s r)
+
 module _ {K : Type 0} where
   -- a class with a linearisation has no base twice
   pub bases-distinct : (t : Classes K) (c : ℕ) (line bs : List ℕ) → lin t c ≡ Some line → bases_of t c ≡ Some bs → Distinct bs
@@ -40,6 +49,31 @@ module _ {K : Type 0} where
       let l = lin-least t c line e in
       let s : l.bases ≡ bs = let q = l.of_class in cc in
       subst Distinct s (subsequence-distinct l.bases line l.least.order.keeps_bases l.least.order.distinct)
+
+  pub keeps-bases : (t : Classes K) (c : ℕ) (line bs : List ℕ) → lin t c ≡ Some line → bases_of t c ≡ Some bs → Subsequence bs line
+  keeps-bases t c line bs e h =
+      let l = lin-least t c line e in
+      let s : l.bases ≡ bs = let q = l.of_class in cc in
+      let P : List ℕ → Type 0 = λ ds. Subsequence ds line in
+      subst P s l.least.order.keeps_bases
+
+  -- the linearisation of each class along it is kept
+  keeps-deep : (t : Classes K) (n c : ℕ) (line : List ℕ) (x : ℕ) (l : List ℕ) → linear (bases_of t) n c ≡ Some line → Holds line x → lin t x ≡ Some l → Subsequence l line
+  keeps-deep t zero c line x l e h f = absurd (linear-zero (bases_of t) c line e)
+  keeps-deep t (suc n) c line x l e h f =
+      let made = linear-made (bases_of t) n c line e in
+      let o = least_order-order c made.direct made.lines line made.is in
+      let whole = lin-from t (suc n) c line e in
+      elim (o.members_only x h) [
+        | inl q ↦ let s : line ≡ l = let p = ap (lin t) q in cc in let P : List ℕ → Type 0 = λ m. Subsequence m line in subst P s (Subsequence-itself line)
+        | inr q ↦
+            let r = from_flat_map (λ l. l) made.lines x q in
+            let b = all_some-holds (linear (bases_of t) n) made.direct made.lines r.0 made.of_bases r.1 in
+            subsequence-trans l r.0 line (keeps-deep t n b.0 r.0 x l b.2 r.2 f) (o.keeps r.0 r.1)
+      ]
+
+  pub keeps-members : (t : Classes K) (c : ℕ) (line : List ℕ) (x : ℕ) (l : List ℕ) → lin t c ≡ Some line → Holds line x → lin t x ≡ Some l → Subsequence l line
+  keeps-members t c line x l e h f = keeps-deep t (length t) c line x l e h f
 
   -- the lines of classes hold classes alone
   pub lines-below : (t : Classes K) (bs : List ℕ) (lines : List (List ℕ)) (l : List ℕ) (x : ℕ) → all_some (map (lin t) bs) ≡ Some lines → Holds lines l → Holds l x → x < limit t

@@ -10,6 +10,7 @@ pub mod Orders
 pub mod Noted
 pub mod Single
 pub mod Renames
+pub mod InWords
 pub mod Pushed
 pub mod AsKept
 pub mod Heaps

@@ -5,6 +5,7 @@ pub mod Patch
 pub mod New
 pub mod Made
 pub mod Refused
+pub mod Causes
 pub mod Inherit
 pub mod Turn
 pub mod Table

@@ -1,5 +1,8 @@
 //! What is so of every table of classes, and is the result of no call.
 
+ghost use Rattle.std.specs.Prelude.{◌≡◌, ℕ, List, true, Some};
+ghost use Rattle.class_model.specs.Order.{Distinct, Holds, Subsequence};
+ghost use Rattle.class_model.specs.Class.{is_class, bases_of, lin, is_sub};
 ghost use Rattle.class_model.specs.Failing.{FailsAsSaid, PassesAsSaid};
 
 use crate::table::ClassTable;
@@ -10,6 +13,27 @@ use crate::table::ClassTable;
 pub fn new_bases_fail(classes: &ClassTable)
     ensures fail { FailsAsSaid classes.now }
     ensures pass { PassesAsSaid classes.now }
+{
+    classes.sound();
+}
+
+/// A linearisation has no repeats, has the direct bases in their order, and keeps the linearisation of each
+/// of its classes.
+pub fn lines_keep_order(classes: &ClassTable)
+    ensures distinct { (c : ℕ) (line : List ℕ) → lin classes.now c ≡ Some line → Distinct line }
+    ensures bases { (c : ℕ) (line bs : List ℕ) → lin classes.now c ≡ Some line → bases_of classes.now c ≡ Some bs →
+        Subsequence bs line }
+    ensures members { (c : ℕ) (line : List ℕ) (x : ℕ) (l : List ℕ) → lin classes.now c ≡ Some line → Holds line x →
+        lin classes.now x ≡ Some l → Subsequence l line }
+{
+    classes.sound();
+}
+
+/// A class derives from itself, and from each class that one derives from, from which it derives.
+pub fn deriving_is_an_order(classes: &ClassTable)
+    ensures itself { (c : ℕ) → is_class classes.now c ≡ true → is_sub classes.now c c ≡ true }
+    ensures further { (a b c : ℕ) → is_sub classes.now a b ≡ true → is_sub classes.now b c ≡ true →
+        is_sub classes.now a c ≡ true }
 {
     classes.sound();
 }

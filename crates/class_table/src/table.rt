@@ -2,8 +2,9 @@
 
 ghost use Rattle.std.specs.Prelude.{◌≡◌, ◌<◌, ◌≤◌, [], true, length, OnOk, OnErr, IfOk, ◌↔◌, IsTrue, Some, is_some, leb, option_map, slice_get};
 ghost use Rattle.std.specs.List.{All};
+ghost use Rattle.py_node.specs.declared.raised.Cause.TheVariants.{EmptyBases, NotBaseType, LayoutConflict, DuplicateBase, LocalPrecedence, MroConflict};
 ghost use Rattle.py_node.specs.Attributes.{is_same_name, AreNamesDistinct};
-ghost use Rattle.class_model.specs.Class.{class_at, is_class, lin, IsLeastLine, is_sub, is_heap, found, found_past, own_of, subclasses};
+ghost use Rattle.class_model.specs.Class.{class_at, is_class, bases_of, lin, IsLeastLine, is_sub, is_heap, found, found_past, own_of, subclasses};
 ghost use Rattle.class_model.specs.Numbers.{limit, numbers_of};
 ghost use Rattle.class_model.specs.Layout.{base, best_of, solid, built_ins};
 ghost use Rattle.class_model.specs.Sound.{AreSound};
@@ -15,6 +16,7 @@ ghost use Rattle.class_table.specs.Keys.{numbers, number_of, table_keys};
 ghost use Rattle.class_table.specs.Kept.{plain};
 ghost use Rattle.class_table.specs.New.{IsBelow, class_of_new};
 ghost use Rattle.class_table.specs.Refused.{refusal, cause_of, refused_layout, refused_bases, refused_attr, WithMemory, IsEarly, AreThere, heap_class};
+ghost use Rattle.class_table.specs.Causes.{LacksBase, HasLayoutConflict, HasDuplicate, BreaksOrder, HasNoLine};
 ghost use Rattle.class_table.specs.Turn.{list_of};
 
 use crate::add::add;
@@ -176,6 +178,15 @@ impl ClassTable {
             with_class self.old (heap_class name.now number.0 (numbers bases.items) attrs members.items)) }
         ensures early { IsEarly self.old (numbers bases.items) (refusal result) }
         ensures refused { WithMemory result (refusal result ≡ refused_bases self.old (numbers bases.items)) }
+        ensures empty { (refusal result ≡ Some EmptyBases) ↔ (numbers bases.items ≡ []) }
+        ensures base { (refusal result ≡ Some NotBaseType) ↔ LacksBase self.old (numbers bases.items) }
+        ensures layout { (refusal result ≡ Some LayoutConflict) ↔ HasLayoutConflict self.old (numbers bases.items) }
+        ensures duplicate { WithMemory result ((refusal result ≡ Some DuplicateBase) ↔
+            HasDuplicate self.old (numbers bases.items)) }
+        ensures precedence { WithMemory result ((refusal result ≡ Some LocalPrecedence) ↔
+            BreaksOrder self.old (numbers bases.items)) }
+        ensures conflict { WithMemory result ((refusal result ≡ Some MroConflict) ↔
+            HasNoLine self.old (numbers bases.items)) }
         ensures err { OnErr result (self.new ≡ self.old) }
     {
         let alloc = self.alloc;
@@ -310,6 +321,23 @@ impl ClassTable {
         ensures least { IsLeastLine self.now class.0 (numbers result.now) }
     {
         stored_at(&self.classes, class).mro()
+    }
+
+    /// The linearisation of a class, copied.
+    pub fn mro_collect(&self, class: PyTypeRef) -> Result<Vec<PyTypeRef>, OutOfMemory>
+        requires { is_class self.now class.0 ≡ true }
+        ensures { IfOk result (λ v. lin self.now class.0 ≡ Some (numbers v.items)) }
+    {
+        let line = Vec::from_slice(self.alloc, self.mro(class))?;
+        Ok(line)
+    }
+
+    /// The direct bases of a class, in order.
+    pub fn bases(&self, class: PyTypeRef) -> &[PyTypeRef]
+        requires { is_class self.now class.0 ≡ true }
+        ensures { bases_of self.now class.0 ≡ Some (numbers result.now) }
+    {
+        stored_at(&self.classes, class).bases()
     }
 
     /// The best base of a class.

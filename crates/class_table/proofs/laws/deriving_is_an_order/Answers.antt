@@ -1,0 +1,12 @@
+use Rattle.class_model.specs.Class.{lin}
+use Rattle.class_model.proofs.Best.{sub-itself, sub-trans}
+use Rattle.class_model.proofs.Numbers.{some-of}
+use Rattle.class_table.proofs.laws.deriving_is_an_order.Goals as goal
+
+pub returns-clause-itself : goal.returns-clause-itself
+returns-clause-itself c = λ k l.
+    let r = some-of (lin c.args.classes.now k) (c.sound.ensures.sound.order k l) in
+    sub-itself c.args.classes.now k r.0 r.1
+
+pub returns-clause-further : goal.returns-clause-further
+returns-clause-further c = λ a b d e f. sub-trans c.args.classes.now a b d e f
