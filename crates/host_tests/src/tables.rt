@@ -79,3 +79,51 @@ fn child_follows_its_base(rt: HostRuntime) -> Result<(), Fail> {
     }
     Ok(())
 }
+
+// Makes a class with two bases where its number may be one and they are there.
+fn join(
+    table: &mut ClassTable,
+    alloc: Global,
+    number: u64,
+    first: u64,
+    second: u64,
+) -> Result<bool, Fail> {
+    let class = PyTypeRef(number);
+    let bases = vec![in alloc; PyTypeRef(first), PyTypeRef(second)]?;
+    if table.has_class(PyTypeRef(first))
+        && table.has_class(PyTypeRef(second))
+        && table.takes(class)
+    {
+        table.new_heap(class, "c", bases, PyAttributes::new(alloc), Vec::new(alloc))?;
+        return Ok(true);
+    }
+    Ok(false)
+}
+
+// Two bases that have a base each: of the orders that are possible the least by ranks.
+#[test]
+fn bases_are_merged(rt: HostRuntime) -> Result<(), Fail> {
+    let alloc = rt.alloc();
+    let mut table = ClassTable::new(alloc)?;
+    assert!(rt; grow(&mut table, alloc, 100, 0)?);
+    assert!(rt; grow(&mut table, alloc, 200, 100)?);
+    assert!(rt; grow(&mut table, alloc, 300, 0)?);
+    assert!(rt; grow(&mut table, alloc, 400, 300)?);
+    assert!(rt; join(&mut table, alloc, 500, 200, 400)?);
+    let line = [
+        PyTypeRef(500),
+        PyTypeRef(200),
+        PyTypeRef(100),
+        PyTypeRef(400),
+        PyTypeRef(300),
+        PyTypeRef(0),
+    ];
+    if table.has_class(PyTypeRef(500)) {
+        assert!(rt; table.mro(PyTypeRef(500)) == line.as_slice());
+        assert!(rt; table.base(PyTypeRef(500)) == Some(PyTypeRef(200)));
+    }
+    if table.has_class(PyTypeRef(400)) {
+        assert!(rt; table.subclasses(PyTypeRef(400)) == [PyTypeRef(500)].as_slice());
+    }
+    Ok(())
+}
