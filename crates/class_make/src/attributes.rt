@@ -15,7 +15,6 @@ use py_node::{
     BuiltIn, GetSet, Known, NativeEntry, OutOfMemory, Payload, Property, PyAttributes, PyObjectRef,
     PyStrInterned, PyTypeRef,
 };
-use std::alloc::Global;
 
 /// The attributes of a class of this name: class methods where its hooks are functions, a qualified
 /// name, no hash where it compares its objects itself, and the attribute that reads an object's dict.

@@ -20,7 +20,6 @@ use crate::type_new::type_native;
 use class_world::World;
 use py_node::task::Keywords;
 use py_node::{Answer, ClassTask, OutOfMemory, PyObjectRef, Raised, Step};
-use std::alloc::Global;
 
 /// What a row of the creation of classes keeps while it waits for an answer.
 #[derive(Drop)]

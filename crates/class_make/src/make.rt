@@ -24,7 +24,6 @@ use py_node::{
     Answer, AttributeTask, BuiltIn, CallTask, Cause, Kind, Known, OutOfMemory, PyAttributes,
     PyObjectRef, PyStrInterned, PyTypeRef, Raised, SlotId, Step, Task,
 };
-use std::alloc::Global;
 
 /// Three arguments.
 type Three = (PyObjectRef, (PyObjectRef, PyObjectRef));

@@ -18,7 +18,6 @@ use py_node::{
     Answer, AttributeTask, Cause, OutOfMemory, PyObjectRef, PySetterValue, PyTypeRef, Raised, Step,
     Task,
 };
-use std::alloc::Global;
 
 /// A class's attribute by its name, as classes read it.
 pub(crate) fn type_get_attribute(

@@ -17,7 +17,6 @@ use class_world::World;
 use class_world::args::copy_args;
 use py_node::task::{Args, Keywords};
 use py_node::{BuiltIn, Cause, ClassTask, OutOfMemory, PyTypeRef, Step, Task, TypeNative};
-use std::alloc::Global;
 
 /// A native of `type`.
 pub(crate) fn type_native(

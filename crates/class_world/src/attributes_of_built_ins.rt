@@ -19,7 +19,6 @@ use py_node::{
     BuiltIn, GetSet, MethodDescriptor, NativeEntry, NativeFunction, OutOfMemory, Payload, Property,
     PyMethodFlags, PyObjectRef, PyStrInterned,
 };
-use std::alloc::Global;
 
 /// Gives the built-in classes their own attributes.
 pub(crate) fn add_own_attrs(world: &mut World) -> Result<(), OutOfMemory>

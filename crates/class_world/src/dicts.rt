@@ -15,7 +15,6 @@ ghost use Rattle.class_world.specs.Sound.{IsNode, IsClass, IsOf, IsName, Holding
 use crate::entries::{place_of, push_entry, put_value, take_entry};
 use crate::world::World;
 use py_node::{BuiltIn, OutOfMemory, Payload, PyObjectRef, PyStrInterned, PyTypeRef};
-use std::alloc::Global;
 
 impl World {
     /// The dict of an object, if it has one.

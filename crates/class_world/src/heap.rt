@@ -19,7 +19,6 @@ use class_table::ClassFault;
 use py_node::{
     Cause, Known, Node, OutOfMemory, Payload, PyAttributes, PyObjectRef, PyStrInterned, PyTypeRef,
 };
-use std::alloc::Global;
 
 #[tactic(auto, unfolding(crate::specs::Reading::plain))]
 impl World {

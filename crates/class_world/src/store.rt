@@ -7,7 +7,6 @@ ghost use Rattle.class_world.specs.Sound.{IsExpression, AreExpressions, AreNames
 
 use crate::world::World;
 use py_node::{Expr, Form, OutOfMemory, PyStrInterned};
-use std::alloc::Global;
 
 /// Puts an expression into the store, and answers its number there.
 #[cycle(store)]

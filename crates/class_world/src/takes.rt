@@ -14,7 +14,6 @@ ghost use Rattle.class_world.specs.Sound.{AreNodes, IsName, IsNode, Holds, Grows
 
 use crate::world::World;
 use py_node::{Cause, OutOfMemory, Payload, PyObjectRef, PyStrInterned, Raised};
-use std::alloc::Global;
 
 /// The only argument, or why the arguments are refused.
 pub fn one(args: &[PyObjectRef], kw: &[(PyStrInterned, PyObjectRef)]) -> Result<PyObjectRef, Raised>

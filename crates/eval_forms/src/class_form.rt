@@ -19,7 +19,6 @@ use class_world::args::{copy_args, filled};
 use py_node::{
     BuiltIn, CallTask, OutOfMemory, Payload, PyAttributes, PyObjectRef, PyStrInterned, Step, Task,
 };
-use std::alloc::Global;
 
 // A class, with the values of its bases and of its entries.
 pub(crate) fn class_step(

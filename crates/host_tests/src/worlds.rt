@@ -8,7 +8,6 @@ use class_world::{Fixed, World};
 use py_node::{
     BuiltIn, Cause, Known, OutOfMemory, PyAttributes, PyObjectRef, PyStrInterned, PyTypeRef,
 };
-use std::alloc::Global;
 use std::test::Fail;
 
 #[test]

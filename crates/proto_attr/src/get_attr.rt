@@ -18,7 +18,6 @@ use py_node::{
     Answer, AttributeTask, Kind, Known, NativeEntry, OutOfMemory, PyObjectRef, PyStrInterned,
     Raised, SlotEntry, SlotId, Step, TypeNative,
 };
-use std::alloc::Global;
 
 // An object's attribute is read as its class's entry for that says.
 pub(crate) fn get_attr(

@@ -29,7 +29,6 @@ use py_node::{
     Answer, AttributeTask, CallTask, OutOfMemory, PyMethod, PyObjectRef, PyStrInterned, Raised,
     Step, Task,
 };
-use std::alloc::Global;
 
 /// What a row of an attribute keeps while it waits for an answer.
 #[derive(Drop)]

@@ -23,7 +23,6 @@ use py_node::{
     Answer, AttributeTask, CallTask, NativeEntry, ObjectNative, OutOfMemory, PyMethod, PyObjectRef,
     PyStrInterned, SlotEntry, SlotId, Step, Task,
 };
-use std::alloc::Global;
 
 // A method is loaded to be called at once. Where its class reads attributes in its own way, it is what the
 // attribute gives.

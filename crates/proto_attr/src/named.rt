@@ -10,7 +10,6 @@ ghost use Rattle.proto_attr.specs.Say.{with_text, by_name};
 use class_world::World;
 use class_world::args::alone;
 use py_node::{AttributeTask, BuiltIn, OutOfMemory, Payload, PyObjectRef, PyStrInterned, Task};
-use std::alloc::Global;
 
 // The call of an object's special method with a name.
 pub(crate) fn by_name(

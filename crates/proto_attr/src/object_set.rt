@@ -17,7 +17,6 @@ use class_world::World;
 use py_node::{
     Answer, DescriptorTask, OutOfMemory, PyObjectRef, PySetterValue, PyStrInterned, Step, Task,
 };
-use std::alloc::Global;
 
 // An object's attribute is set or taken out by what its class has under the name, or else in its dict.
 pub(crate) fn generic_set(

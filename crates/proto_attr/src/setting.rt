@@ -20,7 +20,6 @@ use py_node::{
     Payload, PyObjectRef, PySetterValue, PyStrInterned, PyTypeRef, SlotEntry, SlotId, Step, Task,
     TypeNative,
 };
-use std::alloc::Global;
 
 // An object's attribute is set or taken out, as its class's entry for that says.
 pub(crate) fn set_attr(

@@ -7,11 +7,10 @@ ghost use Rattle.class_world.specs.Sound.{AllHold, Holds, IsNode, AreNodes};
 ghost use Rattle.class_world.specs.Claims.{of_args, of_task};
 ghost use Rattle.class_world.specs.Reading.{Reading, Reads, bindings, task_of};
 
-use crate::CallKept;
 use class_world::World;
 use class_world::args::with_first;
 use py_node::task::{Args, Keywords};
-use py_node::{AttributeTask, Known, OutOfMemory, PyObjectRef, Step, Task};
+use py_node::{AttributeTask, Known, OutOfMemory, PyObjectRef, Task};
 use std::alloc::Global;
 
 /// The arguments with an object before them.

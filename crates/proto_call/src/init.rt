@@ -12,7 +12,6 @@ use class_world::args::native_task;
 use class_world::{Fixed, World};
 use py_node::task::{Args, Keywords};
 use py_node::{Answer, Cause, Known, OutOfMemory, PyObjectRef, SlotEntry, SlotId, Step};
-use std::alloc::Global;
 
 /// An object is initialised as its class's entry for that says, if there is one: by a native, or by the
 /// special method.

@@ -14,7 +14,6 @@ use crate::object::{begin_object, native_end};
 use class_world::World;
 use py_node::task::{Args, Keywords};
 use py_node::{Answer, CallTask, OutOfMemory, PyObjectRef, PyTypeRef, Raised, Step};
-use std::alloc::Global;
 
 mod asked;
 mod body;

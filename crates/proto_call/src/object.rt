@@ -18,9 +18,8 @@ use class_world::{Fixed, World};
 use py_node::task::{Args, Keywords};
 use py_node::{
     Answer, AttributeTask, BuiltIn, Cause, Known, ObjectNative, OutOfMemory, Payload, PyObjectRef,
-    PySetterValue, PyStrInterned, PyTypeRef, Raised, Step, Task,
+    PySetterValue, PyStrInterned, Raised, Step, Task,
 };
-use std::alloc::Global;
 
 /// A native of `object`.
 pub(crate) fn begin_object(

@@ -23,7 +23,6 @@ use py_node::{
     MethodDescriptor, NativeEntry, OutOfMemory, Payload, PyMethodFlags, PyObjectRef, PyTypeRef,
     Raised, SlotEntry, SlotId, Step, Task,
 };
-use std::alloc::Global;
 
 // How a row ends.
 type Ended = Result<Answer, Raised>;

@@ -10,7 +10,6 @@ mod descriptor;
 
 use class_world::World;
 use py_node::{Answer, DescriptorTask, OutOfMemory, Raised, Step};
-use std::alloc::Global;
 
 /// What a row of a descriptor keeps while it waits for an answer.
 #[derive(Drop)]

@@ -18,7 +18,6 @@ use py_node::{
     Answer, AttributeTask, BuiltIn, Cause, IntNative, OperatorTask, OutOfMemory, Payload,
     PyNumberBinaryOp, PyObjectRef, Raised, SlotEntry, SlotId, Step, Task,
 };
-use std::alloc::Global;
 
 /// What a row of an operator keeps while it waits for an answer.
 #[derive(Drop)]

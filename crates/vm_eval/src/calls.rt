@@ -18,7 +18,6 @@ use crate::machine::VirtualMachine;
 use class_table::{ClassFault, ClassTable};
 use class_world::store;
 use py_node::{Expr, OutOfMemory, PyAttributes, PyObjectRef, PyStrInterned, PyTypeRef};
-use std::alloc::Global;
 
 impl VirtualMachine {
     /// Whether the machine has failed: some call found no memory, or a layer above said so.

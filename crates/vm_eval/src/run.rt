@@ -15,7 +15,6 @@ use class_world::show::show;
 use class_world::store::add_expr;
 use class_world::{Fixed, World};
 use py_node::{Answer, Command, EvalTask, OutOfMemory, PyObjectRef, Reply, ReplyAnswer, Task};
-use std::alloc::Global;
 
 // The replies to commands, each of which may use so many units.
 pub(crate) fn replies(

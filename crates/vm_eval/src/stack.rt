@@ -20,7 +20,6 @@ use proto_call::CallKept;
 use proto_descr::DescriptorKept;
 use proto_ops::OperatorKept;
 use py_node::{Answer, Cause, OutOfMemory, Raised, Step, Task};
-use std::alloc::Global;
 
 // No task stands so deep.
 pub(crate) const DEPTH: usize = 1000;
