@@ -28,7 +28,7 @@ past-from b (m ∷ ls) zero l e h =
     or_left (has (past_first m) b) (stands_past b ls) (ap (λ x. has (past_first x) b) same ∙ (Decides-has (past_first l) b).1 h)
 past-from b (m ∷ ls) (suc j) l e h = or_right (has (past_first m) b) (stands_past b ls) (past-from b ls j l e h)
 
-breaks-to : (bs : List ℕ) (ls : List (List ℕ)) → breaks_precedence bs ls ≡ true → BreaksPrecedence bs ls
+pub breaks-to : (bs : List ℕ) (ls : List (List ℕ)) → breaks_precedence bs ls ≡ true → BreaksPrecedence bs ls
 breaks-to [] ls e = cc
 breaks-to (b ∷ bs) [] e = cc
 breaks-to (b ∷ bs) (l ∷ ls) e =
@@ -49,7 +49,7 @@ breaks-at (c ∷ bs) (k ∷ ls) zero (suc j) b l m e f h =
     or_left (stands_past c ls) (breaks_precedence bs ls) (ap (λ x. stands_past x ls) same ∙ past-from b ls j l f h)
 breaks-at (c ∷ bs) (k ∷ ls) (suc i) (suc j) b l m e f h = or_right (stands_past c ls) (breaks_precedence bs ls) (breaks-at bs ls i j b l (omega (arith, m)) e f h)
 
-breaks-from : (bs : List ℕ) (ls : List (List ℕ)) → BreaksPrecedence bs ls → breaks_precedence bs ls ≡ true
+pub breaks-from : (bs : List ℕ) (ls : List (List ℕ)) → BreaksPrecedence bs ls → breaks_precedence bs ls ≡ true
 breaks-from bs ls r = breaks-at bs ls r.place r.later r.base r.line r.before r.at_place r.at_later r.past
 
 precedence-cause : (bs : List ℕ) (ls : List (List ℕ)) → (order_cause bs ls ≡ LocalPrecedence) ↔ BreaksPrecedence bs ls

@@ -48,7 +48,7 @@ module _ {K : Type 0} (t : Classes K) where
     apart n fresh l h k = let r = lines-below t bs ls l n all h k in absurd (omega arith)
 
     pub follows-of : (xs : List ℕ) → IsRest bs ls xs → Follows t bs xs
-    follows-of xs rest n fresh = ap (option_and_then (least_order n bs)) all ∙ rest n (apart n fresh)
+    follows-of xs rest n fresh = ap (option_and_then (least_order n bs)) all ∙ rest.computed n (apart n fresh)
 
     -- an order of distinct bases
     ordered : (o : Option (List ℕ)) → least_order (limit t) bs ls ≡ o → is_distinct bs ≡ true → refused_order t bs ≡ cond (is_some o) None (Some (order_cause bs ls))
@@ -59,13 +59,13 @@ module _ {K : Type 0} (t : Classes K) where
 
     none-refused : (xs : List ℕ) → IsRest bs ls xs → None ≡ refused_order t bs
     none-refused xs rest =
-        let e = rest (limit t) (apart (limit t) (omega arith)) in
+        let e = rest.computed (limit t) (apart (limit t) (omega arith)) in
         let order = least_order-order (limit t) bs ls (limit t ∷ xs) e in
         sym (ordered (Some (limit t ∷ xs)) e ((Decides-distinct bs).1 (subsequence-distinct bs (limit t ∷ xs) order.keeps_bases order.distinct)))
 
     caused : (cause : Cause) → HasNoOrder bs ls → Distinct bs → order_cause bs ls ≡ cause → Some cause ≡ refused_order t bs
     caused cause none d e =
-        sym (ordered None (none (limit t) (apart (limit t) (omega arith))) ((Decides-distinct bs).1 d) ∙ ap Some e)
+        sym (ordered None (none.computed (limit t) (apart (limit t) (omega arith))) ((Decides-distinct bs).1 d) ∙ ap Some e)
 
     twice : (b : ℕ) → IsFirstRepeat bs b → Some causes.DuplicateBase ≡ refused_order t bs
     twice b h =

@@ -2,6 +2,7 @@
 use Rattle.std.specs.Prelude.{ℕ, Bool, true, false, List, [], ◌∷◌, Option, Some, None, Result, Ok, Err}
 use Rattle.py_node.specs.declared.refs.PyObjectRef.{PyObjectRef}
 use Rattle.py_node.specs.declared.raised.Raised.{Raised as Fault}
+use Rattle.py_node.specs.declared.raised.Kind.{Kind}
 use Rattle.py_node.specs.declared.raised.Kind.TheVariants.{AttributeError}
 use Rattle.py_node.specs.declared.raised.Cause.{Cause}
 use Rattle.py_node.specs.declared.raised.Cause.TheVariants.{NotYet}
