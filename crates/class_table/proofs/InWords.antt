@@ -286,7 +286,7 @@ module _ {K : Type 0} (t : Classes K) where
           let l = w.lined in
           let b = breaks-from bs w.lines w.broken in
           let some : bs ≡ [] → ⊥ = λ q. (let h = ap (λ ys. slice_get ys w.broken.place) (sym q) ∙ w.broken.at_place in cc) in
-          from-unordered bs LocalPrecedence (none-of bs some l.fit) (record { lines = w.lines; distinct = (Decides-distinct bs).1 l.distinct; lines_of = l.lines_of; none = broken-none bs w.lines (lines-of t bs w.lines (sym l.lines_of)) b (limit t) (apart bs w.lines l.lines_of); cause = caused bs w.lines true b })
+          from-unordered bs LocalPrecedence (none-of bs some l.fit) (record { lines = w.lines; distinct = (Decides-distinct bs).1 l.distinct; lines_of = l.lines_of; none = (broken-none bs w.lines (lines-of t bs w.lines (sym l.lines_of)) b).computed (limit t) (apart bs w.lines l.lines_of); cause = caused bs w.lines true b })
 
   conflict-words : (bs : List ℕ) → (refused_bases t bs ≡ Some MroConflict) ↔ HasNoLine t bs
   conflict-words bs = (to, from)
