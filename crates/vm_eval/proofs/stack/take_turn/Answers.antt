@@ -69,7 +69,7 @@ returns-else-len-lt-DEPTH-clause-turned c =
     let high : nat_lt (length (frames ++ c.in-Ask.kept ∷ [])) 1000 ≡ false =
     le-ltb _ _ (omega (arith, ap length c.in_ok-push-in-Ask.ensures, c.push.new.stack.ok.0)) in
     let units : suc (c.args.left.now - 1) ≡ c.args.left.now = omega arith in
-    rw (c.in_ok-push-in-Ask.ensures) (λ t reads. (
+    rw (c.in_ok-push-in-Ask.ensures, c.raise.ensures) (λ t reads. (
       reads,
       state-limit t c.args.world.now frames c.in-Ask.task c.in-Ask.kept (c.args.left.now - 1) high
           ∙ ap (λ n. state t c.args.world.now frames n (Ask c.in-Ask.task c.in-Ask.kept)) units
