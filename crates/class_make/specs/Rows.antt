@@ -10,10 +10,11 @@ use Rattle.py_node.specs.declared.task.ClassTask.{ClassTask}
 use Rattle.py_node.specs.declared.task.Step.{Step}
 use Rattle.plain_machine.specs.Plain.{PlainWorld, ClassJob, DoMakeClass, DoType, Answered, Chose, Made, Said}
 use Rattle.plain_machine.specs.Row.{value}
-use Rattle.plain_machine.specs.Rows.{Pending, fresh, given}
+use Rattle.plain_machine.specs.Rows.{Pending, fresh}
 use Rattle.class_world.specs.declared.world.World.{World}
-use Rattle.class_world.specs.Reading.{Reading, Reads, bindings, class_job, plain, ended_of}
-use Rattle.class_world.specs.Rows.{Follows, Goes}
+use Rattle.class_world.specs.Reading.{Reading, Reads, bindings, class_job, plain}
+use Rattle.class_world.specs.Rows as rows
+use Rattle.class_world.specs.Rows.{Group, Follows}
 use Rattle.class_world.specs.Sound.{Claim, IsNode, of_binding, of_each}
 use Rattle.class_make.specs.declared.ClassKept.{ClassKept}
 use Rattle.class_make.specs.declared.ClassKept.TheVariants.{Pass, Native, NoClass, AfterBind, AfterHook}
@@ -35,11 +36,15 @@ of_class_kept NoClass = []
 of_class_kept (AfterBind class kw) = IsNode class ∷ of_each of_binding kw.items
 of_class_kept (AfterHook class) = IsNode class ∷ []
 
+-- the group: its jobs, what they say, what goes on, and what is claimed of that
+abbrev pub class_group : Group ClassTask ClassJob ClassKept
+class_group = record { job = class_job; say = class_job_say; stands = class_stands; claims = of_class_kept }
+
 abbrev pub Begins : ClassTask → World → World → Step ClassKept → Type 0
-Begins task = Goes class_job_say class_stands (λ t. fresh (class_job t task))
+Begins = rows.Begins class_group
 
 abbrev pub Resumes : ClassKept → Result Answer Fault → World → World → Step ClassKept → Type 0
-Resumes kept r = Goes class_job_say class_stands (λ t. given (class_stands t kept) (ended_of r))
+Resumes = rows.Resumes class_group
 
 -- names with values, by the names' numbers
 abbrev pub Bound : Type 0

@@ -1,11 +1,14 @@
 -- What the contracts of rows say, of any group of rows.
-use Rattle.std.specs.Prelude.{◌≡◌, ◌++◌}
+use Rattle.std.specs.Prelude.{◌≡◌, ◌++◌, List, Result}
+use Rattle.py_node.specs.declared.raised.Raised.{Raised as Fault}
+use Rattle.py_node.specs.declared.task.Answer.{Answer}
 use Rattle.py_node.specs.declared.task.Step.{Step}
 use Rattle.py_node.specs.declared.task.Step.TheVariants.{Ask, End}
 use Rattle.plain_machine.specs.Plain.{PlainWorld, Told, Said, Asks, Ends, Saying}
-use Rattle.plain_machine.specs.Rows.{Pending, Alike}
+use Rattle.plain_machine.specs.Rows.{Pending, Alike, fresh, given}
 use Rattle.class_world.specs.declared.world.World.{World}
 use Rattle.class_world.specs.Reading.{Reading, Reads, plain, task_of, ended_of}
+use Rattle.class_world.specs.Sound.{Claim}
 
 -- the code's step is what the row at this point says. What it keeps stands for a row that goes on alike
 abbrev pub Steps : {J K : Type 0} → Saying J → (K → Pending J) → Reading → J → Told → Said → Step K → World → Type 0
@@ -24,3 +27,30 @@ Follows say stands p said old new step =
 abbrev pub Goes : {J K : Type 0} → Saying J → (Reading → K → Pending J) → (Reading → Pending J) → World → World → Step K → Type 0
 Goes say stands p old new step =
     (t : Reading) → Reads t new → Reads t old × Steps say (stands t) t (p t).task (p t).told (say (plain t old) (p t).task (p t).told) step new
+
+-- a group of rows: which of its jobs a task is, what these say, the row that goes on where something is kept, and what is claimed of that
+pub record Group (T J K : Type 0) : Type 0 where
+  pub job : Reading → T → J
+  pub say : Saying J
+  pub stands : Reading → K → Pending J
+  pub claims : K → List Claim
+
+-- the first step of a task
+abbrev pub Begins : {T J K : Type 0} → Group T J K → T → World → World → Step K → Type 0
+Begins g task = Goes g.say g.stands (λ t. fresh (g.job t task))
+
+-- the same, which is said to be this
+abbrev pub Starts : {T J K : Type 0} → Group T J K → T → (Reading → PlainWorld → Said) → World → World → Step K → Type 0
+Starts g task said = Follows g.say g.stands (λ t. fresh (g.job t task)) said
+
+-- the step at an answer
+abbrev pub Resumes : {T J K : Type 0} → Group T J K → K → Result Answer Fault → World → World → Step K → Type 0
+Resumes g kept r = Goes g.say g.stands (λ t. given (g.stands t kept) (ended_of r))
+
+-- the same, which is said to be this
+abbrev pub Continues : {T J K : Type 0} → Group T J K → K → Result Answer Fault → (Reading → PlainWorld → Said) → World → World → Step K → Type 0
+Continues g kept r said = Follows g.say g.stands (λ t. given (g.stands t kept) (ended_of r)) said
+
+-- any row of the group ends as is said
+abbrev pub Closes : {T J K : Type 0} → Group T J K → (Reading → PlainWorld → Said) → World → World → Step K → Type 0
+Closes {T} {J} {K} g said old new step = (p : Reading → Pending J) → Follows g.say g.stands p said old new step

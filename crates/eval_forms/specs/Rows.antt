@@ -15,10 +15,11 @@ use Rattle.py_node.specs.declared.payload.Form.TheVariants as form
 use Rattle.py_node.specs.Tree.{literal_of, Tree, TAttr, TCall, TOp, TSetAttr, Trees, tree, no_trees, no_entries, TConst, LNone}
 use Rattle.plain_machine.specs.Plain.{PlainWorld, EvalJob, DoEval, DoInvoke, DoCall, PlainTask, ToAttribute, ToCall, Ended, Fact, Answered, Told, Said, Asks, Ends}
 use Rattle.plain_machine.specs.Row.{Row, value}
-use Rattle.plain_machine.specs.Rows.{Pending, fresh, given}
+use Rattle.plain_machine.specs.Rows.{Pending}
 use Rattle.class_world.specs.declared.world.World.{World}
 use Rattle.class_world.specs.Reading.{Reading, Reads, plain, eval_job, method_of, method_target, method_func, task_of, ended_of}
-use Rattle.class_world.specs.Rows.{Goes, Steps}
+use Rattle.class_world.specs.Rows as rows
+use Rattle.class_world.specs.Rows.{Group, Goes, Steps}
 use Rattle.class_world.specs.Claims.{of_method}
 use Rattle.class_world.specs.Sound.{Claim, IsNode, AreNodes, IsExpression, HasForm}
 use Rattle.eval_forms.specs.declared.EvalKept.{EvalKept}
@@ -131,11 +132,15 @@ of_eval_kept (Load e) = IsExpression e ∷ []
 of_eval_kept (Arguments e f vs) =
     IsExpression e ∷ HasForm e (has_argument (length vs.items)) ∷ AreNodes vs.items ∷ of_called f
 
+-- the group: its jobs, what they say, what goes on, and what is claimed of that
+abbrev pub eval_group : Group EvalTask EvalJob EvalKept
+eval_group = record { job = eval_job; say = eval_say; stands = eval_stands; claims = of_eval_kept }
+
 abbrev pub Begins : EvalTask → World → World → Step EvalKept → Type 0
-Begins task = Goes eval_say eval_stands (λ t. fresh (eval_job t task))
+Begins = rows.Begins eval_group
 
 abbrev pub Resumes : EvalKept → Result Answer Fault → World → World → Step EvalKept → Type 0
-Resumes kept r = Goes eval_say eval_stands (λ t. given (eval_stands t kept) (ended_of r))
+Resumes = rows.Resumes eval_group
 
 -- a row that the code could keep this for
 abbrev pub GoesOn : EvalKept → World → World → Step EvalKept → Type 0

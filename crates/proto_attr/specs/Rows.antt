@@ -5,11 +5,12 @@ use Rattle.py_node.specs.declared.task.Answer.{Answer}
 use Rattle.py_node.specs.declared.task.AttributeTask.{AttributeTask}
 use Rattle.py_node.specs.declared.task.Step.{Step}
 use Rattle.plain_machine.specs.Plain.{PlainWorld, AttributeJob, DoGetAttr, DoGenericOpt, DoLoadMethod, DoSpecial, DoBind, Chose, Said}
-use Rattle.plain_machine.specs.Rows.{Pending, fresh, given}
+use Rattle.plain_machine.specs.Rows.{Pending}
 use Rattle.plain_machine.specs.World.{ref}
 use Rattle.class_world.specs.declared.world.World.{World}
-use Rattle.class_world.specs.Reading.{Reading, attribute_job, bindings, ended_of, spelled}
-use Rattle.class_world.specs.Rows.{Goes, Follows}
+use Rattle.class_world.specs.Reading.{Reading, attribute_job, bindings, spelled}
+use Rattle.class_world.specs.Rows as rows
+use Rattle.class_world.specs.Rows.{Group}
 use Rattle.class_world.specs.Sound.{Claim, IsNode, IsName}
 use Rattle.class_world.specs.Claims.{of_args}
 use Rattle.proto_attr.specs.declared.AttributeKept.{AttributeKept}
@@ -40,12 +41,16 @@ of_found (Descriptor a) = IsNode a ∷ []
 of_found (Value v) = IsNode v ∷ []
 of_found Missing = []
 
+-- the group: its jobs, what they say, what goes on, and what is claimed of that
+abbrev pub attribute_group : Group AttributeTask AttributeJob AttributeKept
+attribute_group = record { job = attribute_job; say = attribute_say; stands = attribute_stands; claims = of_attribute_kept }
+
 abbrev pub Begins : AttributeTask → World → World → Step AttributeKept → Type 0
-Begins task = Goes attribute_say attribute_stands (λ t. fresh (attribute_job t task))
+Begins = rows.Begins attribute_group
 
 abbrev pub Resumes : AttributeKept → Result Answer Fault → World → World → Step AttributeKept → Type 0
-Resumes kept r = Goes attribute_say attribute_stands (λ t. given (attribute_stands t kept) (ended_of r))
+Resumes = rows.Resumes attribute_group
 
 -- the first step of a task, which is said to be this
 abbrev pub Starts : AttributeTask → (Reading → PlainWorld → Said) → World → World → Step AttributeKept → Type 0
-Starts task said = Follows attribute_say attribute_stands (λ t. fresh (attribute_job t task)) said
+Starts = rows.Starts attribute_group

@@ -11,10 +11,11 @@ use Rattle.py_node.specs.declared.task.Step.{Step}
 use Rattle.plain_machine.specs.Plain.{PlainWorld, CallJob, DoCall, DoBody, DoTypeCall, DoInit, DoObject, Bindings, Answered, Chose, Said}
 use Rattle.plain_machine.specs.World.{ref}
 use Rattle.plain_machine.specs.Row.{value}
-use Rattle.plain_machine.specs.Rows.{Pending, fresh, given}
+use Rattle.plain_machine.specs.Rows.{Pending, fresh}
 use Rattle.class_world.specs.declared.world.World.{World}
-use Rattle.class_world.specs.Reading.{Reading, bindings, call_job, ended_of}
-use Rattle.class_world.specs.Rows.{Goes, Follows}
+use Rattle.class_world.specs.Reading.{Reading, bindings, call_job}
+use Rattle.class_world.specs.Rows as rows
+use Rattle.class_world.specs.Rows.{Group, Follows}
 use Rattle.class_world.specs.Held.{Held}
 use Rattle.class_world.specs.Sound.{Claim, IsNode, IsClass, AllHold, Grows}
 use Rattle.class_world.specs.Claims.{of_args, of_step, left_open}
@@ -53,23 +54,27 @@ OpensNone w step = AllHold w (of_step of_call_kept step) × (left_open bodies_of
 abbrev pub LeavesNone : Held → Held → Result (Step CallKept) OutOfMemory → Type 0
 LeavesNone old new result = Grows old new × IfOk result (λ step. OpensNone new step)
 
+-- the group: its jobs, what they say, what goes on, and what is claimed of that
+abbrev pub call_group : Group CallTask CallJob CallKept
+call_group = record { job = call_job; say = call_job_say; stands = call_stands; claims = of_call_kept }
+
 abbrev pub Begins : CallTask → World → World → Step CallKept → Type 0
-Begins task = Goes call_job_say call_stands (λ t. fresh (call_job t task))
+Begins = rows.Begins call_group
 
 abbrev pub Resumes : CallKept → Result Answer Fault → World → World → Step CallKept → Type 0
-Resumes kept r = Goes call_job_say call_stands (λ t. given (call_stands t kept) (ended_of r))
+Resumes = rows.Resumes call_group
 
--- a task begins with what is decided so
-abbrev pub Decides : CallTask → (Reading → PlainWorld → Said) → World → World → Step CallKept → Type 0
-Decides task = Follows call_job_say call_stands (λ t. fresh (call_job t task))
+-- the first step of a task, which is said to be this
+abbrev pub Starts : CallTask → (Reading → PlainWorld → Said) → World → World → Step CallKept → Type 0
+Starts = rows.Starts call_group
 
--- a row goes on at an answer with what is decided so
+-- the step at an answer, which is said to be this
 abbrev pub Continues : CallKept → Result Answer Fault → (Reading → PlainWorld → Said) → World → World → Step CallKept → Type 0
-Continues kept r = Follows call_job_say call_stands (λ t. given (call_stands t kept) (ended_of r))
+Continues = rows.Continues call_group
 
--- any row ends as is decided so
+-- any row of the group ends as is said
 abbrev pub Closes : (Reading → PlainWorld → Said) → World → World → Step CallKept → Type 0
-Closes said old new step = (p : Reading → Pending CallJob) → Follows call_job_say call_stands p said old new step
+Closes = rows.Closes call_group
 
 -- any native of `object` does so
 abbrev pub Does : (Reading → PlainWorld → Said) → World → World → Step CallKept → Type 0

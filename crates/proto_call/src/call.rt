@@ -7,7 +7,7 @@ ghost use Rattle.class_world.specs.Sound.{AllHold, Holds, IsNode, AreNodes, of_p
 ghost use Rattle.class_world.specs.Claims.{of_args, of_task};
 ghost use Rattle.class_world.specs.Reading.{Reading, Reads, bindings, datum, plain, task_of};
 ghost use Rattle.proto_call.specs.Say.{call_native, call_by, with_self};
-ghost use Rattle.proto_call.specs.Rows.{Begins, Decides, OpensNone, LeavesNone};
+ghost use Rattle.proto_call.specs.Rows.{Begins, Starts, OpensNone, LeavesNone};
 
 use crate::CallKept;
 use crate::asked::{bound, special};

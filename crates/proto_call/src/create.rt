@@ -9,7 +9,7 @@ ghost use Rattle.class_world.specs.Claims.{of_args, of_task};
 ghost use Rattle.class_world.specs.Reading.{Reading, Reads, bindings, plain, task_of};
 ghost use Rattle.proto_call.specs.Say.{is_empty, initialised, new_by, new_found};
 ghost use Rattle.plain_machine.specs.Known.{the_type};
-ghost use Rattle.proto_call.specs.Rows.{Begins, Decides, Continues, Resumes, OpensNone, LeavesNone};
+ghost use Rattle.proto_call.specs.Rows.{Begins, Starts, Continues, Resumes, OpensNone, LeavesNone};
 
 use crate::CallKept;
 use crate::asked::bound;
@@ -131,7 +131,7 @@ fn new_by(
     kw: Keywords,
 ) -> Result<Step<CallKept>, OutOfMemory>
     requires { AllHold world.now (IsClass class.0 ∷ of_args args.items kw.items) }
-    ensures goes { IfOk result (λ step. Decides (call.New by class args kw) (λ t u.
+    ensures goes { IfOk result (λ step. Starts (call.New by class args kw) (λ t u.
         new_by u entry class.0 args.items (bindings t kw.items)) world.now world.now step) }
     ensures safe { LeavesNone world.now world.now result }
 {
@@ -160,7 +160,7 @@ fn new_found(
 ) -> Result<Step<CallKept>, OutOfMemory>
     requires args { AllHold world.now (IsClass class.0 ∷ of_args args.items kw.items) }
     requires method { AllHold world.now (of_option of_node_ref method) }
-    ensures goes { IfOk result (λ step. Decides (call.New by class args kw) (λ t u.
+    ensures goes { IfOk result (λ step. Starts (call.New by class args kw) (λ t u.
         new_found u method class.0 args.items (bindings t kw.items)) world.now world.now step) }
     ensures safe { IfOk result (λ step. OpensNone world.now step) }
 {

@@ -8,11 +8,12 @@ use Rattle.py_node.specs.declared.task.Answer.{Answer}
 use Rattle.py_node.specs.declared.task.DescriptorTask.{DescriptorTask}
 use Rattle.py_node.specs.declared.task.Step.{Step}
 use Rattle.plain_machine.specs.Plain.{Datum, PlainWorld, DescriptorJob, DoDescrGet, Said, Asks, Ends}
-use Rattle.plain_machine.specs.Rows.{Pending, fresh, given}
+use Rattle.plain_machine.specs.Rows.{Pending}
 use Rattle.plain_machine.specs.World.{ref}
 use Rattle.class_world.specs.declared.world.World.{World}
 use Rattle.class_world.specs.Reading.{Reading, Reads, plain, descriptor_job, datum, ended_of}
-use Rattle.class_world.specs.Rows.{Goes, Follows}
+use Rattle.class_world.specs.Rows as rows
+use Rattle.class_world.specs.Rows.{Group}
 use Rattle.class_world.specs.Sound.{Claim, IsName}
 use Rattle.proto_descr.specs.declared.DescriptorKept.{DescriptorKept}
 use Rattle.proto_descr.specs.declared.DescriptorKept.TheVariants.{Pass}
@@ -26,15 +27,19 @@ descriptor_stands t Pass = record { task = DoDescrGet (ref 0) None None; told = 
 abbrev pub of_descriptor_kept : DescriptorKept → List Claim
 of_descriptor_kept Pass = []
 
+-- the group: its jobs, what they say, what goes on, and what is claimed of that
+abbrev pub descriptor_group : Group DescriptorTask DescriptorJob DescriptorKept
+descriptor_group = record { job = descriptor_job; say = descriptor_say; stands = descriptor_stands; claims = of_descriptor_kept }
+
 abbrev pub Begins : DescriptorTask → World → World → Step DescriptorKept → Type 0
-Begins task = Goes descriptor_say descriptor_stands (λ t. fresh (descriptor_job t task))
+Begins = rows.Begins descriptor_group
 
 abbrev pub Resumes : DescriptorKept → Result Answer Fault → World → World → Step DescriptorKept → Type 0
-Resumes kept r = Goes descriptor_say descriptor_stands (λ t. given (descriptor_stands t kept) (ended_of r))
+Resumes = rows.Resumes descriptor_group
 
 -- the first step of a task, which is said to be this
 abbrev pub Starts : DescriptorTask → (Reading → PlainWorld → Said) → World → World → Step DescriptorKept → Type 0
-Starts task said = Follows descriptor_say descriptor_stands (λ t. fresh (descriptor_job t task)) said
+Starts = rows.Starts descriptor_group
 
 -- the row ends so in a world
 abbrev pub EndsSo : Said → Result Answer Fault → PlainWorld → Type 0

@@ -15,11 +15,12 @@ use Rattle.py_node.specs.declared.task.Step.TheVariants.{Ask, End}
 use Rattle.py_node.specs.declared.task.Task.TheVariants as task
 use Rattle.py_node.specs.declared.task.OperatorTask.TheVariants as operator
 use Rattle.plain_machine.specs.Row.{fault}
-use Rattle.plain_machine.specs.Rows.{Pending, fresh, given}
+use Rattle.plain_machine.specs.Rows.{Pending, fresh}
 use Rattle.class_world.specs.declared.world.World.{World}
-use Rattle.class_world.specs.Reading.{Reading, operator_job, ended_of}
-use Rattle.class_world.specs.Rows.{Goes}
-use Rattle.class_world.specs.Sound.{Claim, IsNode, AreNodes, Holds}
+use Rattle.class_world.specs.Reading.{Reading, operator_job}
+use Rattle.class_world.specs.Rows as rows
+use Rattle.class_world.specs.Rows.{Group, Goes}
+use Rattle.class_world.specs.Sound.{Claim, IsNode}
 use Rattle.py_node.specs.declared.entry.IntNative.TheVariants as int
 use Rattle.proto_ops.specs.declared.OperatorKept.{OperatorKept}
 use Rattle.proto_ops.specs.declared.OperatorKept.TheVariants.{Pass, AddRest, Candidate}
@@ -42,11 +43,15 @@ of_operator_kept Pass = []
 of_operator_kept (AddRest a b) = IsNode a ∷ IsNode b ∷ []
 of_operator_kept (Candidate next a b) = IsNode a ∷ IsNode b ∷ []
 
+-- the group: its jobs, what they say, what goes on, and what is claimed of that
+abbrev pub operator_group : Group OperatorTask OperatorJob OperatorKept
+operator_group = record { job = operator_job; say = operator_say; stands = operator_stands; claims = of_operator_kept }
+
 abbrev pub Begins : OperatorTask → World → World → Step OperatorKept → Type 0
-Begins task = Goes operator_say operator_stands (λ t. fresh (operator_job t task))
+Begins = rows.Begins operator_group
 
 abbrev pub Resumes : OperatorKept → Result Answer Fault → World → World → Step OperatorKept → Type 0
-Resumes kept r = Goes operator_say operator_stands (λ t. given (operator_stands t kept) (ended_of r))
+Resumes = rows.Resumes operator_group
 
 -- the sum of two objects
 abbrev pub Sums : PyObjectRef → PyObjectRef → World → World → Step OperatorKept → Type 0
