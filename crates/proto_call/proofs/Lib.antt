@@ -1,4 +1,3 @@
-pub mod Items
 pub mod Decide
 pub mod Filling
 pub mod Entered

@@ -60,7 +60,7 @@ fn object_by(
 
 // A new object of the class that is the first argument: its objects must be plain ones, and it may leave
 // no method abstract.
-#[tactic(auto, using(crate::proofs::Items::item_holds), unfolding(crate::specs::Say::call_job_say, py_node::specs::BuiltIns::place_of))]
+#[tactic(auto, using(class_world::proofs::Items::item_holds), unfolding(crate::specs::Say::call_job_say, py_node::specs::BuiltIns::place_of))]
 fn object_new(world: &mut World, args: &[PyObjectRef]) -> Result<Step<CallKept>, OutOfMemory>
     requires { Holds world.old (AreNodes args.now) }
     ensures goes { IfOk result (λ step. Closes (λ t u. object_new u args.now) world.old world.new step) }

@@ -1,20 +1,14 @@
 -- What the contracts of the rows of operators say.
-use Rattle.std.specs.Prelude.{◌≡◌, List, [], ◌∷◌, Result, Ok, Option, Some, None}
+use Rattle.std.specs.Prelude.{◌≡◌, List, [], ◌∷◌, Result, Option, Some, None}
 use Rattle.py_node.specs.declared.raised.Raised.{Raised as Fault}
 use Rattle.py_node.specs.declared.refs.PyObjectRef.{PyObjectRef}
 use Rattle.py_node.specs.declared.entry.SlotEntry.{SlotEntry}
 use Rattle.py_node.specs.declared.entry.SlotEntry.TheVariants.{Unhashable}
 use Rattle.py_node.specs.declared.task.Answer.{Answer}
-use Rattle.py_node.specs.declared.task.Answer.TheVariants.{Value}
 use Rattle.py_node.specs.declared.task.OperatorTask.{OperatorTask}
 use Rattle.py_node.specs.declared.task.PyNumberBinaryOp.TheVariants.{Add}
 use Rattle.py_node.specs.declared.task.Step.{Step}
 use Rattle.plain_machine.specs.Plain.{OperatorJob, DoAdd, DoBinOp1, DoEnter, DoInt, Read}
-use Rattle.py_node.specs.declared.raised.Cause.TheVariants.{UnsupportedOperand}
-use Rattle.py_node.specs.declared.task.Step.TheVariants.{Ask, End}
-use Rattle.py_node.specs.declared.task.Task.TheVariants as task
-use Rattle.py_node.specs.declared.task.OperatorTask.TheVariants as operator
-use Rattle.plain_machine.specs.Row.{fault}
 use Rattle.plain_machine.specs.Rows.{Pending, fresh}
 use Rattle.class_world.specs.declared.world.World.{World}
 use Rattle.class_world.specs.Reading.{Reading, operator_job}
@@ -56,14 +50,3 @@ Resumes = rows.Resumes operator_group
 -- the sum of two objects
 abbrev pub Sums : PyObjectRef → PyObjectRef → World → World → Step OperatorKept → Type 0
 Sums a b = Goes operator_say operator_stands (λ t. fresh (DoInt int.Add (a ∷ b ∷ []) []))
-
--- the steps of the code, by what was read
-
-abbrev pub joining : Option SlotEntry → PyObjectRef → PyObjectRef → Step OperatorKept
-joining None a b = End (fault UnsupportedOperand)
-joining (Some s) a b = Ask (task.Operator (operator.Concat a b)) Pass
-
-abbrev pub entered : PyObjectRef → PyObjectRef → PyObjectRef → List SlotEntry → Step OperatorKept
-entered none a b [] = End (Ok (Value none))
-entered none a b (s ∷ []) = Ask (task.Operator (operator.Enter s a b)) (Candidate None a b)
-entered none a b (s ∷ (u ∷ ss)) = Ask (task.Operator (operator.Enter s a b)) (Candidate (Some u) a b)

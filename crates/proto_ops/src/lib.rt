@@ -3,14 +3,12 @@
 
 ghost use Rattle.std.specs.Prelude.{◌≡◌, [], ◌∷◌, IfOk};
 ghost use Rattle.class_world.specs.Sound.{AllHold, Holds, IsNode, AreNodes};
-ghost use Rattle.class_world.specs.Claims.{of_operator_task, of_ended, Leaves};
+ghost use Rattle.class_world.specs.Claims.{of_operator_task, of_ended, of_step, Leaves};
 ghost use Rattle.py_node.specs.declared.task.OperatorTask.TheVariants as operator;
-ghost use Rattle.class_table.specs.Turn.{list_of};
 ghost use Rattle.proto_ops.specs.Say.{total, in_order, is_not_implemented};
 ghost use Rattle.plain_machine.specs.Args.{two_of};
-ghost use Rattle.proto_ops.specs.Rows.{Begins, Resumes, Sums, joining, entered, of_operator_kept};
+ghost use Rattle.proto_ops.specs.Rows.{Begins, Resumes, Sums, of_operator_kept};
 
-use class_table::Candidates;
 use class_world::args::{alone, both, native_task, two_of};
 use class_world::{Fixed, World};
 use py_node::task::{Args, Keywords};
@@ -41,7 +39,7 @@ pub fn begin(world: &mut World, task: OperatorTask) -> Result<Step<OperatorKept>
             Task::Operator(OperatorTask::BinOp1(PyNumberBinaryOp::Add, a, b)),
             OperatorKept::AddRest(a, b),
         )),
-        OperatorTask::BinOp1(op, a, b) => binop1(world, op, a, b),
+        OperatorTask::BinOp1(op, a, b) => Ok(binop1(world, op, a, b)),
         OperatorTask::Enter(entry, a, b) => enter(world, entry, a, b),
         OperatorTask::Int(native, args, kw) => int(world, native, args, kw),
         _ => Ok(Step::not_yet()),
@@ -62,11 +60,11 @@ pub fn resume(
     match kept {
         OperatorKept::Pass => Ok(Step::End(answer)),
         OperatorKept::AddRest(a, b) => match answer {
-            Ok(Answer::Value(x)) => add_rest(world, a, b, x),
+            Ok(Answer::Value(x)) => Ok(add_rest(world, a, b, x)),
             other => Ok(Step::End(other)),
         },
         OperatorKept::Candidate(next, a, b) => match answer {
-            Ok(Answer::Value(x)) => next_candidate(world, next, a, b, x),
+            Ok(Answer::Value(x)) => Ok(next_candidate(world, next, a, b, x)),
             other => Ok(Step::End(other)),
         },
     }
@@ -79,105 +77,73 @@ fn is_not_implemented(object: PyObjectRef) -> bool
     object.0 == 24
 }
 
-// A sum that no candidate gave: sequences are joined.
-fn add_rest(
-    world: &mut World,
-    a: PyObjectRef,
-    b: PyObjectRef,
-    x: PyObjectRef,
-) -> Result<Step<OperatorKept>, OutOfMemory>
-    requires a { Holds world.old (IsNode a) }
-    requires b { Holds world.old (IsNode b) }
-    requires answer { Holds world.old (IsNode x) }
-    ensures goes { IfOk result (λ step.
-        Resumes (OperatorKept.AddRest a b) (Ok (Answer.Value x)) world.old world.new step) }
-    ensures safe { Leaves of_operator_kept world.old world.new result }
+// A sum that no candidate gave: sequences are joined, and nothing else.
+fn add_rest(world: &World, a: PyObjectRef, b: PyObjectRef, x: PyObjectRef) -> Step<OperatorKept>
+    requires a { Holds world.now (IsNode a) }
+    requires b { Holds world.now (IsNode b) }
+    requires answer { Holds world.now (IsNode x) }
+    ensures goes { Resumes (OperatorKept.AddRest a b) (Ok (Answer.Value x)) world.now world.now result }
+    ensures safe { AllHold world.now (of_step of_operator_kept result) }
 {
     if !is_not_implemented(x) {
-        return Ok(Step::End(Ok(Answer::Value(x))));
+        return Step::End(Ok(Answer::Value(x)));
     }
-    let step = joining(world.slot(a, SlotId::SeqItem), a, b);
-    Ok(step)
-}
-
-// A sequence is joined, and nothing else.
-fn joining(item: Option<SlotEntry>, a: PyObjectRef, b: PyObjectRef) -> Step<OperatorKept>
-    ensures { result ≡ joining item a b }
-{
-    match item {
-        Some(_) => Step::Ask(
-            Task::Operator(OperatorTask::Concat(a, b)),
-            OperatorKept::Pass,
-        ),
+    match world.slot(a, SlotId::SeqItem) {
+        Some(_) => {
+            let task = OperatorTask::Concat(a, b);
+            Step::Ask(Task::Operator(task), OperatorKept::Pass)
+        }
         None => Step::raise(Cause::UnsupportedOperand),
     }
 }
 
 // The candidate that is left is entered, where the first gave NotImplemented.
 fn next_candidate(
-    world: &mut World,
+    world: &World,
     next: Option<SlotEntry>,
     a: PyObjectRef,
     b: PyObjectRef,
     x: PyObjectRef,
-) -> Result<Step<OperatorKept>, OutOfMemory>
-    requires a { Holds world.old (IsNode a) }
-    requires b { Holds world.old (IsNode b) }
-    requires answer { Holds world.old (IsNode x) }
-    ensures goes { IfOk result (λ step.
-        Resumes (OperatorKept.Candidate next a b) (Ok (Answer.Value x)) world.old world.new step) }
-    ensures safe { Leaves of_operator_kept world.old world.new result }
+) -> Step<OperatorKept>
+    requires a { Holds world.now (IsNode a) }
+    requires b { Holds world.now (IsNode b) }
+    requires answer { Holds world.now (IsNode x) }
+    ensures goes { Resumes (OperatorKept.Candidate next a b) (Ok (Answer.Value x)) world.now world.now result }
+    ensures safe { AllHold world.now (of_step of_operator_kept result) }
 {
     if !is_not_implemented(x) {
-        return Ok(Step::End(Ok(Answer::Value(x))));
+        return Step::End(Ok(Answer::Value(x)));
     }
     match next {
-        None => Ok(Step::End(Ok(Answer::Value(world.fixed(Fixed::NotImplemented))))),
-        Some(entry) => Ok(Step::Ask(
-            Task::Operator(OperatorTask::Enter(entry, a, b)),
-            OperatorKept::Candidate(None, a, b),
-        )),
+        Some(entry) => enter_candidate(entry, None, a, b),
+        None => Step::End(Ok(Answer::Value(world.fixed(Fixed::NotImplemented)))),
     }
 }
 
-// The candidates are read once, and the first is entered.
-fn binop1(
-    world: &mut World,
-    op: PyNumberBinaryOp,
-    a: PyObjectRef,
-    b: PyObjectRef,
-) -> Result<Step<OperatorKept>, OutOfMemory>
-    requires { AllHold world.old (of_operator_task (operator.BinOp1 op a b)) }
-    ensures goes { IfOk result (λ step. Begins (operator.BinOp1 op a b) world.old world.new step) }
-    ensures safe { Leaves of_operator_kept world.old world.new result }
-{
-    let candidates = world.candidates(op.left_slot(), op.right_slot(), a, b);
-    let none = world.fixed(Fixed::NotImplemented);
-    let step = enter_first(candidates, none, a, b);
-    Ok(step)
-}
-
-// The first of the candidates is entered, or the answer is this where there is none.
-fn enter_first(
-    candidates: Candidates,
-    none: PyObjectRef,
+// A candidate is entered. What is kept is the next one, if any, and the operands.
+fn enter_candidate(
+    entry: SlotEntry,
+    next: Option<SlotEntry>,
     a: PyObjectRef,
     b: PyObjectRef,
 ) -> Step<OperatorKept>
-    ensures { result ≡ entered none a b (list_of candidates) }
+    ensures { result ≡ Step.Ask (Task.Operator (operator.Enter entry a b)) (OperatorKept.Candidate next a b) }
 {
-    match candidates.first {
-        Some(entry) => Step::Ask(
-            Task::Operator(OperatorTask::Enter(entry, a, b)),
-            OperatorKept::Candidate(candidates.second, a, b),
-        ),
-        None => match candidates.second {
-            Some(entry) => Step::Ask(
-                Task::Operator(OperatorTask::Enter(entry, a, b)),
-                OperatorKept::Candidate(None, a, b),
-            ),
-            None => Step::End(Ok(Answer::Value(none))),
-        },
+    let task = OperatorTask::Enter(entry, a, b);
+    Step::Ask(Task::Operator(task), OperatorKept::Candidate(next, a, b))
+}
+
+// The candidates are read once, and the first is entered.
+fn binop1(world: &World, op: PyNumberBinaryOp, a: PyObjectRef, b: PyObjectRef) -> Step<OperatorKept>
+    requires { AllHold world.now (of_operator_task (operator.BinOp1 op a b)) }
+    ensures goes { Begins (operator.BinOp1 op a b) world.now world.now result }
+    ensures safe { AllHold world.now (of_step of_operator_kept result) }
+{
+    let candidates = world.candidates(op.left_slot(), op.right_slot(), a, b);
+    match (candidates.first, candidates.second) {
+        (Some(entry), next) => enter_candidate(entry, next, a, b),
+        (None, Some(entry)) => enter_candidate(entry, None, a, b),
+        (None, None) => Step::End(Ok(Answer::Value(world.fixed(Fixed::NotImplemented)))),
     }
 }
 
