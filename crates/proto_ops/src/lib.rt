@@ -60,7 +60,7 @@ pub fn resume(
     match kept {
         OperatorKept::Pass => Ok(Step::End(answer)),
         OperatorKept::AddRest(a, b) => match answer {
-            Ok(Answer::Value(x)) => Ok(add_rest(world, a, b, x)),
+            Ok(Answer::Value(x)) => add_rest(world, a, b, x),
             other => Ok(Step::End(other)),
         },
         OperatorKept::Candidate(next, a, b) => match answer {
@@ -78,22 +78,28 @@ fn is_not_implemented(object: PyObjectRef) -> bool
 }
 
 // A sum that no candidate gave: sequences are joined, and nothing else.
-fn add_rest(world: &World, a: PyObjectRef, b: PyObjectRef, x: PyObjectRef) -> Step<OperatorKept>
-    requires a { Holds world.now (IsNode a) }
-    requires b { Holds world.now (IsNode b) }
-    requires answer { Holds world.now (IsNode x) }
-    ensures goes { Resumes (OperatorKept.AddRest a b) (Ok (Answer.Value x)) world.now world.now result }
-    ensures safe { AllHold world.now (of_step of_operator_kept result) }
+fn add_rest(
+    world: &mut World,
+    a: PyObjectRef,
+    b: PyObjectRef,
+    x: PyObjectRef,
+) -> Result<Step<OperatorKept>, OutOfMemory>
+    requires a { Holds world.old (IsNode a) }
+    requires b { Holds world.old (IsNode b) }
+    requires answer { Holds world.old (IsNode x) }
+    ensures goes { IfOk result (λ step.
+        Resumes (OperatorKept.AddRest a b) (Ok (Answer.Value x)) world.old world.new step) }
+    ensures safe { Leaves of_operator_kept world.old world.new result }
 {
     if !is_not_implemented(x) {
-        return Step::End(Ok(Answer::Value(x)));
+        return Ok(Step::End(Ok(Answer::Value(x))));
     }
     match world.slot(a, SlotId::SeqItem) {
         Some(_) => {
             let task = OperatorTask::Concat(a, b);
-            Step::Ask(Task::Operator(task), OperatorKept::Pass)
+            Ok(Step::Ask(Task::Operator(task), OperatorKept::Pass))
         }
-        None => Step::raise(Cause::UnsupportedOperand),
+        None => Ok(Step::raise(Cause::UnsupportedOperand)),
     }
 }
 
