@@ -5,6 +5,7 @@ ghost use Rattle.py_node.specs.Slots.{names_of, filling_of};
 ghost use Rattle.class_model.specs.BuiltIn.{is_among, is_number, is_sequence, fills, new_native, compare_native, entry_of, entry_among, natives_of};
 
 use py_node::attr::OwnAttr;
+use py_node::built_in::BUILT_IN_COUNT;
 use py_node::own_attrs::attrs_of;
 use py_node::{
     Attr, BuiltIn, CompareNative, Filling, Known, NativeEntry, ObjectNative, PyTypeRef, SlotEntry,
@@ -98,7 +99,7 @@ fn entry_among(class: BuiltIn, slot: SlotId, attrs: &[OwnAttr]) -> Option<SlotEn
 pub fn built_in_entry(class: PyTypeRef, slot: SlotId) -> Option<SlotEntry>
     ensures { result ≡ natives_of class.0 slot }
 {
-    if class.0 >= 23 {
+    if class.0 >= BUILT_IN_COUNT {
         return None;
     }
     let class = BuiltIn::at(class.0 as usize);

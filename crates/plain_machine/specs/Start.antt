@@ -1,12 +1,12 @@
--- The world of a new machine: a node for each built-in class, then None, NotImplemented, False and True, and then a node for each own attribute of a built-in class.
-use Rattle.std.specs.Prelude.{ℕ, pos, List, [], ◌∷◌, ◌++◌, Some, None, map, fold}
+-- The world of a new machine: a node for each built-in class, then None, NotImplemented, False and True, and then a node for each own attribute of a built-in class but None.
+use Rattle.std.specs.Prelude.{ℕ, pos, Bool, true, false, cond, List, [], ◌∷◌, ◌++◌, Some, None, map, fold}
 use Rattle.py_node.specs.declared.built_in.BuiltIn.{BuiltIn}
 use Rattle.py_node.specs.declared.built_in.BuiltIn.TheVariants as built_in
-use Rattle.py_node.specs.declared.entry.NativeEntry.TheVariants.{Getter, Setter, NewWrapper}
+use Rattle.py_node.specs.declared.entry.NativeEntry.TheVariants.{Getter, Setter, GetterOf, SetterOf, NewWrapper}
 use Rattle.py_node.specs.declared.known.Known.{Known}
-use Rattle.py_node.specs.declared.own_attrs.Attr.{Attr}
-use Rattle.py_node.specs.declared.own_attrs.Attr.TheVariants.{New, Method, ClassMethod, ReadOnly, Settable}
-use Rattle.py_node.specs.BuiltIns.{place_of, all_built_ins}
+use Rattle.py_node.specs.declared.attr.Attr.{Attr}
+use Rattle.py_node.specs.declared.attr.Attr.TheVariants.{New, Method, ClassMethod, ReadOnly, Settable, Part, SettablePart, NoHash}
+use Rattle.py_node.specs.BuiltIns.{place_of, all_built_ins, fixed_none}
 use Rattle.py_node.specs.Known.{known_text}
 use Rattle.py_node.specs.OwnAttrs.{own_attrs}
 use Rattle.py_node.specs.Tree.{Text}
@@ -36,20 +36,32 @@ attr_class (Method n) = built_in.MethodDescriptor
 attr_class (ClassMethod n) = built_in.MethodDescriptor
 attr_class (ReadOnly p) = built_in.GetSetDescriptor
 attr_class (Settable p) = built_in.GetSetDescriptor
+attr_class (Part d) = built_in.GetSetDescriptor
+attr_class (SettablePart d) = built_in.GetSetDescriptor
+attr_class NoHash = built_in.NoneType
 
 -- what this object is, for a class and a name. A method of the objects has the flag 2 ^ 9, and one of the class 2 ^ 4
-abbrev pub attr_datum : ℕ → Text → Attr → Datum
-attr_datum c x New = ANativeFunction x NewWrapper (Some (ref c))
-attr_datum c x (Method n) = AMethodDescriptor c x n 512
-attr_datum c x (ClassMethod n) = AMethodDescriptor c x n 16
-attr_datum c x (ReadOnly p) = AGetSet c x (Some (Getter p)) None
-attr_datum c x (Settable p) = AGetSet c x (Some (Getter p)) (Some (Setter p))
+abbrev pub attr_datum : BuiltIn → Text → Attr → Datum
+attr_datum b x New = ANativeFunction x NewWrapper (Some (ref (place_of b)))
+attr_datum b x (Method n) = AMethodDescriptor (place_of b) x n 512
+attr_datum b x (ClassMethod n) = AMethodDescriptor (place_of b) x n 16
+attr_datum b x (ReadOnly p) = AGetSet (place_of b) x (Some (Getter p)) None
+attr_datum b x (Settable p) = AGetSet (place_of b) x (Some (Getter p)) (Some (Setter p))
+attr_datum b x (Part d) = AGetSet (place_of b) x (Some (GetterOf b d)) None
+attr_datum b x (SettablePart d) = AGetSet (place_of b) x (Some (GetterOf b d)) (Some (SetterOf b d))
+attr_datum b x NoHash = AnObject
 
--- a new node for an attribute, under its name in its class
+-- whether this object is made for the attribute: all but None are
+abbrev pub is_made : Attr → Bool
+is_made NoHash = false
+is_made a = true
+
+-- an own attribute under its name in its class: a new node, or None
 unfoldable pub with_attr : BuiltIn → PlainWorld → Known × Attr → PlainWorld
 with_attr b w a =
     let c = place_of (attr_class a.1) in
-    with_own_attr (with_node w c (attr_datum (place_of b) (known_text a.0) a.1)) (place_of b) (known_text a.0) (next_node w c)
+    let x = known_text a.0 in
+    cond (is_made a.1) (with_own_attr (with_node w c (attr_datum b x a.1)) (place_of b) x (next_node w c)) (with_own_attr w (place_of b) x (ref fixed_none))
 
 -- the own attributes of a class, in order
 abbrev pub with_attrs : PlainWorld → BuiltIn → PlainWorld

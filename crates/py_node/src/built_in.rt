@@ -34,6 +34,9 @@ pub enum BuiltIn {
     Slice,
 }
 
+/// How many built-in classes there are: they are the first classes.
+pub const BUILT_IN_COUNT: u64 = 23;
+
 const FINAL: PyTypeFlags = PyTypeFlags::IMMUTABLETYPE;
 
 const BASE: PyTypeFlags = PyTypeFlags(FINAL.0 | PyTypeFlags::BASETYPE.0);
