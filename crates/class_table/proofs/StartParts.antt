@@ -1,5 +1,5 @@
 -- The parts of a new machine's world: loops over the built-in classes and the names that are known.
-use Rattle.std.proofs.Common.{◌≡◌, ℕ, zero, suc, ◌+◌, ◌<◌, ◌≤◌, Bool, true, false, cond, List, [], ◌∷◌, ◌++◌, length, Option, Some, None, refl, sym, ap, ◌∙◌, subst, arith, get_or, take, map, true≢false}
+use Rattle.std.proofs.Common.{◌≡◌, ℕ, zero, suc, ◌+◌, ◌<◌, ◌≤◌, Bool, true, false, cond, List, [], ◌∷◌, ◌++◌, length, Option, Some, None, refl, sym, ap, ◌∙◌, subst, arith, get_or, take, map, fold, true≢false}
 use Rattle.std.specs.Prelude.{◌&&◌, not, slice_get, ltb, eqb, nat_lt, is_some}
 use Rattle.std.specs.Borrow.{Bor}
 use Rattle.std.specs.Str.{bytes_eq}
@@ -190,3 +190,12 @@ pub past : {A : Type 0} (xs : List A) (i : ℕ) → length xs ≤ i → slice_ge
 past [] i l = refl
 past (x ∷ xs) zero l = absurd (omega arith)
 past (x ∷ xs) (suc i) l = past xs i (omega arith)
+
+-- the class in a row, by its place
+pub in-row : (rows : List Row) (i : ℕ) → map (λ r. r.0) rows ≡ all_built_ins → i < length rows → get_or all_built_ins i Object ≡ (get_or rows i no_row).0
+in-row rows i e l = sym (ap (λ bs. get_or bs i Object) e) ∙ class-in-row rows i no_row Object l
+
+-- a walk over the rows for their classes is one over the classes
+pub fold-rows : {Y : Type 0} (f : Y → BuiltIn → Y) (a : Y) (rows : List Row) → fold (λ y r. f y r.0) a rows ≡ fold f a (map (λ r. r.0) rows)
+fold-rows f a [] = refl
+fold-rows f a (r ∷ rows) = fold-rows f (f a r.0) rows

@@ -9,9 +9,10 @@ use Rattle.py_node.specs.declared.attr.Attr.TheVariants.{New, Method, ClassMetho
 use Rattle.py_node.specs.BuiltIns.{place_of, all_built_ins, fixed_none}
 use Rattle.py_node.specs.Known.{known_text}
 use Rattle.py_node.specs.OwnAttrs.{own_attrs}
+use Rattle.py_node.specs.declared.refs.PyObjectRef.{PyObjectRef}
 use Rattle.py_node.specs.Tree.{Text}
 use Rattle.class_model.specs.Start.{built_in_classes}
-use Rattle.plain_machine.specs.Known.{the_type}
+use Rattle.plain_machine.specs.Known.{the_type, the_none_type, the_not_implemented_type, the_bool}
 use Rattle.plain_machine.specs.Plain.{Datum, AnObject, AClass, ANumber, ANativeFunction, AMethodDescriptor, AGetSet, no_members, Node, PlainWorld}
 use Rattle.plain_machine.specs.World.{ref, with_node, next_node, with_own_attr}
 
@@ -23,7 +24,7 @@ class_node b = simple_node the_type (AClass (place_of b))
 
 -- None, NotImplemented, False and True
 abbrev pub fixed_nodes : List Node
-fixed_nodes = simple_node 2 AnObject ∷ simple_node 3 AnObject ∷ simple_node 5 (ANumber (pos 0)) ∷ simple_node 5 (ANumber (pos 1)) ∷ []
+fixed_nodes = simple_node the_none_type AnObject ∷ simple_node the_not_implemented_type AnObject ∷ simple_node the_bool (ANumber (pos 0)) ∷ simple_node the_bool (ANumber (pos 1)) ∷ []
 
 -- the built-in classes without attributes, and the fixed objects
 abbrev pub bare : PlainWorld
@@ -56,12 +57,16 @@ abbrev pub is_made : Attr → Bool
 is_made NoHash = false
 is_made a = true
 
--- an own attribute under its name in its class: a new node, or None
+-- the world with this object, and its number
+abbrev pub with_value : BuiltIn → PlainWorld → Text → Attr → PlainWorld
+with_value b w x a = cond (is_made a) (with_node w (place_of (attr_class a)) (attr_datum b x a)) w
+
+abbrev pub value_in : PlainWorld → Attr → PyObjectRef
+value_in w a = cond (is_made a) (next_node w (place_of (attr_class a))) (ref fixed_none)
+
+-- an own attribute under its name in its class
 unfoldable pub with_attr : BuiltIn → PlainWorld → Known × Attr → PlainWorld
-with_attr b w a =
-    let c = place_of (attr_class a.1) in
-    let x = known_text a.0 in
-    cond (is_made a.1) (with_own_attr (with_node w c (attr_datum b x a.1)) (place_of b) x (next_node w c)) (with_own_attr w (place_of b) x (ref fixed_none))
+with_attr b w a = with_own_attr (with_value b w (known_text a.0) a.1) (place_of b) (known_text a.0) (value_in w a.1)
 
 -- the own attributes of a class, in order
 abbrev pub with_attrs : PlainWorld → BuiltIn → PlainWorld

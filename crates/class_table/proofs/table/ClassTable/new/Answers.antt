@@ -8,12 +8,8 @@ use Rattle.class_table.specs.Keys.{numbers}
 use Rattle.class_model.specs.Class.{Class}
 use Rattle.py_node.specs.BuiltIns.{place_of, base_of, all_built_ins}
 use Rattle.class_model.specs.Start.{built_class}
-use Rattle.class_table.proofs.StartParts.{Row, no_row, base_below, map-step, map-end, built-below, built-count, class-in-row, one-below, one-long, made-place, made-there, made-limit}
+use Rattle.class_table.proofs.StartParts.{base_below, map-step, map-end, built-below, built-count, in-row, one-below, one-long, made-place, made-there, made-limit}
 use Rattle.class_table.proofs.table.ClassTable.new.Goals as goal
-
--- the class in a row, by its place
-in-row : (rows : List Row) (i : ℕ) → map (λ r. r.0) rows ≡ all_built_ins → i < length rows → get_or all_built_ins i Object ≡ (get_or rows i no_row).0
-in-row rows i e l = sym (ap (λ bs. get_or bs i Object) e) ∙ class-in-row rows i no_row Object l
 
 pub loop-row-preserved : goal.loop-row-preserved
 loop-row-preserved c =
