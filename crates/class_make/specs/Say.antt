@@ -9,7 +9,7 @@ use Rattle.py_node.specs.declared.entry.Property.TheVariants as property
 use Rattle.py_node.specs.declared.entry.TypeNative.{TypeNative}
 use Rattle.py_node.specs.declared.entry.TypeNative.TheVariants as type
 use Rattle.py_node.specs.Attributes.{value_of, with_value}
-use Rattle.py_node.specs.BuiltIns.{heap_flags}
+use Rattle.py_node.specs.BuiltIns.{base_type, heap_flags}
 use Rattle.py_node.specs.Tree.{Text}
 use Rattle.py_node.specs.declared.known.Known.TheVariants as known
 use Rattle.py_node.specs.Known.{known_text}
@@ -142,7 +142,7 @@ with_namespace w meta name base (Some attrs) = made meta name base (completed na
 -- the base must be one that classes can have
 abbrev pub on_base : PlainWorld → ℕ → Text → ℕ → List (PyObjectRef × PyObjectRef) → Said
 on_base w meta name base es =
-    cond (class_has_flag w (2 ^ 10) (Some base)) (with_namespace w meta name base (namespace w es)) (Ends w (fault NotBaseType))
+    cond (class_has_flag w base_type (Some base)) (with_namespace w meta name base (namespace w es)) (Ends w (fault NotBaseType))
 
 -- the metaclass: the given one, or that of the base where it derives from the given one
 abbrev pub winner : PlainWorld → ℕ → Option ℕ → Option ℕ

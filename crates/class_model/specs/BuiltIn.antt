@@ -1,81 +1,77 @@
--- What stands in the slots of the built-in classes, by the number of the class.
-use Rattle.std.specs.Prelude.{ℕ, List, [], ◌∷◌, Option, Some, None, slice_get}
-use Rattle.py_node.specs.declared.entry.SlotId.{SlotId}
-use Rattle.py_node.specs.declared.entry.SlotId.TheVariants.{Add, RightAdd, Hash, Call, Repr, Getattro, Setattro, Richcompare, DescrGet, Init, New}
-use Rattle.py_node.specs.declared.entry.SlotEntry.{SlotEntry}
-use Rattle.py_node.specs.declared.entry.SlotEntry.TheVariants.{Native}
-use Rattle.py_node.specs.declared.entry.NativeEntry.TheVariants.{OfObject, OfType, OfInt, OfCallable}
+-- What stands in the slots of the built-in classes: their own attributes say it.
+use Rattle.std.specs.Prelude.{ℕ, Bool, not, cond, ◌&&◌, ◌||◌, List, Option, Some, None, find, option_and_then, slice_get}
+use Rattle.std.specs.List.{list_any}
+use denote.Enum.Bare.{sameb}
+use Rattle.py_node.specs.contracts.built_in.BuiltIn.{the_type as built_in_type}
+use Rattle.py_node.specs.contracts.known.Known.{the_type as known_type}
+use Rattle.py_node.specs.declared.attr.Attr.{Attr}
+use Rattle.py_node.specs.declared.attr.Attr.TheVariants as attr
+use Rattle.py_node.specs.declared.built_in.BuiltIn.{BuiltIn}
+use Rattle.py_node.specs.declared.built_in.BuiltIn.TheVariants as built_in
+use Rattle.py_node.specs.declared.entry.CompareNative.TheVariants.{All}
+use Rattle.py_node.specs.declared.entry.NativeEntry.{NativeEntry}
+use Rattle.py_node.specs.declared.entry.NativeEntry.TheVariants.{OfObject, OfType, NewOf, Compare}
 use Rattle.py_node.specs.declared.entry.ObjectNative.TheVariants as object
 use Rattle.py_node.specs.declared.entry.TypeNative.TheVariants as type
-use Rattle.py_node.specs.declared.entry.IntNative.TheVariants as int
-use Rattle.py_node.specs.declared.entry.CallableNative.TheVariants as callable
+use Rattle.py_node.specs.declared.entry.SlotId.{SlotId}
+use Rattle.py_node.specs.declared.entry.SlotId.TheVariants.{Richcompare}
+use Rattle.py_node.specs.declared.entry.SlotEntry.{SlotEntry}
+use Rattle.py_node.specs.declared.entry.SlotEntry.TheVariants.{Native, Unhashable}
+use Rattle.py_node.specs.declared.known.Known.{Known}
+use Rattle.py_node.specs.declared.slots.Filling.{Filling}
+use Rattle.py_node.specs.declared.slots.Filling.TheVariants.{BySpecial, NotDict, Number, Sequence}
+use Rattle.py_node.specs.BuiltIns.{all_built_ins}
+use Rattle.py_node.specs.OwnAttrs.{own_attrs}
+use Rattle.py_node.specs.Slots.{is_slot, names_of, filling_of}
 
--- a class with nothing of its own
-abbrev pub no_natives : SlotId → Option SlotEntry
-no_natives s = None
+abbrev pub is_known : Known → Known → Bool
+is_known = sameb known_type
 
--- class 0
-abbrev pub object_natives : SlotId → Option SlotEntry
-object_natives Hash = Some (Native (OfObject object.Hash))
-object_natives Repr = Some (Native (OfObject object.Repr))
-object_natives Getattro = Some (Native (OfObject object.GetAttribute))
-object_natives Setattro = Some (Native (OfObject object.SetAttr))
-object_natives Richcompare = Some (Native (OfObject object.Compare))
-object_natives Init = Some (Native (OfObject object.Init))
-object_natives New = Some (Native (OfObject object.New))
-object_natives _ = None
+abbrev pub is_among : Known → List Known → Bool
+is_among x = list_any (is_known x)
 
--- class 1
-abbrev pub type_natives : SlotId → Option SlotEntry
-type_natives Call = Some (Native (OfType type.Call))
-type_natives Repr = Some (Native (OfType type.Repr))
-type_natives Getattro = Some (Native (OfType type.GetAttribute))
-type_natives Setattro = Some (Native (OfType type.SetAttr))
-type_natives New = Some (Native (OfType type.New))
-type_natives _ = None
+abbrev pub is_built_in : BuiltIn → BuiltIn → Bool
+is_built_in = sameb built_in_type
 
--- class 4: one native for both sides
-abbrev pub int_natives : SlotId → Option SlotEntry
-int_natives Add = Some (Native (OfInt int.Add))
-int_natives RightAdd = Some (Native (OfInt int.Add))
-int_natives _ = None
+abbrev pub is_number : BuiltIn → Bool
+is_number b = is_built_in b built_in.Int || is_built_in b built_in.Bool
 
--- class 10
-abbrev pub function_natives : SlotId → Option SlotEntry
-function_natives Call = Some (Native (OfCallable callable.CallFunction))
-function_natives DescrGet = Some (Native (OfCallable callable.GetFunction))
-function_natives _ = None
+abbrev pub is_sequence : BuiltIn → Bool
+is_sequence b = is_built_in b built_in.Str || is_built_in b built_in.Tuple || is_built_in b built_in.List
 
--- class 11
-abbrev pub method_natives : SlotId → Option SlotEntry
-method_natives Call = Some (Native (OfCallable callable.CallMethod))
-method_natives _ = None
+-- whether an own attribute of that name fills the slot of a class
+abbrev pub fills : BuiltIn → SlotId → Filling → Known → Bool
+fills b s BySpecial x = is_among x (names_of s)
+fills b s NotDict x = not (is_built_in b built_in.Dict) && is_among x (names_of s)
+fills b s (Number n) x = is_number b && is_known x n
+fills b s (Sequence n) x = is_sequence b && is_known x n
 
--- class 12
-abbrev pub native_function_natives : SlotId → Option SlotEntry
-native_function_natives Call = Some (Native (OfCallable callable.CallNativeFunction))
-native_function_natives _ = None
+-- what makes the objects of a class
+abbrev pub new_native : BuiltIn → NativeEntry
+new_native built_in.Object = OfObject object.New
+new_native built_in.TypeType = OfType type.New
+new_native b = NewOf b
 
--- class 13
-abbrev pub builtin_method_natives : SlotId → Option SlotEntry
-builtin_method_natives Call = Some (Native (OfCallable callable.CallBuiltinMethod))
-builtin_method_natives _ = None
+-- all six comparisons of a class, as one
+abbrev pub compare_native : BuiltIn → NativeEntry
+compare_native built_in.Object = OfObject object.Compare
+compare_native b = Compare b All
 
--- class 14
-abbrev pub method_descriptor_natives : SlotId → Option SlotEntry
-method_descriptor_natives Call = Some (Native (OfCallable callable.CallMethodDescriptor))
-method_descriptor_natives DescrGet = Some (Native (OfCallable callable.GetMethodDescriptor))
-method_descriptor_natives _ = None
+-- what an own attribute of a class is in a slot that it fills
+abbrev pub entry_of : BuiltIn → SlotId → Attr → Option SlotEntry
+entry_of b s attr.New = Some (Native (new_native b))
+entry_of b s (attr.Method n) = Some (Native (cond (is_slot s Richcompare) (compare_native b) n))
+entry_of b s attr.NoHash = Some Unhashable
+entry_of b s a = None
 
--- the rows in order, by the number of the class
-abbrev pub rows : List (SlotId → Option SlotEntry)
-rows =
-    object_natives ∷ type_natives ∷ no_natives ∷ no_natives ∷ int_natives ∷ no_natives ∷ no_natives ∷ no_natives ∷ no_natives ∷ no_natives ∷ function_natives ∷ method_natives ∷ native_function_natives ∷ builtin_method_natives ∷ method_descriptor_natives ∷ []
+abbrev pub entry_in : BuiltIn → SlotId → Option (Known × Attr) → Option SlotEntry
+entry_in b s None = None
+entry_in b s (Some r) = entry_of b s r.1
 
-abbrev pub row_at : Option (SlotId → Option SlotEntry) → SlotId → Option SlotEntry
-row_at None s = None
-row_at (Some row) s = row s
+-- what a class has in a slot by some of its attributes: the first that fills the slot says it
+abbrev pub entry_among : BuiltIn → SlotId → List (Known × Attr) → Option SlotEntry
+entry_among b s attrs = entry_in b s (find (λ r. fills b s (filling_of s) r.0) attrs)
 
 -- what stands in a slot of a class, by its number
 unfoldable pub natives_of : ℕ → SlotId → Option SlotEntry
-natives_of c s = row_at (slice_get rows c) s
+natives_of c s = option_and_then (λ b. entry_among b s (own_attrs b)) (slice_get all_built_ins c)

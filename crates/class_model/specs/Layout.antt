@@ -1,10 +1,11 @@
 -- Solid classes, the best base of a class, and its layout.
 use Rattle.std.specs.Prelude.{ℕ, zero, suc, Bool, true, false, cond, not, ◌&&◌, ◌||◌, nat_lt, List, [], ◌∷◌, ◌++◌, map, length, Option, Some, None, option_and_then}
+use Rattle.py_node.specs.BuiltIns.{built_in_count}
 use Rattle.class_model.specs.Class.{Class, Classes, class_at, is_along, is_sub, lin, bases_of}
 
 -- how many classes are built in: they have the first numbers
 abbrev pub built_ins : ℕ
-built_ins = 23
+built_ins = built_in_count
 
 abbrev pub is_empty : {A : Type 0} → List A → Bool
 is_empty [] = true

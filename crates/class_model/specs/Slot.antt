@@ -10,6 +10,7 @@ use Rattle.py_node.specs.contracts.slots.Sort.{the_type as sort_type}
 use Rattle.py_node.specs.declared.known.Known.{Known}
 use Rattle.py_node.specs.declared.slots.Sort.{Sort}
 use Rattle.py_node.specs.declared.slots.Sort.TheVariants.{ByItself, BySequence, ByMapping, Nearest}
+use Rattle.py_node.specs.BuiltIns.{fixed_none}
 use Rattle.py_node.specs.Slots.{is_slot, names_of, all_slots, sort_of}
 use Rattle.py_node.specs.Natives.{is_same_entry}
 use Rattle.class_model.specs.Class.{Class, Classes, class_at, is_heap, lin, is_sub, own_of, first_along, along}
@@ -33,7 +34,7 @@ is_name_of keys s k = is_one_of keys.same (map keys.special (names_of s)) k
 
 -- None, as an object
 abbrev pub is_none : PyObjectRef → Bool
-is_none r = eqb r.0 23
+is_none r = eqb r.0 fixed_none
 
 -- the wrapper of a slot, where one of its names was found. `__hash__` that is None forbids the hash
 abbrev pub wrapped : SlotId → Option PyObjectRef → Option SlotEntry

@@ -1,11 +1,14 @@
 -- The parts of a new machine's world: loops over the built-in classes and the names that are known.
-use Rattle.std.proofs.Common.{◌≡◌, ℕ, zero, suc, ◌+◌, ◌<◌, ◌≤◌, Bool, true, false, cond, List, [], ◌∷◌, ◌++◌, length, Option, Some, None, refl, sym, ap, ◌∙◌, subst, arith, get_or, take, map, true≢false}
+use Rattle.std.proofs.Common.{◌≡◌, ℕ, zero, suc, ◌+◌, ◌<◌, ◌≤◌, Bool, true, false, cond, List, [], ◌∷◌, ◌++◌, length, Option, Some, None, refl, sym, ap, ◌∙◌, subst, arith, get_or, take, map, fold, true≢false}
 use Rattle.std.specs.Prelude.{◌&&◌, not, slice_get, ltb, eqb, nat_lt, is_some}
+use Rattle.std.specs.Borrow.{Bor}
 use Rattle.std.specs.Str.{bytes_eq}
 use Rattle.std.proofs.lemmas.Bool.{ltb-true, eqb-true, eqb-false}
 use Rattle.std.proofs.lemmas.Slice.Eq.{bytes_eq-Decides}
 use Rattle.py_node.specs.declared.built_in.BuiltIn.{BuiltIn}
-use Rattle.py_node.specs.BuiltIns.{place_of, base_of, all_built_ins}
+use Rattle.py_node.specs.declared.built_in.BuiltIn.TheVariants.{Object}
+use Rattle.py_node.specs.declared.flags.PyTypeFlags.{PyTypeFlags}
+use Rattle.py_node.specs.BuiltIns.{place_of, base_of, built_in_bases, all_built_ins}
 use Rattle.py_node.specs.Known.{known_texts}
 use Rattle.py_node.specs.Texts.{AreDistinct}
 use Rattle.class_model.specs.Start.{bases_from, built_class}
@@ -115,7 +118,7 @@ one-long bs None e = let l = ap (λ (ys : List ℕ). length ys) e in omega (arit
 one-long bs (Some b) e = let l = ap (λ (ys : List ℕ). length ys) e in omega (arith, l)
 
 pub built-below : (i : ℕ) (d : BuiltIn) → i < 23 → base_below i (base_of (get_or all_built_ins i d)) ≡ true
-unfolding all_built_ins base_of
+unfolding all_built_ins base_of built_in_bases place_of
 built-below i d h = let z : 0 + i ≡ i = omega arith in subst (λ n. base_below n (base_of (get_or all_built_ins i d)) ≡ true) z (bases-at 0 all_built_ins i d refl h)
 
 -- the built-in classes that were made so far: each has its place as its number
@@ -164,3 +167,35 @@ place-from n (b ∷ bs) (suc i) d h l = let r = place-from (suc n) bs i d (split
 pub made-place : (i : ℕ) (d : BuiltIn) → i < 23 → place_of (get_or all_built_ins i d) ≡ i
 unfolding all_built_ins place_of places_at
 made-place i d l = let r = place-from 0 all_built_ins i d refl l in omega arith
+
+pub built-count : length all_built_ins ≡ 23
+unfolding all_built_ins
+built-count = refl
+
+-- a row of the table of built-in classes
+abbrev pub Row : Type 0
+Row = BuiltIn × Bor (List ℕ) × Option BuiltIn × PyTypeFlags
+
+abbrev pub no_row : Row
+no_row = (Object, record { ref_ptr = (0, 0); now = [] }, None, record { 0 = 0 })
+
+-- the class in a row
+pub class-in-row : (rows : List Row) (i : ℕ) (r : Row) (d : BuiltIn) → i < length rows → get_or (map (λ r. r.0) rows) i d ≡ (get_or rows i r).0
+class-in-row [] i r d l = absurd (omega arith)
+class-in-row (x ∷ xs) zero r d l = refl
+class-in-row (x ∷ xs) (suc i) r d l = class-in-row xs i r d (omega arith)
+
+-- nothing stands past the end of a list
+pub past : {A : Type 0} (xs : List A) (i : ℕ) → length xs ≤ i → slice_get xs i ≡ None
+past [] i l = refl
+past (x ∷ xs) zero l = absurd (omega arith)
+past (x ∷ xs) (suc i) l = past xs i (omega arith)
+
+-- the class in a row, by its place
+pub in-row : (rows : List Row) (i : ℕ) → map (λ r. r.0) rows ≡ all_built_ins → i < length rows → get_or all_built_ins i Object ≡ (get_or rows i no_row).0
+in-row rows i e l = sym (ap (λ bs. get_or bs i Object) e) ∙ class-in-row rows i no_row Object l
+
+-- a walk over the rows for their classes is one over the classes
+pub fold-rows : {Y : Type 0} (f : Y → BuiltIn → Y) (a : Y) (rows : List Row) → fold (λ y r. f y r.0) a rows ≡ fold f a (map (λ r. r.0) rows)
+fold-rows f a [] = refl
+fold-rows f a (r ∷ rows) = fold-rows f (f a r.0) rows

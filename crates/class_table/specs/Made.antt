@@ -2,6 +2,7 @@
 use Rattle.std.specs.Prelude.{◌≡◌, ℕ, cond, List, [], ◌∷◌, ◌++◌, map, length, Some}
 use Rattle.py_node.specs.declared.refs.PyStrInterned.{PyStrInterned}
 use Rattle.py_node.specs.Attributes.{AreNamesDistinct}
+use Rattle.py_node.specs.Slots.{slot_count}
 use Rattle.class_model.specs.Order.{has}
 use Rattle.class_model.specs.Class.{Class, lin}
 use Rattle.class_model.specs.Layout.{base, solid}
@@ -12,7 +13,7 @@ use Rattle.class_table.specs.Kept.{Kept, class_of, plain}
 pub record IsFresh (kept : List Kept) (c : Class PyStrInterned) (k : Kept) : Type 0 where
   pub class : class_of k ≡ c
   pub attrs : AreNamesDistinct c.attrs
-  pub full : length k.slots ≡ 73
+  pub full : length k.slots ≡ slot_count
   pub mro : lin (with_class (plain kept) c) c.number ≡ Some k.mro
   pub base : base (with_class (plain kept) c) c.number ≡ k.base
   pub solid : solid (with_class (plain kept) c) c.number ≡ k.solid

@@ -2,7 +2,7 @@
 use Rattle.std.specs.Prelude.{◌≡◌, ℕ, true, false, cond, List, Some, length, slice_get}
 use Rattle.py_node.specs.declared.refs.PyStrInterned.{PyStrInterned}
 use Rattle.py_node.specs.declared.entry.SlotId.{SlotId}
-use Rattle.py_node.specs.Slots.{place_of}
+use Rattle.py_node.specs.Slots.{place_of, slot_count}
 use Rattle.class_model.specs.Order.{has}
 use Rattle.class_model.specs.Class.{Classes}
 use Rattle.class_model.specs.Slot.{is_name_of, entry, entries}
@@ -12,7 +12,7 @@ use Rattle.class_table.specs.Kept.{Kept, plain}
 
 -- every slot but those of a name holds what its definition says
 pub record IsNear (t : Classes PyStrInterned) (name : PyStrInterned) (k : Kept) : Type 0 where
-  pub count : length k.slots ≡ 73
+  pub count : length k.slots ≡ slot_count
   pub others : (s : SlotId) → is_name_of table_keys s name ≡ false → slice_get k.slots (place_of s) ≡ Some (entry table_keys natives_of t k.number s)
 
 -- the same of each class that has a class along its linearisation

@@ -2,6 +2,7 @@
 
 ghost use Rattle.std.specs.Prelude.{◌≡◌, ◌≤◌, ◌||◌, ◌++◌, ◌∷◌, [], ℕ, List, cond, not, nat_lt, length, Some, OnOk, OnErr, IfOk, true};
 ghost use Rattle.py_node.specs.Attributes.{AreNamesDistinct};
+ghost use Rattle.py_node.specs.Slots.{slot_count};
 ghost use Rattle.class_model.specs.Order.{Distinct};
 ghost use Rattle.class_model.specs.Class.{is_class};
 ghost use Rattle.class_model.specs.Numbers.{is_ascending, limit};
@@ -20,15 +21,13 @@ use crate::inherit::{inherited, places, rest_of_line};
 use crate::place::place;
 use crate::refresh::settle;
 use crate::stored::{NewClass, SLOTS, Stored};
+use py_node::built_in::BUILT_IN_COUNT;
 use py_node::{OutOfMemory, PyAttributes, PyStrInterned, PyTypeRef, SlotEntry};
 use std::alloc::Global;
 
-// How many classes are built in: they are the first.
-const BUILT_INS: u64 = 23;
-
 // Empty slots.
 fn empty_slots(alloc: Global) -> Result<Vec<Option<SlotEntry>>, OutOfMemory>
-    ensures { IfOk result (λ v. length v.items ≡ 73) }
+    ensures { IfOk result (λ v. length v.items ≡ slot_count) }
 {
     let mut slots = Vec::new(alloc);
     for _place in 0..SLOTS {
@@ -55,7 +54,7 @@ fn solid_of(
     ensures { number_of result ≡
         cond (nat_lt number.0 built_ins || not (is_empty members.now)) (Some number.0) (number_of inherited) }
 {
-    if number.0 < BUILT_INS || !members.is_empty() {
+    if number.0 < BUILT_IN_COUNT || !members.is_empty() {
         Some(number)
     } else {
         inherited

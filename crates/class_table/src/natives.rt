@@ -1,102 +1,97 @@
-//! What stands in the slots of the built-in classes.
+//! What stands in the slots of the built-in classes: their own attributes say it.
 
-ghost use Rattle.std.specs.Prelude.{◌≡◌, Some};
-ghost use Rattle.py_node.specs.declared.entry.SlotEntry.TheVariants.{Native};
-ghost use Rattle.class_model.specs.BuiltIn.{natives_of, object_natives, type_natives, int_natives, function_natives, method_natives, native_function_natives, builtin_method_natives, method_descriptor_natives};
+ghost use Rattle.std.specs.Prelude.{◌≡◌};
+ghost use Rattle.py_node.specs.Slots.{names_of, filling_of};
+ghost use Rattle.class_model.specs.BuiltIn.{is_among, is_number, is_sequence, fills, new_native, compare_native, entry_of, entry_among, natives_of};
 
+use py_node::attr::OwnAttr;
+use py_node::built_in::BUILT_IN_COUNT;
+use py_node::own_attrs::attrs_of;
 use py_node::{
-    CallableNative, IntNative, NativeEntry, ObjectNative, PyTypeRef, SlotEntry, SlotId, TypeNative,
+    Attr, BuiltIn, CompareNative, Filling, Known, NativeEntry, ObjectNative, PyTypeRef, SlotEntry,
+    SlotId, TypeNative,
 };
 
-fn native(native: NativeEntry) -> Option<SlotEntry>
-    ensures { result ≡ Some (Native native) }
+// Whether a name is a special name of a slot.
+fn is_special(slot: SlotId, name: Known) -> bool
+    ensures { result ≡ is_among name (names_of slot) }
 {
-    Some(SlotEntry::Native(native))
+    slot.special_names().iter().any(|special| name == *special)
 }
 
-fn of_object(slot: SlotId) -> Option<SlotEntry>
-    ensures { result ≡ object_natives slot }
+// Whether a class's objects are whole numbers.
+fn is_number(class: BuiltIn) -> bool
+    ensures { result ≡ is_number class }
 {
-    match slot {
-        SlotId::Hash => native(NativeEntry::OfObject(ObjectNative::Hash)),
-        SlotId::Repr => native(NativeEntry::OfObject(ObjectNative::Repr)),
-        SlotId::Getattro => native(NativeEntry::OfObject(ObjectNative::GetAttribute)),
-        SlotId::Setattro => native(NativeEntry::OfObject(ObjectNative::SetAttr)),
-        SlotId::Richcompare => native(NativeEntry::OfObject(ObjectNative::Compare)),
-        SlotId::Init => native(NativeEntry::OfObject(ObjectNative::Init)),
-        SlotId::New => native(NativeEntry::OfObject(ObjectNative::New)),
+    class == BuiltIn::Int || class == BuiltIn::Bool
+}
+
+// Whether a class's objects are concatenated and repeated.
+fn is_sequence(class: BuiltIn) -> bool
+    ensures { result ≡ is_sequence class }
+{
+    class == BuiltIn::Str || class == BuiltIn::Tuple || class == BuiltIn::List
+}
+
+// Whether an own attribute of that name fills the slot of a class.
+fn fills(class: BuiltIn, slot: SlotId, filling: Filling, name: Known) -> bool
+    ensures { result ≡ fills class slot filling name }
+{
+    match filling {
+        Filling::BySpecial => is_special(slot, name),
+        Filling::NotDict => class != BuiltIn::Dict && is_special(slot, name),
+        Filling::Number(method) => is_number(class) && name == method,
+        Filling::Sequence(method) => is_sequence(class) && name == method,
+    }
+}
+
+// What makes the objects of a class.
+fn new_native(class: BuiltIn) -> NativeEntry
+    ensures { result ≡ new_native class }
+{
+    match class {
+        BuiltIn::Object => NativeEntry::OfObject(ObjectNative::New),
+        BuiltIn::TypeType => NativeEntry::OfType(TypeNative::New),
+        _ => NativeEntry::NewOf(class),
+    }
+}
+
+// All six comparisons of a class, as one.
+fn compare_native(class: BuiltIn) -> NativeEntry
+    ensures { result ≡ compare_native class }
+{
+    match class {
+        BuiltIn::Object => NativeEntry::OfObject(ObjectNative::Compare),
+        _ => NativeEntry::Compare(class, CompareNative::All),
+    }
+}
+
+// What an own attribute of a class is in a slot that it fills.
+fn entry_of(class: BuiltIn, slot: SlotId, attr: Attr) -> Option<SlotEntry>
+    ensures { result ≡ entry_of class slot attr }
+{
+    match attr {
+        Attr::New => Some(SlotEntry::Native(new_native(class))),
+        Attr::Method(_) if slot == SlotId::Richcompare => {
+            Some(SlotEntry::Native(compare_native(class)))
+        }
+        Attr::Method(native) => Some(SlotEntry::Native(native)),
+        Attr::NoHash => Some(SlotEntry::Unhashable),
         _ => None,
     }
 }
 
-fn of_type(slot: SlotId) -> Option<SlotEntry>
-    ensures { result ≡ type_natives slot }
+// What a class has in a slot by some of its attributes: the first that fills the slot says it.
+fn entry_among(class: BuiltIn, slot: SlotId, attrs: &[OwnAttr]) -> Option<SlotEntry>
+    ensures { result ≡ entry_among class slot attrs.now }
 {
-    match slot {
-        SlotId::Call => native(NativeEntry::OfType(TypeNative::Call)),
-        SlotId::Repr => native(NativeEntry::OfType(TypeNative::Repr)),
-        SlotId::Getattro => native(NativeEntry::OfType(TypeNative::GetAttribute)),
-        SlotId::Setattro => native(NativeEntry::OfType(TypeNative::SetAttr)),
-        SlotId::New => native(NativeEntry::OfType(TypeNative::New)),
-        _ => None,
+    let filling = slot.filling();
+    for attr in attrs {
+        if fills(class, slot, filling, attr.0) {
+            return entry_of(class, slot, attr.1);
+        }
     }
-}
-
-fn of_int(slot: SlotId) -> Option<SlotEntry>
-    ensures { result ≡ int_natives slot }
-{
-    match slot {
-        SlotId::Add => native(NativeEntry::OfInt(IntNative::Add)),
-        SlotId::RightAdd => native(NativeEntry::OfInt(IntNative::Add)),
-        _ => None,
-    }
-}
-
-fn of_function(slot: SlotId) -> Option<SlotEntry>
-    ensures { result ≡ function_natives slot }
-{
-    match slot {
-        SlotId::Call => native(NativeEntry::OfCallable(CallableNative::CallFunction)),
-        SlotId::DescrGet => native(NativeEntry::OfCallable(CallableNative::GetFunction)),
-        _ => None,
-    }
-}
-
-fn of_method(slot: SlotId) -> Option<SlotEntry>
-    ensures { result ≡ method_natives slot }
-{
-    match slot {
-        SlotId::Call => native(NativeEntry::OfCallable(CallableNative::CallMethod)),
-        _ => None,
-    }
-}
-
-fn of_native_function(slot: SlotId) -> Option<SlotEntry>
-    ensures { result ≡ native_function_natives slot }
-{
-    match slot {
-        SlotId::Call => native(NativeEntry::OfCallable(CallableNative::CallNativeFunction)),
-        _ => None,
-    }
-}
-
-fn of_builtin_method(slot: SlotId) -> Option<SlotEntry>
-    ensures { result ≡ builtin_method_natives slot }
-{
-    match slot {
-        SlotId::Call => native(NativeEntry::OfCallable(CallableNative::CallBuiltinMethod)),
-        _ => None,
-    }
-}
-
-fn of_method_descriptor(slot: SlotId) -> Option<SlotEntry>
-    ensures { result ≡ method_descriptor_natives slot }
-{
-    match slot {
-        SlotId::Call => native(NativeEntry::OfCallable(CallableNative::CallMethodDescriptor)),
-        SlotId::DescrGet => native(NativeEntry::OfCallable(CallableNative::GetMethodDescriptor)),
-        _ => None,
-    }
+    None
 }
 
 /// What stands in a slot of a built-in class, by the number of the class.
@@ -104,15 +99,9 @@ fn of_method_descriptor(slot: SlotId) -> Option<SlotEntry>
 pub fn built_in_entry(class: PyTypeRef, slot: SlotId) -> Option<SlotEntry>
     ensures { result ≡ natives_of class.0 slot }
 {
-    match class.0 {
-        0 => of_object(slot),
-        1 => of_type(slot),
-        4 => of_int(slot),
-        10 => of_function(slot),
-        11 => of_method(slot),
-        12 => of_native_function(slot),
-        13 => of_builtin_method(slot),
-        14 => of_method_descriptor(slot),
-        _ => None,
+    if class.0 >= BUILT_IN_COUNT {
+        return None;
     }
+    let class = BuiltIn::at(class.0 as usize);
+    entry_among(class, slot, attrs_of(class))
 }

@@ -1,7 +1,7 @@
 //! Slots that are found anew after an attribute was set.
 
 ghost use Rattle.std.specs.Prelude.{◌≡◌, ◌<◌, length, slice_set, slice_index_or};
-ghost use Rattle.py_node.specs.Slots.{place_of};
+ghost use Rattle.py_node.specs.Slots.{place_of, slot_count};
 ghost use Rattle.class_model.specs.Slot.{is_name_of, entry};
 ghost use Rattle.class_model.specs.BuiltIn.{natives_of};
 ghost use Rattle.class_table.specs.Kept.{Kept, plain};
@@ -12,6 +12,9 @@ ghost use Rattle.class_table.specs.Patch.{IsNear, AreNear, IsRefreshed, settled}
 use crate::entries::entry;
 use crate::stored::{SLOTS, Stored};
 use py_node::{PyStrInterned, PyTypeRef, SlotId};
+
+// How many special names there are: they are the first names.
+const SPECIAL_NAMES: u64 = 70;
 
 // Whether a name is one of a slot's.
 fn is_name_of(slot: SlotId, name: PyStrInterned) -> bool
@@ -59,7 +62,7 @@ fn patch(classes: &mut [Stored], at: usize, name: PyStrInterned)
 pub(crate) fn settle(classes: &mut [Stored], at: usize)
     requires lines { HasLines classes.old }
     requires inside { at < length classes.old }
-    requires full { (d : Kept) → length (slice_index_or classes.old at d).slots ≡ 73 }
+    requires full { (d : Kept) → length (slice_index_or classes.old at d).slots ≡ slot_count }
     ensures { (d : Kept) → classes.new ≡
         slice_set classes.old at (settled (plain classes.old) (slice_index_or classes.old at d)) }
 {
@@ -87,7 +90,7 @@ pub(crate) fn refresh(classes: &mut [Stored], class: PyTypeRef, name: PyStrInter
     requires near { AreNear name class.0 classes.old }
     ensures { IsRefreshed class.0 classes.old classes.new }
 {
-    if name.0 < 70 {
+    if name.0 < SPECIAL_NAMES {
         patch_all(classes, class, name);
     }
 }

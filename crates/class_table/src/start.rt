@@ -1,7 +1,6 @@
 //! What a world begins with: the names that it knows, by whose numbers slots are read, and the built-in classes.
 
 ghost use Rattle.std.specs.Prelude.{◌≡◌, map, IfOk};
-ghost use Rattle.py_node.specs.BuiltIns.{all_built_ins};
 ghost use Rattle.py_node.specs.Known.{known_texts};
 ghost use Rattle.py_node.specs.Texts.{AreDistinct};
 ghost use Rattle.class_model.specs.Start.{built_class};
@@ -11,33 +10,6 @@ use crate::stored::NewClass;
 use py_node::known::all_known;
 use py_node::{BuiltIn, Known, Names, OutOfMemory, PyAttributes};
 use std::alloc::Global;
-
-// The built-in classes, in the order of their places.
-const BUILT_INS: [BuiltIn; 23] = [
-    BuiltIn::Object,
-    BuiltIn::TypeType,
-    BuiltIn::NoneType,
-    BuiltIn::NotImplementedType,
-    BuiltIn::Int,
-    BuiltIn::Bool,
-    BuiltIn::Str,
-    BuiltIn::Tuple,
-    BuiltIn::List,
-    BuiltIn::Dict,
-    BuiltIn::Function,
-    BuiltIn::Method,
-    BuiltIn::BuiltinFunctionOrMethod,
-    BuiltIn::BuiltinMethod,
-    BuiltIn::MethodDescriptor,
-    BuiltIn::GetSetDescriptor,
-    BuiltIn::MemberDescriptor,
-    BuiltIn::Property,
-    BuiltIn::ClassMethod,
-    BuiltIn::StaticMethod,
-    BuiltIn::Super,
-    BuiltIn::Iterator,
-    BuiltIn::Slice,
-];
 
 /// The table of names of a new world: those that every world knows, so that each has its number.
 pub fn known_names(alloc: Global) -> Result<Names, OutOfMemory>
@@ -56,14 +28,6 @@ fn table_of(alloc: Global, rows: &[(Known, &str)]) -> Result<Names, OutOfMemory>
         names.intern(row.1)?;
     }
     Ok(names)
-}
-
-/// The built-in classes, in the order of their numbers.
-#[tactic(auto, unfolding(py_node::specs::BuiltIns::all_built_ins))]
-pub fn built_ins() -> &'static [BuiltIn]
-    ensures { result.now ≡ all_built_ins }
-{
-    &BUILT_INS
 }
 
 // A built-in class, to be put into the table.

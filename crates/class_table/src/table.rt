@@ -27,8 +27,9 @@ use crate::inherit::{best_base, may_derive, only};
 use crate::place::{find, number_in, stored_at, takes};
 use crate::put::put_in;
 use crate::read::{own_entry, read, value_along, value_past};
-use crate::start::{built_ins, new_class};
+use crate::start::new_class;
 use crate::stored::{NewClass, Stored};
+use py_node::built_in::built_ins;
 use py_node::{
     Cause, OutOfMemory, PyAttributes, PyObjectRef, PyStrInterned, PyTypeFlags, PyTypeRef,
     SlotEntry, SlotId,
@@ -64,8 +65,8 @@ impl ClassTable {
         ensures { IfOk result (λ t. t ≡ built_in_classes) }
     {
         let mut table = ClassTable::empty(alloc);
-        for class in built_ins() {
-            let new = new_class(alloc, *class)?;
+        for row in built_ins() {
+            let new = new_class(alloc, row.0)?;
             table.add_class(new)?;
         }
         Ok(table)

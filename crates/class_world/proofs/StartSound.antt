@@ -7,7 +7,7 @@ use Rattle.py_node.specs.declared.refs.PyStrInterned.{PyStrInterned}
 use Rattle.py_node.specs.declared.built_in.BuiltIn.{BuiltIn}
 use Rattle.py_node.specs.declared.built_in.BuiltIn.TheVariants as built_in
 use Rattle.plain_machine.specs.Sound.{holds_as, held_by}
-use Rattle.py_node.specs.BuiltIns.{place_of, base_of, all_built_ins}
+use Rattle.py_node.specs.BuiltIns.{place_of, base_of, built_in_bases, all_built_ins}
 use Rattle.class_model.specs.Order.{linear, least_order, arrangements, all_arrangements}
 use Rattle.py_node.specs.Known.{known_texts}
 use Rattle.class_model.specs.Class.{Class, class_at, is_class, has_flag, renamed}
@@ -61,7 +61,7 @@ started = record { names = known_texts; forms = []; nodes = start_nodes; classes
 
 -- by computing each linearisation
 started-own : (b : BuiltIn) → held_by started.classes (place_of b) ≡ Some (holds_as b)
-unfolding all_built_ins place_of base_of linear least_order all_arrangements arrangements
+unfolding all_built_ins built_in_bases place_of base_of linear least_order all_arrangements arrangements
 started-own built_in.Object = refl
 started-own built_in.TypeType = refl
 started-own built_in.NoneType = refl

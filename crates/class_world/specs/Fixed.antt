@@ -1,10 +1,11 @@
 -- The objects that every world has.
 use Rattle.std.specs.Prelude.{ℕ}
+use Rattle.py_node.specs.BuiltIns.{fixed_none, fixed_not_implemented, fixed_false, fixed_true}
 use Rattle.class_world.specs.declared.world.Fixed.{Fixed}
 use Rattle.class_world.specs.declared.world.Fixed.TheVariants.{None, NotImplemented, False, True}
 
 abbrev pub number_of_fixed : Fixed → ℕ
-number_of_fixed None = 23
-number_of_fixed NotImplemented = 24
-number_of_fixed False = 25
-number_of_fixed True = 26
+number_of_fixed None = fixed_none
+number_of_fixed NotImplemented = fixed_not_implemented
+number_of_fixed False = fixed_false
+number_of_fixed True = fixed_true

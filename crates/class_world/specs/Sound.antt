@@ -1,5 +1,5 @@
 -- What is said of numbers, and that all that a world says of them is so.
-use Rattle.std.specs.Prelude.{◌≡◌, ℕ, ◌<◌, ◌≤◌, ◌^◌, Bool, true, false, List, [], ◌∷◌, ◌++◌, Option, Some, None, is_some, length, map, slice_get, option_map, option_and_then, string_bytes}
+use Rattle.std.specs.Prelude.{◌≡◌, ℕ, ◌<◌, ◌≤◌, Bool, true, false, List, [], ◌∷◌, ◌++◌, Option, Some, None, is_some, length, map, slice_get, option_map, option_and_then, string_bytes}
 use Rattle.std.specs.List.{All}
 use Rattle.py_node.specs.declared.refs.PyObjectRef.{PyObjectRef}
 use Rattle.py_node.specs.declared.refs.PyStrInterned.{PyStrInterned}
@@ -13,7 +13,7 @@ use Rattle.py_node.specs.Attributes.{value_of, is_same_name, AreNamesDistinct}
 use Rattle.py_node.specs.Known.{known_texts}
 use Rattle.py_node.specs.declared.built_in.BuiltIn.{BuiltIn}
 use Rattle.py_node.specs.declared.built_in.BuiltIn.TheVariants as built_in
-use Rattle.py_node.specs.BuiltIns.{place_of}
+use Rattle.py_node.specs.BuiltIns.{place_of, built_in_count, fixed_node_count, has_dict as dict_flag}
 use Rattle.class_model.specs.Class.{Class, class_at, is_class, has_flag}
 use Rattle.class_table.specs.Refused.{is_base_at}
 use Rattle.plain_machine.specs.Known.{the_dict}
@@ -204,7 +204,7 @@ of_dict true = IsClass the_dict ∷ []
 of_dict false = []
 
 abbrev pub of_class : Class PyStrInterned → List Claim
-of_class k = IsNode (record { 0 = k.number }) ∷ AreNames k.members ∷ of_dict (has_flag (2 ^ 40) k) ++ of_each of_binding k.attrs
+of_class k = IsNode (record { 0 = k.number }) ∷ AreNames k.members ∷ of_dict (has_flag dict_flag k) ++ of_each of_binding k.attrs
 
 -- all that the world says is so, the parts of each expression stand before it, and the names that are known come first
 pub record Sound (w : Held) : Type 0 where
@@ -221,8 +221,8 @@ pub record Sound (w : Held) : Type 0 where
   pub standing : (c : ℕ) → is_class w.classes c ≡ true → Holds w (Standing c (record { 0 = c }))
   pub itself : (n c : ℕ) → held_class w.nodes (record { 0 = n }) ≡ Some c → n ≡ c
   -- the fixed nodes and the built-in classes are there
-  pub fixed : 27 ≤ length w.nodes
-  pub built_in : (c : ℕ) → c < 23 → is_class w.classes c ≡ true
+  pub fixed : fixed_node_count ≤ length w.nodes
+  pub built_in : (c : ℕ) → c < built_in_count → is_class w.classes c ≡ true
   -- and the objects of each hold what they should
   pub own : (b : BuiltIn) → Holds w (IsOf (place_of b) (holds_as b))
   pub known : (n : ℕ) (x : List ℕ) → slice_get known_texts n ≡ Some x → slice_get w.names n ≡ Some x

@@ -4,19 +4,21 @@ ghost use Rattle.std.specs.Prelude.{◌≡◌, fold, Some, None, IfOk, OnOk};
 ghost use Rattle.py_node.specs.BuiltIns.{place_of, all_built_ins};
 ghost use Rattle.plain_machine.specs.Plain.{AMethodDescriptor, AGetSet};
 ghost use Rattle.plain_machine.specs.World.{with_node, next_node};
-ghost use Rattle.py_node.specs.declared.entry.NativeEntry.TheVariants.{Getter};
-ghost use Rattle.plain_machine.specs.Start.{attr_class, attr_datum, with_attr, with_attrs};
+ghost use Rattle.plain_machine.specs.Start.{attr_class, attr_datum, with_value, value_in, with_attr, with_attrs};
 ghost use Rattle.class_world.specs.Reading.{Reading, Reads, datum, plain};
 ghost use Rattle.py_node.specs.declared.built_in.BuiltIn.TheVariants as built_in;
 ghost use Rattle.plain_machine.specs.Sound.{holds_as};
 ghost use Rattle.class_world.specs.Sound.{IsName, IsNode, Holds, AllHold, Grows, home_of, class_in, of_payload};
 
-use crate::world::World;
-use class_table::start::built_ins;
-use py_node::own_attrs::Attr::{self, ClassMethod, Method, New, ReadOnly, Settable};
-use py_node::own_attrs::{OwnAttr, attrs_of};
+use crate::world::{Fixed, World};
+use py_node::attr::Attr::{
+    self, ClassMethod, Method, New, NoHash, Part, ReadOnly, Settable, SettablePart,
+};
+use py_node::attr::OwnAttr;
+use py_node::built_in::built_ins;
+use py_node::own_attrs::attrs_of;
 use py_node::{
-    BuiltIn, GetSet, MethodDescriptor, NativeEntry, NativeFunction, OutOfMemory, Payload, Property,
+    BuiltIn, GetSet, MethodDescriptor, NativeEntry, NativeFunction, OutOfMemory, Payload,
     PyMethodFlags, PyObjectRef, PyStrInterned,
 };
 
@@ -26,8 +28,8 @@ pub(crate) fn add_own_attrs(world: &mut World) -> Result<(), OutOfMemory>
         fold with_attrs (plain t world.old) all_built_ins) }
     ensures reads { (t : Reading) → Reads t world.new → Reads t world.old }
 {
-    for class in built_ins() {
-        add_attrs(world, *class)?;
+    for row in built_ins() {
+        add_attrs(world, row.0)?;
     }
     Ok(())
 }
@@ -52,12 +54,33 @@ fn add_attr(world: &mut World, class: BuiltIn, attr: OwnAttr) -> Result<(), OutO
     ensures reads { (t : Reading) → Reads t world.new → Reads t world.old }
 {
     let name = world.known(attr.0);
-    let node = add_object(world, class, name, attr.1)?;
+    let value = add_value(world, class, name, attr.1)?;
     let holder = world.built_in(class);
-    world.put_class_attr(holder, name, node)
+    world.put_class_attr(holder, name, value)
 }
 
-// The object that an own attribute holds.
+// The object that an own attribute holds: a new one, or None.
+fn add_value(
+    world: &mut World,
+    class: BuiltIn,
+    name: PyStrInterned,
+    attr: Attr,
+) -> Result<PyObjectRef, OutOfMemory>
+    requires { Holds world.old (IsName name) }
+    ensures made { OnOk result ((t : Reading) → plain t world.new ≡
+        with_value class (plain t world.old) (t.text name.0) attr) }
+    ensures number { IfOk result (λ r. (t : Reading) → r ≡ value_in (plain t world.old) attr) }
+    ensures reads { (t : Reading) → Reads t world.new → Reads t world.old }
+    ensures grows { Grows world.old world.new }
+    ensures node { IfOk result (λ r. Holds world.new (IsNode r)) }
+{
+    match attr {
+        NoHash => Ok(world.fixed(Fixed::None)),
+        _ => add_object(world, class, name, attr),
+    }
+}
+
+// A new object, as an own attribute holds it.
 fn add_object(
     world: &mut World,
     class: BuiltIn,
@@ -66,7 +89,7 @@ fn add_object(
 ) -> Result<PyObjectRef, OutOfMemory>
     requires { Holds world.old (IsName name) }
     ensures made { OnOk result ((t : Reading) → plain t world.new ≡
-        with_node (plain t world.old) (place_of (attr_class attr)) (attr_datum (place_of class) (t.text name.0) attr)) }
+        with_node (plain t world.old) (place_of (attr_class attr)) (attr_datum class (t.text name.0) attr)) }
     ensures number { IfOk result (λ r. (t : Reading) → r ≡ next_node (plain t world.old) (place_of (attr_class attr))) }
     ensures reads { (t : Reading) → Reads t world.new → Reads t world.old }
     ensures grows { Grows world.old world.new }
@@ -84,14 +107,15 @@ fn class_of(attr: Attr) -> BuiltIn
     match attr {
         New => BuiltIn::BuiltinFunctionOrMethod,
         Method(_) | ClassMethod(_) => BuiltIn::MethodDescriptor,
-        ReadOnly(_) | Settable(_) => BuiltIn::GetSetDescriptor,
+        ReadOnly(_) | Settable(_) | Part(_) | SettablePart(_) => BuiltIn::GetSetDescriptor,
+        NoHash => BuiltIn::NoneType,
     }
 }
 
 // What this object is.
 fn payload_of(world: &World, class: BuiltIn, name: PyStrInterned, attr: Attr) -> Payload
     requires { Holds world.now (IsName name) }
-    ensures reads { (t : Reading) → datum t result ≡ attr_datum (place_of class) (t.text name.0) attr }
+    ensures reads { (t : Reading) → datum t result ≡ attr_datum class (t.text name.0) attr }
     ensures holds { AllHold world.now (of_payload result) }
     ensures home { home_of result ≡ holds_as (attr_class attr) }
     ensures other { class_in result ≡ None }
@@ -104,16 +128,35 @@ fn payload_of(world: &World, class: BuiltIn, name: PyStrInterned, attr: Attr) ->
         }),
         Method(entry) => descriptor(world, class, name, entry, PyMethodFlags::METHOD),
         ClassMethod(entry) => descriptor(world, class, name, entry, PyMethodFlags::CLASS),
-        ReadOnly(property) => get_set(world, class, name, property, None),
+        ReadOnly(property) => get_set(world, class, name, NativeEntry::Getter(property), None),
         Settable(property) => {
+            let setter = NativeEntry::Setter(property);
             get_set(
                 world,
                 class,
                 name,
-                property,
-                Some(NativeEntry::Setter(property)),
+                NativeEntry::Getter(property),
+                Some(setter),
             )
         }
+        Part(detail) => get_set(
+            world,
+            class,
+            name,
+            NativeEntry::GetterOf(class, detail),
+            None,
+        ),
+        SettablePart(detail) => {
+            let setter = NativeEntry::SetterOf(class, detail);
+            get_set(
+                world,
+                class,
+                name,
+                NativeEntry::GetterOf(class, detail),
+                Some(setter),
+            )
+        }
+        NoHash => Payload::Object,
     }
 }
 
@@ -144,12 +187,12 @@ fn get_set(
     world: &World,
     class: BuiltIn,
     name: PyStrInterned,
-    property: Property,
+    getter: NativeEntry,
     setter: Option<NativeEntry>,
 ) -> Payload
     requires { Holds world.now (IsName name) }
     ensures reads { (t : Reading) → datum t result ≡
-        AGetSet (place_of class) (t.text name.0) (Some (Getter property)) setter }
+        AGetSet (place_of class) (t.text name.0) (Some getter) setter }
     ensures holds { AllHold world.now (of_payload result) }
     ensures home { home_of result ≡ built_in.GetSetDescriptor }
     ensures other { class_in result ≡ None }
@@ -157,7 +200,7 @@ fn get_set(
     Payload::GetSet(GetSet {
         class: world.built_in(class),
         name,
-        getter: Some(NativeEntry::Getter(property)),
+        getter: Some(getter),
         setter,
     })
 }

@@ -16,10 +16,8 @@ ghost use Rattle.class_world.specs.Sound.{IsNode, IsClass, IsOf, Holding, Holds}
 
 use crate::world::World;
 use bitflags::Flags;
+use py_node::built_in::BUILT_IN_COUNT;
 use py_node::{Payload, PyMethodFlags, PyObjectRef, PyStrInterned, PyTypeFlags, PyTypeRef};
-
-// How many classes are built in: they are the first.
-const BUILT_INS: u64 = 23;
 
 impl World {
     /// The object that stands for a class.
@@ -114,7 +112,7 @@ fn first_built_in(line: &[PyTypeRef]) -> Option<PyTypeRef>
     ensures { first_with (λ d. nat_lt d built_ins) (numbers line.now) ≡ option_map (λ c. c.0) result }
 {
     for class in line {
-        if class.0 < BUILT_INS {
+        if class.0 < BUILT_IN_COUNT {
             return Some(*class);
         }
     }

@@ -1,6 +1,7 @@
 //! What is read of classes.
 
-ghost use Rattle.std.specs.Prelude.{◌≡◌, ◌^◌, Some, IfSome, IsTrue, option_map};
+ghost use Rattle.std.specs.Prelude.{◌≡◌, Some, IfSome, IsTrue, option_map};
+ghost use Rattle.py_node.specs.BuiltIns.{base_type};
 ghost use Rattle.class_model.specs.BuiltIn.{natives_of};
 ghost use Rattle.class_model.specs.Class.{class_at as class_numbered, found, found_past, own_of, is_sub, has_flag};
 ghost use Rattle.class_model.specs.Slot.{entry, slot as slot_read, candidates_of, is_heap_at};
@@ -137,7 +138,7 @@ impl World {
     /// Whether a class may have subclasses.
     pub fn can_be_base(&self, class: PyTypeRef) -> bool
         requires { Holds self.now (IsClass class.0) }
-        ensures flag { (t : Reading) → class_has_flag (plain t self.now) (2 ^ 10) (Some class.0) ≡ result }
+        ensures flag { (t : Reading) → class_has_flag (plain t self.now) base_type (Some class.0) ≡ result }
         ensures held { is_base_at (class_numbered self.now.classes class.0) ≡ result }
         ensures can { IsTrue result → Holds self.now (CanBeBase class.0) }
     {

@@ -4,7 +4,7 @@ ghost use Rattle.std.specs.Prelude.{◌≡◌, map, IfOk};
 ghost use Rattle.py_node.specs.BuiltIns.{all_built_ins};
 ghost use Rattle.class_world.specs.StartNodes.{plain_node as stored, class_node, start_nodes as the_start_nodes};
 
-use class_table::start::built_ins;
+use py_node::built_in::built_ins;
 use py_node::{Node, OutOfMemory, Payload, PyTypeRef};
 use std::alloc::Global;
 
@@ -25,8 +25,8 @@ fn class_nodes(alloc: Global) -> Result<Vec<Node>, OutOfMemory>
     ensures { IfOk result (λ v. v.items ≡ map class_node all_built_ins) }
 {
     let mut nodes = Vec::new(alloc);
-    for class in built_ins() {
-        nodes.push(plain_node(PyTypeRef(1), Payload::Class(class.class())))?;
+    for row in built_ins() {
+        nodes.push(plain_node(PyTypeRef(1), Payload::Class(row.0.class())))?;
     }
     Ok(nodes)
 }

@@ -15,7 +15,7 @@ use Rattle.plain_machine.specs.Row.{Row, start, ask, pass, end, value, none, fau
 
 -- a constant is a fixed object, or a new one
 abbrev pub const_say : PlainWorld → Literal → Row
-const_say w LNone = end w (value (ref 23))
+const_say w LNone = end w (value none)
 const_say w LFalse = end w (value (ref 25))
 const_say w LTrue = end w (value (ref 26))
 const_say w (LInt z) = make w the_int (ANumber z)

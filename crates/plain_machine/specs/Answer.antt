@@ -5,8 +5,8 @@ use Rattle.py_node.specs.Tree.{Tree}
 use Rattle.py_node.specs.Replies.{PlainReply, ToldValue, ToldRaise, ToldBudget}
 use Rattle.py_node.specs.Replies.{Told as Answering}
 use Rattle.plain_machine.specs.Plain.{PlainWorld, DoEval, PlainTask, ToEval, AsValue, Ended, Answered, Told, Said, Asks, Ends, Saying}
-use Rattle.plain_machine.specs.World.{at_depth, without_calls, ref}
-use Rattle.plain_machine.specs.Row.{fault}
+use Rattle.plain_machine.specs.World.{at_depth, without_calls}
+use Rattle.plain_machine.specs.Row.{fault, none}
 use Rattle.plain_machine.specs.Show.{show}
 
 -- how a command comes out: its row ended, or its units were used up
@@ -65,7 +65,7 @@ pub record Run : Type 0 where
 -- how a command is answered, with the text of its value in the world at its end. One that is answered no object answers None
 abbrev pub answering : PlainWorld → Ending → Answering
 answering w (Over (Ok (AsValue r))) = ToldValue r (show w r)
-answering w (Over (Ok other)) = ToldValue (ref 23) (show w (ref 23))
+answering w (Over (Ok other)) = ToldValue none (show w none)
 answering w (Over (Err x)) = ToldRaise x
 answering w NoUnits = ToldBudget
 

@@ -10,8 +10,14 @@ the_type = 1
 abbrev pub the_none_type : ℕ
 the_none_type = 2
 
+abbrev pub the_not_implemented_type : ℕ
+the_not_implemented_type = 3
+
 abbrev pub the_int : ℕ
 the_int = 4
+
+abbrev pub the_bool : ℕ
+the_bool = 5
 
 abbrev pub the_str : ℕ
 the_str = 6

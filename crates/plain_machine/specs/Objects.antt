@@ -1,7 +1,8 @@
 -- What rows read of objects and classes.
-use Rattle.std.specs.Prelude.{ℕ, ◌^◌, Bool, true, false, ◌&&◌, ◌==◌, nat_lt, List, [], ◌∷◌, Option, Some, None, option_map, option_and_then}
+use Rattle.std.specs.Prelude.{ℕ, Bool, true, false, ◌&&◌, ◌==◌, nat_lt, List, [], ◌∷◌, Option, Some, None, option_map, option_and_then}
 use Rattle.std.specs.Int.RustNames.{bit_and}
 use Rattle.py_node.specs.declared.refs.PyObjectRef.{PyObjectRef}
+use Rattle.py_node.specs.BuiltIns.{method_descriptor}
 use Rattle.py_node.specs.Tree.{Text}
 use Rattle.class_model.specs.Class.{class_at as class_numbered, Classes, found, is_sub, has_flag, lin}
 use Rattle.class_model.specs.Layout.{built_ins}
@@ -62,9 +63,9 @@ abbrev pub is_for_objects : Option Datum → Bool
 is_for_objects (Some (AMethodDescriptor c x n flags)) = for_objects flags
 is_for_objects _ = true
 
--- whether a method can be called with its object before the arguments, without being bound: its class has the flag of methods (2 ^ 17), and a native is one of objects
+-- whether a method can be called with its object before the arguments, without being bound: its class has the flag of methods, and a native is one of objects
 abbrev pub is_fast : PlainWorld → PyObjectRef → Bool
-is_fast w m = class_has_flag w (2 ^ 17) (class_at w m) && is_for_objects (datum_at w m)
+is_fast w m = class_has_flag w method_descriptor (class_at w m) && is_for_objects (datum_at w m)
 
 -- the first built-in class along a class's linearisation: its objects are objects of that
 abbrev pub nearest_built_in : {K : Type 0} → Classes K → ℕ → Option ℕ

@@ -7,6 +7,7 @@ use Rattle.py_node.specs.declared.raised.Kind.TheVariants.{AttributeError}
 use Rattle.py_node.specs.declared.raised.Cause.{Cause}
 use Rattle.py_node.specs.declared.raised.Cause.TheVariants.{NotYet}
 use Rattle.py_node.specs.declared.entry.SlotEntry.{SlotEntry}
+use Rattle.py_node.specs.BuiltIns.{fixed_none}
 use Rattle.py_node.specs.Tree.{Tree}
 use Rattle.py_node.specs.Faults.{raised}
 use Rattle.plain_machine.specs.Plain.{Datum, Bindings, PlainWorld, DoEval, PlainTask, ToEval, AsValue, AsDone, Ended, Fact, Answered, Made, Read, ReadObjects, ReadNames, Chose, Told, Said, Asks, Ends}
@@ -46,7 +47,7 @@ done = Ok AsDone
 
 -- None, as an object
 abbrev pub none : PyObjectRef
-none = ref 23
+none = ref fixed_none
 
 -- asks this, and ends as it does
 abbrev pub pass : PlainWorld → PlainTask → Said

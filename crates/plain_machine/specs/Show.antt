@@ -2,6 +2,7 @@
 use Rattle.std.specs.Prelude.{ℕ, zero, suc, List, [], ◌∷◌, ◌++◌, codes, map, take, drop, Option, Some, None, if◌then◌else◌, ◌==◌}
 use Rattle.std.specs.Fmt.{signed_decimal}
 use Rattle.py_node.specs.declared.refs.PyObjectRef.{PyObjectRef}
+use Rattle.py_node.specs.BuiltIns.{fixed_none, fixed_not_implemented, fixed_false, fixed_true}
 use Rattle.py_node.specs.Tree.{Text}
 use Rattle.reply_text.specs.Escapes.{escaped, quoted}
 use Rattle.reply_text.specs.Lines.{joined}
@@ -19,7 +20,7 @@ plain_text w c = codes "<" ++ class_name w c ++ codes " object>"
 
 -- the fixed objects
 abbrev pub fixed_text : ℕ → Option Text
-fixed_text n = if n == 23 then Some (codes "None") else if n == 24 then Some (codes "NotImplemented") else if n == 25 then Some (codes "False") else if n == 26 then Some (codes "True") else None
+fixed_text n = if n == fixed_none then Some (codes "None") else if n == fixed_not_implemented then Some (codes "NotImplemented") else if n == fixed_false then Some (codes "False") else if n == fixed_true then Some (codes "True") else None
 
 -- what is not shown
 abbrev pub dots : Text

@@ -1,17 +1,18 @@
--- The world of a new machine: a node for each built-in class, then None, NotImplemented, False and True, and then a node for each own attribute of a built-in class.
-use Rattle.std.specs.Prelude.{ℕ, pos, List, [], ◌∷◌, ◌++◌, Some, None, map, fold}
+-- The world of a new machine: a node for each built-in class, then None, NotImplemented, False and True, and then a node for each own attribute of a built-in class but None.
+use Rattle.std.specs.Prelude.{ℕ, pos, Bool, true, false, cond, List, [], ◌∷◌, ◌++◌, Some, None, map, fold}
 use Rattle.py_node.specs.declared.built_in.BuiltIn.{BuiltIn}
 use Rattle.py_node.specs.declared.built_in.BuiltIn.TheVariants as built_in
-use Rattle.py_node.specs.declared.entry.NativeEntry.TheVariants.{Getter, Setter, NewWrapper}
+use Rattle.py_node.specs.declared.entry.NativeEntry.TheVariants.{Getter, Setter, GetterOf, SetterOf, NewWrapper}
 use Rattle.py_node.specs.declared.known.Known.{Known}
-use Rattle.py_node.specs.declared.own_attrs.Attr.{Attr}
-use Rattle.py_node.specs.declared.own_attrs.Attr.TheVariants.{New, Method, ClassMethod, ReadOnly, Settable}
-use Rattle.py_node.specs.BuiltIns.{place_of, all_built_ins}
+use Rattle.py_node.specs.declared.attr.Attr.{Attr}
+use Rattle.py_node.specs.declared.attr.Attr.TheVariants.{New, Method, ClassMethod, ReadOnly, Settable, Part, SettablePart, NoHash}
+use Rattle.py_node.specs.BuiltIns.{place_of, all_built_ins, fixed_none}
 use Rattle.py_node.specs.Known.{known_text}
 use Rattle.py_node.specs.OwnAttrs.{own_attrs}
+use Rattle.py_node.specs.declared.refs.PyObjectRef.{PyObjectRef}
 use Rattle.py_node.specs.Tree.{Text}
 use Rattle.class_model.specs.Start.{built_in_classes}
-use Rattle.plain_machine.specs.Known.{the_type}
+use Rattle.plain_machine.specs.Known.{the_type, the_none_type, the_not_implemented_type, the_bool}
 use Rattle.plain_machine.specs.Plain.{Datum, AnObject, AClass, ANumber, ANativeFunction, AMethodDescriptor, AGetSet, no_members, Node, PlainWorld}
 use Rattle.plain_machine.specs.World.{ref, with_node, next_node, with_own_attr}
 
@@ -23,7 +24,7 @@ class_node b = simple_node the_type (AClass (place_of b))
 
 -- None, NotImplemented, False and True
 abbrev pub fixed_nodes : List Node
-fixed_nodes = simple_node 2 AnObject ∷ simple_node 3 AnObject ∷ simple_node 5 (ANumber (pos 0)) ∷ simple_node 5 (ANumber (pos 1)) ∷ []
+fixed_nodes = simple_node the_none_type AnObject ∷ simple_node the_not_implemented_type AnObject ∷ simple_node the_bool (ANumber (pos 0)) ∷ simple_node the_bool (ANumber (pos 1)) ∷ []
 
 -- the built-in classes without attributes, and the fixed objects
 abbrev pub bare : PlainWorld
@@ -36,20 +37,36 @@ attr_class (Method n) = built_in.MethodDescriptor
 attr_class (ClassMethod n) = built_in.MethodDescriptor
 attr_class (ReadOnly p) = built_in.GetSetDescriptor
 attr_class (Settable p) = built_in.GetSetDescriptor
+attr_class (Part d) = built_in.GetSetDescriptor
+attr_class (SettablePart d) = built_in.GetSetDescriptor
+attr_class NoHash = built_in.NoneType
 
 -- what this object is, for a class and a name. A method of the objects has the flag 2 ^ 9, and one of the class 2 ^ 4
-abbrev pub attr_datum : ℕ → Text → Attr → Datum
-attr_datum c x New = ANativeFunction x NewWrapper (Some (ref c))
-attr_datum c x (Method n) = AMethodDescriptor c x n 512
-attr_datum c x (ClassMethod n) = AMethodDescriptor c x n 16
-attr_datum c x (ReadOnly p) = AGetSet c x (Some (Getter p)) None
-attr_datum c x (Settable p) = AGetSet c x (Some (Getter p)) (Some (Setter p))
+abbrev pub attr_datum : BuiltIn → Text → Attr → Datum
+attr_datum b x New = ANativeFunction x NewWrapper (Some (ref (place_of b)))
+attr_datum b x (Method n) = AMethodDescriptor (place_of b) x n 512
+attr_datum b x (ClassMethod n) = AMethodDescriptor (place_of b) x n 16
+attr_datum b x (ReadOnly p) = AGetSet (place_of b) x (Some (Getter p)) None
+attr_datum b x (Settable p) = AGetSet (place_of b) x (Some (Getter p)) (Some (Setter p))
+attr_datum b x (Part d) = AGetSet (place_of b) x (Some (GetterOf b d)) None
+attr_datum b x (SettablePart d) = AGetSet (place_of b) x (Some (GetterOf b d)) (Some (SetterOf b d))
+attr_datum b x NoHash = AnObject
 
--- a new node for an attribute, under its name in its class
+-- whether this object is made for the attribute: all but None are
+abbrev pub is_made : Attr → Bool
+is_made NoHash = false
+is_made a = true
+
+-- the world with this object, and its number
+abbrev pub with_value : BuiltIn → PlainWorld → Text → Attr → PlainWorld
+with_value b w x a = cond (is_made a) (with_node w (place_of (attr_class a)) (attr_datum b x a)) w
+
+abbrev pub value_in : PlainWorld → Attr → PyObjectRef
+value_in w a = cond (is_made a) (next_node w (place_of (attr_class a))) (ref fixed_none)
+
+-- an own attribute under its name in its class
 unfoldable pub with_attr : BuiltIn → PlainWorld → Known × Attr → PlainWorld
-with_attr b w a =
-    let c = place_of (attr_class a.1) in
-    with_own_attr (with_node w c (attr_datum (place_of b) (known_text a.0) a.1)) (place_of b) (known_text a.0) (next_node w c)
+with_attr b w a = with_own_attr (with_value b w (known_text a.0) a.1) (place_of b) (known_text a.0) (value_in w a.1)
 
 -- the own attributes of a class, in order
 abbrev pub with_attrs : PlainWorld → BuiltIn → PlainWorld

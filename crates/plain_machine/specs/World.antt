@@ -1,10 +1,11 @@
 -- How the plain world is read and changed.
-use Rattle.std.specs.Prelude.{ℕ, zero, suc, ℤ, ◌+◌, ◌-◌, ◌^◌, Bool, false, eqb, cond, List, [], ◌∷◌, ◌++◌, Option, Some, None, length, take, slice_get, option_map, option_and_then}
+use Rattle.std.specs.Prelude.{ℕ, zero, suc, ℤ, ◌+◌, ◌-◌, Bool, false, eqb, cond, List, [], ◌∷◌, ◌++◌, Option, Some, None, length, take, slice_get, option_map, option_and_then}
 use Rattle.std.specs.Cmp.Lexicographic.{pointwise}
 use Rattle.py_node.specs.declared.refs.PyObjectRef.{PyObjectRef}
 use Rattle.py_node.specs.declared.entry.SlotId.{SlotId}
 use Rattle.py_node.specs.declared.entry.SlotEntry.{SlotEntry}
 use Rattle.py_node.specs.Attributes.{value_of, with_value}
+use Rattle.py_node.specs.BuiltIns.{has_dict as dict_flag}
 use Rattle.py_node.specs.Known.{known_text}
 use Rattle.py_node.specs.Tree.{Text}
 use Rattle.py_node.specs.Replies.{Started}
@@ -59,7 +60,7 @@ candidates_at w left right (Some c) (Some d) = candidates_of text_keys natives_o
 
 abbrev pub flag_in : Option (Class Text) → Bool
 flag_in None = false
-flag_in (Some k) = has_flag (2 ^ 40) k
+flag_in (Some k) = has_flag dict_flag k
 
 -- whether a class gives its objects a dict
 abbrev pub has_dict : PlainWorld → ℕ → Bool

@@ -175,7 +175,7 @@ init_by w _ o args kw = Ends w done
 -- a method that initialises must give None
 abbrev pub init_rest : PlainWorld → ℕ → Ended → Row
 init_rest w zero r = end w r
-init_rest w (suc n) r = on_value w r (λ v. cond (eqb v.0 23) (end w (value v)) (end w (fault InitNotNone)))
+init_rest w (suc n) r = on_value w r (λ v. cond (eqb v.0 none.0) (end w (value v)) (end w (fault InitNotNone)))
 
 abbrev pub init_say : PlainWorld → PyObjectRef → List PyObjectRef → Bindings → Row
 init_say w o args kw = fork (init_by w (slot_at w o Init) o args kw) (init_rest w)

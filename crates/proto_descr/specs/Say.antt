@@ -27,7 +27,7 @@ is_none_type (Some d) = eqb d the_none_type
 
 -- None, as an object that is looked at from its own class
 abbrev pub is_object_none : PyObjectRef → Option ℕ → Bool
-is_object_none o c = eqb o.0 23 && not (is_none_type c)
+is_object_none o c = eqb o.0 none.0 && not (is_none_type c)
 
 abbrev pub class_of_option : PlainWorld → Option PyObjectRef → Option ℕ
 class_of_option w None = None

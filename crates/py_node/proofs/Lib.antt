@@ -5,3 +5,4 @@ pub mod KnownNames
 pub mod SlotTables
 pub mod Operators
 pub mod Faults
+pub mod BuiltInTable

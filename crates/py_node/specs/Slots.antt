@@ -7,7 +7,9 @@ use Rattle.py_node.specs.declared.entry.SlotId.{SlotId}
 use Rattle.py_node.specs.declared.known.Known.{Known}
 use Rattle.py_node.specs.declared.slots.Sort.{Sort}
 use Rattle.py_node.specs.declared.slots.Sort.TheVariants.{Nearest}
-use Rattle.py_node.specs.declared.slots.TheConstants.{SLOTS, SPECIAL}
+use Rattle.py_node.specs.declared.slots.Filling.{Filling}
+use Rattle.py_node.specs.declared.slots.Filling.TheVariants.{BySpecial}
+use Rattle.py_node.specs.declared.slots.TheConstants.{SLOTS, SPECIAL, FILLINGS}
 use Rattle.py_node.specs.Tree.{Text}
 
 -- all slots, in the order in which they are printed
@@ -25,6 +27,14 @@ slot_sorts = map (λ r. r.2) SLOTS
 -- the special names of each
 unfoldable pub slot_names : List (List Known)
 slot_names = map (λ r. r.1.now) SPECIAL
+
+-- by which own attributes the built-in classes fill each
+unfoldable pub slot_fillings : List Filling
+slot_fillings = map (λ r. r.1) FILLINGS
+
+-- how many they are
+abbrev pub slot_count : ℕ
+slot_count = 73
 
 -- the place of a slot in the order
 unfoldable pub place_of : SlotId → ℕ
@@ -45,3 +55,7 @@ names_of s = slice_index_or slot_names (place_of s) []
 -- table; each other slot that of the nearest class which has it
 unfoldable pub sort_of : SlotId → Sort
 sort_of s = slice_index_or slot_sorts (place_of s) Nearest
+
+-- by which of its own attributes a built-in class fills a slot
+unfoldable pub filling_of : SlotId → Filling
+filling_of s = slice_index_or slot_fillings (place_of s) BySpecial

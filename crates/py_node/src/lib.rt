@@ -1,7 +1,10 @@
 //! Nodes of the machine: names, flags, slots, expressions, tasks and faults, as plain types.
 #![tactic(auto)]
 
+pub mod attr;
 pub mod attributes;
+pub mod attrs_of_callables;
+pub mod attrs_of_values;
 pub mod built_in;
 pub mod clone;
 pub mod entry;
@@ -20,6 +23,7 @@ pub mod reply;
 pub mod slots;
 pub mod task;
 
+pub use attr::Attr;
 pub use attributes::PyAttributes;
 pub use built_in::BuiltIn;
 pub use entry::{
@@ -33,7 +37,6 @@ pub use flags::{PyMethodFlags, PyTypeFlags};
 pub use known::Known;
 pub use memory::OutOfMemory;
 pub use names::Names;
-pub use own_attrs::Attr;
 pub use payload::{
     BoundMethod, BuiltinMethod, Form, Function, GetSet, MethodDescriptor, NativeFunction, Node,
     Payload,
@@ -42,7 +45,7 @@ pub use protocol::{CompareTask, ObjectTask, ProtocolTask};
 pub use raised::{Cause, Kind, Raised};
 pub use refs::{PyObjectRef, PyStrInterned, PyTypeRef};
 pub use reply::{BodyCall, Reply, ReplyAnswer};
-pub use slots::Sort;
+pub use slots::{Filling, Sort};
 pub use task::{
     Answer, AttributeTask, CallTask, ClassTask, DescriptorTask, EvalTask, OperatorTask,
     PyComparisonOp, PyMethod, PyNumberBinaryOp, PyNumberUnaryOp, PyResult, PySetterValue, Step,

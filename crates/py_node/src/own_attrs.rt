@@ -3,29 +3,17 @@
 ghost use Rattle.std.specs.Prelude.{◌≡◌};
 ghost use Rattle.py_node.specs.OwnAttrs.{own_attrs as the_own_attrs};
 
+use crate::attr::Attr::{ClassMethod, Method, New, ReadOnly, Settable};
+use crate::attr::OwnAttr;
+use crate::attrs_of_callables::{
+    BUILTIN_FUNCTION_OR_METHOD, BUILTIN_METHOD, CLASS_METHOD, FUNCTION, GET_SET_DESCRIPTOR,
+    ITERATOR, MEMBER_DESCRIPTOR, METHOD, METHOD_DESCRIPTOR, PROPERTY, SLICE, STATIC_METHOD, SUPER,
+};
+use crate::attrs_of_values::{BOOL, DICT, INT, LIST, NONE_TYPE, NOT_IMPLEMENTED_TYPE, STR, TUPLE};
 use crate::built_in::BuiltIn;
-use crate::entry::NativeEntry::{self, OfCallable, OfInt, OfObject, OfType};
-use crate::entry::{CallableNative, IntNative, ObjectNative, Property, TypeNative};
+use crate::entry::NativeEntry::{OfObject, OfType};
+use crate::entry::{ObjectNative, Property, TypeNative};
 use crate::known::Known;
-use Attr::{ClassMethod, Method, New, ReadOnly, Settable};
-
-/// What an own attribute of a built-in class is.
-#[derive(Clone, Copy, PartialEq, Eq)]
-pub enum Attr {
-    /// `__new__`, bound to the class.
-    New,
-    /// A method of the objects.
-    Method(NativeEntry),
-    /// A method of the class.
-    ClassMethod(NativeEntry),
-    /// A property of the objects that nothing sets.
-    ReadOnly(Property),
-    /// A property of the objects that can be set.
-    Settable(Property),
-}
-
-/// An own attribute: its name, and what it is.
-pub type OwnAttr = (Known, Attr);
 
 /// Those of `object`.
 pub const OBJECT: [OwnAttr; 19] = [
@@ -98,48 +86,6 @@ pub const TYPE: [OwnAttr; 23] = [
     (Known::TextSignature, ReadOnly(Property::TextSignature)),
 ];
 
-/// Those of `int`.
-pub const INT: [OwnAttr; 2] = [
-    (Known::Add, Method(OfInt(IntNative::Add))),
-    (Known::RightAdd, Method(OfInt(IntNative::RightAdd))),
-];
-
-/// Those of `function`.
-pub const FUNCTION: [OwnAttr; 2] = [
-    (
-        Known::Call,
-        Method(OfCallable(CallableNative::CallFunction)),
-    ),
-    (Known::Get, Method(OfCallable(CallableNative::GetFunction))),
-];
-
-/// Those of `method`.
-pub const METHOD: [OwnAttr; 1] = [(Known::Call, Method(OfCallable(CallableNative::CallMethod)))];
-
-/// Those of `builtin_function_or_method`.
-pub const NATIVE_FUNCTION: [OwnAttr; 1] = [(
-    Known::Call,
-    Method(OfCallable(CallableNative::CallNativeFunction)),
-)];
-
-/// Those of `builtin_method`.
-pub const BUILTIN_METHOD: [OwnAttr; 1] = [(
-    Known::Call,
-    Method(OfCallable(CallableNative::CallBuiltinMethod)),
-)];
-
-/// Those of `method_descriptor`.
-pub const METHOD_DESCRIPTOR: [OwnAttr; 2] = [
-    (
-        Known::Call,
-        Method(OfCallable(CallableNative::CallMethodDescriptor)),
-    ),
-    (
-        Known::Get,
-        Method(OfCallable(CallableNative::GetMethodDescriptor)),
-    ),
-];
-
 /// The own attributes of a built-in class, in order.
 #[tactic(auto, unfolding(crate::specs::OwnAttrs::own_attrs))]
 pub fn attrs_of(class: BuiltIn) -> &'static [OwnAttr]
@@ -148,12 +94,26 @@ pub fn attrs_of(class: BuiltIn) -> &'static [OwnAttr]
     match class {
         BuiltIn::Object => &OBJECT,
         BuiltIn::TypeType => &TYPE,
+        BuiltIn::NoneType => &NONE_TYPE,
+        BuiltIn::NotImplementedType => &NOT_IMPLEMENTED_TYPE,
         BuiltIn::Int => &INT,
+        BuiltIn::Bool => &BOOL,
+        BuiltIn::Str => &STR,
+        BuiltIn::Tuple => &TUPLE,
+        BuiltIn::List => &LIST,
+        BuiltIn::Dict => &DICT,
         BuiltIn::Function => &FUNCTION,
         BuiltIn::Method => &METHOD,
-        BuiltIn::BuiltinFunctionOrMethod => &NATIVE_FUNCTION,
+        BuiltIn::BuiltinFunctionOrMethod => &BUILTIN_FUNCTION_OR_METHOD,
         BuiltIn::BuiltinMethod => &BUILTIN_METHOD,
         BuiltIn::MethodDescriptor => &METHOD_DESCRIPTOR,
-        _ => &[],
+        BuiltIn::GetSetDescriptor => &GET_SET_DESCRIPTOR,
+        BuiltIn::MemberDescriptor => &MEMBER_DESCRIPTOR,
+        BuiltIn::Property => &PROPERTY,
+        BuiltIn::ClassMethod => &CLASS_METHOD,
+        BuiltIn::StaticMethod => &STATIC_METHOD,
+        BuiltIn::Super => &SUPER,
+        BuiltIn::Iterator => &ITERATOR,
+        BuiltIn::Slice => &SLICE,
     }
 }

@@ -1,10 +1,11 @@
 //! The slots: their printed names, how they are read, and the special names that fill them.
 
 ghost use Rattle.std.specs.Prelude.{◌≡◌, ◌<◌, Some, map, length, slice_get};
-ghost use Rattle.py_node.specs.Slots.{all_slots, slot_texts, slot_sorts, slot_names, place_of, printed_name, sort_of, names_of};
+ghost use Rattle.py_node.specs.Slots.{all_slots, slot_texts, slot_sorts, slot_names, slot_fillings, slot_count, place_of, printed_name, sort_of, names_of, filling_of};
 
 use crate::entry::SlotId;
 use crate::known::Known;
+use Filling::{Number, Sequence};
 
 /// How a slot is read along a linearisation.
 #[derive(Clone, Copy, PartialEq, Eq)]
@@ -17,6 +18,19 @@ pub enum Sort {
     ByMapping,
     /// From the nearest class that has it.
     Nearest,
+}
+
+/// By which of its own attributes a built-in class fills a slot.
+#[derive(Clone, Copy, PartialEq, Eq)]
+pub enum Filling {
+    /// By those with a special name of the slot.
+    BySpecial,
+    /// By those with a special name of the slot, but `dict` doesn't.
+    NotDict,
+    /// By the one of that name; only `int` and `bool` do.
+    Number(Known),
+    /// By the one of that name; only `str`, `tuple` and `list` do.
+    Sequence(Known),
 }
 
 /// The slots in order, each with its printed name and how it is read.
@@ -211,13 +225,91 @@ pub const SPECIAL: [(SlotId, &[Known]); 73] = [
     (SlotId::Del, &[Known::Del]),
 ];
 
+/// The slots in order, each with the own attributes by which a built-in class fills it. The binary operators of numbers
+/// fill the left and the right slot alike.
+pub const FILLINGS: [(SlotId, Filling); 73] = [
+    (SlotId::Add, Number(Known::Add)),
+    (SlotId::RightAdd, Number(Known::Add)),
+    (SlotId::InplaceAdd, Number(Known::InplaceAdd)),
+    (SlotId::Subtract, Number(Known::Sub)),
+    (SlotId::RightSubtract, Number(Known::Sub)),
+    (SlotId::InplaceSubtract, Number(Known::InplaceSub)),
+    (SlotId::Multiply, Number(Known::Mul)),
+    (SlotId::RightMultiply, Number(Known::Mul)),
+    (SlotId::InplaceMultiply, Number(Known::InplaceMul)),
+    (SlotId::Remainder, Number(Known::Mod)),
+    (SlotId::RightRemainder, Number(Known::Mod)),
+    (SlotId::InplaceRemainder, Number(Known::InplaceMod)),
+    (SlotId::Divmod, Number(Known::Divmod)),
+    (SlotId::RightDivmod, Number(Known::Divmod)),
+    (SlotId::Power, Number(Known::Pow)),
+    (SlotId::RightPower, Number(Known::Pow)),
+    (SlotId::InplacePower, Number(Known::InplacePow)),
+    (SlotId::Lshift, Number(Known::Lshift)),
+    (SlotId::RightLshift, Number(Known::Lshift)),
+    (SlotId::InplaceLshift, Number(Known::InplaceLshift)),
+    (SlotId::Rshift, Number(Known::Rshift)),
+    (SlotId::RightRshift, Number(Known::Rshift)),
+    (SlotId::InplaceRshift, Number(Known::InplaceRshift)),
+    (SlotId::And, Number(Known::And)),
+    (SlotId::RightAnd, Number(Known::And)),
+    (SlotId::InplaceAnd, Number(Known::InplaceAnd)),
+    (SlotId::Xor, Number(Known::Xor)),
+    (SlotId::RightXor, Number(Known::Xor)),
+    (SlotId::InplaceXor, Number(Known::InplaceXor)),
+    (SlotId::Or, Number(Known::Or)),
+    (SlotId::RightOr, Number(Known::Or)),
+    (SlotId::InplaceOr, Number(Known::InplaceOr)),
+    (SlotId::FloorDivide, Number(Known::Floordiv)),
+    (SlotId::RightFloorDivide, Number(Known::Floordiv)),
+    (SlotId::InplaceFloorDivide, Number(Known::InplaceFloordiv)),
+    (SlotId::TrueDivide, Number(Known::Truediv)),
+    (SlotId::RightTrueDivide, Number(Known::Truediv)),
+    (SlotId::InplaceTrueDivide, Number(Known::InplaceTruediv)),
+    (SlotId::MatrixMultiply, Number(Known::Matmul)),
+    (SlotId::RightMatrixMultiply, Number(Known::Matmul)),
+    (SlotId::InplaceMatrixMultiply, Number(Known::InplaceMatmul)),
+    (SlotId::Int, Filling::BySpecial),
+    (SlotId::Index, Filling::BySpecial),
+    (SlotId::Float, Filling::BySpecial),
+    (SlotId::Negative, Number(Known::Neg)),
+    (SlotId::Positive, Number(Known::Pos)),
+    (SlotId::Absolute, Number(Known::Abs)),
+    (SlotId::Invert, Number(Known::Invert)),
+    (SlotId::Boolean, Number(Known::Bool)),
+    (SlotId::SeqLength, Filling::NotDict),
+    (SlotId::SeqItem, Filling::NotDict),
+    (SlotId::SeqAssItem, Filling::NotDict),
+    (SlotId::SeqContains, Filling::BySpecial),
+    (SlotId::Concat, Sequence(Known::Add)),
+    (SlotId::Repeat, Sequence(Known::Mul)),
+    (SlotId::InplaceConcat, Sequence(Known::InplaceAdd)),
+    (SlotId::InplaceRepeat, Sequence(Known::InplaceMul)),
+    (SlotId::MapLength, Filling::BySpecial),
+    (SlotId::MapSubscript, Filling::BySpecial),
+    (SlotId::MapAssSubscript, Filling::BySpecial),
+    (SlotId::Hash, Filling::BySpecial),
+    (SlotId::Call, Filling::BySpecial),
+    (SlotId::Repr, Filling::BySpecial),
+    (SlotId::Getattro, Filling::BySpecial),
+    (SlotId::Setattro, Filling::BySpecial),
+    (SlotId::Richcompare, Filling::BySpecial),
+    (SlotId::Iter, Filling::BySpecial),
+    (SlotId::Iternext, Filling::BySpecial),
+    (SlotId::DescrGet, Filling::BySpecial),
+    (SlotId::DescrSet, Filling::BySpecial),
+    (SlotId::Init, Filling::BySpecial),
+    (SlotId::New, Filling::BySpecial),
+    (SlotId::Del, Filling::BySpecial),
+];
+
 /// All slots in order, each with its printed name and how it is read.
 #[tactic(auto, unfolding(crate::specs::Slots::all_slots, crate::specs::Slots::slot_texts, crate::specs::Slots::slot_sorts))]
 pub fn slots() -> &'static [(SlotId, &'static str, Sort)]
     ensures slots { map (λ r. r.0) result.now ≡ all_slots }
     ensures texts { map (λ r. r.1.now) result.now ≡ slot_texts }
     ensures sorts { map (λ r. r.2) result.now ≡ slot_sorts }
-    ensures count { length result.now ≡ 73 }
+    ensures count { length result.now ≡ slot_count }
 {
     &SLOTS
 }
@@ -226,15 +318,24 @@ pub fn slots() -> &'static [(SlotId, &'static str, Sort)]
 #[tactic(auto, unfolding(crate::specs::Slots::slot_names))]
 fn special() -> &'static [(SlotId, &'static [Known])]
     ensures names { map (λ r. r.1.now) result.now ≡ slot_names }
-    ensures count { length result.now ≡ 73 }
+    ensures count { length result.now ≡ slot_count }
 {
     &SPECIAL
+}
+
+// All slots in order, each with the own attributes by which a built-in class fills it.
+#[tactic(auto, unfolding(crate::specs::Slots::slot_fillings))]
+fn fillings() -> &'static [(SlotId, Filling)]
+    ensures fillings { map (λ r. r.1) result.now ≡ slot_fillings }
+    ensures count { length result.now ≡ slot_count }
+{
+    &FILLINGS
 }
 
 impl SlotId {
     /// The slot at a place.
     pub fn at(place: usize) -> SlotId
-        requires { place < 73 }
+        requires { place < slot_count }
         ensures { slice_get all_slots place ≡ Some result }
     {
         slots()[place].0
@@ -244,7 +345,7 @@ impl SlotId {
     #[tactic(auto, using(crate::proofs::SlotTables::below), unfolding(crate::specs::Slots::place_of))]
     pub fn place(self) -> usize
         ensures value { result ≡ place_of self }
-        ensures within { result < 73 }
+        ensures within { result < slot_count }
     {
         self as usize
     }
@@ -271,5 +372,13 @@ impl SlotId {
         ensures { result.now ≡ names_of self }
     {
         special()[self.place()].1
+    }
+
+    /// By which of its own attributes a built-in class fills the slot.
+    #[tactic(auto, unfolding(crate::specs::Slots::filling_of))]
+    pub fn filling(self) -> Filling
+        ensures { result ≡ filling_of self }
+    {
+        fillings()[self.place()].1
     }
 }

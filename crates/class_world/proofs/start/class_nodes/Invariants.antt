@@ -3,5 +3,5 @@ use Rattle.py_node.specs.BuiltIns.{all_built_ins}
 use Rattle.class_world.specs.StartNodes.{class_node}
 use Rattle.class_world.proofs.start.class_nodes.Given as goal
 
-abbrev pub invariant-loop-class : goal.invariant-loop-class
-invariant-loop-class l = l.nodes.items ≡ map class_node (take l.class-index all_built_ins)
+abbrev pub invariant-loop-row : goal.invariant-loop-row
+invariant-loop-row l = l.nodes.items ≡ map class_node (take l.row-index all_built_ins)

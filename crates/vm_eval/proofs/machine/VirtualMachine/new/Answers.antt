@@ -1,12 +1,12 @@
 use Rattle.std.proofs.Common.{◌≡◌, [], refl, ap, ◌∙◌}
-use Rattle.py_node.specs.BuiltIns.{all_built_ins, place_of, flags_of}
+use Rattle.py_node.specs.BuiltIns.{all_built_ins, built_in_flags, place_of, flags_of}
 use Rattle.py_node.specs.OwnAttrs.{own_attrs}
 use Rattle.plain_machine.specs.Start.{with_attr, start}
 use Rattle.vm_eval.proofs.Rests.{none-held, none-read}
 use Rattle.vm_eval.proofs.machine.VirtualMachine.new.Goals as goal
 
 start-clear : start.scopes ≡ []
-unfolding start with_attr own_attrs all_built_ins place_of flags_of
+unfolding start with_attr own_attrs all_built_ins built_in_flags place_of flags_of
 start-clear = refl
 
 pub invariant_of-result : goal.invariant_of-result

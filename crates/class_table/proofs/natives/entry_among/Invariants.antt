@@ -1,0 +1,6 @@
+use Rattle.std.proofs.Common.{◌≡◌, drop}
+use Rattle.class_model.specs.BuiltIn.{entry_among}
+use Rattle.class_table.proofs.natives.entry_among.Given as goal
+
+abbrev pub invariant-loop-attr : goal.invariant-loop-attr
+invariant-loop-attr l = entry_among l.class l.slot (drop l.attr-index l.attrs) ≡ entry_among l.class l.slot l.attrs
