@@ -12,6 +12,7 @@ pub mod Subclasses
 pub mod Agreed
 pub mod Slots
 pub mod Solid
+pub mod Chain
 pub mod Names
 pub mod Renamed
 pub mod Sound

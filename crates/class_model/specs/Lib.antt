@@ -8,3 +8,5 @@ pub mod Failing
 pub mod BuiltIn
 pub mod Start
 pub mod Sound
+pub mod Chain
+pub mod Collect

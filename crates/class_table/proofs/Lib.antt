@@ -13,5 +13,7 @@ pub mod Renames
 pub mod InWords
 pub mod Pushed
 pub mod AsKept
+pub mod Chains
+pub mod Collected
 pub mod Heaps
 pub mod StartParts

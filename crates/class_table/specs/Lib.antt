@@ -9,3 +9,4 @@ pub mod Causes
 pub mod Inherit
 pub mod Turn
 pub mod Table
+pub mod Given

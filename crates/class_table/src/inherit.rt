@@ -39,6 +39,18 @@ fn solid_of(classes: &[Stored], class: PyTypeRef) -> Option<PyTypeRef>
     stored_at(classes, class).solid()
 }
 
+// The same: each class has one.
+pub(crate) fn solid_class(classes: &[Stored], class: PyTypeRef) -> PyTypeRef
+    requires coherent { IsCoherent classes.now }
+    requires there { is_class (plain classes.now) class.0 ≡ true }
+    ensures { solid (plain classes.now) class.0 ≡ Some result.0 }
+{
+    match solid_of(classes, class) {
+        None => unreachable!(),
+        Some(solid) => solid,
+    }
+}
+
 // The solid class of the best base, where there is one.
 pub(crate) fn inherited(classes: &[Stored], best: Option<PyTypeRef>) -> Option<PyTypeRef>
     requires coherent { IsCoherent classes.now }

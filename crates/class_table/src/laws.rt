@@ -1,6 +1,6 @@
 //! What is so of every table of classes, and is the result of no call.
 
-ghost use Rattle.std.specs.Prelude.{◌≡◌, ℕ, List, true, Some};
+ghost use Rattle.std.specs.Prelude.{◌≡◌, ◌↔◌, ℕ, List, true, Some};
 ghost use Rattle.class_model.specs.Order.{Distinct, Holds, Subsequence};
 ghost use Rattle.class_model.specs.Class.{is_class, bases_of, lin, is_sub};
 ghost use Rattle.class_model.specs.Failing.{FailsAsSaid, PassesAsSaid};
@@ -29,11 +29,14 @@ pub fn lines_keep_order(classes: &ClassTable)
     classes.sound();
 }
 
-/// A class derives from itself, and from each class that one derives from, from which it derives.
+/// A class derives from itself, and from each class that one derives from, from which it derives. It derives
+/// from just the classes of its linearisation.
 pub fn deriving_is_an_order(classes: &ClassTable)
     ensures itself { (c : ℕ) → is_class classes.now c ≡ true → is_sub classes.now c c ≡ true }
     ensures further { (a b c : ℕ) → is_sub classes.now a b ≡ true → is_sub classes.now b c ≡ true →
         is_sub classes.now a c ≡ true }
+    ensures along { (c d : ℕ) (line : List ℕ) → lin classes.now c ≡ Some line →
+        (is_sub classes.now c d ≡ true) ↔ Holds line d }
 {
     classes.sound();
 }

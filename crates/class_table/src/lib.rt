@@ -3,6 +3,8 @@
 
 pub mod add;
 pub mod candidates;
+pub mod chain;
+pub mod collect;
 pub mod entries;
 pub mod fault;
 pub mod heap;
@@ -18,5 +20,6 @@ pub mod stored;
 pub mod table;
 
 pub use candidates::Candidates;
+pub use chain::BaseChain;
 pub use fault::ClassFault;
 pub use table::ClassTable;

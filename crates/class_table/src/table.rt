@@ -1,12 +1,14 @@
 //! The table of classes.
 
-ghost use Rattle.std.specs.Prelude.{◌≡◌, ◌<◌, ◌≤◌, [], true, length, OnOk, OnErr, IfOk, ◌↔◌, IsTrue, Some, is_some, leb, option_map, slice_get};
+ghost use Rattle.std.specs.Prelude.{◌≡◌, ◌<◌, ◌≤◌, [], true, length, OnOk, OnErr, IfOk, ◌↔◌, IsTrue, Some, is_some, leb, option_map, slice_get, None, IfSome};
 ghost use Rattle.std.specs.List.{All};
 ghost use Rattle.py_node.specs.declared.raised.Cause.TheVariants.{EmptyBases, NotBaseType, LayoutConflict, DuplicateBase, LocalPrecedence, MroConflict};
 ghost use Rattle.py_node.specs.Attributes.{is_same_name, AreNamesDistinct};
 ghost use Rattle.class_model.specs.Class.{class_at, is_class, bases_of, lin, IsLeastLine, is_sub, is_heap, found, found_past, own_of, subclasses};
 ghost use Rattle.class_model.specs.Numbers.{limit, numbers_of};
 ghost use Rattle.class_model.specs.Layout.{base, best_of, solid, built_ins};
+ghost use Rattle.class_model.specs.Chain.{base_chain, IsChain};
+ghost use Rattle.class_model.specs.Collect.{all_attributes};
 ghost use Rattle.class_model.specs.Sound.{AreSound};
 ghost use Rattle.class_model.specs.Slot.{entry, slot as slot_read, candidates_of, is_heap_at};
 ghost use Rattle.class_model.specs.BuiltIn.{natives_of};
@@ -18,12 +20,15 @@ ghost use Rattle.class_table.specs.New.{IsBelow, class_of_new};
 ghost use Rattle.class_table.specs.Refused.{refusal, cause_of, refused_layout, refused_bases, refused_attr, WithMemory, IsEarly, AreThere, heap_class};
 ghost use Rattle.class_table.specs.Causes.{LacksBase, HasLayoutConflict, HasDuplicate, BreaksOrder, HasNoLine};
 ghost use Rattle.class_table.specs.Turn.{list_of};
+ghost use Rattle.class_table.specs.Given.{AreGiven};
 
 use crate::add::add;
 use crate::candidates::{Candidates, in_turn, without_same};
+use crate::chain::{BaseChain, base_of, chain};
+use crate::collect::{attributes_along, map_along};
 use crate::fault::ClassFault;
 use crate::heap::{add_heap, set_heap};
-use crate::inherit::{best_base, may_derive, only};
+use crate::inherit::{best_base, may_derive, only, solid_class};
 use crate::place::{find, number_in, stored_at, takes};
 use crate::put::put_in;
 use crate::read::{own_entry, read, value_along, value_past};
@@ -333,6 +338,28 @@ impl ClassTable {
         Ok(line)
     }
 
+    /// What a function gives for each class along the linearisation of a class, in order.
+    pub fn mro_map_collect<T: Drop, F: Fn(PyTypeRef) -> T>(
+        &self,
+        class: PyTypeRef,
+        f: F,
+    ) -> Result<Vec<T>, OutOfMemory>
+        requires there { is_class self.now class.0 ≡ true }
+        requires callable { F.IsAlwaysCallable f }
+        ensures { IfOk result (λ v. AreGiven (F.post f) (lin self.now class.0) v.items) }
+    {
+        map_along(self.alloc, self.mro(class), f)
+    }
+
+    /// The attributes of a class, its own and those that it inherits. They are put together from the end of the
+    /// linearisation up: a class nearer to the front replaces the value of a name and keeps its place.
+    pub fn get_attributes(&self, class: PyTypeRef) -> Result<PyAttributes, OutOfMemory>
+        requires { is_class self.now class.0 ≡ true }
+        ensures { IfOk result (λ a. all_attributes is_same_name self.now class.0 ≡ Some a) }
+    {
+        attributes_along(&self.classes, self.alloc, self.mro(class))
+    }
+
     /// The direct bases of a class, in order.
     pub fn bases(&self, class: PyTypeRef) -> &[PyTypeRef]
         requires { is_class self.now class.0 ≡ true }
@@ -341,20 +368,31 @@ impl ClassTable {
         stored_at(&self.classes, class).bases()
     }
 
-    /// The best base of a class.
+    /// The best base of a class: `object` alone has none.
     pub fn base(&self, class: PyTypeRef) -> Option<PyTypeRef>
         requires { is_class self.now class.0 ≡ true }
-        ensures { number_of result ≡ base self.now class.0 }
+        ensures base { number_of result ≡ base self.now class.0 }
+        ensures there { IfSome result (λ b. is_class self.now b.0 ≡ true) }
+        ensures root { (result ≡ None) ↔ (class.0 ≡ 0) }
     {
-        stored_at(&self.classes, class).base()
+        base_of(&self.classes, class)
     }
 
-    /// The nearest solid class of a class.
-    pub fn solid_base(&self, class: PyTypeRef) -> Option<PyTypeRef>
+    /// The class, its best base, the best base of that one, and so on, up to `object`.
+    pub fn iter_base_chain(&self, class: PyTypeRef) -> BaseChain<'_>
         requires { is_class self.now class.0 ≡ true }
-        ensures { number_of result ≡ solid self.now class.0 }
+        ensures chain { result ≡ base_chain self.now class.0 }
+        ensures whole { IsChain (base self.now) (Some class.0) result }
     {
-        stored_at(&self.classes, class).solid()
+        chain(&self.classes, class)
+    }
+
+    /// The nearest solid class of a class: itself, or that of its best base.
+    pub fn solid_base(&self, class: PyTypeRef) -> PyTypeRef
+        requires { is_class self.now class.0 ≡ true }
+        ensures { solid self.now class.0 ≡ Some result.0 }
+    {
+        solid_class(&self.classes, class)
     }
 
     /// The name of a class.

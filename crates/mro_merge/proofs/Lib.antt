@@ -8,5 +8,6 @@ pub mod Repeats
 pub mod Precedence
 pub mod Bases
 pub mod Heads
+pub mod Blocked
 pub mod Classes
 pub mod Resolved

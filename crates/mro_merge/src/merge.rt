@@ -1,6 +1,6 @@
 //! The merge, a member at a time.
 
-ghost use Rattle.std.specs.Prelude.{◌≡◌, false, IfOk, option_map};
+ghost use Rattle.std.specs.Prelude.{◌≡◌, false, IfOk, is_some, option_map};
 ghost use Rattle.class_model.specs.Order.{has, without, unique};
 ghost use Rattle.class_model.specs.Class.{past_first};
 ghost use Rattle.class_model.specs.Change.{stands_past};
@@ -52,16 +52,51 @@ fn are_empty(lists: &[Vec<PyTypeRef>]) -> bool
     true
 }
 
-// The first head that stands past no head.
-fn first_free(lists: &[Vec<PyTypeRef>]) -> Option<PyTypeRef>
-    ensures { number_of result ≡ first_free (rows lists.now) (rows lists.now) }
+// The place of a list past whose head a class stands, where there is one. A likely place is tried first.
+fn blocked_at(lists: &[Vec<PyTypeRef>], likely: usize, class: PyTypeRef) -> Option<usize>
+    ensures { is_some result ≡ stands_past class.0 (rows lists.now) }
 {
-    for list in lists {
-        if !list.is_empty() && !stands_past(lists, list[0]) {
-            return Some(list[0]);
+    if likely < lists.len() && is_past(&lists[likely], class) {
+        return Some(likely);
+    }
+    for (place, list) in lists.iter().enumerate() {
+        if is_past(list, class) {
+            return Some(place);
         }
     }
     None
+}
+
+// The first head that stands past no head. `blocks` has, for the head of each list, the likely place of a list
+// that holds it back. Any number will do: each is tested.
+fn first_free(lists: &[Vec<PyTypeRef>], blocks: &mut [usize]) -> Option<PyTypeRef>
+    ensures { number_of result ≡ first_free (rows lists.now) (rows lists.now) }
+{
+    for (place, list) in lists.iter().enumerate() {
+        if !list.is_empty() {
+            match blocked_at(lists, likely(blocks, place), list[0]) {
+                None => return Some(list[0]),
+                Some(block) => note(blocks, place, block),
+            }
+        }
+    }
+    None
+}
+
+// The number at a place, or 0.
+fn likely(blocks: &[usize], place: usize) -> usize {
+    if place < blocks.len() {
+        blocks[place]
+    } else {
+        0
+    }
+}
+
+// Notes a number, where there is such a place.
+fn note(blocks: &mut [usize], place: usize, block: usize) {
+    if place < blocks.len() {
+        blocks[place] = block;
+    }
 }
 
 // Takes a class, which stands past no head, off the lists that it heads.
@@ -106,8 +141,9 @@ pub(crate) fn merge(
     ensures { IfOk result (λ r. option_map (λ v. numbers v.items) r ≡ merged (rows lists.items)) }
 {
     let mut line = Vec::new(alloc);
+    let mut blocks = vec![in alloc; 0; lists.len()]?;
     while !are_empty(&lists) {
-        match first_free(&lists) {
+        match first_free(&lists, &mut blocks) {
             None => return Ok(None),
             Some(next) => {
                 line.push(next)?;

@@ -1,4 +1,7 @@
-use Rattle.class_model.specs.Class.{lin}
+use Rattle.std.proofs.Common.{◌≡◌, sym, ap, ◌∙◌}
+use Rattle.class_model.specs.Order.{has}
+use Rattle.class_model.specs.Class.{lin, is_sub, is_along}
+use Rattle.class_model.proofs.Tests.{Decides-has}
 use Rattle.class_model.proofs.Best.{sub-itself, sub-trans}
 use Rattle.class_model.proofs.Numbers.{some-of}
 use Rattle.class_table.proofs.laws.deriving_is_an_order.Goals as goal
@@ -10,3 +13,9 @@ returns-clause-itself c = λ k l.
 
 pub returns-clause-further : goal.returns-clause-further
 returns-clause-further c = λ a b d e f. sub-trans c.args.classes.now a b d e f
+
+pub returns-clause-along : goal.returns-clause-along
+returns-clause-along c = λ k d line e.
+    let is : is_sub c.args.classes.now k d ≡ has line d = ap (is_along d) e in
+    let at = Decides-has line d in
+    (λ h. at.0 (sym is ∙ h), λ h. is ∙ at.1 h)

@@ -3,5 +3,5 @@ use Rattle.mro_merge.specs.Steps.{first_free}
 use Rattle.mro_merge.specs.Lists.{rows}
 use Rattle.mro_merge.proofs.merge.first_free.Given as goal
 
-abbrev pub invariant-loop-list : goal.invariant-loop-list
-invariant-loop-list l = first_free (rows l.lists) (rows (drop l.list-index l.lists)) ≡ first_free (rows l.lists) (rows l.lists)
+abbrev pub invariant-loop-place : goal.invariant-loop-place
+invariant-loop-place l = first_free (rows l.lists) (rows (drop l.place l.lists)) ≡ first_free (rows l.lists) (rows l.lists)
