@@ -14,8 +14,8 @@ use std::test::Fail;
 fn tells_its_numbers(rt: HostRuntime) -> Result<(), Fail> {
     let world = World::new(rt.alloc())?;
     // The nodes of the own attributes of built-in classes are the last ones.
-    assert!(rt; world.is_node(PyObjectRef(77)));
-    assert!(rt; !world.is_node(PyObjectRef(78)));
+    assert!(rt; world.is_node(PyObjectRef(290)));
+    assert!(rt; !world.is_node(PyObjectRef(291)));
     assert!(rt; world.is_class(PyTypeRef(22)));
     assert!(rt; !world.is_class(PyTypeRef(23)));
     assert!(rt; world.is_name(PyStrInterned(69)));
