@@ -39,9 +39,9 @@ attr_class (Settable p) = built_in.GetSetDescriptor
 
 -- what this object is, for a class and a name. A method of the objects has the flag 2 ^ 9, and one of the class 2 ^ 4
 abbrev pub attr_datum : ℕ → Text → Attr → Datum
-attr_datum c x New = ANativeFunction x NewWrapper (Some (ref c))
-attr_datum c x (Method n) = AMethodDescriptor c x n 512
-attr_datum c x (ClassMethod n) = AMethodDescriptor c x n 16
+attr_datum c x New = ANativeFunction x NewWrapper (Some (ref c)) None
+attr_datum c x (Method n) = AMethodDescriptor c x n 512 None
+attr_datum c x (ClassMethod n) = AMethodDescriptor c x n 16 None
 attr_datum c x (ReadOnly p) = AGetSet c x (Some (Getter p)) None
 attr_datum c x (Settable p) = AGetSet c x (Some (Getter p)) (Some (Setter p))
 
