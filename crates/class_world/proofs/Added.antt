@@ -26,6 +26,7 @@ dict-home (payload.Class c) h = absurd h
 dict-home (payload.Number z) h = absurd h
 dict-home (payload.Text s) h = absurd h
 dict-home (payload.Tuple rs) h = absurd h
+dict-home (payload.List rs) h = absurd h
 dict-home (payload.Dict es) h = refl
 dict-home (payload.Function f) h = absurd h
 dict-home (payload.Method m) h = absurd h
@@ -34,6 +35,12 @@ dict-home (payload.BuiltinMethod m) h = absurd h
 dict-home (payload.MethodDescriptor m) h = absurd h
 dict-home (payload.GetSet g) h = absurd h
 dict-home (payload.ClassMethod r) h = absurd h
+dict-home (payload.StaticMethod r) h = absurd h
+dict-home (payload.Member m) h = absurd h
+dict-home (payload.Property p) h = absurd h
+dict-home (payload.Super s) h = absurd h
+dict-home (payload.Iterator i) h = absurd h
+dict-home (payload.Slice s) h = absurd h
 
 dict-other : (p : Payload) → HasNoEntries p → class_in p ≡ None
 dict-other payload.Object h = absurd h
@@ -41,6 +48,7 @@ dict-other (payload.Class c) h = absurd h
 dict-other (payload.Number z) h = absurd h
 dict-other (payload.Text s) h = absurd h
 dict-other (payload.Tuple rs) h = absurd h
+dict-other (payload.List rs) h = absurd h
 dict-other (payload.Dict es) h = refl
 dict-other (payload.Function f) h = absurd h
 dict-other (payload.Method m) h = absurd h
@@ -49,6 +57,12 @@ dict-other (payload.BuiltinMethod m) h = absurd h
 dict-other (payload.MethodDescriptor m) h = absurd h
 dict-other (payload.GetSet g) h = absurd h
 dict-other (payload.ClassMethod r) h = absurd h
+dict-other (payload.StaticMethod r) h = absurd h
+dict-other (payload.Member m) h = absurd h
+dict-other (payload.Property p) h = absurd h
+dict-other (payload.Super s) h = absurd h
+dict-other (payload.Iterator i) h = absurd h
+dict-other (payload.Slice s) h = absurd h
 
 dict-datum : (t : Reading) (p : Payload) → HasNoEntries p → datum t p ≡ ADict []
 dict-datum t payload.Object h = absurd h
@@ -56,6 +70,7 @@ dict-datum t (payload.Class c) h = absurd h
 dict-datum t (payload.Number z) h = absurd h
 dict-datum t (payload.Text s) h = absurd h
 dict-datum t (payload.Tuple rs) h = absurd h
+dict-datum t (payload.List rs) h = absurd h
 dict-datum t (payload.Dict es) h = ap ADict h
 dict-datum t (payload.Function f) h = absurd h
 dict-datum t (payload.Method m) h = absurd h
@@ -64,6 +79,12 @@ dict-datum t (payload.BuiltinMethod m) h = absurd h
 dict-datum t (payload.MethodDescriptor m) h = absurd h
 dict-datum t (payload.GetSet g) h = absurd h
 dict-datum t (payload.ClassMethod r) h = absurd h
+dict-datum t (payload.StaticMethod r) h = absurd h
+dict-datum t (payload.Member m) h = absurd h
+dict-datum t (payload.Property p) h = absurd h
+dict-datum t (payload.Super s) h = absurd h
+dict-datum t (payload.Iterator i) h = absurd h
+dict-datum t (payload.Slice s) h = absurd h
 
 dict-read : (t : Reading) (d : Node) → IsEmptyDict d → node_of t d ≡ record { class = the_dict; dict = None; members = no_members; datum = ADict [] }
 dict-read t d e = let class = e.0 in let dict = e.1 in let datum = dict-datum t d.payload e.2 in λ i. record { class = class i; dict = dict i; members = no_members; datum = datum i }

@@ -33,6 +33,7 @@ payload-holds w c (payload.Class d) k h = h
 payload-holds w c (payload.Number z) k h = h
 payload-holds w c (payload.Text s) k h = h
 payload-holds w c (payload.Tuple rs) k h = h
+payload-holds w c (payload.List rs) k h = h
 payload-holds w c (payload.Dict es) k h = h
 payload-holds w c (payload.Function f) k h = (h.0, (h.1.0, (h.1.1.0, go f.class h.1.1.1)))
   where
@@ -45,6 +46,12 @@ payload-holds w c (payload.BuiltinMethod m) k h = h
 payload-holds w c (payload.MethodDescriptor m) k h = h
 payload-holds w c (payload.GetSet g) k h = h
 payload-holds w c (payload.ClassMethod r) k h = h
+payload-holds w c (payload.StaticMethod r) k h = h
+payload-holds w c (payload.Member m) k h = h
+payload-holds w c (payload.Property p) k h = h
+payload-holds w c (payload.Super s) k h = h
+payload-holds w c (payload.Iterator i) k h = h
+payload-holds w c (payload.Slice s) k h = h
 
 lasting-stays : (c : PyTypeRef) (p : Payload) → lasting (defined_payload c p) ≡ lasting p
 lasting-stays c payload.Object = refl
@@ -52,6 +59,7 @@ lasting-stays c (payload.Class d) = refl
 lasting-stays c (payload.Number z) = refl
 lasting-stays c (payload.Text s) = refl
 lasting-stays c (payload.Tuple rs) = refl
+lasting-stays c (payload.List rs) = refl
 lasting-stays c (payload.Dict es) = refl
 lasting-stays c (payload.Function f) = refl
 lasting-stays c (payload.Method m) = refl
@@ -60,6 +68,12 @@ lasting-stays c (payload.BuiltinMethod m) = refl
 lasting-stays c (payload.MethodDescriptor m) = refl
 lasting-stays c (payload.GetSet g) = refl
 lasting-stays c (payload.ClassMethod r) = refl
+lasting-stays c (payload.StaticMethod r) = refl
+lasting-stays c (payload.Member m) = refl
+lasting-stays c (payload.Property p) = refl
+lasting-stays c (payload.Super s) = refl
+lasting-stays c (payload.Iterator i) = refl
+lasting-stays c (payload.Slice s) = refl
 
 node-holds : (w : Held) (c : PyTypeRef) (n : StoredNode) → Holds w (IsClass c.0) → AllHold w (of_node n) → AllHold w (of_node (defined_node c n))
 node-holds w c n k h =
@@ -72,6 +86,7 @@ payload-read t c (payload.Class d) = refl
 payload-read t c (payload.Number z) = refl
 payload-read t c (payload.Text s) = refl
 payload-read t c (payload.Tuple rs) = refl
+payload-read t c (payload.List rs) = refl
 payload-read t c (payload.Dict es) = refl
 payload-read t c (payload.Function f) = ap (AFunction (spelled t f.name) (map (spelled t) f.params.items) f.rest (t.tree f.body)) (go f.class)
   where
@@ -84,6 +99,12 @@ payload-read t c (payload.BuiltinMethod m) = refl
 payload-read t c (payload.MethodDescriptor m) = refl
 payload-read t c (payload.GetSet g) = refl
 payload-read t c (payload.ClassMethod r) = refl
+payload-read t c (payload.StaticMethod r) = refl
+payload-read t c (payload.Member m) = refl
+payload-read t c (payload.Property p) = refl
+payload-read t c (payload.Super s) = refl
+payload-read t c (payload.Iterator i) = refl
+payload-read t c (payload.Slice s) = refl
 
 -- the other nodes stay
 nodes-read : (t : Reading) (c : PyTypeRef) (ns : List StoredNode) (i : ℕ) (n : StoredNode) → i < length ns → n ≡ get_or ns i n → map (node_of t) (slice_set ns i (defined_node c n)) ≡ with_datum_in (defined_by c.0) (map (node_of t) ns) i

@@ -31,6 +31,7 @@ dict-lasting (payload.Class d) e = cc
 dict-lasting (payload.Number z) e = cc
 dict-lasting (payload.Text s) e = cc
 dict-lasting (payload.Tuple rs) e = cc
+dict-lasting (payload.List rs) e = cc
 dict-lasting (payload.Dict es) e = refl
 dict-lasting (payload.Function f) e = cc
 dict-lasting (payload.Method m) e = cc
@@ -39,8 +40,14 @@ dict-lasting (payload.BuiltinMethod m) e = cc
 dict-lasting (payload.MethodDescriptor m) e = cc
 dict-lasting (payload.GetSet g) e = cc
 dict-lasting (payload.ClassMethod r) e = cc
+dict-lasting (payload.StaticMethod r) e = cc
+dict-lasting (payload.Member m) e = cc
+dict-lasting (payload.Property p) e = cc
+dict-lasting (payload.Super s) e = cc
+dict-lasting (payload.Iterator i) e = cc
+dict-lasting (payload.Slice s) e = cc
 
-none-hold : (w : Held) → AllHold w (of_entries [])
+pub none-hold : (w : Held) → AllHold w (of_entries [])
 none-hold w = (no-nodes w, (no-nodes w, (no-keys-differ w, tt)))
 
 payload-entries : (w : Held) (p : Payload) → AllHold w (of_payload p) → AllHold w (of_entries (entries_of p))
@@ -49,6 +56,7 @@ payload-entries w (payload.Class d) h = none-hold w
 payload-entries w (payload.Number z) h = none-hold w
 payload-entries w (payload.Text s) h = none-hold w
 payload-entries w (payload.Tuple rs) h = none-hold w
+payload-entries w (payload.List rs) h = none-hold w
 payload-entries w (payload.Dict es) h = h
 payload-entries w (payload.Function f) h = none-hold w
 payload-entries w (payload.Method m) h = none-hold w
@@ -57,6 +65,12 @@ payload-entries w (payload.BuiltinMethod m) h = none-hold w
 payload-entries w (payload.MethodDescriptor m) h = none-hold w
 payload-entries w (payload.GetSet g) h = none-hold w
 payload-entries w (payload.ClassMethod r) h = none-hold w
+payload-entries w (payload.StaticMethod r) h = none-hold w
+payload-entries w (payload.Member m) h = none-hold w
+payload-entries w (payload.Property p) h = none-hold w
+payload-entries w (payload.Super s) h = none-hold w
+payload-entries w (payload.Iterator i) h = none-hold w
+payload-entries w (payload.Slice s) h = none-hold w
 
 -- a dict that has entries
 module _ (es : Entries) where
@@ -66,6 +80,7 @@ module _ (es : Entries) where
   has-lasting (payload.Number z) h = absurd h
   has-lasting (payload.Text s) h = absurd h
   has-lasting (payload.Tuple rs) h = absurd h
+  has-lasting (payload.List rs) h = absurd h
   has-lasting (payload.Dict xs) h = refl
   has-lasting (payload.Function f) h = absurd h
   has-lasting (payload.Method m) h = absurd h
@@ -74,6 +89,12 @@ module _ (es : Entries) where
   has-lasting (payload.MethodDescriptor m) h = absurd h
   has-lasting (payload.GetSet g) h = absurd h
   has-lasting (payload.ClassMethod r) h = absurd h
+  has-lasting (payload.StaticMethod r) h = absurd h
+  has-lasting (payload.Member m) h = absurd h
+  has-lasting (payload.Property p) h = absurd h
+  has-lasting (payload.Super s) h = absurd h
+  has-lasting (payload.Iterator i) h = absurd h
+  has-lasting (payload.Slice s) h = absurd h
 
   has-datum : (t : Reading) (p : Payload) → HasEntries p es → datum t p ≡ ADict es
   has-datum t payload.Object h = absurd h
@@ -81,6 +102,7 @@ module _ (es : Entries) where
   has-datum t (payload.Number z) h = absurd h
   has-datum t (payload.Text s) h = absurd h
   has-datum t (payload.Tuple rs) h = absurd h
+  has-datum t (payload.List rs) h = absurd h
   has-datum t (payload.Dict xs) h = ap ADict h
   has-datum t (payload.Function f) h = absurd h
   has-datum t (payload.Method m) h = absurd h
@@ -89,6 +111,12 @@ module _ (es : Entries) where
   has-datum t (payload.MethodDescriptor m) h = absurd h
   has-datum t (payload.GetSet g) h = absurd h
   has-datum t (payload.ClassMethod r) h = absurd h
+  has-datum t (payload.StaticMethod r) h = absurd h
+  has-datum t (payload.Member m) h = absurd h
+  has-datum t (payload.Property p) h = absurd h
+  has-datum t (payload.Super s) h = absurd h
+  has-datum t (payload.Iterator i) h = absurd h
+  has-datum t (payload.Slice s) h = absurd h
 
   has-holds : (w : Held) (p : Payload) → HasEntries p es → AllHold w (of_entries es) → AllHold w (of_payload p)
   has-holds w payload.Object h k = absurd h
@@ -96,6 +124,7 @@ module _ (es : Entries) where
   has-holds w (payload.Number z) h k = absurd h
   has-holds w (payload.Text s) h k = absurd h
   has-holds w (payload.Tuple rs) h k = absurd h
+  has-holds w (payload.List rs) h k = absurd h
   has-holds w (payload.Dict xs) h k = subst (λ es. AllHold w (of_entries es)) (sym h) k
   has-holds w (payload.Function f) h k = absurd h
   has-holds w (payload.Method m) h k = absurd h
@@ -104,6 +133,12 @@ module _ (es : Entries) where
   has-holds w (payload.MethodDescriptor m) h k = absurd h
   has-holds w (payload.GetSet g) h k = absurd h
   has-holds w (payload.ClassMethod r) h k = absurd h
+  has-holds w (payload.StaticMethod r) h k = absurd h
+  has-holds w (payload.Member m) h k = absurd h
+  has-holds w (payload.Property p) h k = absurd h
+  has-holds w (payload.Super s) h k = absurd h
+  has-holds w (payload.Iterator i) h k = absurd h
+  has-holds w (payload.Slice s) h k = absurd h
 
 -- what is no dict has no entries
 pub no-entries : (p : Payload) → ((es : _) → p ≡ payload.Dict es → ⊥) → entries_of p ≡ []
@@ -112,6 +147,7 @@ no-entries (payload.Class d) h = refl
 no-entries (payload.Number z) h = refl
 no-entries (payload.Text s) h = refl
 no-entries (payload.Tuple rs) h = refl
+no-entries (payload.List rs) h = refl
 no-entries (payload.Dict es) h = absurd (h es refl)
 no-entries (payload.Function f) h = refl
 no-entries (payload.Method m) h = refl
@@ -120,6 +156,12 @@ no-entries (payload.BuiltinMethod m) h = refl
 no-entries (payload.MethodDescriptor m) h = refl
 no-entries (payload.GetSet g) h = refl
 no-entries (payload.ClassMethod r) h = refl
+no-entries (payload.StaticMethod r) h = refl
+no-entries (payload.Member m) h = refl
+no-entries (payload.Property p) h = refl
+no-entries (payload.Super s) h = refl
+no-entries (payload.Iterator i) h = refl
+no-entries (payload.Slice s) h = refl
 
 -- the entries that a world holds
 module _ (w now : Held) (r : PyObjectRef) (n : StoredNode) (v : w ≡ now) where

@@ -31,6 +31,7 @@ payload-entries t (payload.Class d) = refl
 payload-entries t (payload.Number z) = refl
 payload-entries t (payload.Text s) = refl
 payload-entries t (payload.Tuple rs) = refl
+payload-entries t (payload.List rs) = refl
 payload-entries t (payload.Dict es) = refl
 payload-entries t (payload.Function f) = refl
 payload-entries t (payload.Method m) = refl
@@ -39,6 +40,12 @@ payload-entries t (payload.BuiltinMethod m) = refl
 payload-entries t (payload.MethodDescriptor m) = refl
 payload-entries t (payload.GetSet g) = refl
 payload-entries t (payload.ClassMethod r) = refl
+payload-entries t (payload.StaticMethod r) = refl
+payload-entries t (payload.Member m) = refl
+payload-entries t (payload.Property p) = refl
+payload-entries t (payload.Super s) = refl
+payload-entries t (payload.Iterator i) = refl
+payload-entries t (payload.Slice s) = refl
 
 payload-text : (t : Reading) (x : Text) (p : Payload) → is_text_datum x (Some (datum t p)) ≡ is_text_of x p
 payload-text t x payload.Object = refl
@@ -46,6 +53,7 @@ payload-text t x (payload.Class d) = refl
 payload-text t x (payload.Number z) = refl
 payload-text t x (payload.Text s) = refl
 payload-text t x (payload.Tuple rs) = refl
+payload-text t x (payload.List rs) = refl
 payload-text t x (payload.Dict es) = refl
 payload-text t x (payload.Function f) = refl
 payload-text t x (payload.Method m) = refl
@@ -54,6 +62,12 @@ payload-text t x (payload.BuiltinMethod m) = refl
 payload-text t x (payload.MethodDescriptor m) = refl
 payload-text t x (payload.GetSet g) = refl
 payload-text t x (payload.ClassMethod r) = refl
+payload-text t x (payload.StaticMethod r) = refl
+payload-text t x (payload.Member m) = refl
+payload-text t x (payload.Property p) = refl
+payload-text t x (payload.Super s) = refl
+payload-text t x (payload.Iterator i) = refl
+payload-text t x (payload.Slice s) = refl
 
 entries-stored : (t : Reading) (ns : List StoredNode) (n : ℕ) → entries_in (option_map (λ (x : Node). x.datum) (slice_get (map (node_of t) ns) n)) ≡ entries_at (slice_get ns n)
 entries-stored t [] n = refl
@@ -163,6 +177,7 @@ module _ (t : Reading) (w : Held) (d : PyObjectRef) (x : Text) where
   dict-itself (payload.Number z) e = cc
   dict-itself (payload.Text s) e = cc
   dict-itself (payload.Tuple rs) e = cc
+  dict-itself (payload.List rs) e = cc
   dict-itself (payload.Dict xs) e = refl
   dict-itself (payload.Function f) e = cc
   dict-itself (payload.Method m) e = cc
@@ -171,6 +186,12 @@ module _ (t : Reading) (w : Held) (d : PyObjectRef) (x : Text) where
   dict-itself (payload.MethodDescriptor m) e = cc
   dict-itself (payload.GetSet g) e = cc
   dict-itself (payload.ClassMethod r) e = cc
+  dict-itself (payload.StaticMethod r) e = cc
+  dict-itself (payload.Member m) e = cc
+  dict-itself (payload.Property p) e = cc
+  dict-itself (payload.Super s) e = cc
+  dict-itself (payload.Iterator i) e = cc
+  dict-itself (payload.Slice s) e = cc
 
   nodes-same : (ns : List StoredNode) (n : ℕ) → home_at ns n ≡ Some Dict → with_datum_in (λ m. ADict (entries_at (slice_get ns n))) (map (node_of t) ns) n ≡ map (node_of t) ns
   nodes-same [] n e = cc
@@ -195,6 +216,7 @@ text-key x (payload.Class c) e = cc
 text-key x (payload.Number z) e = cc
 text-key x (payload.Text s) e = let same : string_bytes s ≡ x = cc in (bytes_eq-Decides (string_bytes s) x).1 same
 text-key x (payload.Tuple rs) e = cc
+text-key x (payload.List rs) e = cc
 text-key x (payload.Dict es) e = cc
 text-key x (payload.Function f) e = cc
 text-key x (payload.Method m) e = cc
@@ -203,6 +225,12 @@ text-key x (payload.BuiltinMethod m) e = cc
 text-key x (payload.MethodDescriptor m) e = cc
 text-key x (payload.GetSet g) e = cc
 text-key x (payload.ClassMethod r) e = cc
+text-key x (payload.StaticMethod r) e = cc
+text-key x (payload.Member m) e = cc
+text-key x (payload.Property p) e = cc
+text-key x (payload.Super s) e = cc
+text-key x (payload.Iterator i) e = cc
+text-key x (payload.Slice s) e = cc
 
 held-text-key : (x : Text) (o : Option StoredNode) → option_and_then (λ (n : StoredNode). key_in n.payload) o ≡ Some (TextKey x) → is_text_at x o ≡ true
 held-text-key x None e = cc

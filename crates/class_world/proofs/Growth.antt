@@ -12,7 +12,7 @@ use Rattle.py_node.specs.declared.payload.Node.{Node}
 use Rattle.py_node.specs.declared.payload.Payload.{Payload}
 use Rattle.py_node.specs.declared.payload.Form.{Form}
 use Rattle.class_world.specs.Held.{Held}
-use Rattle.class_world.specs.Sound.{Claim, IsNode, AreNodes, IsExpression, AreExpressions, IsName, AreNames, IsClass, IsOf, CanBeBase, Holding, Standing, KeysDiffer, HasForm, HasParams, HasValues, params_in, held_params, AreFilled, home_of, home_at, key_in, held_key, class_in, held_class, Holds, Lasts, Grows}
+use Rattle.class_world.specs.Sound.{Claim, IsNode, AreNodes, IsExpression, AreExpressions, IsName, AreNames, IsClass, IsOf, CanBeBase, Holding, Standing, CanBeKeys, KeysDiffer, HasForm, HasParams, HasValues, params_in, held_params, AreFilled, home_of, home_at, key_in, held_key, class_in, held_class, Holds, Lasts, Grows}
 use Rattle.class_world.proofs.Claims.{get-pushed}
 use Rattle.class_world.proofs.Homes.{held_by-push}
 
@@ -92,6 +92,9 @@ known-key : (o : Option Key) → is_some o ≡ true → (k : Key) × (o ≡ Some
 known-key None e = cc
 known-key (Some k) e = (k, refl)
 
+key-keep : (old new : List Node) → Keep old new → (r : PyObjectRef) → is_some (held_key old r) ≡ true → is_some (held_key new r) ≡ true
+key-keep old new g r h = let a = known-key (held_key old r) h in ap is_some (key-still old new g r a.0 a.1)
+
 keys-keep : (old new : List Node) → Keep old new → (rs : List PyObjectRef) → AreKeys (held_key old) rs → AreKeys (held_key new) rs
 keys-keep old new g rs h = record {
   known = λ i r e. let a = known-key (held_key old r) (h.known i r e) in ap is_some (key-still old new g r a.0 a.1);
@@ -115,6 +118,7 @@ grows-at old new x e s n p l (IsOf c b) h = l.held c b h
 grows-at old new x e s n p l (CanBeBase c) h = l.bases c h
 grows-at old new x e s n p l (Holding r b) h = home-still old.nodes new.nodes p r.0 b h
 grows-at old new x e s n p l (Standing c r) h = class-still old.nodes new.nodes p r c h
+grows-at old new x e s n p l (CanBeKeys rs) h = λ i d m. key-keep old.nodes new.nodes p _ (h i d m)
 grows-at old new x e s n p l (KeysDiffer rs) h = keys-keep old.nodes new.nodes p rs h
 grows-at old new x e s n p l (HasForm m test) h = (h.0, s m h.0 h.1, h.2)
 grows-at old new x e s n p l (HasParams r ps) h = params-still old.nodes new.nodes p r ps h

@@ -1,5 +1,5 @@
 -- Items of lists of nodes.
-use Rattle.std.proofs.Common.{ℕ, ◌<◌, ◌≤◌, List, length, slice_index_or, arith}
+use Rattle.std.proofs.Common.{ℕ, ◌<◌, List, length, slice_index_or}
 use Rattle.py_node.specs.declared.refs.PyObjectRef.{PyObjectRef}
 use Rattle.class_world.specs.Held.{Held}
 use Rattle.class_world.specs.Sound.{IsNode, AreNodes, Holds}

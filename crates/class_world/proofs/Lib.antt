@@ -23,4 +23,5 @@ pub mod NewNodes
 pub mod DictEntries
 pub mod DictChanges
 pub mod DictReads
+pub mod KeyEntries
 pub mod Items

@@ -9,7 +9,7 @@ use Rattle.py_node.specs.Tree.{Text}
 use Rattle.reply_text.specs.Lines.{joined}
 use Rattle.class_model.specs.Class.{Class, class_at}
 use Rattle.class_model.proofs.Renamed.{at-renamed}
-use Rattle.plain_machine.specs.Show.{dots, rest_text, item_texts, entry_text, tuple_text, dict_text, containers, text_within}
+use Rattle.plain_machine.specs.Show.{dots, rest_text, item_texts, entry_text, tuple_text, list_text, dict_text, containers, text_within}
 use Rattle.class_world.specs.Held.{Held}
 use Rattle.class_world.specs.Reading.{Reading, spelled, plain}
 use Rattle.class_world.specs.Sound.{IsNode, AreNodes, Holds}
@@ -74,6 +74,9 @@ item-there w rs shown i d e l h = part-there w (λ r. r) rs shown i d e l (subst
 module _ (now : Held) (n m : ℕ) (less : n ≡ suc m) (texts : List (String Global)) (s : String Global) (t : Reading) where
   pub tuple-shown : (rs : List PyObjectRef) → map string_bytes texts ≡ item_texts (text_within m (plain t now)) rs → string_bytes s ≡ tuple_text (map string_bytes texts) → string_bytes s ≡ (containers n (plain t now)).tuple rs
   tuple-shown rs h e = e ∙ ap tuple_text h ∙ sym (ap (λ n. (containers n (plain t now)).tuple rs) less)
+
+  pub list-shown : (rs : List PyObjectRef) → map string_bytes texts ≡ item_texts (text_within m (plain t now)) rs → string_bytes s ≡ list_text (map string_bytes texts) → string_bytes s ≡ (containers n (plain t now)).list rs
+  list-shown rs h e = e ∙ ap list_text h ∙ sym (ap (λ n. (containers n (plain t now)).list rs) less)
 
   pub dict-shown : (es : List (PyObjectRef × PyObjectRef)) → map string_bytes texts ≡ item_texts (entry_text (text_within m (plain t now))) es → string_bytes s ≡ dict_text (map string_bytes texts) → string_bytes s ≡ (containers n (plain t now)).dict es
   dict-shown es h e = e ∙ ap dict_text h ∙ sym (ap (λ n. (containers n (plain t now)).dict es) less)

@@ -17,11 +17,11 @@ use Rattle.class_model.proofs.Sound.{sound-renamed}
 use Rattle.class_model.proofs.Renamed.{at-renamed, lin-renamed}
 use Rattle.plain_machine.specs.Plain.{AClass, Node}
 use Rattle.plain_machine.specs.World.{is_text, datum_at}
-use Rattle.plain_machine.specs.Sound.{home, optional_class, optional, nodes_in, classes_in, Key, key_of, key_at, keys_in, AreKeys, AreApart, params_in as params_of, IsSoundNode, IsSoundScope, IsSound}
+use Rattle.plain_machine.specs.Sound.{home, optional_class, optional, all_optional, super_object, super_start, nodes_in, classes_in, Key, key_of, key_at, keys_in, AreKeys, AreApart, params_in as params_of, IsSoundNode, IsSoundScope, IsSound}
 use Rattle.class_world.specs.declared.scope.Scope.{Scope as HeldScope}
 use Rattle.class_world.specs.Held.{Held}
 use Rattle.class_world.specs.Reading.{Reading, bindings, datum, node_of, scope_of, spelled, plain}
-use Rattle.class_world.specs.Sound.{Holding, Standing, KeysDiffer, key_in, held_key, class_in, held_class, params_in, held_params, has_value, AreFilled, Holds, AllHold, Sound, home_of, home_at, of_option, of_class_ref, of_node_ref, of_dict_ref, of_payload, of_node, of_binding, of_scope, of_class, of_dict, of_each}
+use Rattle.class_world.specs.Sound.{Holding, Standing, KeysDiffer, key_in, held_key, class_in, held_class, params_in, held_params, has_value, AreFilled, Holds, AllHold, Sound, home_of, home_at, of_option, of_class_ref, of_node_ref, of_name_ref, of_optional, of_start, of_dict_ref, of_payload, of_node, of_binding, of_scope, of_class, of_dict, of_each}
 use Rattle.class_world.proofs.Claims.{all-first, all-rest, each-get}
 use Rattle.class_world.proofs.Homes.{by_line}
 use Rattle.class_world.proofs.Apart.{apart-read}
@@ -41,6 +41,7 @@ home-read t (payload.Class c) = refl
 home-read t (payload.Number z) = refl
 home-read t (payload.Text s) = refl
 home-read t (payload.Tuple rs) = refl
+home-read t (payload.List rs) = refl
 home-read t (payload.Dict es) = refl
 home-read t (payload.Function f) = refl
 home-read t (payload.Method m) = refl
@@ -49,6 +50,12 @@ home-read t (payload.BuiltinMethod m) = refl
 home-read t (payload.MethodDescriptor m) = refl
 home-read t (payload.GetSet g) = refl
 home-read t (payload.ClassMethod r) = refl
+home-read t (payload.StaticMethod r) = refl
+home-read t (payload.Member m) = refl
+home-read t (payload.Property p) = refl
+home-read t (payload.Super s) = refl
+home-read t (payload.Iterator i) = refl
+home-read t (payload.Slice s) = refl
 
 home_at-read : (t : Reading) (ns : List StoredNode) (n : ℕ) → option_map home (option_map (λ (x : Node). x.datum) (slice_get (map (node_of t) ns) n)) ≡ home_at ns n
 home_at-read t [] n = refl
@@ -61,6 +68,7 @@ key-read t (payload.Class c) = refl
 key-read t (payload.Number z) = refl
 key-read t (payload.Text s) = refl
 key-read t (payload.Tuple rs) = refl
+key-read t (payload.List rs) = refl
 key-read t (payload.Dict es) = refl
 key-read t (payload.Function f) = refl
 key-read t (payload.Method m) = refl
@@ -69,6 +77,12 @@ key-read t (payload.BuiltinMethod m) = refl
 key-read t (payload.MethodDescriptor m) = refl
 key-read t (payload.GetSet g) = refl
 key-read t (payload.ClassMethod r) = refl
+key-read t (payload.StaticMethod r) = refl
+key-read t (payload.Member m) = refl
+key-read t (payload.Property p) = refl
+key-read t (payload.Super s) = refl
+key-read t (payload.Iterator i) = refl
+key-read t (payload.Slice s) = refl
 
 key_at-stored : (t : Reading) (ns : List StoredNode) (n : ℕ) → option_and_then key_of (option_map (λ (x : Node). x.datum) (slice_get (map (node_of t) ns) n)) ≡ held_key ns (record { 0 = n })
 key_at-stored t [] n = refl
@@ -111,6 +125,7 @@ text-is-key (Some x) e = go x.payload e
     go (payload.Number z) e = cc
     go (payload.Text s) e = refl
     go (payload.Tuple rs) e = cc
+    go (payload.List rs) e = cc
     go (payload.Dict es) e = cc
     go (payload.Function f) e = cc
     go (payload.Method m) e = cc
@@ -119,6 +134,12 @@ text-is-key (Some x) e = go x.payload e
     go (payload.MethodDescriptor m) e = cc
     go (payload.GetSet g) e = cc
     go (payload.ClassMethod r) e = cc
+    go (payload.StaticMethod r) e = cc
+    go (payload.Member m) e = cc
+    go (payload.Property p) e = cc
+    go (payload.Super s) e = cc
+    go (payload.Iterator i) e = cc
+    go (payload.Slice s) e = cc
 
 pub one-key-differs : (w : Held) (r : PyObjectRef) → Holds w (Holding r Str) → Holds w (KeysDiffer (r ∷ []))
 unfolding Holds
@@ -157,6 +178,22 @@ module _ (w : Held) (t : Reading) where
   optional_class-there None h = none (λ c. is_class w.classes c ≡ true)
   optional_class-there (Some c) h = more (λ c. is_class w.classes c ≡ true) c.0 [] h.0 (none (λ c. is_class w.classes c ≡ true))
 
+  all_optional-there : (os : List (Option PyObjectRef)) → AllHold w (of_optional os) → Below (length w.nodes) (all_optional os)
+  all_optional-there [] h = none (λ r. r.0 < length w.nodes)
+  all_optional-there (o ∷ os) h =
+      joined (length w.nodes) (optional o) (all_optional os) (optional-there o (all-first w (of_option of_node_ref o) (of_optional os) h)) (all_optional-there os (all-rest w (of_option of_node_ref o) (of_optional os) h))
+
+  -- what `super` is bound to
+  bound_object-there : (o : Option (PyObjectRef × PyTypeRef)) → AllHold w (of_option of_start o) → Below (length w.nodes) (optional (super_object (option_map (λ b. (b.0, b.1.0)) o)))
+  unfolding Holds
+  bound_object-there None h = none (λ r. r.0 < length w.nodes)
+  bound_object-there (Some b) h = more (λ r. r.0 < length w.nodes) b.0 [] h.0 (none (λ r. r.0 < length w.nodes))
+
+  bound_class-there : (o : Option (PyObjectRef × PyTypeRef)) → AllHold w (of_option of_start o) → All (λ c. is_class w.classes c ≡ true) (optional_class (super_start (option_map (λ b. (b.0, b.1.0)) o)))
+  unfolding Holds
+  bound_class-there None h = none (λ c. is_class w.classes c ≡ true)
+  bound_class-there (Some b) h = more (λ c. is_class w.classes c ≡ true) b.1.0 [] h.1.0 (none (λ c. is_class w.classes c ≡ true))
+
   nodes-there : (p : Payload) → AllHold w (of_payload p) → Below (length w.nodes) (nodes_in (datum t p))
   unfolding Holds
   nodes-there payload.Object h = none (λ r. r.0 < length w.nodes)
@@ -164,14 +201,21 @@ module _ (w : Held) (t : Reading) where
   nodes-there (payload.Number z) h = none (λ r. r.0 < length w.nodes)
   nodes-there (payload.Text s) h = none (λ r. r.0 < length w.nodes)
   nodes-there (payload.Tuple rs) h = h.0
+  nodes-there (payload.List rs) h = h.0
   nodes-there (payload.Dict es) h = joined (length w.nodes) (map (λ e. e.0) es.items) (map (λ e. e.1) es.items) h.0 h.1.0
   nodes-there (payload.Function f) h = none (λ r. r.0 < length w.nodes)
   nodes-there (payload.Method m) h = more (λ r. r.0 < length w.nodes) m.target (m.func ∷ []) h.0 (more (λ r. r.0 < length w.nodes) m.func [] h.1.0 (none (λ r. r.0 < length w.nodes)))
-  nodes-there (payload.NativeFunction f) h = optional-there f.target h.1
+  nodes-there (payload.NativeFunction f) h = optional-there f.target (all-first w (of_option of_node_ref f.target) (of_option of_name_ref f.doc) h.1)
   nodes-there (payload.BuiltinMethod m) h = more (λ r. r.0 < length w.nodes) m.target [] h.1.0 (none (λ r. r.0 < length w.nodes))
   nodes-there (payload.MethodDescriptor m) h = none (λ r. r.0 < length w.nodes)
   nodes-there (payload.GetSet g) h = none (λ r. r.0 < length w.nodes)
   nodes-there (payload.ClassMethod r) h = more (λ r. r.0 < length w.nodes) r [] h.0 (none (λ r. r.0 < length w.nodes))
+  nodes-there (payload.StaticMethod r) h = more (λ r. r.0 < length w.nodes) r [] h.0 (none (λ r. r.0 < length w.nodes))
+  nodes-there (payload.Member m) h = none (λ r. r.0 < length w.nodes)
+  nodes-there (payload.Property p) h = all_optional-there (p.fget ∷ p.fset ∷ p.fdel ∷ p.doc ∷ p.name ∷ []) h
+  nodes-there (payload.Super s) h = bound_object-there s.obj h.1
+  nodes-there (payload.Iterator i) h = more (λ r. r.0 < length w.nodes) i.object [] h.0 (none (λ r. r.0 < length w.nodes))
+  nodes-there (payload.Slice s) h = all_optional-there (s.start ∷ s.stop ∷ s.step ∷ []) h
 
   classes-there : (p : Payload) → AllHold w (of_payload p) → All (λ c. is_class w.classes c ≡ true) (classes_in (datum t p))
   unfolding Holds
@@ -180,14 +224,21 @@ module _ (w : Held) (t : Reading) where
   classes-there (payload.Number z) h = none (λ c. is_class w.classes c ≡ true)
   classes-there (payload.Text s) h = none (λ c. is_class w.classes c ≡ true)
   classes-there (payload.Tuple rs) h = none (λ c. is_class w.classes c ≡ true)
+  classes-there (payload.List rs) h = none (λ c. is_class w.classes c ≡ true)
   classes-there (payload.Dict es) h = none (λ c. is_class w.classes c ≡ true)
   classes-there (payload.Function f) h = optional_class-there f.class h.1.1.1
   classes-there (payload.Method m) h = none (λ c. is_class w.classes c ≡ true)
   classes-there (payload.NativeFunction f) h = none (λ c. is_class w.classes c ≡ true)
-  classes-there (payload.BuiltinMethod m) h = none (λ c. is_class w.classes c ≡ true)
+  classes-there (payload.BuiltinMethod m) h = more (λ c. is_class w.classes c ≡ true) m.class.0 [] h.1.1.0 (none (λ c. is_class w.classes c ≡ true))
   classes-there (payload.MethodDescriptor m) h = more (λ c. is_class w.classes c ≡ true) m.class.0 [] h.0 (none (λ c. is_class w.classes c ≡ true))
   classes-there (payload.GetSet g) h = more (λ c. is_class w.classes c ≡ true) g.class.0 [] h.0 (none (λ c. is_class w.classes c ≡ true))
   classes-there (payload.ClassMethod r) h = none (λ c. is_class w.classes c ≡ true)
+  classes-there (payload.StaticMethod r) h = none (λ c. is_class w.classes c ≡ true)
+  classes-there (payload.Member m) h = more (λ c. is_class w.classes c ≡ true) m.class.0 [] h.0 (none (λ c. is_class w.classes c ≡ true))
+  classes-there (payload.Property p) h = none (λ c. is_class w.classes c ≡ true)
+  classes-there (payload.Super s) h = more (λ c. is_class w.classes c ≡ true) s.typ.0 (optional_class (super_start (option_map (λ b. (b.0, b.1.0)) s.obj))) h.0 (bound_class-there s.obj h.1)
+  classes-there (payload.Iterator i) h = none (λ c. is_class w.classes c ≡ true)
+  classes-there (payload.Slice s) h = none (λ c. is_class w.classes c ≡ true)
 
   keys-there : (p : Payload) → AllHold w (of_payload p) → AreKeys (key_at (plain t w)) (keys_in (datum t p))
   unfolding Holds
@@ -196,6 +247,7 @@ module _ (w : Held) (t : Reading) where
   keys-there (payload.Number z) h = no-keys (key_at (plain t w))
   keys-there (payload.Text s) h = no-keys (key_at (plain t w))
   keys-there (payload.Tuple rs) h = no-keys (key_at (plain t w))
+  keys-there (payload.List rs) h = no-keys (key_at (plain t w))
   keys-there (payload.Dict es) h = keys-read t w (map (λ e. e.0) es.items) h.1.1.0
   keys-there (payload.Function f) h = no-keys (key_at (plain t w))
   keys-there (payload.Method m) h = no-keys (key_at (plain t w))
@@ -204,6 +256,12 @@ module _ (w : Held) (t : Reading) where
   keys-there (payload.MethodDescriptor m) h = no-keys (key_at (plain t w))
   keys-there (payload.GetSet g) h = no-keys (key_at (plain t w))
   keys-there (payload.ClassMethod r) h = no-keys (key_at (plain t w))
+  keys-there (payload.StaticMethod r) h = no-keys (key_at (plain t w))
+  keys-there (payload.Member m) h = no-keys (key_at (plain t w))
+  keys-there (payload.Property p) h = no-keys (key_at (plain t w))
+  keys-there (payload.Super s) h = no-keys (key_at (plain t w))
+  keys-there (payload.Iterator i) h = no-keys (key_at (plain t w))
+  keys-there (payload.Slice s) h = no-keys (key_at (plain t w))
 
   bound-there : (bs : List (PyStrInterned × PyObjectRef)) → AllHold w (of_each of_binding bs) → All (λ b. b.1.0 < length w.nodes) (bindings t bs)
   unfolding Holds
@@ -217,6 +275,7 @@ module _ (w : Held) (t : Reading) where
   function-home (payload.Number z) vars h = absurd h
   function-home (payload.Text s) vars h = absurd h
   function-home (payload.Tuple rs) vars h = absurd h
+  function-home (payload.List rs) vars h = absurd h
   function-home (payload.Dict es) vars h = absurd h
   function-home (payload.Function f) vars h = refl
   function-home (payload.Method m) vars h = absurd h
@@ -225,6 +284,12 @@ module _ (w : Held) (t : Reading) where
   function-home (payload.MethodDescriptor m) vars h = absurd h
   function-home (payload.GetSet g) vars h = absurd h
   function-home (payload.ClassMethod r) vars h = absurd h
+  function-home (payload.StaticMethod r) vars h = absurd h
+  function-home (payload.Member m) vars h = absurd h
+  function-home (payload.Property p) vars h = absurd h
+  function-home (payload.Super s) vars h = absurd h
+  function-home (payload.Iterator i) vars h = absurd h
+  function-home (payload.Slice s) vars h = absurd h
 
   function-there : (ns : List StoredNode) (n : ℕ) (vars : List (PyStrInterned × PyObjectRef)) → AreFilled vars (held_params ns (record { 0 = n })) → home_at ns n ≡ Some Function
   function-there [] n vars h = absurd h
@@ -243,6 +308,7 @@ module _ (w : Held) (t : Reading) where
   filled-in (payload.Number z) vars h = absurd h
   filled-in (payload.Text s) vars h = absurd h
   filled-in (payload.Tuple rs) vars h = absurd h
+  filled-in (payload.List rs) vars h = absurd h
   filled-in (payload.Dict es) vars h = absurd h
   filled-in (payload.Function f) vars h = filled-texts vars f.params.items h
   filled-in (payload.Method m) vars h = absurd h
@@ -251,6 +317,12 @@ module _ (w : Held) (t : Reading) where
   filled-in (payload.MethodDescriptor m) vars h = absurd h
   filled-in (payload.GetSet g) vars h = absurd h
   filled-in (payload.ClassMethod r) vars h = absurd h
+  filled-in (payload.StaticMethod r) vars h = absurd h
+  filled-in (payload.Member m) vars h = absurd h
+  filled-in (payload.Property p) vars h = absurd h
+  filled-in (payload.Super s) vars h = absurd h
+  filled-in (payload.Iterator i) vars h = absurd h
+  filled-in (payload.Slice s) vars h = absurd h
 
   filled-there : (ns : List StoredNode) (n : ℕ) (vars : List (PyStrInterned × PyObjectRef)) → AreFilled vars (held_params ns (record { 0 = n })) → All (λ x. is_some (value_of (λ y. is_text y x) (bindings t vars)) ≡ true) (params_of (option_map (λ (x : Node). x.datum) (slice_get (map (node_of t) ns) n)))
   filled-there [] n vars h = absurd h
@@ -279,6 +351,7 @@ module _ (w : Held) (t : Reading) where
   class-read (payload.Number z) c e = cc
   class-read (payload.Text s) c e = cc
   class-read (payload.Tuple rs) c e = cc
+  class-read (payload.List rs) c e = cc
   class-read (payload.Dict es) c e = cc
   class-read (payload.Function f) c e = cc
   class-read (payload.Method m) c e = cc
@@ -287,6 +360,12 @@ module _ (w : Held) (t : Reading) where
   class-read (payload.MethodDescriptor m) c e = cc
   class-read (payload.GetSet g) c e = cc
   class-read (payload.ClassMethod r) c e = cc
+  class-read (payload.StaticMethod r) c e = cc
+  class-read (payload.Member m) c e = cc
+  class-read (payload.Property p) c e = cc
+  class-read (payload.Super s) c e = cc
+  class-read (payload.Iterator i) c e = cc
+  class-read (payload.Slice s) c e = cc
 
   stands-at : (ns : List StoredNode) (n c : ℕ) → held_class ns (record { 0 = n }) ≡ Some c → option_map (λ (x : Node). x.datum) (slice_get (map (node_of t) ns) n) ≡ Some (AClass c)
   stands-at [] n c e = cc
@@ -299,6 +378,7 @@ module _ (w : Held) (t : Reading) where
   class-back (payload.Number z) c e = cc
   class-back (payload.Text s) c e = cc
   class-back (payload.Tuple rs) c e = cc
+  class-back (payload.List rs) c e = cc
   class-back (payload.Dict es) c e = cc
   class-back (payload.Function f) c e = cc
   class-back (payload.Method m) c e = cc
@@ -307,6 +387,12 @@ module _ (w : Held) (t : Reading) where
   class-back (payload.MethodDescriptor m) c e = cc
   class-back (payload.GetSet g) c e = cc
   class-back (payload.ClassMethod r) c e = cc
+  class-back (payload.StaticMethod r) c e = cc
+  class-back (payload.Member m) c e = cc
+  class-back (payload.Property p) c e = cc
+  class-back (payload.Super s) c e = cc
+  class-back (payload.Iterator i) c e = cc
+  class-back (payload.Slice s) c e = cc
 
   held-back : (ns : List StoredNode) (n c : ℕ) → option_map (λ (x : Node). x.datum) (slice_get (map (node_of t) ns) n) ≡ Some (AClass c) → held_class ns (record { 0 = n }) ≡ Some c
   held-back [] n c e = cc

@@ -9,7 +9,7 @@ use Rattle.py_node.specs.Tree.{Text}
 use Rattle.plain_machine.specs.Dicts.{Entries}
 use Rattle.plain_machine.specs.World.{is_text, or_empty}
 use Rattle.class_world.specs.Held.{Held}
-use Rattle.class_world.specs.Sound.{Claim, AreNodes, KeysDiffer}
+use Rattle.class_world.specs.Sound.{Claim, AreNodes, CanBeKeys, KeysDiffer}
 
 abbrev pub entries_of : Payload → Entries
 entries_of (payload.Dict es) = es.items
@@ -26,6 +26,10 @@ held_entries ns r = entries_at (slice_get ns r.0)
 -- what is said of entries
 abbrev pub of_entries : Entries → List Claim
 of_entries es = AreNodes (map (λ e. e.0) es) ∷ AreNodes (map (λ e. e.1) es) ∷ KeysDiffer (map (λ e. e.0) es) ∷ []
+
+-- what is said of keys with their values, where keys may be alike
+abbrev pub of_pairs : Entries → List Claim
+of_pairs es = AreNodes (map (λ e. e.0) es) ∷ AreNodes (map (λ e. e.1) es) ∷ CanBeKeys (map (λ e. e.0) es) ∷ []
 
 abbrev pub is_text_of : Text → Payload → Bool
 is_text_of x (payload.Text s) = is_text (string_bytes s) x

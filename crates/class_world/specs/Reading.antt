@@ -36,7 +36,7 @@ use Rattle.py_node.specs.declared.protocol.ObjectTask.{ObjectTask}
 use Rattle.py_node.specs.declared.protocol.ObjectTask.TheVariants as object
 use Rattle.py_node.specs.Tree.{Text, Tree, TConst, TName, TBind, TTuple, TList, TDict, TFunc, TAttr, TSetAttr, TDelAttr, TCall, TOp, TIf, TSeq, TRaise, TClass, Entries, no_entries, entry, trees_of, keyed_of, literal_of}
 use Rattle.class_model.specs.Class.{renamed}
-use Rattle.plain_machine.specs.Plain.{Datum, AnObject, AClass, ANumber, AText, ATuple, ADict, AFunction, AMethod, ANativeFunction, ABuiltinMethod, AMethodDescriptor, AGetSet, AClassMethod, no_members, Node, Bindings, Scope, PlainWorld, PlainTask, ToEval, ToAttribute, ToDescriptor, ToCall, ToClass, ToOperator, ToCompare, ToProtocol, ToObject, ToNative, PlainAnswer, AsValue, AsDone, AsNumber, AsTruth, AsMaybe, AsObjects, AsExhausted, AsFunction, AsAttribute, AsStart, Ended}
+use Rattle.plain_machine.specs.Plain.{Datum, AnObject, AClass, ANumber, AText, ATuple, AList, ADict, AFunction, AMethod, ANativeFunction, ABuiltinMethod, AMethodDescriptor, AGetSet, AClassMethod, AStaticMethod, AMember, AProperty, ASuper, AnIterator, ASlice, no_members, Node, Bindings, Scope, PlainWorld, PlainTask, ToEval, ToAttribute, ToDescriptor, ToCall, ToClass, ToOperator, ToCompare, ToProtocol, ToObject, ToNative, PlainAnswer, AsValue, AsDone, AsNumber, AsTruth, AsMaybe, AsObjects, AsExhausted, AsFunction, AsAttribute, AsStart, Ended}
 use Rattle.plain_machine.specs.Plain.{EvalJob, DoEval, CallJob, DoCall, DoBody, DoTypeCall, DoNew, DoInit, DoObject, ClassJob, DoMakeClass, DoType}
 use Rattle.plain_machine.specs.Plain.{AttributeJob, DoGetAttr, DoGeneric, DoGenericOpt, DoSetAttr, DoGenericSet, DoTypeGet, DoTypeSet, DoHasAttr, DoSpecial, DoBind, DoLoadMethod, DoInvoke}
 use Rattle.plain_machine.specs.Plain.{DescriptorJob, DoDescrGet, DoDescrSet, DoSuperGet, DoSuperInit, DoSuperCheck}
@@ -94,20 +94,31 @@ IsReadable w = (t : Reading) × Reads t w
 abbrev pub spelled : Reading → PyStrInterned → Text
 spelled t x = t.text x.0
 
+-- a name that may be absent
+abbrev pub spelled_option : Reading → Option PyStrInterned → Option Text
+spelled_option t o = option_map (spelled t) o
+
 abbrev pub datum : Reading → Payload → Datum
 datum t payload.Object = AnObject
 datum t (payload.Class c) = AClass c.0
 datum t (payload.Number z) = ANumber z
 datum t (payload.Text s) = AText (string_bytes s)
 datum t (payload.Tuple rs) = ATuple rs.items
+datum t (payload.List rs) = AList rs.items
 datum t (payload.Dict es) = ADict es.items
 datum t (payload.Function f) = AFunction (spelled t f.name) (map (spelled t) f.params.items) f.rest (t.tree f.body) (option_map (λ c. c.0) f.class)
 datum t (payload.Method m) = AMethod m.target m.func
-datum t (payload.NativeFunction f) = ANativeFunction (spelled t f.name) f.entry f.target
-datum t (payload.BuiltinMethod m) = ABuiltinMethod (spelled t m.name) m.entry m.target
-datum t (payload.MethodDescriptor m) = AMethodDescriptor m.class.0 (spelled t m.name) m.entry m.flags
+datum t (payload.NativeFunction f) = ANativeFunction (spelled t f.name) f.entry f.target (spelled_option t f.doc)
+datum t (payload.BuiltinMethod m) = ABuiltinMethod (spelled t m.name) m.entry m.target m.class.0 (spelled_option t m.doc)
+datum t (payload.MethodDescriptor m) = AMethodDescriptor m.class.0 (spelled t m.name) m.entry m.flags (spelled_option t m.doc)
 datum t (payload.GetSet g) = AGetSet g.class.0 (spelled t g.name) g.getter g.setter
 datum t (payload.ClassMethod r) = AClassMethod r
+datum t (payload.StaticMethod r) = AStaticMethod r
+datum t (payload.Member m) = AMember m.class.0 (spelled t m.name) m.kind m.getter m.setter (spelled_option t m.qualname) (spelled_option t m.doc)
+datum t (payload.Property p) = AProperty p
+datum t (payload.Super s) = ASuper s.typ.0 (option_map (λ b. (b.0, b.1.0)) s.obj)
+datum t (payload.Iterator i) = AnIterator i
+datum t (payload.Slice s) = ASlice s
 
 abbrev pub node_of : Reading → StoredNode → Node
 node_of t n = record { class = n.class.0; dict = n.dict; members = no_members; datum = datum t n.payload }

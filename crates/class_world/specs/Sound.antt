@@ -39,6 +39,8 @@ pub data Claim : Type 0 where
   Standing : ℕ → PyObjectRef → Claim
   -- the class may have subclasses
   CanBeBase : ℕ → Claim
+  -- the objects are numbers or texts
+  CanBeKeys : List PyObjectRef → Claim
   -- the objects are numbers or texts, no two of them alike
   KeysDiffer : List PyObjectRef → Claim
   -- the expression is of a form that passes the test
@@ -55,6 +57,7 @@ home_of (payload.Class c) = built_in.TypeType
 home_of (payload.Number z) = built_in.Int
 home_of (payload.Text s) = built_in.Str
 home_of (payload.Tuple rs) = built_in.Tuple
+home_of (payload.List rs) = built_in.List
 home_of (payload.Dict es) = built_in.Dict
 home_of (payload.Function f) = built_in.Function
 home_of (payload.Method m) = built_in.Method
@@ -63,6 +66,12 @@ home_of (payload.BuiltinMethod m) = built_in.BuiltinMethod
 home_of (payload.MethodDescriptor m) = built_in.MethodDescriptor
 home_of (payload.GetSet g) = built_in.GetSetDescriptor
 home_of (payload.ClassMethod r) = built_in.ClassMethod
+home_of (payload.StaticMethod r) = built_in.StaticMethod
+home_of (payload.Member m) = built_in.MemberDescriptor
+home_of (payload.Property p) = built_in.Property
+home_of (payload.Super s) = built_in.Super
+home_of (payload.Iterator i) = built_in.Iterator
+home_of (payload.Slice s) = built_in.Slice
 
 abbrev pub home_at : List Node → ℕ → Option BuiltIn
 home_at ns n = option_map (λ x. home_of x.payload) (slice_get ns n)
@@ -112,6 +121,7 @@ Holds w (IsOf c b) = held_by w.classes c ≡ Some b
 Holds w (Holding r b) = home_at w.nodes r.0 ≡ Some b
 Holds w (Standing c r) = held_class w.nodes r ≡ Some c
 Holds w (CanBeBase c) = is_base_at (class_at w.classes c) ≡ true
+Holds w (CanBeKeys rs) = All (λ r. is_some (held_key w.nodes r) ≡ true) rs
 Holds w (KeysDiffer rs) = AreKeys (held_key w.nodes) rs
 Holds w (HasForm e test) = (f : Form) × (slice_get w.forms e ≡ Some f) × (test f ≡ true)
 Holds w (HasParams r ps) = held_params w.nodes r ≡ Some ps
@@ -142,20 +152,39 @@ of_node_ref r = IsNode r ∷ []
 abbrev pub of_class_ref : PyTypeRef → List Claim
 of_class_ref c = IsClass c.0 ∷ []
 
+abbrev pub of_name_ref : PyStrInterned → List Claim
+of_name_ref x = IsName x ∷ []
+
+-- those of some objects that are there
+abbrev pub of_optional : List (Option PyObjectRef) → List Claim
+of_optional [] = []
+of_optional (o ∷ os) = of_option of_node_ref o ++ of_optional os
+
+-- an object and a class
+abbrev pub of_start : PyObjectRef × PyTypeRef → List Claim
+of_start s = IsNode s.0 ∷ IsClass s.1.0 ∷ []
+
 abbrev pub of_payload : Payload → List Claim
 of_payload payload.Object = []
 of_payload (payload.Class c) = IsClass c.0 ∷ []
 of_payload (payload.Number z) = []
 of_payload (payload.Text s) = []
 of_payload (payload.Tuple rs) = AreNodes rs.items ∷ []
+of_payload (payload.List rs) = AreNodes rs.items ∷ []
 of_payload (payload.Dict es) = AreNodes (map (λ e. e.0) es.items) ∷ AreNodes (map (λ e. e.1) es.items) ∷ KeysDiffer (map (λ e. e.0) es.items) ∷ []
 of_payload (payload.Function f) = IsName f.name ∷ AreNames f.params.items ∷ IsExpression f.body ∷ of_option of_class_ref f.class
 of_payload (payload.Method m) = IsNode m.target ∷ IsNode m.func ∷ []
-of_payload (payload.NativeFunction f) = IsName f.name ∷ of_option of_node_ref f.target
-of_payload (payload.BuiltinMethod m) = IsName m.name ∷ IsNode m.target ∷ []
-of_payload (payload.MethodDescriptor m) = IsClass m.class.0 ∷ IsName m.name ∷ []
+of_payload (payload.NativeFunction f) = IsName f.name ∷ of_option of_node_ref f.target ++ of_option of_name_ref f.doc
+of_payload (payload.BuiltinMethod m) = IsName m.name ∷ IsNode m.target ∷ IsClass m.class.0 ∷ of_option of_name_ref m.doc
+of_payload (payload.MethodDescriptor m) = IsClass m.class.0 ∷ IsName m.name ∷ of_option of_name_ref m.doc
 of_payload (payload.GetSet g) = IsClass g.class.0 ∷ IsName g.name ∷ []
 of_payload (payload.ClassMethod r) = IsNode r ∷ []
+of_payload (payload.StaticMethod r) = IsNode r ∷ []
+of_payload (payload.Member m) = IsClass m.class.0 ∷ IsName m.name ∷ of_option of_name_ref m.qualname ++ of_option of_name_ref m.doc
+of_payload (payload.Property p) = of_optional (p.fget ∷ p.fset ∷ p.fdel ∷ p.doc ∷ p.name ∷ [])
+of_payload (payload.Super s) = IsClass s.typ.0 ∷ of_option of_start s.obj
+of_payload (payload.Iterator i) = IsNode i.object ∷ []
+of_payload (payload.Slice s) = of_optional (s.start ∷ s.stop ∷ s.step ∷ [])
 
 -- the dict of an object is one
 abbrev pub of_dict_ref : PyObjectRef → List Claim

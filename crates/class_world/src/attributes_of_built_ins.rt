@@ -125,6 +125,7 @@ fn payload_of(world: &World, class: BuiltIn, name: PyStrInterned, attr: Attr) ->
             name,
             entry: NativeEntry::NewWrapper,
             target: Some(world.built_in_node(class)),
+            doc: None,
         }),
         Method(entry) => descriptor(world, class, name, entry, PyMethodFlags::METHOD),
         ClassMethod(entry) => descriptor(world, class, name, entry, PyMethodFlags::CLASS),
@@ -169,7 +170,7 @@ fn descriptor(
     flags: PyMethodFlags,
 ) -> Payload
     requires { Holds world.now (IsName name) }
-    ensures reads { (t : Reading) → datum t result ≡ AMethodDescriptor (place_of class) (t.text name.0) entry flags.0 }
+    ensures reads { (t : Reading) → datum t result ≡ AMethodDescriptor (place_of class) (t.text name.0) entry flags.0 None }
     ensures holds { AllHold world.now (of_payload result) }
     ensures home { home_of result ≡ built_in.MethodDescriptor }
     ensures other { class_in result ≡ None }
@@ -179,6 +180,7 @@ fn descriptor(
         name,
         entry,
         flags: flags.0,
+        doc: None,
     })
 }
 

@@ -8,6 +8,8 @@ mod definer;
 pub mod dicts;
 mod entries;
 mod heap;
+pub mod keys;
+pub mod limits;
 mod nodes;
 mod numbers;
 pub mod objects;

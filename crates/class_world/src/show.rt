@@ -3,7 +3,7 @@
 ghost use Rattle.std.specs.Prelude.{◌≡◌, ◌++◌, IfOk, OnOk, codes, string_bytes, option_map, map, take, drop};
 ghost use Rattle.reply_text.specs.Escapes.{escaped};
 ghost use Rattle.reply_text.specs.Lines.{joined};
-ghost use Rattle.plain_machine.specs.Show.{show, class_name, plain_text, fixed_text, datum_text, rest_text, item_texts, entry_text, tuple_end, tuple_text, dict_text, containers, text_within};
+ghost use Rattle.plain_machine.specs.Show.{show, class_name, plain_text, fixed_text, datum_text, rest_text, item_texts, entry_text, tuple_end, tuple_text, list_text, dict_text, containers, text_within};
 ghost use Rattle.class_world.specs.Reading.{Reading, plain, datum};
 ghost use Rattle.class_world.specs.Sound.{IsNode, AreNodes, IsClass, Holds, AllHold, of_payload};
 
@@ -20,12 +20,14 @@ const FALSE: u64 = 25;
 
 const TRUE: u64 = 26;
 
-// The classes of whole numbers, texts, tuples and dicts.
+// The classes of whole numbers, texts, tuples, lists and dicts.
 const INT: u64 = 4;
 
 const STR: u64 = 6;
 
 const TUPLE: u64 = 7;
+
+const LIST: u64 = 8;
 
 const DICT: u64 = 9;
 
@@ -87,6 +89,7 @@ fn show_payload(
         Payload::Number(z) if class.0 == INT => Ok(format!(in alloc; "{z}")?),
         Payload::Text(text) if class.0 == STR => quoted_string(alloc, text.as_str()),
         Payload::Tuple(items) if class.0 == TUPLE => show_tuple(world, depth, items),
+        Payload::List(items) if class.0 == LIST => show_list(world, depth, items),
         Payload::Dict(entries) if class.0 == DICT => show_dict(world, depth, entries),
         Payload::Class(named) => show_class(world, *named),
         _ => show_plain(world, class),
@@ -103,6 +106,20 @@ fn show_tuple(world: &World, depth: u8, items: &Vec<PyObjectRef>) -> Result<Stri
     let alloc = world.alloc();
     match depth.checked_sub(1) {
         Some(depth) => tuple_of(alloc, &item_texts(world, depth, items)?),
+        None => Ok(String::from_str(alloc, "...")?),
+    }
+}
+
+// The text of a list of these items.
+#[cycle(show)]
+fn show_list(world: &World, depth: u8, items: &Vec<PyObjectRef>) -> Result<String, OutOfMemory>
+    requires { Holds world.now (AreNodes items.now.items) }
+    ensures { IfOk result (λ s. (t : Reading) → string_bytes s ≡
+        (containers depth (plain t world.now)).list items.now.items) }
+{
+    let alloc = world.alloc();
+    match depth.checked_sub(1) {
+        Some(depth) => list_of(alloc, &item_texts(world, depth, items)?),
         None => Ok(String::from_str(alloc, "...")?),
     }
 }
@@ -219,6 +236,14 @@ fn tuple_end(texts: &[String]) -> &'static str
         [_] => ",)",
         _ => ")",
     }
+}
+
+// A list whose items have these texts.
+fn list_of(alloc: Global, texts: &[String]) -> Result<String, OutOfMemory>
+    ensures { IfOk result (λ s. string_bytes s ≡ list_text (map string_bytes texts.now)) }
+{
+    let inside = with_commas(alloc, texts)?;
+    between(alloc, "[", inside.as_str(), "]")
 }
 
 // A dict whose keys with their values have these texts.

@@ -8,7 +8,7 @@ use Rattle.py_node.specs.declared.built_in.BuiltIn.TheVariants.{Dict, TypeType, 
 use Rattle.class_model.specs.Class.{class_at as class_numbered, is_class, is_along}
 use Rattle.class_model.specs.Layout.{layout, member_count, is_place}
 use Rattle.plain_machine.specs.Known.{the_dict}
-use Rattle.plain_machine.specs.Plain.{Datum, AnObject, AClass, ANumber, AText, ATuple, ADict, AFunction, AMethod, ANativeFunction, ABuiltinMethod, AMethodDescriptor, AGetSet, AClassMethod, no_members, Node, PlainWorld}
+use Rattle.plain_machine.specs.Plain.{Datum, AnObject, AClass, ANumber, AText, ATuple, AList, ADict, AFunction, AMethod, ANativeFunction, ABuiltinMethod, AMethodDescriptor, AGetSet, AClassMethod, AStaticMethod, AMember, AProperty, ASuper, AnIterator, ASlice, no_members, Node, PlainWorld}
 use Rattle.plain_machine.specs.World.{ref, node_at, datum_at, class_at, has_dict, push_node, with_node_changed}
 use Rattle.plain_machine.specs.Objects.{class_number}
 use Rattle.plain_machine.specs.Change.{with_place, with_object_changed, MakeNode, SetClass, SetMember, SetDict, SetDatum, apply}
@@ -137,14 +137,21 @@ no-key (AClass c) n t = refl
 no-key (ANumber z) n t = absurd (n refl)
 no-key (AText x) n t = absurd (t refl)
 no-key (ATuple rs) n t = refl
+no-key (AList rs) n t = refl
 no-key (ADict es) n t = refl
 no-key (AFunction x ps rest b c) n t = refl
 no-key (AMethod r f) n t = refl
-no-key (ANativeFunction x m r) n t = refl
-no-key (ABuiltinMethod x m r) n t = refl
-no-key (AMethodDescriptor c x m flags) n t = refl
+no-key (ANativeFunction x m r doc) n t = refl
+no-key (ABuiltinMethod x m r k doc) n t = refl
+no-key (AMethodDescriptor c x m flags doc) n t = refl
 no-key (AGetSet c x get set) n t = refl
 no-key (AClassMethod r) n t = refl
+no-key (AStaticMethod r) n t = refl
+no-key (AMember d x kind get set q doc) n t = refl
+no-key (AProperty p) n t = refl
+no-key (ASuper d o) n t = refl
+no-key (AnIterator i) n t = refl
+no-key (ASlice s) n t = refl
 
 no-class : (d : Datum) → (home d ≡ TypeType → ⊥) → class_number (Some d) ≡ None
 no-class AnObject n = refl
@@ -152,14 +159,21 @@ no-class (AClass c) n = absurd (n refl)
 no-class (ANumber z) n = refl
 no-class (AText x) n = refl
 no-class (ATuple rs) n = refl
+no-class (AList rs) n = refl
 no-class (ADict es) n = refl
 no-class (AFunction x ps rest b c) n = refl
 no-class (AMethod r f) n = refl
-no-class (ANativeFunction x m r) n = refl
-no-class (ABuiltinMethod x m r) n = refl
-no-class (AMethodDescriptor c x m flags) n = refl
+no-class (ANativeFunction x m r doc) n = refl
+no-class (ABuiltinMethod x m r k doc) n = refl
+no-class (AMethodDescriptor c x m flags doc) n = refl
 no-class (AGetSet c x get set) n = refl
 no-class (AClassMethod r) n = refl
+no-class (AStaticMethod r) n = refl
+no-class (AMember d x kind get set q doc) n = refl
+no-class (AProperty p) n = refl
+no-class (ASuper d o) n = refl
+no-class (AnIterator i) n = refl
+no-class (ASlice s) n = refl
 
 -- what an object holds
 module _ (w : PlainWorld) (r : PyObjectRef) (d : Datum) (a : CanSetDatum w r d) (x : Node) (e : node_at w r ≡ Some x) where

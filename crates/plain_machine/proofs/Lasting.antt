@@ -11,7 +11,7 @@ use Rattle.py_node.specs.Attributes.{value_of}
 use Rattle.py_node.specs.Tree.{Text}
 use Rattle.class_model.specs.Class.{Class, Classes, is_class}
 use Rattle.class_model.specs.Layout.{is_place}
-use Rattle.plain_machine.specs.Plain.{Datum, AnObject, AClass, ANumber, AText, ATuple, ADict, AFunction, AMethod, ANativeFunction, ABuiltinMethod, AMethodDescriptor, AGetSet, AClassMethod, Node, Bindings, Scope, PlainWorld}
+use Rattle.plain_machine.specs.Plain.{Datum, AnObject, AClass, ANumber, AText, ATuple, AList, ADict, AFunction, AMethod, ANativeFunction, ABuiltinMethod, AMethodDescriptor, AGetSet, AClassMethod, AStaticMethod, AMember, AProperty, ASuper, AnIterator, ASlice, Node, Bindings, Scope, PlainWorld}
 use Rattle.plain_machine.specs.World.{is_text, ref, datum_at}
 use Rattle.plain_machine.specs.Objects.{class_number}
 use Rattle.plain_machine.specs.Sound.{home, held_by, nodes_in, classes_in, keys_in, Key, key_of, key_at, AreKeys, AreThere, AreBound, AreApart, params_in, IsSoundNode, IsSoundScope}
@@ -67,14 +67,21 @@ tells (AClass d) c e = let same : d ≡ c = cc in ap AClass same
 tells (ANumber z) c e = cc
 tells (AText x) c e = cc
 tells (ATuple rs) c e = cc
+tells (AList rs) c e = cc
 tells (ADict es) c e = cc
 tells (AFunction x ps rest b d) c e = cc
 tells (AMethod r f) c e = cc
-tells (ANativeFunction x n r) c e = cc
-tells (ABuiltinMethod x n r) c e = cc
-tells (AMethodDescriptor d x n flags) c e = cc
+tells (ANativeFunction x n r doc) c e = cc
+tells (ABuiltinMethod x n r k doc) c e = cc
+tells (AMethodDescriptor d x n flags doc) c e = cc
 tells (AGetSet d x get set) c e = cc
 tells (AClassMethod r) c e = cc
+tells (AStaticMethod r) c e = cc
+tells (AMember d x kind get set q doc) c e = cc
+tells (AProperty p) c e = cc
+tells (ASuper d o) c e = cc
+tells (AnIterator i) c e = cc
+tells (ASlice s) c e = cc
 
 pub stands : (o : Option Datum) (c : ℕ) → class_number o ≡ Some c → o ≡ Some (AClass c)
 stands None c e = cc

@@ -1,5 +1,6 @@
 -- The dicts of objects: what stands in one under a text, and how that is set and taken out.
-use Rattle.std.specs.Prelude.{Bool, false, cond, List, [], ◌∷◌, ◌++◌, Option, Some, None, option_and_then}
+use Rattle.std.specs.Prelude.{Bool, false, cond, List, [], ◌∷◌, ◌++◌, Option, Some, None, option_and_then, fold}
+use Rattle.std.specs.Ordering.{int_eq}
 use Rattle.py_node.specs.declared.refs.PyObjectRef.{PyObjectRef}
 use Rattle.py_node.specs.Attributes.{value_of}
 use Rattle.py_node.specs.Tree.{Text}
@@ -7,6 +8,7 @@ use Rattle.plain_machine.specs.Plain.{Datum, AText, ADict, PlainWorld}
 use Rattle.plain_machine.specs.Known.{the_str}
 use Rattle.plain_machine.specs.World.{is_text, node_at, datum_at, with_node, next_node}
 use Rattle.plain_machine.specs.Objects.{with_datum_in}
+use Rattle.plain_machine.specs.Sound.{Key, NumberKey, TextKey, key_at}
 
 abbrev pub Entries : Type 0
 Entries = List (PyObjectRef × PyObjectRef)
@@ -61,3 +63,24 @@ with_value_in w d x v = set_under w d x v (value_in w x d)
 -- a dict without its value for a text
 abbrev pub without_value_in : PlainWorld → PyObjectRef → Text → PlainWorld
 without_value_in w d x = with_entries w d (without_value_for (is_key w x) (entries_in (datum_at w d)))
+
+-- whether two keys are one: numbers, or texts, that are the same
+abbrev pub is_one_key : Option Key → Option Key → Bool
+is_one_key (Some (NumberKey n)) (Some (NumberKey m)) = int_eq n m
+is_one_key (Some (TextKey x)) (Some (TextKey y)) = is_text x y
+is_one_key _ _ = false
+
+abbrev pub is_like : PlainWorld → PyObjectRef → PyObjectRef → Bool
+is_like w k j = is_one_key (key_at w j) (key_at w k)
+
+-- entries with a value under a key. A key that is there stays, and gets the value; else the key comes last
+abbrev pub put_under : (PyObjectRef → Bool) → PyObjectRef × PyObjectRef → Entries → Option PyObjectRef → Entries
+put_under test e es (Some old) = with_value_for test e.1 es
+put_under test e es None = es ++ e ∷ []
+
+abbrev pub with_entry : PlainWorld → Entries → PyObjectRef × PyObjectRef → Entries
+with_entry w es e = put_under (is_like w e.0) e es (value_of (is_like w e.0) es)
+
+-- keys with their values, one after another
+abbrev pub entries_from : PlainWorld → Entries → Entries
+entries_from w es = fold (with_entry w) [] es

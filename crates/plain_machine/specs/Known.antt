@@ -25,6 +25,9 @@ the_str = 6
 abbrev pub the_tuple : ℕ
 the_tuple = 7
 
+abbrev pub the_list : ℕ
+the_list = 8
+
 abbrev pub the_dict : ℕ
 the_dict = 9
 

@@ -60,7 +60,7 @@ for_classes = method_has 16
 
 -- a native that is a method of objects, where it is a native at all
 abbrev pub is_for_objects : Option Datum → Bool
-is_for_objects (Some (AMethodDescriptor c x n flags)) = for_objects flags
+is_for_objects (Some (AMethodDescriptor c x n flags doc)) = for_objects flags
 is_for_objects _ = true
 
 -- whether a method can be called with its object before the arguments, without being bound: its class has the flag of methods, and a native is one of objects

@@ -7,6 +7,12 @@ use Rattle.py_node.specs.declared.entry.ObjectNative.{ObjectNative}
 use Rattle.py_node.specs.declared.entry.TypeNative.{TypeNative}
 use Rattle.py_node.specs.declared.entry.NativeEntry.{NativeEntry}
 use Rattle.py_node.specs.declared.entry.SlotEntry.{SlotEntry}
+use Rattle.py_node.specs.declared.payload.MemberKind.{MemberKind}
+use Rattle.py_node.specs.declared.payload.MemberGetter.{MemberGetter}
+use Rattle.py_node.specs.declared.payload.MemberSetter.{MemberSetter}
+use Rattle.py_node.specs.declared.payload.PyProperty.{PyProperty}
+use Rattle.py_node.specs.declared.payload.PySlice.{PySlice}
+use Rattle.py_node.specs.declared.payload.SequenceIterator.{SequenceIterator}
 use Rattle.py_node.specs.declared.task.PyNumberBinaryOp.{PyNumberBinaryOp}
 use Rattle.py_node.specs.declared.task.PyNumberUnaryOp.{PyNumberUnaryOp}
 use Rattle.py_node.specs.declared.task.PyComparisonOp.{PyComparisonOp}
@@ -21,18 +27,29 @@ pub data Datum : Type 0 where
   ANumber : ℤ → Datum
   AText : Text → Datum
   ATuple : List PyObjectRef → Datum
+  AList : List PyObjectRef → Datum
   ADict : List (PyObjectRef × PyObjectRef) → Datum
   -- its name, its parameters, whether the last takes the rest, its body, and the class that defines it
   AFunction : Text → List Text → Bool → Tree → Option ℕ → Datum
   -- what it is bound to, and the function
   AMethod : PyObjectRef → PyObjectRef → Datum
-  ANativeFunction : Text → NativeEntry → Option PyObjectRef → Datum
-  ABuiltinMethod : Text → NativeEntry → PyObjectRef → Datum
-  -- its class, its name, its native and its flags
-  AMethodDescriptor : ℕ → Text → NativeEntry → ℕ → Datum
+  -- its name, its native, what it is bound to, and its doc
+  ANativeFunction : Text → NativeEntry → Option PyObjectRef → Option Text → Datum
+  -- its name, its native, what it is bound to, its class, and its doc
+  ABuiltinMethod : Text → NativeEntry → PyObjectRef → ℕ → Option Text → Datum
+  -- its class, its name, its native, its flags, and its doc
+  AMethodDescriptor : ℕ → Text → NativeEntry → ℕ → Option Text → Datum
   -- its class, its name, and the natives that read and set it
   AGetSet : ℕ → Text → Option NativeEntry → Option NativeEntry → Datum
   AClassMethod : PyObjectRef → Datum
+  AStaticMethod : PyObjectRef → Datum
+  -- its class, its name, its kind, what reads and sets it, its qualified name once that was asked for, and its doc
+  AMember : ℕ → Text → MemberKind → MemberGetter → MemberSetter → Option Text → Option Text → Datum
+  AProperty : PyProperty → Datum
+  -- the class past which it looks, and, where it is bound, the object and the class where it starts
+  ASuper : ℕ → Option (PyObjectRef × ℕ) → Datum
+  AnIterator : SequenceIterator → Datum
+  ASlice : PySlice → Datum
 
 -- what stands in the places of an object, by their solid class and their index there. As a map from all places it has one form, however it was written
 abbrev pub Places : Type 0

@@ -1,11 +1,11 @@
 -- The words that rows are written in.
-use Rattle.std.specs.Prelude.{ℕ, Bool, true, false, List, [], ◌∷◌, Option, Some, None, Result, Ok, Err}
+use Rattle.std.specs.Prelude.{ℕ, ◌^◌, Bool, true, false, cond, nat_le, length, List, [], ◌∷◌, Option, Some, None, Result, Ok, Err}
 use Rattle.py_node.specs.declared.refs.PyObjectRef.{PyObjectRef}
 use Rattle.py_node.specs.declared.raised.Raised.{Raised as Fault}
 use Rattle.py_node.specs.declared.raised.Kind.{Kind}
 use Rattle.py_node.specs.declared.raised.Kind.TheVariants.{AttributeError}
 use Rattle.py_node.specs.declared.raised.Cause.{Cause}
-use Rattle.py_node.specs.declared.raised.Cause.TheVariants.{NotYet}
+use Rattle.py_node.specs.declared.raised.Cause.TheVariants.{NotYet, TooLong}
 use Rattle.py_node.specs.declared.entry.SlotEntry.{SlotEntry}
 use Rattle.py_node.specs.BuiltIns.{fixed_none}
 use Rattle.py_node.specs.Tree.{Tree}
@@ -79,6 +79,18 @@ on_done w (Err x) go = end w (Err x)
 -- ends with a new node of a class
 abbrev pub make : PlainWorld → ℕ → Datum → Row
 make w c d = end (with_node w c d) (value (next_node w c))
+
+-- no tuple, list or dict has more items
+abbrev pub most_items : ℕ
+most_items = 2 ^ 24
+
+-- goes on unless these are too many items
+abbrev pub limited : {A : Type 0} → PlainWorld → List A → Row → Row
+limited w xs go = cond (nat_le (length xs) most_items) go (end w (fault TooLong))
+
+-- True or False, as an object
+abbrev pub truth : Bool → PyObjectRef
+truth b = cond b (ref 26) (ref 25)
 
 -- keeps a fact in mind
 abbrev pub noting : Fact → Said → Said

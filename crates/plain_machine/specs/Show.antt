@@ -7,7 +7,7 @@ use Rattle.py_node.specs.Tree.{Text}
 use Rattle.reply_text.specs.Escapes.{escaped, quoted}
 use Rattle.reply_text.specs.Lines.{joined}
 use Rattle.class_model.specs.Class.{class_at as class_numbered}
-use Rattle.plain_machine.specs.Plain.{Datum, AClass, ANumber, AText, ATuple, ADict, Node, PlainWorld}
+use Rattle.plain_machine.specs.Plain.{Datum, AClass, ANumber, AText, ATuple, AList, ADict, Node, PlainWorld}
 use Rattle.plain_machine.specs.World.{node_at}
 
 -- the name of a class, escaped
@@ -46,27 +46,36 @@ tuple_end xs = codes ")"
 abbrev pub tuple_text : List Text → Text
 tuple_text xs = codes "(" ++ joined (codes ", ") xs ++ tuple_end xs
 
+abbrev pub list_text : List Text → Text
+list_text xs = codes "[" ++ joined (codes ", ") xs ++ codes "]"
+
 abbrev pub dict_text : List Text → Text
 dict_text xs = codes "{" ++ joined (codes ", ") xs ++ codes "}"
 
 -- how containers are shown, by what they contain
 pub record Containers : Type 0 where
   pub tuple : List PyObjectRef → Text
+  pub list : List PyObjectRef → Text
   pub dict : List (PyObjectRef × PyObjectRef) → Text
 
 -- dots, also for a container of nothing
 abbrev pub hidden : Containers
-hidden = record { tuple = λ rs. dots; dict = λ es. dots }
+hidden = record { tuple = λ rs. dots; list = λ rs. dots; dict = λ es. dots }
 
 -- each item has this text
 abbrev pub opened : (PyObjectRef → Text) → Containers
-opened text = record { tuple = λ rs. tuple_text (item_texts text rs); dict = λ es. dict_text (item_texts (entry_text text) es) }
+opened text = record {
+  tuple = λ rs. tuple_text (item_texts text rs);
+  list = λ rs. list_text (item_texts text rs);
+  dict = λ es. dict_text (item_texts (entry_text text) es);
+}
 
--- exact ints and texts, exact tuples and dicts, and classes
+-- exact ints and texts, exact tuples, lists and dicts, and classes
 abbrev pub datum_text : Containers → PlainWorld → ℕ → Datum → Text
 datum_text shown w c (ANumber z) = if c == 4 then signed_decimal z else plain_text w c
 datum_text shown w c (AText x) = if c == 6 then quoted x else plain_text w c
 datum_text shown w c (ATuple rs) = if c == 7 then shown.tuple rs else plain_text w c
+datum_text shown w c (AList rs) = if c == 8 then shown.list rs else plain_text w c
 datum_text shown w c (ADict es) = if c == 9 then shown.dict es else plain_text w c
 datum_text shown w c (AClass d) = codes "<class '" ++ class_name w d ++ codes "'>"
 datum_text shown w c _ = plain_text w c

@@ -11,7 +11,7 @@ use Rattle.py_node.specs.Tree.{Text}
 use Rattle.class_model.specs.Class.{Classes, is_class}
 use Rattle.class_model.specs.Layout.{is_place}
 use Rattle.class_model.specs.Sound.{AreSound}
-use Rattle.plain_machine.specs.Plain.{Datum, AnObject, AClass, ANumber, AText, ATuple, ADict, AFunction, AMethod, ANativeFunction, ABuiltinMethod, AMethodDescriptor, AGetSet, AClassMethod, Node, Bindings, Scope, PlainWorld}
+use Rattle.plain_machine.specs.Plain.{Datum, AnObject, AClass, ANumber, AText, ATuple, AList, ADict, AFunction, AMethod, ANativeFunction, ABuiltinMethod, AMethodDescriptor, AGetSet, AClassMethod, AStaticMethod, AMember, AProperty, ASuper, AnIterator, ASlice, Node, Bindings, Scope, PlainWorld}
 use Rattle.plain_machine.specs.World.{is_text, ref, datum_at}
 use Rattle.plain_machine.specs.Objects.{nearest_built_in}
 
@@ -22,14 +22,21 @@ home (AClass c) = built_in.TypeType
 home (ANumber z) = built_in.Int
 home (AText x) = built_in.Str
 home (ATuple rs) = built_in.Tuple
+home (AList rs) = built_in.List
 home (ADict es) = built_in.Dict
 home (AFunction x ps rest e c) = built_in.Function
 home (AMethod r f) = built_in.Method
-home (ANativeFunction x n r) = built_in.BuiltinFunctionOrMethod
-home (ABuiltinMethod x n r) = built_in.BuiltinMethod
-home (AMethodDescriptor c x n flags) = built_in.MethodDescriptor
+home (ANativeFunction x n r doc) = built_in.BuiltinFunctionOrMethod
+home (ABuiltinMethod x n r c doc) = built_in.BuiltinMethod
+home (AMethodDescriptor c x n flags doc) = built_in.MethodDescriptor
 home (AGetSet c x get set) = built_in.GetSetDescriptor
 home (AClassMethod r) = built_in.ClassMethod
+home (AStaticMethod r) = built_in.StaticMethod
+home (AMember c x kind get set qualname doc) = built_in.MemberDescriptor
+home (AProperty p) = built_in.Property
+home (ASuper c o) = built_in.Super
+home (AnIterator i) = built_in.Iterator
+home (ASlice s) = built_in.Slice
 
 -- None and NotImplemented hold as little as the objects of `object`, and those of bool a number, as those of int
 abbrev pub holds_as : BuiltIn → BuiltIn
@@ -47,20 +54,39 @@ abbrev pub optional : Option PyObjectRef → List PyObjectRef
 optional None = []
 optional (Some r) = r ∷ []
 
+-- those of some that are there
+abbrev pub all_optional : List (Option PyObjectRef) → List PyObjectRef
+all_optional [] = []
+all_optional (o ∷ os) = optional o ++ all_optional os
+
+-- the object that `super` is bound to, and the class where it starts
+abbrev pub super_object : Option (PyObjectRef × ℕ) → Option PyObjectRef
+super_object o = option_map (λ b. b.0) o
+
+abbrev pub super_start : Option (PyObjectRef × ℕ) → Option ℕ
+super_start o = option_map (λ b. b.1) o
+
 abbrev pub nodes_in : Datum → List PyObjectRef
 nodes_in AnObject = []
 nodes_in (AClass c) = []
 nodes_in (ANumber z) = []
 nodes_in (AText x) = []
 nodes_in (ATuple rs) = rs
+nodes_in (AList rs) = rs
 nodes_in (ADict es) = map (λ e. e.0) es ++ map (λ e. e.1) es
 nodes_in (AFunction x ps rest e c) = []
 nodes_in (AMethod r f) = r ∷ f ∷ []
-nodes_in (ANativeFunction x n r) = optional r
-nodes_in (ABuiltinMethod x n r) = r ∷ []
-nodes_in (AMethodDescriptor c x n flags) = []
+nodes_in (ANativeFunction x n r doc) = optional r
+nodes_in (ABuiltinMethod x n r c doc) = r ∷ []
+nodes_in (AMethodDescriptor c x n flags doc) = []
 nodes_in (AGetSet c x get set) = []
 nodes_in (AClassMethod r) = r ∷ []
+nodes_in (AStaticMethod r) = r ∷ []
+nodes_in (AMember c x kind get set qualname doc) = []
+nodes_in (AProperty p) = all_optional (p.fget ∷ p.fset ∷ p.fdel ∷ p.doc ∷ p.name ∷ [])
+nodes_in (ASuper c o) = optional (super_object o)
+nodes_in (AnIterator i) = i.object ∷ []
+nodes_in (ASlice s) = all_optional (s.start ∷ s.stop ∷ s.step ∷ [])
 
 abbrev pub optional_class : Option ℕ → List ℕ
 optional_class None = []
@@ -72,14 +98,21 @@ classes_in (AClass c) = c ∷ []
 classes_in (ANumber z) = []
 classes_in (AText x) = []
 classes_in (ATuple rs) = []
+classes_in (AList rs) = []
 classes_in (ADict es) = []
 classes_in (AFunction x ps rest e c) = optional_class c
 classes_in (AMethod r f) = []
-classes_in (ANativeFunction x n r) = []
-classes_in (ABuiltinMethod x n r) = []
-classes_in (AMethodDescriptor c x n flags) = c ∷ []
+classes_in (ANativeFunction x n r doc) = []
+classes_in (ABuiltinMethod x n r c doc) = c ∷ []
+classes_in (AMethodDescriptor c x n flags doc) = c ∷ []
 classes_in (AGetSet c x get set) = c ∷ []
 classes_in (AClassMethod r) = []
+classes_in (AStaticMethod r) = []
+classes_in (AMember c x kind get set qualname doc) = c ∷ []
+classes_in (AProperty p) = []
+classes_in (ASuper c o) = c ∷ optional_class (super_start o)
+classes_in (AnIterator i) = []
+classes_in (ASlice s) = []
 
 -- a key of a dict: a number or a text
 pub data Key : Type 0 where

@@ -43,9 +43,9 @@ attr_class NoHash = built_in.NoneType
 
 -- what this object is, for a class and a name. A method of the objects has the flag 2 ^ 9, and one of the class 2 ^ 4
 abbrev pub attr_datum : BuiltIn → Text → Attr → Datum
-attr_datum b x New = ANativeFunction x NewWrapper (Some (ref (place_of b)))
-attr_datum b x (Method n) = AMethodDescriptor (place_of b) x n 512
-attr_datum b x (ClassMethod n) = AMethodDescriptor (place_of b) x n 16
+attr_datum b x New = ANativeFunction x NewWrapper (Some (ref (place_of b))) None
+attr_datum b x (Method n) = AMethodDescriptor (place_of b) x n 512 None
+attr_datum b x (ClassMethod n) = AMethodDescriptor (place_of b) x n 16 None
 attr_datum b x (ReadOnly p) = AGetSet (place_of b) x (Some (Getter p)) None
 attr_datum b x (Settable p) = AGetSet (place_of b) x (Some (Getter p)) (Some (Setter p))
 attr_datum b x (Part d) = AGetSet (place_of b) x (Some (GetterOf b d)) None

@@ -43,9 +43,9 @@ with_self (Some r) args = r ∷ args
 abbrev pub call_native : NativeEntry → Option Datum → PyObjectRef → List PyObjectRef → Bindings → Option PlainTask
 call_native (OfCallable callable.CallFunction) d f args kw = Some (ToCall (DoBody f args kw))
 call_native (OfCallable callable.CallMethod) (Some (AMethod o g)) f args kw = Some (ToCall (DoCall g (o ∷ args) kw))
-call_native (OfCallable callable.CallNativeFunction) (Some (ANativeFunction x n o)) f args kw = Some (native_task n (with_self o args) kw)
-call_native (OfCallable callable.CallBuiltinMethod) (Some (ABuiltinMethod x n o)) f args kw = Some (native_task n (o ∷ args) kw)
-call_native (OfCallable callable.CallMethodDescriptor) (Some (AMethodDescriptor c x n flags)) f args kw = Some (native_task n args kw)
+call_native (OfCallable callable.CallNativeFunction) (Some (ANativeFunction x n o doc)) f args kw = Some (native_task n (with_self o args) kw)
+call_native (OfCallable callable.CallBuiltinMethod) (Some (ABuiltinMethod x n o c doc)) f args kw = Some (native_task n (o ∷ args) kw)
+call_native (OfCallable callable.CallMethodDescriptor) (Some (AMethodDescriptor c x n flags doc)) f args kw = Some (native_task n args kw)
 call_native (OfType type.Call) (Some (AClass c)) f args kw = Some (ToCall (DoTypeCall c args kw))
 call_native _ d f args kw = None
 

@@ -1,6 +1,7 @@
 -- What the contracts of the rows of descriptors say.
 use Rattle.std.specs.Prelude.{◌≡◌, ℕ, List, [], ◌∷◌, Result, Option, Some, None, option_map}
 use Rattle.py_node.specs.declared.raised.Raised.{Raised as Fault}
+use Rattle.py_node.specs.declared.refs.PyObjectRef.{PyObjectRef}
 use Rattle.py_node.specs.declared.refs.PyTypeRef.{PyTypeRef}
 use Rattle.py_node.specs.declared.payload.MethodDescriptor.{MethodDescriptor}
 use Rattle.py_node.specs.declared.payload.Payload.TheVariants as payload
@@ -11,13 +12,13 @@ use Rattle.plain_machine.specs.Plain.{Datum, PlainWorld, DescriptorJob, DoDescrG
 use Rattle.plain_machine.specs.Rows.{Pending}
 use Rattle.plain_machine.specs.World.{ref}
 use Rattle.class_world.specs.declared.world.World.{World}
-use Rattle.class_world.specs.Reading.{Reading, Reads, plain, descriptor_job, datum, ended_of}
+use Rattle.class_world.specs.Reading.{Reading, Reads, plain, descriptor_job, datum, ended_of, spelled, spelled_option}
 use Rattle.class_world.specs.Rows as rows
 use Rattle.class_world.specs.Rows.{Group}
-use Rattle.class_world.specs.Sound.{Claim, IsName}
+use Rattle.class_world.specs.Sound.{Claim, of_payload}
 use Rattle.proto_descr.specs.declared.DescriptorKept.{DescriptorKept}
 use Rattle.proto_descr.specs.declared.DescriptorKept.TheVariants.{Pass}
-use Rattle.proto_descr.specs.Say.{descriptor_say}
+use Rattle.proto_descr.specs.Say.{descriptor_say, bound_native}
 
 -- the row that goes on, at each answer, just as the row that the code keeps this for
 abbrev pub descriptor_stands : Reading → DescriptorKept → Pending DescriptorJob
@@ -60,4 +61,8 @@ described t None = None
 described t (Some m) = Some (datum t (payload.MethodDescriptor m))
 
 abbrev pub native_of : MethodDescriptor → List Claim
-native_of m = IsName m.name ∷ []
+native_of m = of_payload (payload.MethodDescriptor m)
+
+-- it is bound to an object
+abbrev pub bound_as : Reading → PlainWorld → MethodDescriptor → PyObjectRef → Said
+bound_as t w m o = bound_native w m.class.0 (spelled t m.name) m.entry (spelled_option t m.doc) o

@@ -38,28 +38,30 @@ abbrev pub function_get : PlainWorld → PyObjectRef → Option PyObjectRef → 
 function_get w m None c = Ends w (value m)
 function_get w m (Some o) c = cond (is_object_none o c) (Ends w (value m)) (Ends (with_node w the_method (AMethod o m)) (value (next_node w the_method)))
 
-abbrev pub bound_native : PlainWorld → Text → NativeEntry → PyObjectRef → Said
-bound_native w x n o = Ends (with_node w the_builtin_method (ABuiltinMethod x n o)) (value (next_node w the_builtin_method))
+-- a native of a class, with its name and its doc, is bound to an object
+abbrev pub bound_native : PlainWorld → ℕ → Text → NativeEntry → Option Text → PyObjectRef → Said
+bound_native w k x n doc o = Ends (with_node w the_builtin_method (ABuiltinMethod x n o k doc)) (value (next_node w the_builtin_method))
 
 -- a native of objects is bound to the object, where a class is given too
-abbrev pub object_get : PlainWorld → PyObjectRef → Text → NativeEntry → Option PyObjectRef → Option ℕ → Said
-object_get w m x n None c = Ends w (value m)
-object_get w m x n (Some o) None = Ends w (fault NeedsType)
-object_get w m x n (Some o) (Some c) = bound_native w x n o
+abbrev pub object_get : PlainWorld → PyObjectRef → (PyObjectRef → Said) → Option PyObjectRef → Option ℕ → Said
+object_get w m bound None c = Ends w (value m)
+object_get w m bound (Some o) None = Ends w (fault NeedsType)
+object_get w m bound (Some o) (Some c) = bound o
 
 -- a native of classes is bound to the object's class, or else to the class that is given
-abbrev pub class_get : PlainWorld → Text → NativeEntry → Option PyObjectRef → Option PyObjectRef → Said
-class_get w x n None None = Ends w (fault NeedsType)
-class_get w x n None (Some c) = bound_native w x n c
-class_get w x n (Some o) c = bound_native w x n (type_object w o)
+abbrev pub class_get : PlainWorld → (PyObjectRef → Said) → Option PyObjectRef → Option PyObjectRef → Said
+class_get w bound None None = Ends w (fault NeedsType)
+class_get w bound None (Some c) = bound c
+class_get w bound (Some o) c = bound (type_object w o)
 
 abbrev pub static_get : PlainWorld → PyObjectRef → Option PyObjectRef → Said
 static_get w m None = Ends w (value m)
 static_get w m (Some o) = Ends w (fault NeedsType)
 
 abbrev pub native_get : PlainWorld → Option Datum → PyObjectRef → Option PyObjectRef → Option PyObjectRef → Said
-native_get w (Some (AMethodDescriptor k x n flags)) m o c =
-    cond (for_objects flags) (object_get w m x n o (class_of_option w c)) (cond (for_classes flags) (class_get w x n o c) (static_get w m o))
+native_get w (Some (AMethodDescriptor k x n flags doc)) m o c =
+    let bound = bound_native w k x n doc in
+    cond (for_objects flags) (object_get w m bound o (class_of_option w c)) (cond (for_classes flags) (class_get w bound o c) (static_get w m o))
 native_get w _ m o c = Ends w (value m)
 
 -- what a descriptor gives, as its class's entry for that says. Others are not there yet

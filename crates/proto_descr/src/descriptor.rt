@@ -3,16 +3,16 @@
 
 ghost use Rattle.std.specs.Prelude.{◌≡◌, ◌∷◌, ◌++◌, Option, Some, IfOk};
 ghost use Rattle.py_node.specs.Faults.{raised};
-ghost use Rattle.class_world.specs.Sound.{AllHold, Grows, Holds, IsName, IsNode, of_option, of_node_ref};
+ghost use Rattle.class_world.specs.Sound.{AllHold, Grows, Holds, IsNode, of_option, of_node_ref};
 ghost use Rattle.class_world.specs.Held.{Held};
 ghost use Rattle.class_world.specs.Claims.{of_descriptor_task, of_ended, Leaves};
-ghost use Rattle.class_world.specs.Reading.{Reading, plain, spelled, ended_of};
+ghost use Rattle.class_world.specs.Reading.{Reading, plain, ended_of};
 ghost use Rattle.plain_machine.specs.Plain.{PlainWorld, Ends};
 ghost use Rattle.plain_machine.specs.World.{datum_at};
 ghost use Rattle.py_node.specs.declared.refs.PyObjectRef.{PyObjectRef as Object};
 ghost use Rattle.py_node.specs.declared.task.DescriptorTask.TheVariants as descriptor;
-ghost use Rattle.proto_descr.specs.Say.{descr_get_by, function_get, is_object_none, class_of_option, or_none, is_none_type, bound_native, object_get, class_get, static_get, native_get};
-ghost use Rattle.proto_descr.specs.Rows.{Begins, Starts, Closes, number, described, native_of, of_descriptor_kept};
+ghost use Rattle.proto_descr.specs.Say.{descr_get_by, function_get, is_object_none, class_of_option, or_none, is_none_type, object_get, class_get, static_get, native_get};
+ghost use Rattle.proto_descr.specs.Rows.{Begins, Starts, Closes, number, described, native_of, bound_as, of_descriptor_kept};
 
 use crate::DescriptorKept;
 use bitflags::Flags;
@@ -213,10 +213,10 @@ fn object_get(
     o: Option<PyObjectRef>,
     class: Option<PyTypeRef>,
 ) -> Result<Ended, OutOfMemory>
-    requires name { Holds world.old (IsName native.name) }
+    requires native { AllHold world.old (native_of native) }
     requires task { AllHold world.old (IsNode m ∷ of_option of_node_ref o) }
     ensures goes { IfOk result (λ r.
-        Closes (λ t w. object_get w m (spelled t native.name) native.entry o (number class)) world.old world.new r) }
+        Closes (λ t w. object_get w m (bound_as t w native) o (number class)) world.old world.new r) }
     ensures grows { Grows world.old world.new }
     ensures safe { IfOk result (λ r. AllHold world.new (of_ended r)) }
 {
@@ -236,10 +236,9 @@ fn class_get(
     o: Option<PyObjectRef>,
     class: Option<PyObjectRef>,
 ) -> Result<Ended, OutOfMemory>
-    requires name { Holds world.old (IsName native.name) }
+    requires native { AllHold world.old (native_of native) }
     requires task { AllHold world.old (of_option of_node_ref o ++ of_option of_node_ref class) }
-    ensures goes { IfOk result (λ r.
-        Closes (λ t w. class_get w (spelled t native.name) native.entry o class) world.old world.new r) }
+    ensures goes { IfOk result (λ r. Closes (λ t w. class_get w (bound_as t w native) o class) world.old world.new r) }
     ensures grows { Grows world.old world.new }
     ensures safe { IfOk result (λ r. AllHold world.new (of_ended r)) }
 {
@@ -279,10 +278,9 @@ fn bound_native(
     native: MethodDescriptor,
     target: PyObjectRef,
 ) -> Result<Ended, OutOfMemory>
-    requires name { Holds world.old (IsName native.name) }
+    requires native { AllHold world.old (native_of native) }
     requires target { Holds world.old (IsNode target) }
-    ensures goes { IfOk result (λ r.
-        Closes (λ t w. bound_native w (spelled t native.name) native.entry target) world.old world.new r) }
+    ensures goes { IfOk result (λ r. Closes (λ t w. bound_as t w native target) world.old world.new r) }
     ensures grows { Grows world.old world.new }
     ensures safe { IfOk result (λ r. AllHold world.new (of_ended r)) }
 {
@@ -290,6 +288,8 @@ fn bound_native(
         name: native.name,
         entry: native.entry,
         target,
+        class: native.class,
+        doc: native.doc,
     };
     let class = world.built_in(BuiltIn::BuiltinMethod);
     let node = world.make_node(class, Payload::BuiltinMethod(method))?;

@@ -38,8 +38,9 @@ pub use known::Known;
 pub use memory::OutOfMemory;
 pub use names::Names;
 pub use payload::{
-    BoundMethod, BuiltinMethod, Form, Function, GetSet, MethodDescriptor, NativeFunction, Node,
-    Payload,
+    BoundMethod, BuiltinMethod, Form, Function, GetSet, MemberDescriptor, MemberGetter, MemberKind,
+    MemberSetter, MethodDescriptor, NativeFunction, Node, Payload, PyProperty, PySlice, PySuper,
+    SequenceIterator,
 };
 pub use protocol::{CompareTask, ObjectTask, ProtocolTask};
 pub use raised::{Cause, Kind, Raised};

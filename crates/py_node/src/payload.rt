@@ -15,6 +15,7 @@ pub enum Payload {
     /// A text.
     Text(String),
     Tuple(Vec<PyObjectRef>),
+    List(Vec<PyObjectRef>),
     /// Keys with their values, in the order in which the keys came.
     Dict(Vec<(PyObjectRef, PyObjectRef)>),
     Function(Function),
@@ -25,6 +26,13 @@ pub enum Payload {
     GetSet(GetSet),
     /// The callable that a class method wraps.
     ClassMethod(PyObjectRef),
+    /// The callable that a static method wraps.
+    StaticMethod(PyObjectRef),
+    Member(MemberDescriptor),
+    Property(PyProperty),
+    Super(PySuper),
+    Iterator(SequenceIterator),
+    Slice(PySlice),
 }
 
 /// A function of a script.
@@ -53,14 +61,17 @@ pub struct NativeFunction {
     pub name: PyStrInterned,
     pub entry: NativeEntry,
     pub target: Option<PyObjectRef>,
+    pub doc: Option<PyStrInterned>,
 }
 
-/// A native that is bound to an object.
+/// A native of a class that is bound to an object.
 #[derive(Clone, Copy)]
 pub struct BuiltinMethod {
     pub name: PyStrInterned,
     pub entry: NativeEntry,
     pub target: PyObjectRef,
+    pub class: PyTypeRef,
+    pub doc: Option<PyStrInterned>,
 }
 
 /// A native as a method of a class.
@@ -70,6 +81,7 @@ pub struct MethodDescriptor {
     pub name: PyStrInterned,
     pub entry: NativeEntry,
     pub flags: u64,
+    pub doc: Option<PyStrInterned>,
 }
 
 /// The natives that read and set an attribute of the objects of a class.
@@ -79,6 +91,79 @@ pub struct GetSet {
     pub name: PyStrInterned,
     pub getter: Option<NativeEntry>,
     pub setter: Option<NativeEntry>,
+}
+
+/// The kind of a member: what it gives while its place is empty, and what it takes.
+#[derive(Clone, Copy, PartialEq, Eq)]
+pub enum MemberKind {
+    /// A bool, and False while it is empty.
+    Bool,
+    /// Any object, and a fault while it is empty.
+    ObjectEx,
+}
+
+/// What reads a member of an object.
+#[derive(Clone, Copy, PartialEq, Eq)]
+pub enum MemberGetter {
+    Getter(NativeEntry),
+    /// The place among all members of the object.
+    Offset(usize),
+}
+
+/// What sets a member of an object.
+#[derive(Clone, Copy, PartialEq, Eq)]
+pub enum MemberSetter {
+    /// A native, or nothing where the member can only be read.
+    Setter(Option<NativeEntry>),
+    /// The place among all members of the object.
+    Offset(usize),
+}
+
+/// A member of the objects of a class.
+#[derive(Clone, Copy)]
+pub struct MemberDescriptor {
+    pub class: PyTypeRef,
+    pub name: PyStrInterned,
+    pub kind: MemberKind,
+    pub getter: MemberGetter,
+    pub setter: MemberSetter,
+    /// The qualified name, once it was asked for.
+    pub qualname: Option<PyStrInterned>,
+    pub doc: Option<PyStrInterned>,
+}
+
+/// What gets, sets and deletes an attribute, each if it is there.
+#[derive(Clone, Copy)]
+pub struct PyProperty {
+    pub fget: Option<PyObjectRef>,
+    pub fset: Option<PyObjectRef>,
+    pub fdel: Option<PyObjectRef>,
+    pub doc: Option<PyObjectRef>,
+    pub name: Option<PyObjectRef>,
+}
+
+/// A class past which attributes are found, for an object if it is bound to one.
+#[derive(Clone, Copy)]
+pub struct PySuper {
+    pub typ: PyTypeRef,
+    /// The object, and the class in whose linearisation the search starts.
+    pub obj: Option<(PyObjectRef, PyTypeRef)>,
+}
+
+/// What gives the items of an object one after another.
+#[derive(Clone, Copy)]
+pub struct SequenceIterator {
+    pub object: PyObjectRef,
+    /// The place of the next item, or nothing once it has ended.
+    pub place: Option<u64>,
+}
+
+/// The bounds of a part of a sequence.
+#[derive(Clone, Copy)]
+pub struct PySlice {
+    pub start: Option<PyObjectRef>,
+    pub stop: Option<PyObjectRef>,
+    pub step: Option<PyObjectRef>,
 }
 
 /// A node: an object's class, its dict if it has one, and what it holds.

@@ -2,7 +2,7 @@ use Rattle.std.proofs.Common.{◌≡◌, suc, ap, ◌∙◌, arith, map, string_
 use Rattle.plain_machine.specs.Show.{item_texts, entry_text, text_within}
 use Rattle.class_world.specs.Reading.{Reading, plain}
 use Rattle.class_world.proofs.Stored.{ok-map}
-use Rattle.class_world.proofs.Shown.{items-shown, part-there, item-there, tuple-shown, dict-shown}
+use Rattle.class_world.proofs.Shown.{items-shown, part-there, item-there, tuple-shown, list-shown, dict-shown}
 use Rattle.class_world.proofs.show.+show.Goals as goal
 
 pub item_texts-text_within-requires : goal.item_texts-text_within-requires
@@ -36,6 +36,13 @@ show_tuple-returns-in_ok-item_texts-in-Some t c =
     let less : c.args.depth ≡ suc c.in-Some.depth = omega (arith, c.in-Some.ensures.0, c.in-Some.ensures.1) in
     let read = λ (t : Reading). ap (map string_bytes) c.deref-in-Some.ensures.value ∙ c.in_ok-item_texts-in-Some.ensures t ∙ ap (item_texts (text_within c.in-Some.depth (plain t w))) c.deref.ensures.value in
     ok-map _ _ c.tuple_of.result (λ s e t. tuple-shown w c.args.depth c.in-Some.depth less c.deref-in-Some.result.now s t c.args.items.now.items (read t) e) c.tuple_of.ensures
+
+pub show_list-returns-in_ok-item_texts-in-Some : goal.show_list-returns-in_ok-item_texts-in-Some
+show_list-returns-in_ok-item_texts-in-Some t c =
+    let w = c.args.world.now in
+    let less : c.args.depth ≡ suc c.in-Some.depth = omega (arith, c.in-Some.ensures.0, c.in-Some.ensures.1) in
+    let read = λ (t : Reading). ap (map string_bytes) c.deref-in-Some.ensures.value ∙ c.in_ok-item_texts-in-Some.ensures t ∙ ap (item_texts (text_within c.in-Some.depth (plain t w))) c.deref.ensures.value in
+    ok-map _ _ c.list_of.result (λ s e t. list-shown w c.args.depth c.in-Some.depth less c.deref-in-Some.result.now s t c.args.items.now.items (read t) e) c.list_of.ensures
 
 pub show_dict-returns-in_ok-entry_texts-in-Some : goal.show_dict-returns-in_ok-entry_texts-in-Some
 show_dict-returns-in_ok-entry_texts-in-Some t c =

@@ -22,6 +22,9 @@ decreases-show_payload l = 5 * l.depth + 1
 abbrev pub decreases-show_tuple : goal.decreases-show_tuple
 decreases-show_tuple l = 5 * l.depth
 
+abbrev pub decreases-show_list : goal.decreases-show_list
+decreases-show_list l = 5 * l.depth
+
 abbrev pub decreases-show_dict : goal.decreases-show_dict
 decreases-show_dict l = 5 * l.depth
 

@@ -1,0 +1,30 @@
+use Rattle.std.proofs.Common.{ap, ◌∙◌}
+use Rattle.std.specs.Prelude.{is_some}
+use Rattle.class_world.specs.contracts.world.World.{the_view}
+use Rattle.class_world.specs.Sound.{Holds, IsNode}
+use Rattle.class_world.proofs.Claims.{got, opened-one}
+use Rattle.class_world.proofs.KeyEntries.{key-held, one-can}
+use Rattle.class_world.proofs.SoundWorld.{key_at-read}
+use Rattle.class_world.proofs.world.World.can_be_key.Goals as goal
+
+pub index-requires : goal.index-requires
+unfolding Holds
+index-requires c = rw c.self.inside.nodes.ok.0 (opened-one (the_view c.self.inside) c.args.self.now (IsNode c.args.node) c.self.view_is c.requires)
+
+pub returns-clause-key : goal.returns-clause-key
+unfolding Holds
+returns-clause-key c = λ t.
+    let w = the_view c.self.inside in
+    let now = c.args.self.now in
+    let here = opened-one w now (IsNode c.args.node) c.self.view_is c.requires in
+    let e = got w.nodes c.args.node.0 c.index.result.now here c.index.ensures in
+    ap is_some (key_at-read t now c.args.node ∙ key-held w now c.args.node c.index.result.now c.self.view_is e) ∙ c.is_key.ensures
+
+pub returns-clause-holds : goal.returns-clause-holds
+unfolding Holds
+returns-clause-holds c = λ q.
+    let w = the_view c.self.inside in
+    let now = c.args.self.now in
+    let here = opened-one w now (IsNode c.args.node) c.self.view_is c.requires in
+    let e = got w.nodes c.args.node.0 c.index.result.now here c.index.ensures in
+    one-can now c.args.node (ap is_some (key-held w now c.args.node c.index.result.now c.self.view_is e) ∙ c.is_key.ensures ∙ q)
