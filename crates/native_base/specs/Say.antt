@@ -1,0 +1,65 @@
+-- What natives take that ask no task, and what they give.
+use Rattle.std.specs.Prelude.{◌^◌, ℤ, Bool, cond, eqb, ◌||◌, List, [], ◌∷◌, Option, Some, None, Result, Ok, Err, length, nat_lt}
+use Rattle.py_node.specs.declared.refs.PyObjectRef.{PyObjectRef}
+use Rattle.py_node.specs.declared.raised.Raised.{Raised as Fault}
+use Rattle.py_node.specs.declared.raised.Cause.TheVariants.{ArgCount, SelfType, IntRange, TooLong}
+use Rattle.py_node.specs.Tree.{Text}
+use Rattle.plain_machine.specs.Plain.{Datum, ANumber, AText, PlainWorld, Bindings, Said, Ends}
+use Rattle.plain_machine.specs.World.{ref, datum_at, number_of, with_node, next_node}
+use Rattle.plain_machine.specs.Known.{the_int, the_str}
+use Rattle.plain_machine.specs.Row.{value, fault}
+use Rattle.plain_machine.specs.Takes.{with_one, with_two}
+use Rattle.proto_ops.specs.Say.{fits, not_implemented}
+
+-- the object of a truth value
+abbrev pub truth : Bool → PyObjectRef
+truth b = ref (cond b 26 25)
+
+-- a number, which has at most 128 bits with its sign
+abbrev pub in_range : ℤ → Result ℤ Fault
+in_range z = cond (fits z) (Ok z) (fault IntRange)
+
+-- a text has at most so many bytes
+abbrev pub in_length : Text → Result Text Fault
+in_length x = cond (nat_lt (2 ^ 24) (length x)) (fault TooLong) (Ok x)
+
+-- ends with a new whole number, or with a fault
+abbrev pub int_made : PlainWorld → Result ℤ Fault → Said
+int_made w (Err x) = Ends w (Err x)
+int_made w (Ok z) = Ends (with_node w the_int (ANumber z)) (value (next_node w the_int))
+
+-- ends with a new text, or with a fault
+abbrev pub text_made : PlainWorld → Result Text Fault → Said
+text_made w (Err x) = Ends w (Err x)
+text_made w (Ok x) = Ends (with_node w the_str (AText x)) (value (next_node w the_str))
+
+-- the number that an object must hold
+abbrev pub number_in : PlainWorld → Option ℤ → (ℤ → Said) → Said
+number_in w None go = Ends w (fault SelfType)
+number_in w (Some z) go = go z
+
+-- there must be an object, and it must hold a number
+abbrev pub with_number : PlainWorld → List PyObjectRef → (ℤ → Said) → Said
+with_number w [] go = Ends w (fault ArgCount)
+with_number w (o ∷ args) go = number_in w (number_of (datum_at w o)) go
+
+-- an object that holds a number, alone
+abbrev pub with_lone_number : PlainWorld → List PyObjectRef → Bindings → (PyObjectRef → ℤ → Said) → Said
+with_lone_number w args kw go = with_number w args (λ z. with_one w args kw (λ o. go o z))
+
+-- a number and one argument
+abbrev pub with_number_and : PlainWorld → List PyObjectRef → Bindings → (ℤ → PyObjectRef → Said) → Said
+with_number_and w args kw go = with_number w args (λ z. with_two w args kw (λ o a. go z a))
+
+-- a native of two numbers is not for other objects
+abbrev pub both_numbers : PlainWorld → Option ℤ → Option ℤ → (ℤ → ℤ → Said) → Said
+both_numbers w (Some x) (Some y) go = go x y
+both_numbers w _ _ go = Ends w (value not_implemented)
+
+-- the numbers that two objects hold
+abbrev pub numbers_of : PlainWorld → PyObjectRef → PyObjectRef → (ℤ → ℤ → Said) → Said
+numbers_of w a b go = both_numbers w (number_of (datum_at w a)) (number_of (datum_at w b)) go
+
+-- two objects, of which the native is for numbers
+abbrev pub with_numbers : PlainWorld → List PyObjectRef → Bindings → (ℤ → ℤ → Said) → Said
+with_numbers w args kw go = with_two w args kw (λ a b. numbers_of w a b go)

@@ -1,0 +1,65 @@
+-- What natives reckon with whole numbers.
+use Rattle.std.specs.Prelude.{ℕ, suc, ℤ, int_lt, pos, negsuc, ◌+◌, ◌%◌, ◌*ℤ◌, ◌-ℤ◌, ◌^◌, neg_ℤ, unsigned_abs, Bool, false, cond, eqb, Option, Some, None, Result, Ok, nat_lt, min}
+use Rattle.std.specs.Int.{w64, w128, int_bit_not, int_div_euclid, int_pow, int_rem_euclid, int_shr, cast_signed}
+use Rattle.py_node.specs.declared.raised.Raised.{Raised as Fault}
+use Rattle.py_node.specs.declared.raised.Cause.TheVariants.{IntRange, ZeroDivisor, NegativeExponent, NegativeShift}
+use Rattle.plain_machine.specs.Row.{fault}
+use Rattle.native_base.specs.Say.{in_range}
+
+abbrev pub is_zero : ℤ → Bool
+is_zero (pos n) = eqb n 0
+is_zero (negsuc n) = false
+
+-- the hash of a number: its lowest 64 bits, with their sign
+abbrev pub number_hash : ℤ → ℤ
+number_hash z = cast_signed w64 (unsigned_abs (int_rem_euclid z (pos (2 ^ 64))))
+
+abbrev pub negated : ℤ → Result ℤ Fault
+negated z = in_range (neg_ℤ z)
+
+abbrev pub absolute : ℤ → Result ℤ Fault
+absolute z = in_range (pos (unsigned_abs z))
+
+-- each bit turned
+abbrev pub inverted : ℤ → ℤ
+inverted z = int_bit_not w128 z
+
+abbrev pub difference : ℤ → ℤ → Result ℤ Fault
+difference x y = in_range (x -ℤ y)
+
+abbrev pub product : ℤ → ℤ → Result ℤ Fault
+product x y = in_range (x *ℤ y)
+
+-- the quotient rounded down: that which leaves nothing below zero, and with both signs turned the same for a divisor below zero
+abbrev pub floor_quotient : ℤ → ℤ → ℤ
+floor_quotient x (pos n) = int_div_euclid x (pos n)
+floor_quotient x (negsuc n) = int_div_euclid (neg_ℤ x) (pos (suc n))
+
+-- what it leaves, which has the sign of the divisor
+abbrev pub floor_remainder : ℤ → ℤ → ℤ
+floor_remainder x (pos n) = int_rem_euclid x (pos n)
+floor_remainder x (negsuc n) = neg_ℤ (int_rem_euclid (neg_ℤ x) (pos (suc n)))
+
+abbrev pub quotient : ℤ → ℤ → Result ℤ Fault
+quotient x y = cond (is_zero y) (fault ZeroDivisor) (in_range (floor_quotient x y))
+
+abbrev pub remainder : ℤ → ℤ → Result ℤ Fault
+remainder x y = cond (is_zero y) (fault ZeroDivisor) (Ok (floor_remainder x y))
+
+-- an exponent as far as it counts. The 128th power of a number is past the range, but for those of 0, 1 and -1, where the higher ones come again
+abbrev pub counted : ℕ → ℕ
+counted n = cond (nat_lt n 128) n (128 + n % 2)
+
+abbrev pub power : ℤ → ℤ → Result ℤ Fault
+power x y = cond (int_lt y (pos 0)) (fault NegativeExponent) (in_range (int_pow x (counted (unsigned_abs y))))
+
+-- to the right by some places, rounded down. By 127 places only the sign is left, and so it is by more
+abbrev pub right_shifted : ℤ → ℤ → Result ℤ Fault
+right_shifted x (pos n) = Ok (int_shr x (min n 127))
+right_shifted x (negsuc n) = fault NegativeShift
+
+-- the code's steps
+
+abbrev pub in_range_of : Option ℤ → Result ℤ Fault
+in_range_of None = fault IntRange
+in_range_of (Some z) = Ok z

@@ -1,0 +1,75 @@
+//! The natives of None and NotImplemented.
+
+ghost use Rattle.std.specs.Prelude.{◌≡◌, IfOk, Err, IfSome, IfNone};
+ghost use Rattle.plain_machine.specs.Plain.{PlainWorld, Said, Ends};
+ghost use Rattle.class_world.specs.Reading.{Reading, bindings};
+ghost use Rattle.class_world.specs.Sound.{AreNodes, Holds};
+ghost use Rattle.native_base.specs.Rows.{EndsAs, LeavesEnd};
+ghost use Rattle.native_numbers.specs.Say.{fixed_first, fixed_say, is_fixed, with_fixed};
+
+use class_world::World;
+use class_world::takes::one;
+use native_base::give::{new_word, truth};
+use py_node::{Answer, Cause, FixedNative, OutOfMemory, PyObjectRef, PyStrInterned, Raised};
+
+/// A native of None or NotImplemented.
+pub fn fixed_native(
+    world: &mut World,
+    native: FixedNative,
+    args: &[PyObjectRef],
+    kw: &[(PyStrInterned, PyObjectRef)],
+) -> Result<Result<Answer, Raised>, OutOfMemory>
+    ensures ends { IfOk result (λ r. EndsAs (λ t u. fixed_say u native args.now (bindings t kw.now))
+        world.old world.new r) }
+    ensures safe { LeavesEnd world.old world.new result }
+{
+    if let Some(raised) = refusal(args, kw) {
+        return Ok(Err(raised));
+    }
+    match native {
+        FixedNative::NoneRepr => new_word(world, "None"),
+        FixedNative::NoneBoolean => Ok(Ok(Answer::Value(truth(world, false)))),
+        FixedNative::NotImplementedRepr => new_word(world, "NotImplemented"),
+    }
+}
+
+// Why the arguments are refused: just one of the two objects is wanted.
+fn refusal(args: &[PyObjectRef], kw: &[(PyStrInterned, PyObjectRef)]) -> Option<Raised>
+    ensures taken { IfNone result ((t : Reading) (w : PlainWorld) (go : Said) →
+        with_fixed w args.now (bindings t kw.now) go ≡ go) }
+    ensures refused { IfSome result (λ x. (t : Reading) (w : PlainWorld) (go : Said) →
+        with_fixed w args.now (bindings t kw.now) go ≡ Ends w (Err x)) }
+{
+    if let Some(raised) = other_kind(args) {
+        return Some(raised);
+    }
+    match one(args, kw) {
+        Err(raised) => Some(raised),
+        Ok(_) => None,
+    }
+}
+
+// Why the first argument is refused: it must be one of the two objects.
+fn other_kind(args: &[PyObjectRef]) -> Option<Raised>
+    ensures taken { IfNone result ((w : PlainWorld) (go : Said) → fixed_first w args.now go ≡ go) }
+    ensures refused { IfSome result (λ x. (w : PlainWorld) (go : Said) →
+        fixed_first w args.now go ≡ Ends w (Err x)) }
+{
+    match args {
+        [] => Some(Raised::new(Cause::ArgCount)),
+        [o, ..] => {
+            if is_fixed(*o) {
+                None
+            } else {
+                Some(Raised::new(Cause::SelfType))
+            }
+        }
+    }
+}
+
+// Whether an object is None or NotImplemented.
+fn is_fixed(object: PyObjectRef) -> bool
+    ensures { result ≡ is_fixed object }
+{
+    object.0 == 23 || object.0 == 24
+}
