@@ -54,7 +54,8 @@ pub(crate) fn by_bases(
         let only = vec![in alloc; object]?;
         return on_bases(world, meta, only, body, call.kw);
     }
-    match classes_of(world, &bases)? {
+    let classes = classes_of(world, &bases)?;
+    match classes {
         Err(other) => Ok(ask_others(world, other, &call.kw)),
         Ok(classes) => {
             let winner = winner(world, meta, &bases);

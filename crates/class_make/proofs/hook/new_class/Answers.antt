@@ -18,9 +18,9 @@ new_heap-requires-clause-members c = rw c.new.ensures.items (no-names c.args.wor
 pub returns-in-Err-Refused-clause-goes : goal.returns-in-Err-Refused-clause-goes
 returns-in-Err-Refused-clause-goes c =
     let e = c.in-Err-Refused.ensures in
-    let cause = c.in-Err-Refused.field-0-0 in
+    let cause = c.in-Err-Refused.cause in
     let old = c.args.world.now in
-    let new = c.new_heap.new.world in
+    let new = c.new_heap.new.self in
     let p = c.args.plan in
     let n = string_bytes p.name in
     let b = numbers p.bases.items in
@@ -33,7 +33,7 @@ returns-in-Err-Refused-clause-goes c =
 
 pub define_all-requires-clause-values : goal.define_all-requires-clause-values
 define_all-requires-clause-values c =
-    values-are c.new_heap.new.world c.args.plan.attrs c.deref.result.now (all-grow _ _ c.in-Ok.ensures.grows _ c.requires.attrs) (c.deref.ensures.value ∙ c.in_ok-values.ensures)
+    values-are c.new_heap.new.self c.args.plan.attrs c.deref.result.now (all-grow _ _ c.in-Ok.ensures.grows _ c.requires.attrs) (c.deref.ensures.value ∙ c.in_ok-values.ensures)
 
 pub told_of-requires-clause-values : goal.told_of-requires-clause-values
 told_of-requires-clause-values c =
@@ -43,8 +43,8 @@ pub told_of-requires-clause-kw : goal.told_of-requires-clause-kw
 told_of-requires-clause-kw c =
     all-grow _ _ (grows-on _ _ _ c.in-Ok.ensures.grows c.define_all.ensures.grows) _ c.requires.kw
 
-pub returns-in-Ok-clause-goes : goal.returns-in-Ok-clause-goes
-returns-in-Ok-clause-goes c =
+pub returns-clause-goes : goal.returns-clause-goes
+returns-clause-goes c =
     let e = c.in-Ok.ensures in
     let old = c.args.world.now in
     let p = c.args.plan in
@@ -55,5 +55,5 @@ returns-in-Ok-clause-goes c =
     let bs = bindings t p.attrs in
     let u = plain t old in
     let made = e.made t ∙ (λ i. with_new_class u p.meta.0 (heap_class_of t (c.as_str.ensures.value i) (length u.nodes) p.bases.items p.attrs (c.new.ensures.items i))) in
-    (q, made-new u (plain t c.new_heap.new.world) (plain t c.define_all.new.world) (refusal u b bs) p.meta.0 n b bs c.in-Ok.class.0 c.class_node-node.result c.deref.result.now c.deref-in-Ok.result.now (refused-next u b bs None (c.requires.layout t q) (e.refused t q)) made (c.define_all.ensures.set t) (c.deref.ensures.value ∙ c.in_ok-values.ensures ∙ sym (values-read t p.attrs)) (c.deref-in-Ok.ensures.value ∙ c.in_ok-values.ensures ∙ sym (values-read t p.attrs)) (e.number t) (c.class_node-node.ensures.reads ∙ ap ref (e.number t))))
+    (q, made-new u (plain t c.new_heap.new.self) (plain t c.define_all.new.world) (refusal u b bs) p.meta.0 n b bs c.in-Ok.class.0 c.class_node-node.result c.deref.result.now c.deref-in-Ok.result.now (refused-next u b bs None (c.requires.layout t q) (e.refused t q)) made (c.define_all.ensures.set t) (c.deref.ensures.value ∙ c.in_ok-values.ensures ∙ sym (values-read t p.attrs)) (c.deref-in-Ok.ensures.value ∙ c.in_ok-values.ensures ∙ sym (values-read t p.attrs)) (e.number t) (c.class_node-node.ensures.reads ∙ ap ref (e.number t))))
     c.told_of.ensures.goes
