@@ -10,7 +10,7 @@ use Rattle.py_node.specs.Tree.{Text}
 use Rattle.py_node.specs.declared.known.Known.TheVariants as known
 use Rattle.py_node.specs.Known.{known_text}
 use Rattle.plain_machine.specs.Plain.{Datum, ADict, AText, AClassMethod, AGetSet, PlainWorld}
-use Rattle.plain_machine.specs.World.{ref, is_text, class_at, datum_at, push_node, with_node, next_node}
+use Rattle.plain_machine.specs.World.{ref, is_text, class_at, datum_at, has_dict, push_node, with_node, next_node}
 use Rattle.plain_machine.specs.Row.{none}
 use Rattle.plain_machine.specs.Known.{the_object, the_dict, the_str, the_function, the_getset, the_class_method}
 use Rattle.class_world.specs.Held.{Held}

@@ -20,8 +20,8 @@ returns-then-has_name-clause-goes c =
     (r, made-slots p.meta.0 n b (plain t w, bindings t p.attrs) (c.has_name.ensures t r ∙ c.if-has_name.true)))
     (λ meta args t r. (r, (refl, refl))))
 
-pub returns-else-has_name-clause-goes : goal.returns-else-has_name-clause-goes
-returns-else-has_name-clause-goes c =
+pub returns-clause-goes : goal.returns-clause-goes
+returns-clause-goes c =
     let w = c.args.world.now in
     let p = c.args.plan in
     let n = string_bytes p.name in
