@@ -1,3 +1,4 @@
 pub mod Spaces
 pub mod Making
 pub mod Parts
+pub mod EachBase

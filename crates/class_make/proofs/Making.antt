@@ -1,43 +1,37 @@
 -- The steps of the making of a class.
 use Rattle.std.proofs.Common.{◌≡◌, ℕ, zero, suc, ◌<◌, Bool, true, false, cond, List, [], ◌∷◌, ◌++◌, length, take, get_or, Option, Some, None, Result, Ok, Err, IfOk, refl, sym, ap, ◌∙◌, subst, arith, map, filter, not}
-use Rattle.std.specs.Prelude.{is_some, slice_get}
+use Rattle.std.specs.Prelude.{slice_get}
 use Rattle.py_node.specs.declared.memory.OutOfMemory.{OutOfMemory}
-use Rattle.py_node.specs.declared.raised.Raised.{Raised as Fault}
-use Rattle.py_node.specs.declared.raised.Cause.TheVariants.{NotYet, QualnameType}
+use Rattle.py_node.specs.declared.raised.Cause.TheVariants.{NotYet}
 use Rattle.py_node.specs.declared.raised.Cause.{Cause}
 use Rattle.py_node.specs.declared.refs.PyObjectRef.{PyObjectRef}
 use Rattle.py_node.specs.declared.refs.PyStrInterned.{PyStrInterned}
 use Rattle.py_node.specs.declared.refs.PyTypeRef.{PyTypeRef}
 use Rattle.py_node.specs.declared.task.Step.{Step}
-use Rattle.py_node.specs.Attributes.{value_of, is_same_name}
+use Rattle.py_node.specs.Attributes.{is_same_name}
 use Rattle.py_node.specs.BuiltIns.{heap_flags}
 use Rattle.py_node.specs.Tree.{Text}
-use Rattle.class_model.specs.Class.{class_at, found_past}
+use Rattle.class_model.specs.Class.{found_past}
 use Rattle.py_node.specs.declared.known.Known.TheVariants as known
 use Rattle.py_node.specs.Known.{known_text}
-use Rattle.plain_machine.specs.Plain.{Datum, AText, PlainWorld, Bindings, DoMakeClass, Said, Ends}
+use Rattle.plain_machine.specs.Plain.{PlainWorld, Bindings, DoMakeClass, Said, Ends}
 use Rattle.plain_machine.specs.Row.{fault}
-use Rattle.plain_machine.specs.World.{ref, is_text, datum_at, with_new_class}
+use Rattle.plain_machine.specs.World.{ref, is_text, with_new_class}
 use Rattle.plain_machine.specs.Objects.{with_definers}
 use Rattle.class_world.specs.Held.{Held}
 use Rattle.class_world.specs.declared.world.World.{World}
 use Rattle.class_world.specs.Reading.{Reading, Reads, bindings, plain}
 use Rattle.class_world.specs.Rows.{Steps}
-use Rattle.class_world.specs.NewHeap.{holds_text, qualified, refused_name, refused_heap}
-use Rattle.class_world.proofs.OfClasses.{class-seen}
-use Rattle.class_table.specs.Keys.{numbers}
-use Rattle.class_table.specs.Refused.{is_base_at, refused_bases}
-use Rattle.class_table.proofs.Single.{one-allowed}
-use Rattle.plain_machine.specs.Sound.{IsSound}
+use Rattle.class_world.specs.NewHeap.{qualified, refused_name, refused_heap}
+use Rattle.class_table.specs.Refused.{refused_layout, refused_order}
 use Rattle.std.specs.Option.{option_or}
-use Rattle.class_world.specs.Sound.{CanBeBase, IsNode, AreNodes, Holds, AllHold, Grows, of_binding, of_each}
+use Rattle.class_world.specs.Sound.{IsNode, AreNodes, Holds, AllHold, Grows, of_binding, of_each}
 use Rattle.class_world.specs.Claims.{Leaves}
 use Rattle.class_world.proofs.Claims.{no-nodes}
 use Rattle.class_world.proofs.Growth.{grows-on}
 use Rattle.class_make.specs.declared.ClassKept.{ClassKept}
-use Rattle.class_make.specs.Say.{class_job_say, has_name, hook, is_text_at, made, made_unless, new_class, refusal, refusal_by, some_has, text_of, told_of, values_of}
+use Rattle.class_make.specs.Say.{Space, class_job_say, has_name, hook, made, made_unless, new_class, refusal, some_has, told_of, values_of}
 use Rattle.class_make.specs.Rows.{Bound, Makes, class_stands, of_class_kept}
-use Rattle.class_make.proofs.Spaces.{has-read}
 
 -- functions are defined by a class, one after another
 pub record Defining (old now : World) (class : PyTypeRef) (rest all : List PyObjectRef) : Type 0 where
@@ -111,49 +105,31 @@ map-got f [] i x e = cc
 map-got f (y ∷ xs) zero x e = let same : y ≡ x = cc in ap (λ z. f z ∷ []) same
 map-got f (y ∷ xs) (suc i) x e = ap (λ zs. f y ∷ zs) (map-got f xs i x e)
 
--- why a class is refused, as it was read
-pub refusal-read : (t : Reading) (u v : PlainWorld) (bs : Bound) (x : PyStrInterned) (o : Option PyObjectRef) (a b : Bool) (r : Option Fault) → v ≡ u → has_name (bindings t bs) (known_text known.Slots) ≡ a → t.text x.0 ≡ known_text known.Qualname → o ≡ value_of (λ k. is_same_name k x) bs → is_text_at v o ≡ b → r ≡ refusal_by a b → refusal (u, bindings t bs) ≡ r
-unfolding refusal
-refusal-read t u v bs x o a b r e f g h k l =
-    let value : value_of (λ y. is_text y (known_text known.Qualname)) (bindings t bs) ≡ o = has-read t bs x (known_text known.Qualname) g ∙ sym h in
-    let named : is_text_at u (value_of (λ y. is_text y (known_text known.Qualname)) (bindings t bs)) ≡ b = (λ i. is_text_at (sym e i) (value i)) ∙ k in
-    (λ i. refusal_by (f i) (named i)) ∙ sym l
+-- bases that are allowed together are refused for their order alone
+pub refused-next : (u : PlainWorld) (bases : List ℕ) (bs : Bindings) (o : Option Cause) → refused_layout u.classes bases ≡ None → o ≡ refused_heap u bases bs → refusal u bases bs ≡ o
+refused-next u bases bs o e f =
+    sym (ap (λ l. option_or (option_or l (refused_order u.classes bases)) (refused_name u (qualified bs))) e) ∙ sym f
 
--- a class that is not refused has a qualified name that is allowed
-pub named-allowed : (u : PlainWorld) (bs : Bindings) → refusal (u, bs) ≡ None → refused_name u (qualified bs) ≡ None
-unfolding refusal
-named-allowed u bs e = by-name (has_name bs (known_text known.Slots)) (value_of (λ y. is_text y (known_text known.Qualname)) bs) e
-  where
-    by-datum : (d : Option Datum) → refusal_by false (is_some (text_of d)) ≡ None → cond (holds_text d) None (Some QualnameType) ≡ None
-    by-datum (Some (AText x)) e = refl
-    by-datum None e = cc
-    by-datum (Some d) e = cc
-
-    by-name : (slots : Bool) (o : Option PyObjectRef) → refusal_by slots (is_text_at u o) ≡ None → refused_name u o ≡ None
-    by-name true o e = cc
-    by-name false None e = refl
-    by-name false (Some r) e = by-datum (datum_at u r) e
-
--- and where its base can be one, the world doesn't refuse it
-pub never-refused : (w : World) (t : Reading) (b : PyTypeRef) (bases : List PyTypeRef) (bs : Bindings) (cause : Cause) → Some cause ≡ refused_heap (plain t w) (numbers bases) bs → bases ≡ b ∷ [] → IsSound (plain t w) → Holds w (CanBeBase b.0) → refused_name (plain t w) (qualified bs) ≡ None → ⊥
-unfolding Holds
-never-refused w t b bases bs cause e one sound can named =
-    let may : is_base_at (class_at (plain t w).classes b.0) ≡ true = class-seen w w refl t is_base_at is_base_at refl (λ k. refl) b.0 ∙ can in
-    let allowed : refused_bases (plain t w).classes (numbers bases) ≡ None = ap (λ bs. refused_bases (plain t w).classes (numbers bs)) one ∙ one-allowed (plain t w).classes b.0 sound.classes.order may in
-    let none : Some cause ≡ None = e ∙ ap (λ o. option_or o (refused_name (plain t w) (qualified bs))) allowed ∙ named in
-    cc
-
-pub made-read : (u v : PlainWorld) (meta : ℕ) (name : Text) (base : ℕ) (bs : Bindings) (o : Option Fault) → v ≡ u → refusal (u, bs) ≡ o → made_unless o meta name base (v, bs) ≡ made meta name base (u, bs)
+-- a class that has members of its own, or has none
+pub made-slots : (meta : ℕ) (name : Text) (bases : List ℕ) (s : Space) → has_name s.1 (known_text known.Slots) ≡ true → Ends s.0 (fault NotYet) ≡ made meta name bases s
 unfolding made
-made-read u v meta name base bs o e f = λ i. made_unless (sym f i) meta name base (e i, bs)
+made-slots meta name bases s e = sym (ap (λ b. cond b (Ends s.0 (fault NotYet)) (made_unless (refusal s.0 bases s.1) meta name bases s)) e)
+
+pub made-on : (meta : ℕ) (name : Text) (bases : List ℕ) (s : Space) → has_name s.1 (known_text known.Slots) ≡ false → made_unless (refusal s.0 bases s.1) meta name bases s ≡ made meta name bases s
+unfolding made
+made-on meta name bases s e = sym (ap (λ b. cond b (Ends s.0 (fault NotYet)) (made_unless (refusal s.0 bases s.1) meta name bases s)) e)
+
+pub made-refused : (u : PlainWorld) (cause : Cause) (why : Option Cause) (meta : ℕ) (name : Text) (bases : List ℕ) (bs : Bindings) → why ≡ Some cause → Ends u (fault cause) ≡ made_unless why meta name bases (u, bs)
+unfolding made_unless
+made-refused u cause why meta name bases bs e = ap (λ o. made_unless o meta name bases (u, bs)) (sym e)
 
 -- a class that is made and told of
-pub made-new : (u v w : PlainWorld) (why : Option Fault) (meta : ℕ) (name : Text) (base : ℕ) (bs : Bindings) (c : ℕ) (node : PyObjectRef) (us vs : List PyObjectRef) → why ≡ None → v ≡ with_new_class u meta (record { name = name; number = length u.nodes; bases = base ∷ []; attrs = bs; members = []; flags = heap_flags }) → w ≡ with_definers v c us → us ≡ values_of bs → vs ≡ values_of bs → c ≡ length u.nodes → node ≡ ref (length u.nodes) → told_of w c node vs ≡ made_unless why meta name base (u, bs)
+pub made-new : (u v w : PlainWorld) (why : Option Cause) (meta : ℕ) (name : Text) (bases : List ℕ) (bs : Bindings) (c : ℕ) (node : PyObjectRef) (us vs : List PyObjectRef) → why ≡ None → v ≡ with_new_class u meta (record { name = name; number = length u.nodes; bases = bases; attrs = bs; members = []; flags = heap_flags }) → w ≡ with_definers v c us → us ≡ values_of bs → vs ≡ values_of bs → c ≡ length u.nodes → node ≡ ref (length u.nodes) → told_of w c node vs ≡ made_unless why meta name bases (u, bs)
 unfolding made_unless
-made-new u v w why meta name base bs c node us vs none made set eu ev ec en =
-    let new : v ≡ new_class u meta name base bs = made in
-    let all : w ≡ with_definers (new_class u meta name base bs) (length u.nodes) (values_of bs) = set ∙ (λ i. with_definers (new i) (ec i) (eu i)) in
-    (λ i. told_of (all i) (ec i) (en i) (ev i)) ∙ ap (λ o. made_unless o meta name base (u, bs)) (sym none)
+made-new u v w why meta name bases bs c node us vs none made set eu ev ec en =
+    let new : v ≡ new_class u meta name bases bs = made in
+    let all : w ≡ with_definers (new_class u meta name bases bs) (length u.nodes) (values_of bs) = set ∙ (λ i. with_definers (new i) (ec i) (eu i)) in
+    (λ i. told_of (all i) (ec i) (en i) (ev i)) ∙ ap (λ o. made_unless o meta name bases (u, bs)) (sym none)
 
 -- no value wants to know its name, and this is what those past the class have for it
 pub told-hook : (u v w : PlainWorld) (c : ℕ) (node : PyObjectRef) (values : List PyObjectRef) (x y : Text) (m : Option PyObjectRef) → v ≡ u → w ≡ v → x ≡ known_text known.SetName → y ≡ known_text known.InitSubclass → some_has v x values ≡ false → found_past is_text w.classes c y ≡ m → hook w node m ≡ told_of u c node values

@@ -1,20 +1,26 @@
 -- The parts that a class is made from, as they are read.
-use Rattle.std.proofs.Common.{◌≡◌, ℕ, suc, ◌<◌, ◌≤◌, ◌^◌, ◌-◌, take, true, false, cond, List, [], ◌∷◌, length, drop, get_or, Option, Some, None, Result, Ok, Err, IfOk, refl, sym, ap, ◌∙◌, subst, arith, not, eqb}
+use Rattle.std.proofs.Common.{◌≡◌, ℕ, suc, ◌<◌, ◌≤◌, ◌-◌, take, true, false, cond, List, [], ◌∷◌, length, drop, get_or, Option, Some, None, Result, Ok, Err, IfOk, refl, sym, ap, ◌∙◌, subst, arith, not, eqb}
 use Rattle.std.specs.Prelude.{◌&&◌, is_some, IfSome}
 use Rattle.py_node.specs.declared.memory.OutOfMemory.{OutOfMemory}
 use Rattle.py_node.specs.declared.refs.PyObjectRef.{PyObjectRef}
+use Rattle.py_node.specs.declared.refs.PyTypeRef.{PyTypeRef}
 use Rattle.py_node.specs.declared.entry.SlotId.TheVariants.{New}
 use Rattle.py_node.specs.declared.entry.TypeNative.{TypeNative}
-use Rattle.py_node.specs.declared.raised.Cause.TheVariants.{NotBaseType, NullInName, TypeArgs}
+use Rattle.py_node.specs.declared.raised.Cause.{Cause}
+use Rattle.py_node.specs.declared.raised.Cause.TheVariants.{NullInName, TypeArgs}
+use Rattle.py_node.specs.declared.known.Known.TheVariants.{MroEntries}
+use Rattle.py_node.specs.Known.{known_text}
 use Rattle.py_node.specs.declared.task.Step.{Step}
 use Rattle.py_node.specs.Tree.{Text}
 use Rattle.class_model.specs.BuiltIn.{natives_of}
 use Rattle.class_model.specs.Slot.{entry}
-use Rattle.plain_machine.specs.Plain.{PlainWorld, Bindings, DoMakeClass, DoType, Said, Ends, ToCall, DoNew}
-use Rattle.plain_machine.specs.Objects.{class_has_flag, class_number, type_object}
+use Rattle.class_table.specs.Keys.{numbers}
+use Rattle.class_table.specs.Refused.{refused_layout}
+use Rattle.plain_machine.specs.Plain.{PlainWorld, Bindings, Asks, Chose, DoGetAttr, DoMakeClass, DoType, Said, Ends, ToAttribute, ToCall, DoNew}
+use Rattle.plain_machine.specs.Objects.{class_number, type_object}
 use Rattle.plain_machine.specs.Row.{value, fault, pass}
 use Rattle.plain_machine.specs.Rows.{fresh}
-use Rattle.plain_machine.specs.World.{class_at, datum_at, text_keys}
+use Rattle.plain_machine.specs.World.{datum_at, text_keys}
 use Rattle.class_world.specs.Held.{Held}
 use Rattle.class_world.specs.declared.world.World.{World}
 use Rattle.class_world.specs.Reading.{Reading, bindings, plain}
@@ -22,37 +28,41 @@ use Rattle.class_world.specs.Rows.{Steps, Goes}
 use Rattle.class_world.specs.Sound.{IsNode, AreNodes, Holds}
 use Rattle.class_world.proofs.Claims.{node-in}
 use Rattle.class_make.specs.declared.ClassKept.{ClassKept}
-use Rattle.class_make.specs.Say.{class_job_say, by_base, by_bases, by_one, by_parts, by_winner, dict_of, from_three, has_null, namespace, on_base, one_of, text_of, three_of, tuple_of, type_by, type_new, type_new_of, with_namespace, winner}
+use Rattle.class_make.specs.Say.{Entries, class_job_say, by_bases, by_classes, by_one, by_parts, by_winner, classes_of, dict_of, from_three, has_null, namespace, on_bases, on_layout, one_of, text_of, three_of, tuple_of, type_by, type_new, type_new_of, with_namespace, winner}
 use Rattle.class_make.specs.Rows.{Bound, Makes, Types, class_stands}
 
-pub base-read : (u v : PlainWorld) (meta : ℕ) (name : Text) (base : ℕ) (es ds : List (PyObjectRef × PyObjectRef)) (o : Option Bindings) → v ≡ u → class_has_flag u (2 ^ 10) (Some base) ≡ true → namespace u ds ≡ o → ds ≡ es → with_namespace v meta name base o ≡ on_base u meta name base es
-base-read u v meta name base es ds o e f g h =
+-- the bases: allowed together, or not
+pub bases-read : (u v : PlainWorld) (meta : ℕ) (name : Text) (bases : List ℕ) (es ds : Entries) (o : Option Bindings) → v ≡ u → refused_layout u.classes bases ≡ None → namespace u ds ≡ o → ds ≡ es → with_namespace v meta name bases o ≡ on_bases u meta name bases es
+bases-read u v meta name bases es ds o e f g h =
     let o-is : o ≡ namespace u es = sym g ∙ ap (namespace u) h in
-    (λ i. with_namespace (e i) meta name base (o-is i)) ∙ sym (ap (λ b. cond b (with_namespace u meta name base (namespace u es)) (Ends u (fault NotBaseType))) f)
+    (λ i. with_namespace (e i) meta name bases (o-is i)) ∙ ap (λ r. on_layout u r meta name bases es) (sym f)
 
-pub winner-goes : (u : PlainWorld) (meta : ℕ) (o : Option ℕ) (c : ℕ) (name : Text) (base : ℕ) (es : List (PyObjectRef × PyObjectRef)) (args : List PyObjectRef) (kw : Bindings) → o ≡ Some c → not (eqb c meta) && is_some (entry text_keys natives_of u.classes c New) ≡ false → on_base u c name base es ≡ by_winner u meta o name base es args kw
-winner-goes u meta o c name base es args kw e f =
-    sym (ap (λ b. cond b (pass u (ToCall (DoNew c c args kw))) (on_base u c name base es)) f) ∙ ap (λ o. by_winner u meta o name base es args kw) (sym e)
+pub bases-refused : (u : PlainWorld) (meta : ℕ) (name : Text) (bases : List ℕ) (es : Entries) (cause : Cause) → refused_layout u.classes bases ≡ Some cause → Ends u (fault cause) ≡ on_bases u meta name bases es
+bases-refused u meta name bases es cause e = ap (λ r. on_layout u r meta name bases es) (sym e)
 
-pub base-goes : (u : PlainWorld) (meta : ℕ) (name : Text) (b : PyObjectRef) (d c : ℕ) (o w : Option ℕ) (es : List (PyObjectRef × PyObjectRef)) (args : List PyObjectRef) (kw : Bindings) → o ≡ Some c → class_at u b ≡ Some d → winner u meta (Some d) ≡ w → by_winner u meta w name c es args kw ≡ by_base u meta name b o es args kw
-base-goes u meta name b d c o w es args kw e f g =
-    ap (λ w. by_winner u meta w name c es args kw) (sym (ap (winner u meta) f ∙ g)) ∙ ap (λ o. by_base u meta name b o es args kw) (sym e)
+pub winner-goes : (u : PlainWorld) (meta : ℕ) (o : Option ℕ) (c : ℕ) (name : Text) (bases : List ℕ) (es : Entries) (args : List PyObjectRef) (kw : Bindings) → o ≡ Some c → not (eqb c meta) && is_some (entry text_keys natives_of u.classes c New) ≡ false → on_bases u c name bases es ≡ by_winner u meta o name bases es args kw
+winner-goes u meta o c name bases es args kw e f =
+    sym (ap (λ b. cond b (pass u (ToCall (DoNew c c args kw))) (on_bases u c name bases es)) f) ∙ ap (λ o. by_winner u meta o name bases es args kw) (sym e)
 
--- bases: none, or one
-pub none-goes : (u : PlainWorld) (meta : ℕ) (name : Text) (bs : List PyObjectRef) (c : ℕ) (es : List (PyObjectRef × PyObjectRef)) (args : List PyObjectRef) (kw : Bindings) → length bs < 1 → c ≡ 0 → on_base u meta name c es ≡ by_bases u meta name bs es args kw
-none-goes u meta name [] c es args kw l e = ap (λ c. on_base u meta name c es) e
-none-goes u meta name (b ∷ bs) c es args kw l e = absurd (omega arith)
+-- none, some one of which is no class, or classes
+pub none-goes : (u : PlainWorld) (meta : ℕ) (name : Text) (bs : List PyObjectRef) (cs : List PyTypeRef) (c : PyTypeRef) (es : Entries) (args : List PyObjectRef) (kw : Bindings) → eqb (length bs) 0 ≡ true → cs ≡ c ∷ [] → c.0 ≡ 0 → on_bases u meta name (numbers cs) es ≡ by_bases u meta name bs es args kw
+none-goes u meta name [] cs c es args kw l e f = ap (λ (cs : List PyTypeRef). on_bases u meta name (numbers cs) es) e ∙ ap (λ c. on_bases u meta name (c ∷ []) es) f
+none-goes u meta name (b ∷ bs) cs c es args kw l e f = cc
 
-pub lone-goes : (u : PlainWorld) (meta : ℕ) (name : Text) (bs : List PyObjectRef) (d : PyObjectRef) (o : Option ℕ) (es : List (PyObjectRef × PyObjectRef)) (args : List PyObjectRef) (kw : Bindings) → 1 ≤ length bs → length bs < 2 → class_number (datum_at u (get_or bs 0 d)) ≡ o → by_base u meta name (get_or bs 0 d) o es args kw ≡ by_bases u meta name bs es args kw
-lone-goes u meta name [] d o es args kw l m e = absurd (omega arith)
-lone-goes u meta name (b ∷ []) d o es args kw l m e = ap (λ o. by_base u meta name b o es args kw) (sym e)
-lone-goes u meta name (b ∷ (c ∷ bs)) d o es args kw l m e = absurd (omega arith)
+pub other-goes : (u : PlainWorld) (meta : ℕ) (name : Text) (bs : List PyObjectRef) (b : PyObjectRef) (es : Entries) (args : List PyObjectRef) (kw : Bindings) → eqb (length bs) 0 ≡ false → classes_of u bs ≡ Err b → Asks u (Chose 0 ∷ []) (ToAttribute (DoGetAttr b (known_text MroEntries))) ≡ by_bases u meta name bs es args kw
+other-goes u meta name [] b es args kw l e = cc
+other-goes u meta name (a ∷ bs) b es args kw l e = ap (λ r. by_classes u meta name (a ∷ bs) r es args kw) (sym e)
 
-pub parts-go : (u : PlainWorld) (meta : ℕ) (n : Option Text) (b : Option (List PyObjectRef)) (d : Option (List (PyObjectRef × PyObjectRef))) (name : Text) (bases : List PyObjectRef) (es : List (PyObjectRef × PyObjectRef)) (args : List PyObjectRef) (kw : Bindings) → n ≡ Some name → b ≡ Some bases → d ≡ Some es → has_null name ≡ false → by_bases u meta name bases es args kw ≡ by_parts u meta n b d args kw
+pub classes-go : (u : PlainWorld) (meta : ℕ) (name : Text) (bs : List PyObjectRef) (cs : List ℕ) (o : Option ℕ) (es : Entries) (args : List PyObjectRef) (kw : Bindings) → eqb (length bs) 0 ≡ false → classes_of u bs ≡ Ok cs → winner u meta bs ≡ o → by_winner u meta o name cs es args kw ≡ by_bases u meta name bs es args kw
+classes-go u meta name [] cs o es args kw l e f = cc
+classes-go u meta name (a ∷ bs) cs o es args kw l e f =
+    ap (λ o. by_winner u meta o name cs es args kw) (sym f) ∙ ap (λ r. by_classes u meta name (a ∷ bs) r es args kw) (sym e)
+
+pub parts-go : (u : PlainWorld) (meta : ℕ) (n : Option Text) (b : Option (List PyObjectRef)) (d : Option (Entries)) (name : Text) (bases : List PyObjectRef) (es : Entries) (args : List PyObjectRef) (kw : Bindings) → n ≡ Some name → b ≡ Some bases → d ≡ Some es → has_null name ≡ false → by_bases u meta name bases es args kw ≡ by_parts u meta n b d args kw
 parts-go u meta n b d name bases es args kw e f g h =
     sym (ap (λ q. cond q (Ends u (fault NullInName)) (by_bases u meta name bases es args kw)) h) ∙ (λ i. by_parts u meta (sym e i) (sym f i) (sym g i) args kw)
 
-pub three-go : (u : PlainWorld) (meta : ℕ) (o : Option (PyObjectRef × (PyObjectRef × PyObjectRef))) (n b d : PyObjectRef) (name : Option Text) (bases : Option (List PyObjectRef)) (es : Option (List (PyObjectRef × PyObjectRef))) (args : List PyObjectRef) (kw : Bindings) → o ≡ Some (n, (b, d)) → text_of (datum_at u n) ≡ name → tuple_of (datum_at u b) ≡ bases → dict_of (datum_at u d) ≡ es → by_parts u meta name bases es args kw ≡ from_three u meta o args kw
+pub three-go : (u : PlainWorld) (meta : ℕ) (o : Option (PyObjectRef × (PyObjectRef × PyObjectRef))) (n b d : PyObjectRef) (name : Option Text) (bases : Option (List PyObjectRef)) (es : Option (Entries)) (args : List PyObjectRef) (kw : Bindings) → o ≡ Some (n, (b, d)) → text_of (datum_at u n) ≡ name → tuple_of (datum_at u b) ≡ bases → dict_of (datum_at u d) ≡ es → by_parts u meta name bases es args kw ≡ from_three u meta o args kw
 three-go u meta o n b d name bases es args kw e f g h =
     (λ i. by_parts u meta (sym f i) (sym g i) (sym h i) args kw) ∙ ap (λ o. from_three u meta o args kw) (sym e)
 

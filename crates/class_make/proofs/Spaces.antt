@@ -1,5 +1,5 @@
 -- The attributes of a class to be, as a reading has them.
-use Rattle.std.proofs.Common.{◌≡◌, ℕ, zero, suc, ◌<◌, true, false, cond, List, [], ◌∷◌, Option, Some, sym, ap, ◌∙◌, subst, not, length, get_or, drop, drop-cons, arith, map}
+use Rattle.std.proofs.Common.{◌≡◌, ℕ, zero, suc, ◌<◌, true, false, cond, List, [], ◌∷◌, Option, Some, None, refl, sym, ap, ◌∙◌, subst, not, length, get_or, drop, drop-cons, arith, map}
 use Rattle.std.specs.Prelude.{◌&&◌, is_some, option_map, IfSome}
 use Rattle.py_node.specs.declared.refs.PyObjectRef.{PyObjectRef}
 use Rattle.py_node.specs.declared.refs.PyStrInterned.{PyStrInterned}
@@ -9,9 +9,10 @@ use Rattle.py_node.specs.Attributes.{value_of, with_value, is_same_name}
 use Rattle.py_node.specs.Tree.{Text}
 use Rattle.py_node.specs.declared.known.Known.TheVariants as known
 use Rattle.py_node.specs.Known.{known_text}
-use Rattle.plain_machine.specs.Plain.{Datum, AText, AClassMethod, AGetSet, PlainWorld}
-use Rattle.plain_machine.specs.World.{is_text, class_at, datum_at, with_node, next_node}
+use Rattle.plain_machine.specs.Plain.{Datum, ADict, AText, AClassMethod, AGetSet, PlainWorld}
+use Rattle.plain_machine.specs.World.{ref, is_text, class_at, datum_at, has_dict, push_node, with_node, next_node}
 use Rattle.plain_machine.specs.Row.{none}
+use Rattle.plain_machine.specs.Known.{the_object, the_dict, the_str, the_function, the_getset, the_class_method}
 use Rattle.class_world.specs.Held.{Held}
 use Rattle.class_world.specs.Reading.{Reading, Reads, bindings, plain}
 use Rattle.class_world.specs.declared.world.World.{World}
@@ -19,7 +20,7 @@ use Rattle.class_world.specs.Sound.{IsName, IsNode, AreNodes, Holds, AllHold, Gr
 use Rattle.class_world.proofs.Bound.{value-read, with_value-read, value-holds, with_value-holds}
 use Rattle.class_world.proofs.Claims.{all-grow}
 use Rattle.class_world.proofs.Growth.{grows-on}
-use Rattle.class_make.specs.Say.{Space, is_class, has_name, put, give, wrap_value, wrap, qualify, unhash, give_dict, named, namespace_from, text_of}
+use Rattle.class_make.specs.Say.{Space, is_class, has_name, put, give, wrap_value, wrap, qualify, unhash, give_dict, completed, named, namespace_from, text_of}
 use Rattle.class_make.specs.Rows.{Bound}
 
 module _ (t : Reading) where
@@ -104,6 +105,60 @@ module _ (old new : Held) where
   pub value-there : (bs : Bound) (x : PyStrInterned) (o : Option PyObjectRef) → Grows old new → AllHold old (of_each of_binding bs) → o ≡ value_of (λ k. is_same_name k x) bs → IfSome o (λ r. Holds new (IsNode r))
   value-there bs x o g h e =
       subst (λ o. IfSome o (λ r. Holds new (IsNode r))) (sym e) (value-holds new (λ k. is_same_name k x) bs (all-grow old new g (of_each of_binding bs) h))
+
+-- what the creation of a class adds to its attributes changes no class
+
+put-classes : (s : Space) (x : Text) (c : ℕ) (d : Datum) → (put s x c d).0.classes ≡ s.0.classes
+unfolding put
+put-classes s x c d = elim (has_dict s.0 c) as (λ b. (cond b (push_node (push_node s.0 the_dict None (ADict [])) c (Some (ref (length s.0.nodes))) d) (push_node s.0 c None d)).classes ≡ s.0.classes) [
+  | true ↦ refl
+  | false ↦ refl
+]
+
+give-classes : (s : Space) (x : Text) (c : ℕ) (d : Datum) → (give s x c d).0.classes ≡ s.0.classes
+unfolding give
+give-classes s x c d = elim (has_name s.1 x) as (λ b. (cond b s (put s x c d)).0.classes ≡ s.0.classes) [
+  | true ↦ refl
+  | false ↦ put-classes s x c d
+]
+
+wrap_value-classes : (s : Space) (x : Text) (o : Option PyObjectRef) → (wrap_value s x o).0.classes ≡ s.0.classes
+unfolding wrap_value
+wrap_value-classes s x None = refl
+wrap_value-classes s x (Some v) = elim (is_class (class_at s.0 v) the_function) as (λ b. (cond b (put s x the_class_method (AClassMethod v)) s).0.classes ≡ s.0.classes) [
+  | true ↦ put-classes s x the_class_method (AClassMethod v)
+  | false ↦ refl
+]
+
+wrap-classes : (x : Text) (s : Space) → (wrap x s).0.classes ≡ s.0.classes
+unfolding wrap
+wrap-classes x s = wrap_value-classes s x (value_of (λ y. is_text y x) s.1)
+
+qualify-classes : (name : Text) (s : Space) → (qualify name s).0.classes ≡ s.0.classes
+unfolding qualify
+qualify-classes name s = give-classes s (known_text known.Qualname) the_str (AText name)
+
+unhash-classes : (s : Space) → (unhash s).0.classes ≡ s.0.classes
+unfolding unhash
+unhash-classes s = elim (has_name s.1 (known_text known.Eq) && not (has_name s.1 (known_text known.Hash))) as (λ b. (cond b (s.0, with_value is_text s.1 (known_text known.Hash) none) s).0.classes ≡ s.0.classes) [
+  | true ↦ refl
+  | false ↦ refl
+]
+
+give_dict-classes : (s : Space) → (give_dict s).0.classes ≡ s.0.classes
+unfolding give_dict
+give_dict-classes s = give-classes s (known_text known.Dict) the_getset (AGetSet the_object (known_text known.Dict) (Some (Getter property.InstanceDict)) (Some (Setter property.InstanceDict)))
+
+pub completed-classes : (name : Text) (s : Space) → (completed name s).0.classes ≡ s.0.classes
+unfolding completed
+completed-classes name s =
+    let told = wrap (known_text known.InitSubclass) s in
+    let all = wrap (known_text known.ClassGetitem) told in
+    give_dict-classes (unhash (qualify name all))
+    ∙ unhash-classes (qualify name all)
+    ∙ qualify-classes name all
+    ∙ wrap-classes (known_text known.ClassGetitem) told
+    ∙ wrap-classes (known_text known.InitSubclass) s
 
 -- the entries of a dict become attributes, one after another
 pub record Naming (old now : World) (attrs : Bound) (rest all : List (PyObjectRef × PyObjectRef)) : Type 0 where

@@ -5,6 +5,7 @@ use Rattle.py_node.specs.declared.refs.PyObjectRef.{PyObjectRef}
 use Rattle.py_node.specs.declared.refs.PyStrInterned.{PyStrInterned}
 use Rattle.py_node.specs.declared.entry.TypeNative.{TypeNative}
 use Rattle.py_node.specs.declared.entry.TypeNative.TheVariants.{New}
+use Rattle.py_node.specs.declared.built_in.BuiltIn.TheVariants.{TypeType}
 use Rattle.py_node.specs.declared.task.Answer.{Answer}
 use Rattle.py_node.specs.declared.task.ClassTask.{ClassTask}
 use Rattle.py_node.specs.declared.task.Step.{Step}
@@ -15,7 +16,7 @@ use Rattle.class_world.specs.declared.world.World.{World}
 use Rattle.class_world.specs.Reading.{Reading, Reads, bindings, class_job, plain}
 use Rattle.class_world.specs.Rows as rows
 use Rattle.class_world.specs.Rows.{Group, Follows}
-use Rattle.class_world.specs.Sound.{Claim, IsNode, of_binding, of_each}
+use Rattle.class_world.specs.Sound.{Claim, IsNode, Holding, of_binding, of_each}
 use Rattle.class_make.specs.declared.ClassKept.{ClassKept}
 use Rattle.class_make.specs.declared.ClassKept.TheVariants.{Pass, Native, NoClass, AfterBind, AfterHook}
 use Rattle.class_make.specs.Say.{Space, class_job_say}
@@ -35,6 +36,10 @@ of_class_kept Native = []
 of_class_kept NoClass = []
 of_class_kept (AfterBind class kw) = IsNode class ∷ of_each of_binding kw.items
 of_class_kept (AfterHook class) = IsNode class ∷ []
+
+-- the object stands for a class
+abbrev pub of_class_node : PyObjectRef → List Claim
+of_class_node r = Holding r TypeType ∷ []
 
 -- the group: its jobs, what they say, what goes on, and what is claimed of that
 abbrev pub class_group : Group ClassTask ClassJob ClassKept

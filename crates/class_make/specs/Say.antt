@@ -1,28 +1,34 @@
 -- What the rows of the creation of classes say.
-use Rattle.std.specs.Prelude.{ℕ, ◌^◌, Bool, false, cond, not, eqb, ◌&&◌, ◌||◌, List, [], ◌∷◌, Option, Some, None, is_some, map, length, filter, Ok, Err}
+use Rattle.std.specs.Option.{option_or}
+use Rattle.std.specs.Prelude.{ℕ, Bool, false, cond, not, eqb, ◌&&◌, ◌||◌, List, [], ◌∷◌, Option, Some, None, is_some, option_and_then, map, length, filter, Result, Ok, Err}
 use Rattle.py_node.specs.declared.refs.PyObjectRef.{PyObjectRef}
-use Rattle.py_node.specs.declared.raised.Raised.{Raised as Fault}
-use Rattle.py_node.specs.declared.raised.Cause.TheVariants.{ArgCount, BasesNotTypes, MetaclassConflict, MroEntries, NamespaceKey, NotBaseType, NotYet, NullInName, QualnameType, SelfType, TypeArgs, TypeArgTypes, UnsafeNew}
+use Rattle.py_node.specs.declared.raised.Cause.{Cause}
+use Rattle.py_node.specs.declared.raised.Cause.TheVariants.{ArgCount, BasesNotTypes, MetaclassConflict, MroEntries, NamespaceKey, NullInName, SelfType, TypeArgs, TypeArgTypes, UnsafeNew}
 use Rattle.py_node.specs.declared.entry.SlotId.TheVariants.{New}
 use Rattle.py_node.specs.declared.entry.NativeEntry.TheVariants.{Getter, Setter}
 use Rattle.py_node.specs.declared.entry.Property.TheVariants as property
 use Rattle.py_node.specs.declared.entry.TypeNative.{TypeNative}
 use Rattle.py_node.specs.declared.entry.TypeNative.TheVariants as type
 use Rattle.py_node.specs.Attributes.{value_of, with_value}
-use Rattle.py_node.specs.BuiltIns.{base_type, heap_flags}
+use Rattle.py_node.specs.BuiltIns.{heap_flags}
 use Rattle.py_node.specs.Tree.{Text}
 use Rattle.py_node.specs.declared.known.Known.TheVariants as known
 use Rattle.py_node.specs.Known.{known_text}
-use Rattle.py_node.specs.Faults.{raised}
 use Rattle.class_model.specs.Class.{found_past, is_sub}
 use Rattle.class_model.specs.Slot.{entry}
 use Rattle.class_model.specs.BuiltIn.{natives_of}
+use Rattle.class_table.specs.Refused.{refused_layout, refused_order}
+use Rattle.class_world.specs.NewHeap.{qualified, refused_name}
 use Rattle.plain_machine.specs.Plain.{Datum, AText, ATuple, ADict, AClassMethod, AGetSet, PlainWorld, Bindings, ClassJob, DoMakeClass, DoType, DoBind, DoCall, DoGetAttr, DoTypeGet, DoTypeSet, DoNew, ToAttribute, ToCall, ToClass, Answered, Chose, Made, Ended, Said, Asks, Ends}
 use Rattle.plain_machine.specs.World.{ref, is_text, datum_at, class_at, text_keys, with_node, next_node, with_new_class}
-use Rattle.plain_machine.specs.Objects.{type_object, class_number, special_at, class_has_flag, nearest_built_in, with_definers}
+use Rattle.plain_machine.specs.Objects.{type_object, class_number, special_at, nearest_built_in, with_definers}
 use Rattle.plain_machine.specs.Known.{the_object, the_type, the_str, the_function, the_getset, the_class_method}
 use Rattle.plain_machine.specs.Takes.{with_two, with_three, with_text, native_end}
 use Rattle.plain_machine.specs.Row.{Row, start, build, pass, end, value, fault, not_yet, none, is_attribute_error, on_value, on_done}
+
+-- the entries of a dict
+abbrev pub Entries : Type 0
+Entries = List (PyObjectRef × PyObjectRef)
 
 abbrev pub is_class : Option ℕ → ℕ → Bool
 is_class None d = false
@@ -42,13 +48,13 @@ abbrev pub named : Bindings → PyObjectRef → Option Text → Option Bindings
 named attrs v None = None
 named attrs v (Some x) = Some (with_value is_text attrs x v)
 
-abbrev pub namespace_from : PlainWorld → Option Bindings → List (PyObjectRef × PyObjectRef) → Option Bindings
+abbrev pub namespace_from : PlainWorld → Option Bindings → Entries → Option Bindings
 namespace_from w None es = None
 namespace_from w (Some attrs) [] = Some attrs
 namespace_from w (Some attrs) (e ∷ es) = namespace_from w (named attrs e.1 (text_of (datum_at w e.0))) es
 
 -- a dict's texts with their values, where all its keys are texts
-abbrev pub namespace : PlainWorld → List (PyObjectRef × PyObjectRef) → Option Bindings
+abbrev pub namespace : PlainWorld → Entries → Option Bindings
 namespace w es = namespace_from w (Some []) es
 
 -- a world, and the attributes that a class is to have
@@ -89,10 +95,6 @@ completed name s = give_dict (unhash (qualify name (wrap (known_text known.Class
 
 -- the class is made, and then told of
 
-abbrev pub is_text_at : PlainWorld → Option PyObjectRef → Bool
-is_text_at w None = false
-is_text_at w (Some r) = is_some (text_of (datum_at w r))
-
 -- whether the class of one of some values has a name
 abbrev pub some_has : PlainWorld → Text → List PyObjectRef → Bool
 some_has w x [] = false
@@ -114,56 +116,71 @@ abbrev pub told_of : PlainWorld → ℕ → PyObjectRef → List PyObjectRef →
 told_of w c class values =
     cond (wants_name w values) (Ends w not_yet) (hook w class (found_past is_text w.classes c (known_text known.InitSubclass)))
 
-abbrev pub new_class : PlainWorld → ℕ → Text → ℕ → Bindings → PlainWorld
-new_class w meta name base attrs =
-    with_new_class w meta (record { name = name; number = length w.nodes; bases = base ∷ []; attrs = attrs; members = []; flags = heap_flags })
+abbrev pub new_class : PlainWorld → ℕ → Text → List ℕ → Bindings → PlainWorld
+new_class w meta name bases attrs =
+    with_new_class w meta (record { name = name; number = length w.nodes; bases = bases; attrs = attrs; members = []; flags = heap_flags })
 
--- a class with members of its own is for later. The qualified name must be a text
-abbrev pub refusal_by : Bool → Bool → Option Fault
-refusal_by has_slots is_named =
-    cond has_slots (Some (raised NotYet)) (cond is_named None (Some (raised QualnameType)))
+-- why bases that may be bases together have no order, or a qualified name is no text
+abbrev pub refusal : PlainWorld → List ℕ → Bindings → Option Cause
+refusal w bases attrs = option_or (refused_order w.classes bases) (refused_name w (qualified attrs))
 
-unfoldable pub refusal : Space → Option Fault
-refusal s =
-    refusal_by (has_name s.1 (known_text known.Slots)) (is_text_at s.0 (value_of (λ y. is_text y (known_text known.Qualname)) s.1))
+unfoldable pub made_unless : Option Cause → ℕ → Text → List ℕ → Space → Said
+made_unless (Some cause) meta name bases s = Ends s.0 (fault cause)
+made_unless None meta name bases s =
+    told_of (with_definers (new_class s.0 meta name bases s.1) (length s.0.nodes) (values_of s.1)) (length s.0.nodes) (ref (length s.0.nodes)) (values_of s.1)
 
-unfoldable pub made_unless : Option Fault → ℕ → Text → ℕ → Space → Said
-made_unless (Some x) meta name base s = Ends s.0 (Err x)
-made_unless None meta name base s =
-    told_of (with_definers (new_class s.0 meta name base s.1) (length s.0.nodes) (values_of s.1)) (length s.0.nodes) (ref (length s.0.nodes)) (values_of s.1)
+-- a class with members of its own is for later
+unfoldable pub made : ℕ → Text → List ℕ → Space → Said
+made meta name bases s =
+    cond (has_name s.1 (known_text known.Slots)) (Ends s.0 not_yet) (made_unless (refusal s.0 bases s.1) meta name bases s)
 
-unfoldable pub made : ℕ → Text → ℕ → Space → Said
-made meta name base s = made_unless (refusal s) meta name base s
+abbrev pub with_namespace : PlainWorld → ℕ → Text → List ℕ → Option Bindings → Said
+with_namespace w meta name bases None = Ends w (fault NamespaceKey)
+with_namespace w meta name bases (Some attrs) = made meta name bases (completed name (w, attrs))
 
-abbrev pub with_namespace : PlainWorld → ℕ → Text → ℕ → Option Bindings → Said
-with_namespace w meta name base None = Ends w (fault NamespaceKey)
-with_namespace w meta name base (Some attrs) = made meta name base (completed name (w, attrs))
+-- classes that may not be bases together are refused before the namespace is read
+abbrev pub on_layout : PlainWorld → Option Cause → ℕ → Text → List ℕ → Entries → Said
+on_layout w (Some cause) meta name bases es = Ends w (fault cause)
+on_layout w None meta name bases es = with_namespace w meta name bases (namespace w es)
 
--- the base must be one that classes can have
-abbrev pub on_base : PlainWorld → ℕ → Text → ℕ → List (PyObjectRef × PyObjectRef) → Said
-on_base w meta name base es =
-    cond (class_has_flag w base_type (Some base)) (with_namespace w meta name base (namespace w es)) (Ends w (fault NotBaseType))
+abbrev pub on_bases : PlainWorld → ℕ → Text → List ℕ → Entries → Said
+on_bases w meta name bases es = on_layout w (refused_layout w.classes bases) meta name bases es
 
--- the metaclass: the given one, or that of the base where it derives from the given one
-abbrev pub winner : PlainWorld → ℕ → Option ℕ → Option ℕ
-winner w meta None = None
-winner w meta (Some d) = cond (is_sub w.classes meta d) (Some meta) (cond (is_sub w.classes d meta) (Some d) None)
+-- of two metaclasses the one that derives from the other
+abbrev pub derived : PlainWorld → ℕ → Option ℕ → Option ℕ
+derived w meta None = None
+derived w meta (Some d) = cond (is_sub w.classes meta d) (Some meta) (cond (is_sub w.classes d meta) (Some d) None)
+
+-- the metaclass: of the given one and those of all bases, one after another
+abbrev pub winner : PlainWorld → ℕ → List PyObjectRef → Option ℕ
+winner w meta [] = Some meta
+winner w meta (b ∷ bs) = option_and_then (λ c. winner w c bs) (derived w meta (class_at w b))
 
 -- another metaclass that makes its objects itself is asked for the class
-abbrev pub by_winner : PlainWorld → ℕ → Option ℕ → Text → ℕ → List (PyObjectRef × PyObjectRef) → List PyObjectRef → Bindings → Said
-by_winner w meta None name base es args kw = Ends w (fault MetaclassConflict)
-by_winner w meta (Some c) name base es args kw =
-    cond (not (eqb c meta) && is_some (entry text_keys natives_of w.classes c New)) (pass w (ToCall (DoNew c c args kw))) (on_base w c name base es)
+abbrev pub by_winner : PlainWorld → ℕ → Option ℕ → Text → List ℕ → Entries → List PyObjectRef → Bindings → Said
+by_winner w meta None name bases es args kw = Ends w (fault MetaclassConflict)
+by_winner w meta (Some c) name bases es args kw =
+    cond (not (eqb c meta) && is_some (entry text_keys natives_of w.classes c New)) (pass w (ToCall (DoNew c c args kw))) (on_bases w c name bases es)
 
--- a base that is no class is asked for others
-abbrev pub by_base : PlainWorld → ℕ → Text → PyObjectRef → Option ℕ → List (PyObjectRef × PyObjectRef) → List PyObjectRef → Bindings → Said
-by_base w meta name b None es args kw = Asks w (Chose 0 ∷ []) (ToAttribute (DoGetAttr b (known_text known.MroEntries)))
-by_base w meta name b (Some c) es args kw = by_winner w meta (winner w meta (class_at w b)) name c es args kw
+abbrev pub with_class : PyObjectRef → Option ℕ → Result (List ℕ) PyObjectRef → Result (List ℕ) PyObjectRef
+with_class b None rest = Err b
+with_class b (Some c) (Err d) = Err d
+with_class b (Some c) (Ok cs) = Ok (c ∷ cs)
 
-abbrev pub by_bases : PlainWorld → ℕ → Text → List PyObjectRef → List (PyObjectRef × PyObjectRef) → List PyObjectRef → Bindings → Said
-by_bases w meta name [] es args kw = on_base w meta name the_object es
-by_bases w meta name (b ∷ []) es args kw = by_base w meta name b (class_number (datum_at w b)) es args kw
-by_bases w meta name _ es args kw = Ends w not_yet
+-- the classes that some objects are, or the first that is none
+abbrev pub classes_of : PlainWorld → List PyObjectRef → Result (List ℕ) PyObjectRef
+classes_of w [] = Ok []
+classes_of w (b ∷ bs) = with_class b (class_number (datum_at w b)) (classes_of w bs)
+
+-- the first base that is no class is asked for others
+abbrev pub by_classes : PlainWorld → ℕ → Text → List PyObjectRef → Result (List ℕ) PyObjectRef → Entries → List PyObjectRef → Bindings → Said
+by_classes w meta name bs (Err b) es args kw = Asks w (Chose 0 ∷ []) (ToAttribute (DoGetAttr b (known_text known.MroEntries)))
+by_classes w meta name bs (Ok cs) es args kw = by_winner w meta (winner w meta bs) name cs es args kw
+
+-- no bases stand for `object`
+abbrev pub by_bases : PlainWorld → ℕ → Text → List PyObjectRef → Entries → List PyObjectRef → Bindings → Said
+by_bases w meta name [] es args kw = on_bases w meta name (the_object ∷ []) es
+by_bases w meta name (b ∷ bs) es args kw = by_classes w meta name (b ∷ bs) (classes_of w (b ∷ bs)) es args kw
 
 abbrev pub has_null : Text → Bool
 has_null [] = false
@@ -173,11 +190,11 @@ abbrev pub tuple_of : Option Datum → Option (List PyObjectRef)
 tuple_of (Some (ATuple rs)) = Some rs
 tuple_of _ = None
 
-abbrev pub dict_of : Option Datum → Option (List (PyObjectRef × PyObjectRef))
+abbrev pub dict_of : Option Datum → Option Entries
 dict_of (Some (ADict es)) = Some es
 dict_of _ = None
 
-abbrev pub by_parts : PlainWorld → ℕ → Option Text → Option (List PyObjectRef) → Option (List (PyObjectRef × PyObjectRef)) → List PyObjectRef → Bindings → Said
+abbrev pub by_parts : PlainWorld → ℕ → Option Text → Option (List PyObjectRef) → Option Entries → List PyObjectRef → Bindings → Said
 by_parts w meta (Some name) (Some bases) (Some es) args kw =
     cond (has_null name) (Ends w (fault NullInName)) (by_bases w meta name bases es args kw)
 by_parts w meta _ _ _ args kw = Ends w (fault TypeArgTypes)

@@ -1,21 +1,21 @@
 //! A class that is made, and how it is told of.
 
-ghost use Rattle.std.specs.Prelude.{◌≡◌, filter, length, not, string_bytes, None, Ok, IfOk, IfSome, OnOk};
+ghost use Rattle.std.specs.Prelude.{◌≡◌, filter, not, string_bytes, None, Ok, IfOk, IfSome};
 ghost use Rattle.py_node.specs.declared.task.Answer.TheVariants as answer;
 ghost use Rattle.py_node.specs.Attributes.{is_same_name};
 ghost use Rattle.plain_machine.specs.Objects.{with_definers, wrapped_function};
 ghost use Rattle.plain_machine.specs.World.{datum_at};
 ghost use Rattle.py_node.specs.declared.built_in.BuiltIn.TheVariants.{TypeType};
+ghost use Rattle.class_table.specs.Keys.{numbers};
+ghost use Rattle.class_table.specs.Refused.{refused_layout};
 ghost use Rattle.class_world.specs.Claims.{of_ended, of_step, Leaves};
-ghost use Rattle.class_world.specs.NewHeap.{qualified, refused_name};
 ghost use Rattle.class_world.specs.Reading.{Reading, Reads, bindings, plain};
-ghost use Rattle.class_world.specs.Sound.{IsNode, AreNodes, IsClass, IsOf, CanBeBase, Holds, AllHold, Grows, of_binding, of_each};
-ghost use Rattle.class_make.specs.Say.{is_text_at, some_has, values_of, hook, told_of, new_class, refusal, refusal_by, made, made_unless};
+ghost use Rattle.class_world.specs.Sound.{IsNode, AreNodes, IsClass, IsOf, Holds, AllHold, Grows, of_binding, of_class_ref, of_each};
+ghost use Rattle.class_make.specs.Say.{some_has, values_of, hook, told_of, refusal, made, made_unless};
 ghost use Rattle.class_make.specs.Rows.{Makes, Resumes, of_class_kept};
 
 use crate::ClassKept;
 use crate::attributes::has_name;
-use crate::namespace::text_at;
 use class_table::ClassFault;
 use class_world::World;
 use py_node::task::Keywords;
@@ -25,16 +25,17 @@ use py_node::{
 };
 use std::alloc::Global;
 
-/// What a class is made from: its metaclass, its name, its base and its attributes.
+/// What a class is made from: its metaclass, its name, its bases and its attributes.
 #[derive(Drop)]
 pub(crate) struct Plan {
     pub(crate) meta: PyTypeRef,
     pub(crate) name: String,
-    pub(crate) base: PyTypeRef,
+    pub(crate) bases: Vec<PyTypeRef>,
     pub(crate) attrs: PyAttributes,
 }
 
-/// Makes a class as planned, unless its attributes are refused.
+/// Makes a class as planned, of bases that are allowed together. One with members of its own is for later.
+#[tactic(auto, unfolding(crate::specs::Say::class_job_say, crate::specs::Say::made))]
 pub(crate) fn made(
     world: &mut World,
     plan: Plan,
@@ -42,127 +43,57 @@ pub(crate) fn made(
 ) -> Result<Step<ClassKept>, OutOfMemory>
     requires meta { Holds world.old (IsClass plan.meta.0) }
     requires meta_of { Holds world.old (IsOf plan.meta.0 TypeType) }
-    requires base { Holds world.old (IsClass plan.base.0) }
-    requires can { Holds world.old (CanBeBase plan.base.0) }
+    requires bases { AllHold world.old (of_each of_class_ref plan.bases.items) }
+    requires layout { (t : Reading) → Reads t world.old →
+        refused_layout (plain t world.old).classes (numbers plan.bases.items) ≡ None }
     requires attrs { AllHold world.old (of_each of_binding plan.attrs) }
     requires kw { AllHold world.old (of_each of_binding kw.items) }
     ensures goes { IfOk result (λ step. Makes kw.items (λ t u.
-        made plan.meta.0 (string_bytes plan.name) plan.base.0 (u, bindings t plan.attrs)) world.old world.new step) }
+        made plan.meta.0 (string_bytes plan.name) (numbers plan.bases.items) (u, bindings t plan.attrs))
+        world.old world.new step) }
     ensures safe { Leaves of_class_kept world.old world.new result }
 {
-    let refusal = refusal(world, &plan.attrs)?;
-    made_unless(world, refusal, plan, kw)
-}
-
-// Why a class cannot have the attributes, if it cannot.
-fn refusal(world: &World, attrs: &PyAttributes) -> Result<Option<Raised>, OutOfMemory>
-    requires { AllHold world.now (of_each of_binding attrs.now) }
-    ensures { IfOk result (λ o. (t : Reading) → Reads t world.now →
-        refusal (plain t world.now, bindings t attrs.now) ≡ o) }
-{
-    let has_slots = has_name(world, attrs, Known::Slots);
-    let qualname = world.known(Known::Qualname);
-    let is_named = is_text_at(world, attrs.get(qualname))?;
-    let refusal = refusal_by(has_slots, is_named);
-    Ok(refusal)
-}
-
-// Why a class cannot be made: it has members of its own, or its qualified name is no text.
-fn refusal_by(has_slots: bool, is_named: bool) -> Option<Raised>
-    ensures { result ≡ refusal_by has_slots is_named }
-{
-    if has_slots {
-        return Some(Raised::new(Cause::NotYet));
+    if has_name(world, &plan.attrs, Known::Slots) {
+        return Ok(Step::not_yet());
     }
-    if is_named {
-        return None;
-    }
-    Some(Raised::new(Cause::QualnameType))
+    new_class(world, plan, kw)
 }
 
-// Whether there is an object, and it holds a text.
-fn is_text_at(world: &World, node: Option<PyObjectRef>) -> Result<bool, OutOfMemory>
-    requires { IfSome node (λ r. Holds world.now (IsNode r)) }
-    ensures { IfOk result (λ b. (t : Reading) → is_text_at (plain t world.now) node ≡ b) }
-{
-    match node {
-        None => Ok(false),
-        Some(node) => {
-            let text = text_at(world, node)?;
-            Ok(text.is_some())
-        }
-    }
-}
-
-// Makes a class, where nothing is refused.
+// Makes a class and tells of it, unless the world refuses it: its bases have no order, or its qualified name is no text.
 #[tactic(auto, unfolding(crate::specs::Say::class_job_say, crate::specs::Say::made_unless))]
-fn made_unless(
+fn new_class(
     world: &mut World,
-    why: Option<Raised>,
     plan: Plan,
     kw: Keywords,
 ) -> Result<Step<ClassKept>, OutOfMemory>
     requires meta { Holds world.old (IsClass plan.meta.0) }
     requires meta_of { Holds world.old (IsOf plan.meta.0 TypeType) }
-    requires base { Holds world.old (IsClass plan.base.0) }
-    requires can { Holds world.old (CanBeBase plan.base.0) }
+    requires bases { AllHold world.old (of_each of_class_ref plan.bases.items) }
+    requires layout { (t : Reading) → Reads t world.old →
+        refused_layout (plain t world.old).classes (numbers plan.bases.items) ≡ None }
     requires attrs { AllHold world.old (of_each of_binding plan.attrs) }
-    requires refusal { (t : Reading) → Reads t world.old → refusal (plain t world.old, bindings t plan.attrs) ≡ why }
     requires kw { AllHold world.old (of_each of_binding kw.items) }
     ensures goes { IfOk result (λ step. Makes kw.items (λ t u.
-        made_unless why plan.meta.0 (string_bytes plan.name) plan.base.0 (u, bindings t plan.attrs))
-        world.old world.new step) }
+        made_unless (refusal u (numbers plan.bases.items) (bindings t plan.attrs)) plan.meta.0
+        (string_bytes plan.name) (numbers plan.bases.items) (u, bindings t plan.attrs)) world.old world.new step) }
     ensures safe { Leaves of_class_kept world.old world.new result }
 {
     let alloc = world.alloc();
-    match why {
-        Some(raised) => Ok(Step::End(Err(raised))),
-        None => {
-            let Plan {
-                meta,
-                name,
-                base,
-                attrs,
-            } = plan;
-            let values = values_of(alloc, &attrs)?;
-            let class = new_class(world, meta, name.as_str(), base, attrs)?;
+    let Plan {
+        meta,
+        name,
+        bases,
+        attrs,
+    } = plan;
+    let values = values_of(alloc, &attrs)?;
+    match world.new_heap(name.as_str(), bases, attrs, Vec::new(alloc), meta) {
+        Err(ClassFault::OutOfMemory) => Err(OutOfMemory),
+        Err(ClassFault::Refused(cause)) => Ok(Step::raise(cause)),
+        Ok(class) => {
             let node = world.class_node(class);
             define_all(world, class, &values);
             told_of(world, class, node, &values, kw)
         }
-    }
-}
-
-// A new class, which the world cannot refuse: its base can be one, and its qualified name is a text.
-fn new_class(
-    world: &mut World,
-    meta: PyTypeRef,
-    name: &str,
-    base: PyTypeRef,
-    attrs: PyAttributes,
-) -> Result<PyTypeRef, OutOfMemory>
-    requires meta { Holds world.old (IsClass meta.0) }
-    requires meta_of { Holds world.old (IsOf meta.0 TypeType) }
-    requires base { Holds world.old (IsClass base.0) }
-    requires can { Holds world.old (CanBeBase base.0) }
-    requires attrs { AllHold world.old (of_each of_binding attrs) }
-    requires named { (t : Reading) → Reads t world.old →
-        refused_name (plain t world.old) (qualified (bindings t attrs)) ≡ None }
-    ensures made { OnOk result ((t : Reading) → plain t world.new ≡
-        new_class (plain t world.old) meta.0 name.now base.0 (bindings t attrs)) }
-    ensures number { IfOk result (λ c. (t : Reading) → c.0 ≡ length (plain t world.old).nodes) }
-    ensures reads { (t : Reading) → Reads t world.new → Reads t world.old }
-    ensures grows { Grows world.old world.new }
-    ensures class { IfOk result (λ c. Holds world.new (IsClass c.0)) }
-{
-    let alloc = world.alloc();
-    world.readable();
-    world.sound();
-    let bases = vec![in alloc; base]?;
-    match world.new_heap(name, bases, attrs, Vec::new(alloc), meta) {
-        Ok(class) => Ok(class),
-        Err(ClassFault::OutOfMemory) => Err(OutOfMemory),
-        Err(ClassFault::Refused(_)) => unreachable!(),
     }
 }
 

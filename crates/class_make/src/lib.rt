@@ -7,6 +7,7 @@ ghost use Rattle.class_world.specs.Claims.{of_class_task, of_ended, Leaves};
 ghost use Rattle.class_make.specs.Rows.{Begins, Resumes, of_class_kept};
 
 mod attributes;
+mod bases;
 mod hook;
 mod make;
 mod namespace;

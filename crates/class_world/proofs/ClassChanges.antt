@@ -15,7 +15,7 @@ use Rattle.class_model.specs.Sound.{AreSound}
 use Rattle.class_table.proofs.Pushed.{each-there}
 use Rattle.class_model.specs.Change.{with_class_attr}
 use Rattle.class_model.proofs.Numbers.{at-changed, at-last, old-or-last}
-use Rattle.class_table.specs.Refused.{is_base_at, AreThere}
+use Rattle.class_table.specs.Refused.{AreThere}
 use Rattle.class_table.specs.Keys.{numbers}
 use Rattle.plain_machine.specs.World.{is_text, with_own_attr, with_new_class}
 use Rattle.class_world.specs.Held.{Held}
@@ -79,7 +79,6 @@ module _ {A E : Type 0} (w : Held) (c : ℕ) (x : PyStrInterned) (r : PyObjectRe
   pub set-like : (o : Result A E) → OnOk o (ks ≡ with_class_attr is_same_name w.classes c x r) → OnErr o (ks ≡ w.classes) → Like w.classes ks
   set-like (Ok a) p f = subst (Like w.classes) (sym p) (record {
     held = λ d b h. held_by-attr is_same_name w.classes c x r d ∙ h;
-    bases = λ d h. at-changed (λ (k : Class PyStrInterned). record k { attrs = with_value is_same_name k.attrs x r }) (λ k. refl) is_base_at (λ k. refl) w.classes c d ∙ h;
     there = λ d h. attr-there w.classes c d x r ∙ h;
   })
   set-like (Err e) p f = subst (Like w.classes) (sym f) (like-itself w.classes)

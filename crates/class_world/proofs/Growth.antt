@@ -3,16 +3,15 @@ use Rattle.std.proofs.Common.{◌≡◌, ℕ, ◌≤◌, List, [], ◌∷◌, �
 use Rattle.std.specs.Prelude.{slice_get, is_some, true, option_map, option_and_then}
 use Rattle.py_node.specs.declared.built_in.BuiltIn.{BuiltIn}
 use Rattle.py_node.specs.declared.refs.PyStrInterned.{PyStrInterned}
-use Rattle.class_model.specs.Class.{Class, class_at, is_class}
+use Rattle.class_model.specs.Class.{Class, is_class}
 use Rattle.class_model.proofs.Numbers.{at-before}
-use Rattle.class_table.specs.Refused.{is_base_at}
 use Rattle.plain_machine.specs.Sound.{held_by, Key, AreKeys}
 use Rattle.py_node.specs.declared.refs.PyObjectRef.{PyObjectRef}
 use Rattle.py_node.specs.declared.payload.Node.{Node}
 use Rattle.py_node.specs.declared.payload.Payload.{Payload}
 use Rattle.py_node.specs.declared.payload.Form.{Form}
 use Rattle.class_world.specs.Held.{Held}
-use Rattle.class_world.specs.Sound.{Claim, IsNode, AreNodes, IsExpression, AreExpressions, IsName, AreNames, IsClass, IsOf, CanBeBase, Holding, Standing, CanBeKeys, KeysDiffer, HasForm, HasParams, HasValues, params_in, held_params, AreFilled, home_of, home_at, key_in, held_key, class_in, held_class, Holds, Lasts, Grows}
+use Rattle.class_world.specs.Sound.{Claim, IsNode, AreNodes, IsExpression, AreExpressions, IsName, AreNames, IsClass, IsOf, Holding, Standing, CanBeKeys, KeysDiffer, HasForm, HasParams, HasValues, params_in, held_params, AreFilled, home_of, home_at, key_in, held_key, class_in, held_class, Holds, Lasts, Grows}
 use Rattle.class_world.proofs.Claims.{get-pushed}
 use Rattle.class_world.proofs.Homes.{held_by-push}
 
@@ -36,11 +35,10 @@ pub record Keep (old new : List Node) : Type 0 where
 
 pub record Like (old new : List (Class PyStrInterned)) : Type 0 where
   pub held : (c : ℕ) (b : BuiltIn) → held_by old c ≡ Some b → held_by new c ≡ Some b
-  pub bases : (c : ℕ) → is_base_at (class_at old c) ≡ true → is_base_at (class_at new c) ≡ true
   pub there : (c : ℕ) → is_class old c ≡ true → is_class new c ≡ true
 
 pub like-itself : (ks : List (Class PyStrInterned)) → Like ks ks
-like-itself ks = record { held = λ c b h. h; bases = λ c h. h; there = λ c h. h }
+like-itself ks = record { held = λ c b h. h; there = λ c h. h }
 
 pub keep-itself : (ns : List Node) → Keep ns ns
 keep-itself ns = record { stays = λ n x e. (x, e, refl) }
@@ -48,15 +46,8 @@ keep-itself ns = record { stays = λ n x e. (x, e, refl) }
 there-push : (ks : List (Class PyStrInterned)) (k : Class PyStrInterned) (c : ℕ) → is_class ks c ≡ true → is_class (ks ++ k ∷ []) c ≡ true
 there-push ks k c e = ap is_some (at-before ks k c e) ∙ e
 
-bases-there : (o : Option (Class PyStrInterned)) → is_base_at o ≡ true → is_some o ≡ true
-bases-there None e = cc
-bases-there (Some k) e = refl
-
-bases-push : (ks : List (Class PyStrInterned)) (k : Class PyStrInterned) (c : ℕ) → is_base_at (class_at ks c) ≡ true → is_base_at (class_at (ks ++ k ∷ []) c) ≡ true
-bases-push ks k c e = ap is_base_at (at-before ks k c (bases-there (class_at ks c) e)) ∙ e
-
 pub like-push : (ks : List (Class PyStrInterned)) (k : Class PyStrInterned) → Like ks (ks ++ k ∷ [])
-like-push ks k = record { held = held_by-push ks k; bases = bases-push ks k; there = there-push ks k }
+like-push ks k = record { held = held_by-push ks k; there = there-push ks k }
 
 pub keep-push : (ns : List Node) (x : Node) → Keep ns (ns ++ x ∷ [])
 keep-push ns x = record { stays = λ n y e. (y, get-pushed ns x n y e, refl) }
@@ -115,7 +106,6 @@ grows-at old new x e s n p l (IsName m) h = omega arith
 grows-at old new x e s n p l (AreNames xs) h = λ i d m. let below = h i d m in omega arith
 grows-at old new x e s n p l (IsClass c) h = l.there c h
 grows-at old new x e s n p l (IsOf c b) h = l.held c b h
-grows-at old new x e s n p l (CanBeBase c) h = l.bases c h
 grows-at old new x e s n p l (Holding r b) h = home-still old.nodes new.nodes p r.0 b h
 grows-at old new x e s n p l (Standing c r) h = class-still old.nodes new.nodes p r c h
 grows-at old new x e s n p l (CanBeKeys rs) h = λ i d m. key-keep old.nodes new.nodes p _ (h i d m)

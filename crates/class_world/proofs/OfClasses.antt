@@ -1,7 +1,7 @@
 -- Classes, as a reading has them, and what holds of their attributes.
 use Rattle.std.proofs.Common.{◌≡◌, ℕ, ◌<◌, ◌^◌, Bool, true, false, cond, eqb, length, List, [], ◌∷◌, Option, Some, None, refl, ap, subst, IfSome}
 use Rattle.py_node.specs.declared.raised.Cause.TheVariants.{ImmutableType}
-use Rattle.class_table.specs.Refused.{is_base_at, refused_attr, refused_layout, refused_bases}
+use Rattle.class_table.specs.Refused.{refused_attr, refused_layout, refused_bases}
 use Rattle.class_table.proofs.Renames.{layout-alike, refused-alike}
 use Rattle.std.specs.Prelude.{◌==◌, is_some, slice_get, option_map, option_and_then}
 use Rattle.std.specs.Int.RustNames.{bit_and}
@@ -78,10 +78,6 @@ module _ (w now : Held) (v : w ≡ now) (t : Reading) where
 pub flag-of : (o : Option HeldClass) (flags flag : ℕ) → option_map (λ (k : HeldClass). k.flags) o ≡ Some flags → option_map (λ (k : HeldClass). has_flag flag k) o ≡ Some (bit_and flags flag == flag)
 flag-of None flags flag e = cc
 flag-of (Some k) flags flag e = let same : k.flags ≡ flags = cc in ap (λ n. Some (bit_and n flag == flag)) same
-
-pub base-is : (o : Option HeldClass) (flags : ℕ) → option_map (λ (k : HeldClass). k.flags) o ≡ Some flags → is_base_at o ≡ (bit_and flags 1024 == 1024)
-base-is None flags e = cc
-base-is (Some k) flags e = let same : k.flags ≡ flags = cc in ap (λ n. bit_and n 1024 == 1024) same
 
 pub refused-seen : (w now : Held) → w ≡ now → (t : Reading) → (c : ℕ) → refused_attr (plain t now).classes c ≡ refused_attr w.classes c
 refused-seen w now v t c = ap (λ b. cond b None (Some ImmutableType)) (heap-seen w now v t c)

@@ -9,7 +9,7 @@ use Rattle.plain_machine.specs.Plain.{Bindings}
 use Rattle.class_world.specs.Held.{Held}
 use Rattle.class_world.specs.Reading.{Reading, plain}
 use Rattle.class_world.specs.NewHeap.{qualified, refused_name, refused_heap}
-use Rattle.class_world.proofs.OfClasses.{bases-seen, layout-seen}
+use Rattle.class_world.proofs.OfClasses.{bases-seen}
 
 -- the same cause
 with-same : {T : Type 0} (r : Result T ClassFault) (a b : Option Cause) → a ≡ b → WithMemory r (refusal r ≡ a) → WithMemory r (refusal r ≡ b)
@@ -21,19 +21,19 @@ or-none : (o : Option Cause) → o ≡ option_or o None
 or-none None = cc
 or-none (Some cause) = cc
 
-module _ (w now : Held) (v : w ≡ now) (t : Reading) (bs : List ℕ) where
-  -- for its bases, whatever their order
-  pub layout-first : (cause : Cause) (attrs : Bindings) → Some cause ≡ refused_layout w.classes bs → Some cause ≡ refused_heap (plain t now) bs attrs
+-- for its bases, whatever their order
+module _ (now : Held) (t : Reading) (bs : List ℕ) where
+  pub layout-first : (cause : Cause) (attrs : Bindings) → refused_layout (plain t now).classes bs ≡ Some cause → Some cause ≡ refused_heap (plain t now) bs attrs
   layout-first cause attrs e =
-      let all : refused_bases w.classes bs ≡ Some cause = ap (λ o. option_or o (refused_order w.classes bs)) (sym e) in
-      sym (ap (λ o. option_or o (refused_name (plain t now) (qualified attrs))) (bases-seen w now v t bs ∙ all))
+      sym (ap (λ o. option_or (option_or o (refused_order (plain t now).classes bs)) (refused_name (plain t now) (qualified attrs))) e)
 
-  pub layout-told : (cause told : Cause) → Some cause ≡ refused_layout w.classes bs → refused_layout (plain t now).classes bs ≡ Some told → Some cause ≡ Some told
-  layout-told cause told e f = e ∙ sym (layout-seen w now v t bs) ∙ f
+  pub layout-told : (cause told : Cause) → refused_layout (plain t now).classes bs ≡ Some cause → refused_layout (plain t now).classes bs ≡ Some told → Some cause ≡ Some told
+  layout-told cause told e f = sym e ∙ f
 
-  pub layout-none : (told : Cause) (o : Option Cause) → None ≡ refused_layout w.classes bs → refused_layout (plain t now).classes bs ≡ Some told → o ≡ Some told
-  layout-none told o e f = let h : None ≡ Some told = e ∙ sym (layout-seen w now v t bs) ∙ f in cc
+  pub layout-none : (told : Cause) (o : Option Cause) → refused_layout (plain t now).classes bs ≡ None → refused_layout (plain t now).classes bs ≡ Some told → o ≡ Some told
+  layout-none told o e f = let h : None ≡ Some told = sym e ∙ f in cc
 
+module _ (w now : Held) (v : w ≡ now) (t : Reading) (bs : List ℕ) where
   -- for its bases or its name
   pub name-next : {T : Type 0} (r : Result T ClassFault) (attrs : Bindings) (o : Option Cause) → refused_name (plain t now) (qualified attrs) ≡ o → WithMemory r (refusal r ≡ option_or (refused_bases w.classes bs) o) → WithMemory r (refusal r ≡ refused_heap (plain t now) bs attrs)
   name-next r attrs o e h =

@@ -14,8 +14,7 @@ use Rattle.py_node.specs.Known.{known_texts}
 use Rattle.py_node.specs.declared.built_in.BuiltIn.{BuiltIn}
 use Rattle.py_node.specs.declared.built_in.BuiltIn.TheVariants as built_in
 use Rattle.py_node.specs.BuiltIns.{place_of, built_in_count, fixed_node_count, has_dict as dict_flag}
-use Rattle.class_model.specs.Class.{Class, class_at, is_class, has_flag}
-use Rattle.class_table.specs.Refused.{is_base_at}
+use Rattle.class_model.specs.Class.{Class, is_class, has_flag}
 use Rattle.plain_machine.specs.Known.{the_dict}
 use Rattle.plain_machine.specs.Sound.{holds_as, held_by, Key, NumberKey, TextKey, AreKeys}
 use Rattle.class_world.specs.declared.scope.Scope.{Scope}
@@ -37,8 +36,6 @@ pub data Claim : Type 0 where
   Holding : PyObjectRef → BuiltIn → Claim
   -- the object stands for the class
   Standing : ℕ → PyObjectRef → Claim
-  -- the class may have subclasses
-  CanBeBase : ℕ → Claim
   -- the objects are numbers or texts
   CanBeKeys : List PyObjectRef → Claim
   -- the objects are numbers or texts, no two of them alike
@@ -120,7 +117,6 @@ Holds w (IsClass c) = is_class w.classes c ≡ true
 Holds w (IsOf c b) = held_by w.classes c ≡ Some b
 Holds w (Holding r b) = home_at w.nodes r.0 ≡ Some b
 Holds w (Standing c r) = held_class w.nodes r ≡ Some c
-Holds w (CanBeBase c) = is_base_at (class_at w.classes c) ≡ true
 Holds w (CanBeKeys rs) = All (λ r. is_some (held_key w.nodes r) ≡ true) rs
 Holds w (KeysDiffer rs) = AreKeys (held_key w.nodes) rs
 Holds w (HasForm e test) = (f : Form) × (slice_get w.forms e ≡ Some f) × (test f ≡ true)

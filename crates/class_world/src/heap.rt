@@ -105,10 +105,10 @@ impl World {
         }
     }
 
-    // Why a class may not have these bases, whatever their order, if it may not.
-    fn layout_refusal(&self, bases: &[PyTypeRef]) -> Option<Cause>
+    /// Why a class may not have these bases, whatever their order, if it may not.
+    pub fn layout_refusal(&self, bases: &[PyTypeRef]) -> Option<Cause>
         requires { AllHold self.now (of_each of_class_ref bases.now) }
-        ensures { result ≡ refused_layout self.now.classes (numbers bases.now) }
+        ensures { (t : Reading) → refused_layout (plain t self.now).classes (numbers bases.now) ≡ result }
     {
         match self.classes.best_base(bases) {
             Ok(_) => None,

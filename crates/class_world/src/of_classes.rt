@@ -1,16 +1,13 @@
 //! What is read of classes.
 
-ghost use Rattle.std.specs.Prelude.{◌≡◌, Some, IfSome, IsTrue, option_map};
-ghost use Rattle.py_node.specs.BuiltIns.{base_type};
+ghost use Rattle.std.specs.Prelude.{◌≡◌, Some, IfSome, option_map};
 ghost use Rattle.class_model.specs.BuiltIn.{natives_of};
 ghost use Rattle.class_model.specs.Class.{class_at as class_numbered, found, found_past, own_of, is_sub, has_flag};
 ghost use Rattle.class_model.specs.Slot.{entry, slot as slot_read, candidates_of, is_heap_at};
-ghost use Rattle.class_table.specs.Refused.{is_base_at};
 ghost use Rattle.class_table.specs.Turn.{list_of};
-ghost use Rattle.plain_machine.specs.Objects.{class_has_flag};
 ghost use Rattle.plain_machine.specs.World.{ref, class_at, text_keys, slot_at, candidates_at, is_text};
 ghost use Rattle.class_world.specs.Reading.{Reading, Reads, plain};
-ghost use Rattle.class_world.specs.Sound.{IsNode, IsClass, CanBeBase, Holds};
+ghost use Rattle.class_world.specs.Sound.{IsNode, IsClass, Holds};
 
 use crate::world::World;
 use class_table::Candidates;
@@ -133,16 +130,6 @@ impl World {
         ensures { (t : Reading) → is_heap_at (class_numbered (plain t self.now).classes class.0) ≡ result }
     {
         self.classes.is_heap(class)
-    }
-
-    /// Whether a class may have subclasses.
-    pub fn can_be_base(&self, class: PyTypeRef) -> bool
-        requires { Holds self.now (IsClass class.0) }
-        ensures flag { (t : Reading) → class_has_flag (plain t self.now) base_type (Some class.0) ≡ result }
-        ensures held { is_base_at (class_numbered self.now.classes class.0) ≡ result }
-        ensures can { IsTrue result → Holds self.now (CanBeBase class.0) }
-    {
-        self.classes.flags(class).has_feature(PyTypeFlags::BASETYPE)
     }
 
     /// Whether a class has a flag.

@@ -32,7 +32,7 @@ fn refuses_in_order(rt: HostRuntime) -> Result<(), Fail> {
         ("[[\"attr\",1]]", "Shape"),
         ("[{\"a\":1.5,\"a\":1}]", "Shape"),
         ("[[\"func\",\"f\",[\"a\",\"a\"],1]]", "Shape"),
-        ("[[\"class\",\"C\",[1,2],[]]]", "Shape"),
+        ("[[\"class\",\"C\",1,[]]]", "Shape"),
         ("[[\"call\",1,[],[1]]]", "Shape"),
         (
             "[-9223372036854775808,\"a\",[\"func\",\"f\",[\"a\",\"b\"],null]]",

@@ -1,5 +1,5 @@
 -- Which expression a JSON value spells.
-use Rattle.std.specs.Prelude.{⊤, ◌&&◌, ◌==◌, nat_le, List, [], ◌∷◌, length, codes, bytes_eq, Bool, true, false, not, if◌then◌else◌, Option, Some, None, option_map, option_and_then, String, string_bytes}
+use Rattle.std.specs.Prelude.{⊤, ◌&&◌, ◌==◌, List, [], ◌∷◌, length, codes, bytes_eq, Bool, true, false, not, if◌then◌else◌, Option, Some, None, option_map, option_and_then, String, string_bytes}
 use Rattle.std.specs.List.{list_any}
 use Rattle.serde_json.specs.Data.{Data, null, boolean, number, string, array, object, Items, no_items, item}
 use Rattle.serde_json.specs.Find.{as_i64, as_str}
@@ -68,11 +68,6 @@ abbrev pub operation : Option Word → Option (List Tree) → Option Tree
 operation (Some w) (Some ts) = if length ts == 2 then Some (TOp w (trees_of ts)) else None
 operation (Some w) None = None
 operation None ts = None
-
--- no second base is read yet
-abbrev pub at_most_one : Option (List Tree) → Option (List Tree)
-at_most_one (Some ts) = if nat_le (length ts) 1 then Some ts else None
-at_most_one None = None
 
 abbrev pub pair : Text → Tree → Named
 pair text t = (text, t)
@@ -153,7 +148,7 @@ unfoldable mutual
 
   -- a name, the bases, and the entries of the body
   pub class_of : Items → Option Tree
-  class_of (item n (item bs (item es rest))) = unless_keywords rest (of_three class (as_str n) (at_most_one (list_of bs)) (body_of es))
+  class_of (item n (item bs (item es rest))) = unless_keywords rest (of_three class (as_str n) (list_of bs) (body_of es))
   class_of _ = None
 
   -- a list of expressions

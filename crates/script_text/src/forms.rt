@@ -55,17 +55,6 @@ fn read_nothing(items: &[Value]) -> Result<(), Unread>
     }
 }
 
-// No second base is read yet.
-fn no_second(bases: &[Expr]) -> Result<(), Unread>
-    ensures { is_ok result ≡ nat_le (length bases.now) 1 }
-{
-    if bases.len() <= 1 {
-        Ok(())
-    } else {
-        Err(Unread::Shape)
-    }
-}
-
 // The parameters of a function: strings that all differ.
 fn read_params(alloc: Global, value: &Value) -> Result<Vec<String>, Unread>
     ensures ok { IfOk result (λ v. params_of (view value.now) ≡ Some (texts_of v.items)) }
@@ -274,7 +263,6 @@ fn read_class(alloc: Global, items: &[Value]) -> Result<Expr, Unread>
     read_nothing(rest)?;
     let text = read_text(alloc, name)?;
     let bases = read_list(alloc, base_list)?;
-    no_second(bases.as_slice())?;
     let entries = read_body(alloc, entry_list)?;
     Ok(Expr::Class(text, bases, Vec::new(alloc), entries))
 }

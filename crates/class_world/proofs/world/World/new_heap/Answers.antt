@@ -1,29 +1,29 @@
-use Rattle.std.proofs.Common.{◌≡◌, List, Some, refl, ap, subst, ◌∙◌}
+use Rattle.std.proofs.Common.{◌≡◌, List, Some, refl, sym, ap, subst, ◌∙◌}
 use Rattle.std.specs.Option.{option_or}
 use Rattle.py_node.specs.declared.refs.PyTypeRef.{PyTypeRef}
 use Rattle.class_table.specs.Keys.{numbers}
 use Rattle.class_table.specs.Refused.{refusal, WithMemory, refused_layout, refused_bases}
-use Rattle.class_world.specs.Reading.{bindings}
+use Rattle.class_world.specs.Reading.{bindings, plain}
 use Rattle.class_world.proofs.Refusals.{layout-first, layout-told, layout-none, name-next, no-name}
 use Rattle.class_world.proofs.world.World.new_heap.Goals as goal
 
 pub returns-in-Some-clause-early : goal.returns-in-Some-clause-early
 returns-in-Some-clause-early c = λ t told f.
     let w = c.args.self.now in
-    let e = c.in-Some.ensures ∙ ap (λ (bs : List PyTypeRef). refused_layout w.classes (numbers bs)) c.deref.ensures.value in
-    layout-told w w refl t (numbers c.args.bases.items) c.in-Some.cause told e f
+    let e = ap (λ (bs : List PyTypeRef). refused_layout (plain t w).classes (numbers bs)) (sym c.deref.ensures.value) ∙ c.in-Some.ensures t in
+    layout-told w t (numbers c.args.bases.items) c.in-Some.cause told e f
 
 pub returns-in-Some-clause-refused : goal.returns-in-Some-clause-refused
 returns-in-Some-clause-refused c = λ t r.
     let w = c.args.self.now in
-    let e = c.in-Some.ensures ∙ ap (λ (bs : List PyTypeRef). refused_layout w.classes (numbers bs)) c.deref.ensures.value in
-    layout-first w w refl t (numbers c.args.bases.items) c.in-Some.cause (bindings t c.args.attrs) e
+    let e = ap (λ (bs : List PyTypeRef). refused_layout (plain t w).classes (numbers bs)) (sym c.deref.ensures.value) ∙ c.in-Some.ensures t in
+    layout-first w t (numbers c.args.bases.items) c.in-Some.cause (bindings t c.args.attrs) e
 
 pub returns-in-Some-name_refusal-clause-early : goal.returns-in-Some-name_refusal-clause-early
 returns-in-Some-name_refusal-clause-early c = λ t told f.
     let w = c.args.self.now in
-    let e = c.in-None.ensures ∙ ap (λ (bs : List PyTypeRef). refused_layout w.classes (numbers bs)) c.deref.ensures.value in
-    layout-none w w refl t (numbers c.args.bases.items) told (refusal c.refuse_name.result) e f
+    let e = ap (λ (bs : List PyTypeRef). refused_layout (plain t w).classes (numbers bs)) (sym c.deref.ensures.value) ∙ c.in-None.ensures t in
+    layout-none w t (numbers c.args.bases.items) told (refusal c.refuse_name.result) e f
 
 pub returns-in-Some-name_refusal-clause-refused : goal.returns-in-Some-name_refusal-clause-refused
 returns-in-Some-name_refusal-clause-refused c = λ t r.
@@ -34,8 +34,8 @@ returns-in-Some-name_refusal-clause-refused c = λ t r.
 pub returns-in-None-name_refusal-clause-early : goal.returns-in-None-name_refusal-clause-early
 returns-in-None-name_refusal-clause-early c = λ t told f.
     let w = c.args.self.now in
-    let e = c.in-None.ensures ∙ ap (λ (bs : List PyTypeRef). refused_layout w.classes (numbers bs)) c.deref.ensures.value in
-    layout-none w w refl t (numbers c.args.bases.items) told (refusal c.add_heap.result) e f
+    let e = ap (λ (bs : List PyTypeRef). refused_layout (plain t w).classes (numbers bs)) (sym c.deref.ensures.value) ∙ c.in-None.ensures t in
+    layout-none w t (numbers c.args.bases.items) told (refusal c.add_heap.result) e f
 
 pub returns-in-None-name_refusal-clause-refused : goal.returns-in-None-name_refusal-clause-refused
 returns-in-None-name_refusal-clause-refused c = λ t r.
