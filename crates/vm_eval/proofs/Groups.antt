@@ -23,6 +23,7 @@ use Rattle.class_make.specs.Say.{class_job_say}
 use Rattle.class_make.specs.Rows.{class_stands}
 use Rattle.proto_ops.specs.Say.{operator_say}
 use Rattle.proto_ops.specs.Rows.{operator_stands}
+use Rattle.native_base.specs.Rows.{EndsAs}
 use Rattle.vm_eval.specs.declared.stack.Kept.{Kept}
 use Rattle.vm_eval.specs.declared.stack.Kept.TheVariants.{ForEval, ForAttribute, ForDescriptor, ForCall, ForClass, ForOperator}
 use Rattle.vm_eval.specs.Say.{say, stands, among, step_among, Begins, Resumes}
@@ -93,3 +94,9 @@ operator-group = record { says = λ w j told. refl; keeps = λ t k. refl }
 -- a task whose row is not there yet ends at once
 pub not-yet-begins : (full : Task) (w : World) → ((t : Reading) (u : PlainWorld) → say u (task_of t full) [] ≡ Ends u not_yet) → Begins full w w (End not_yet)
 not-yet-begins full w h = λ t r. (r, subst (λ said. Steps say (stands t) t (task_of t full) [] said (End not_yet) w) (sym (h t (plain t w))) (refl, refl))
+
+-- a task that ends at once does so among all
+pub ending-begins : (full : Task) (said : Reading → PlainWorld → Said) (old new : World) (r : Result Answer Fault) → ((t : Reading) (u : PlainWorld) → say u (task_of t full) [] ≡ said t u) → EndsAs said old new r → Begins full old new (End r)
+ending-begins full said old new r row h = λ t reads.
+    let ends = h t reads in
+    (ends.0, subst (λ s. Steps say (stands t) t (task_of t full) [] s (End r) new) (sym (row t (plain t old) ∙ ends.1)) (refl, refl))

@@ -1,12 +1,16 @@
 -- The rows of all groups.
 use Rattle.std.specs.Prelude.{ℕ, List, Result}
+use Rattle.py_node.specs.declared.refs.PyObjectRef.{PyObjectRef}
+use Rattle.py_node.specs.declared.built_in.BuiltIn.TheVariants.{Int}
+use Rattle.py_node.specs.declared.entry.NativeEntry.{NativeEntry}
+use Rattle.py_node.specs.declared.entry.NativeEntry.TheVariants.{OfFixed, OfNumber, OfArithmetic, OfBits, Compare}
 use Rattle.py_node.specs.declared.raised.Raised.{Raised as Fault}
 use Rattle.py_node.specs.declared.task.Answer.{Answer}
 use Rattle.py_node.specs.declared.task.Task.{Task}
 use Rattle.py_node.specs.declared.task.Step.{Step}
 use Rattle.py_node.specs.declared.task.Step.TheVariants.{Ask, End}
-use Rattle.plain_machine.specs.Plain.{PlainTask, ToEval, ToAttribute, ToDescriptor, ToCall, ToClass, ToOperator, ToCompare, ToProtocol, ToObject, ToNative, Saying}
-use Rattle.plain_machine.specs.Row.{end, not_yet}
+use Rattle.plain_machine.specs.Plain.{PlainWorld, Bindings, Said, Ends, PlainTask, ToEval, ToAttribute, ToDescriptor, ToCall, ToClass, ToOperator, ToCompare, ToProtocol, ToObject, ToNative, Saying}
+use Rattle.plain_machine.specs.Row.{Row, end, not_yet}
 use Rattle.plain_machine.specs.Rows.{Pending, fresh, given}
 use Rattle.class_world.specs.declared.world.World.{World}
 use Rattle.class_world.specs.Reading.{Reading, task_of, ended_of}
@@ -24,10 +28,23 @@ use Rattle.class_make.specs.Say.{class_job_say}
 use Rattle.class_make.specs.Rows.{class_stands, of_class_kept}
 use Rattle.proto_ops.specs.Say.{operator_say}
 use Rattle.proto_ops.specs.Rows.{operator_stands, of_operator_kept}
+use Rattle.native_numbers.specs.Say.{fixed_say, number_say, arithmetic_say, bits_say, compare_say}
 use Rattle.vm_eval.specs.declared.stack.Kept.{Kept}
 use Rattle.vm_eval.specs.declared.stack.Kept.TheVariants.{ForEval, ForAttribute, ForDescriptor, ForCall, ForClass, ForOperator}
 
--- what a task's row says, by the group that the task is in. A group without rows, and a native of no group, is not there yet
+-- what a native of no group of rows says, which ends at once. Those that are not named here are not there yet
+abbrev pub native_by : PlainWorld → NativeEntry → List PyObjectRef → Bindings → Said
+native_by w (OfFixed n) args kw = fixed_say w n args kw
+native_by w (OfNumber n) args kw = number_say w n args kw
+native_by w (OfArithmetic n) args kw = arithmetic_say w n args kw
+native_by w (OfBits n) args kw = bits_say w n args kw
+native_by w (Compare Int n) args kw = compare_say w n args kw
+native_by w _ args kw = Ends w not_yet
+
+abbrev pub native_say : PlainWorld → NativeEntry → List PyObjectRef → Bindings → Row
+native_say w n args kw told = native_by w n args kw
+
+-- what a task's row says, by the group that the task is in. A group without rows is not there yet
 unfoldable pub say : Saying PlainTask
 say w (ToEval job) = eval_say w job
 say w (ToAttribute job) = attribute_say w job
@@ -38,7 +55,7 @@ say w (ToOperator job) = operator_say w job
 say w (ToCompare job) = end w not_yet
 say w (ToProtocol job) = end w not_yet
 say w (ToObject job) = end w not_yet
-say w (ToNative n args kw) = end w not_yet
+say w (ToNative n args kw) = native_say w n args kw
 
 -- a row of a group, among all rows
 abbrev pub among : {J : Type 0} → (J → PlainTask) → Pending J → Pending PlainTask

@@ -3,6 +3,7 @@
 
 pub mod calls;
 pub mod machine;
+mod natives;
 mod run;
 mod stack;
 

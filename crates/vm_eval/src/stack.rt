@@ -12,6 +12,7 @@ ghost use Rattle.proto_ops.specs.Rows.{of_operator_kept};
 ghost use Rattle.vm_eval.specs.Say.{Begins, Resumes, step_among, of_kept, bodies_in};
 ghost use Rattle.vm_eval.specs.Stack.{Answers, Reaches, Keeps, RunsAbove, AsDeep, EndsDeep, turns_left, of_turn, of_end};
 
+use crate::natives::begin_native;
 use class_make::ClassKept;
 use class_world::World;
 use eval_forms::EvalKept;
@@ -76,7 +77,10 @@ fn begin(world: &mut World, task: Task) -> Result<Step<Kept>, OutOfMemory>
         Task::Compare(_) => Ok(Step::not_yet()),
         Task::Protocol(_) => Ok(Step::not_yet()),
         Task::Object(_) => Ok(Step::not_yet()),
-        Task::Native(_, _, _) => Ok(Step::not_yet()),
+        Task::Native(entry, args, kw) => {
+            let step = begin_native(world, entry, args, kw)?;
+            Ok(step)
+        }
     }
 }
 

@@ -20,33 +20,33 @@ use Rattle.vm_eval.specs.Say.{say, of_kept, bodies_in}
 use Rattle.vm_eval.proofs.Groups.{begins-among, not-yet-begins, eval-group, attribute-group, descriptor-group, call-group, class-group, operator-group}
 use Rattle.vm_eval.proofs.stack.begin.Goals as goal
 
-pub returns-in-Eval-clause-goes : goal.returns-in-Eval-clause-goes
-returns-in-Eval-clause-goes c =
+pub returns-in_ok-step-in-Eval-clause-goes : goal.returns-in_ok-step-in-Eval-clause-goes
+returns-in_ok-step-in-Eval-clause-goes c =
     let step = c.in_ok-step-in-Eval in
     rw c.in-Eval.is (begins-among eval_say eval_stands ToEval ForEval eval-group (λ t. eval_job t c.in-Eval.task) _ _ step.step c.of_eval.result c.of_eval.ensures.step step.ensures.goes)
 
-pub returns-in-Attribute-clause-goes : goal.returns-in-Attribute-clause-goes
-returns-in-Attribute-clause-goes c =
+pub returns-in_ok-step-in-Attribute-clause-goes : goal.returns-in_ok-step-in-Attribute-clause-goes
+returns-in_ok-step-in-Attribute-clause-goes c =
     let step = c.in_ok-step-in-Attribute in
     rw c.in-Attribute.is (begins-among attribute_say attribute_stands ToAttribute ForAttribute attribute-group (λ t. attribute_job t c.in-Attribute.task) _ _ step.step c.of_attribute.result c.of_attribute.ensures.step step.ensures.goes)
 
-pub returns-in-Descriptor-clause-goes : goal.returns-in-Descriptor-clause-goes
-returns-in-Descriptor-clause-goes c =
+pub returns-in_ok-step-in-Descriptor-clause-goes : goal.returns-in_ok-step-in-Descriptor-clause-goes
+returns-in_ok-step-in-Descriptor-clause-goes c =
     let step = c.in_ok-step-in-Descriptor in
     rw c.in-Descriptor.is (begins-among descriptor_say descriptor_stands ToDescriptor ForDescriptor descriptor-group (λ t. descriptor_job t c.in-Descriptor.task) _ _ step.step c.of_descriptor.result c.of_descriptor.ensures.step step.ensures.goes)
 
-pub returns-in-Call-clause-goes : goal.returns-in-Call-clause-goes
-returns-in-Call-clause-goes c =
+pub returns-in_ok-step-in-Call-clause-goes : goal.returns-in_ok-step-in-Call-clause-goes
+returns-in_ok-step-in-Call-clause-goes c =
     let step = c.in_ok-step-in-Call in
     rw c.in-Call.is (begins-among call_job_say call_stands ToCall ForCall call-group (λ t. call_job t c.in-Call.task) _ _ step.step c.of_call.result c.of_call.ensures.step step.ensures.goes)
 
-pub returns-in-Class-clause-goes : goal.returns-in-Class-clause-goes
-returns-in-Class-clause-goes c =
+pub returns-in_ok-step-in-Class-clause-goes : goal.returns-in_ok-step-in-Class-clause-goes
+returns-in_ok-step-in-Class-clause-goes c =
     let step = c.in_ok-step-in-Class in
     rw c.in-Class.is (begins-among class_job_say class_stands ToClass ForClass class-group (λ t. class_job t c.in-Class.task) _ _ step.step c.of_class.result c.of_class.ensures.step step.ensures.goes)
 
-pub returns-in-Operator-clause-goes : goal.returns-in-Operator-clause-goes
-returns-in-Operator-clause-goes c =
+pub returns-in_ok-step-in-Operator-clause-goes : goal.returns-in_ok-step-in-Operator-clause-goes
+returns-in_ok-step-in-Operator-clause-goes c =
     let step = c.in_ok-step-in-Operator in
     rw c.in-Operator.is (begins-among operator_say operator_stands ToOperator ForOperator operator-group (λ t. operator_job t c.in-Operator.task) _ _ step.step c.of_operator.result c.of_operator.ensures.step step.ensures.goes)
 
@@ -65,32 +65,26 @@ unfolding say
 returns-in-Object-clause-goes c =
     rw (c.in-Object.is, c.not_yet-in-Object.ensures) (not-yet-begins (task.Object c.in-Object.field-0) c.args.world.now (λ t u. refl))
 
-pub returns-clause-goes : goal.returns-clause-goes
-unfolding say
-returns-clause-goes c =
-    let entry = c.in-Native.field-0 in
-    rw (c.in-Native.is, c.not_yet-in-Native.ensures) (not-yet-begins (task.Native entry c.in-Native.field-1 c.in-Native.field-2) c.args.world.now (λ t u. refl))
-
-pub returns-in-Eval-clause-safe : goal.returns-in-Eval-clause-safe
-returns-in-Eval-clause-safe c =
+pub returns-in_ok-step-in-Eval-clause-safe : goal.returns-in_ok-step-in-Eval-clause-safe
+returns-in_ok-step-in-Eval-clause-safe c =
     leaves-among of_kept bodies_in of_eval_kept 0 _ _ c.in_ok-step-in-Eval.step c.of_eval.result refl c.of_eval.ensures.says c.of_eval.ensures.opens c.in_ok-step-in-Eval.ensures.safe
 
-pub returns-in-Attribute-clause-safe : goal.returns-in-Attribute-clause-safe
-returns-in-Attribute-clause-safe c =
+pub returns-in_ok-step-in-Attribute-clause-safe : goal.returns-in_ok-step-in-Attribute-clause-safe
+returns-in_ok-step-in-Attribute-clause-safe c =
     leaves-among of_kept bodies_in of_attribute_kept 0 _ _ c.in_ok-step-in-Attribute.step c.of_attribute.result refl c.of_attribute.ensures.says c.of_attribute.ensures.opens c.in_ok-step-in-Attribute.ensures.safe
 
-pub returns-in-Descriptor-clause-safe : goal.returns-in-Descriptor-clause-safe
-returns-in-Descriptor-clause-safe c =
+pub returns-in_ok-step-in-Descriptor-clause-safe : goal.returns-in_ok-step-in-Descriptor-clause-safe
+returns-in_ok-step-in-Descriptor-clause-safe c =
     leaves-among of_kept bodies_in of_descriptor_kept 0 _ _ c.in_ok-step-in-Descriptor.step c.of_descriptor.result refl c.of_descriptor.ensures.says c.of_descriptor.ensures.opens c.in_ok-step-in-Descriptor.ensures.safe
 
-pub returns-in-Class-clause-safe : goal.returns-in-Class-clause-safe
-returns-in-Class-clause-safe c =
+pub returns-in_ok-step-in-Class-clause-safe : goal.returns-in_ok-step-in-Class-clause-safe
+returns-in_ok-step-in-Class-clause-safe c =
     leaves-among of_kept bodies_in of_class_kept 0 _ _ c.in_ok-step-in-Class.step c.of_class.result refl c.of_class.ensures.says c.of_class.ensures.opens c.in_ok-step-in-Class.ensures.safe
 
-pub returns-in-Operator-clause-safe : goal.returns-in-Operator-clause-safe
-returns-in-Operator-clause-safe c =
+pub returns-in_ok-step-in-Operator-clause-safe : goal.returns-in_ok-step-in-Operator-clause-safe
+returns-in_ok-step-in-Operator-clause-safe c =
     leaves-among of_kept bodies_in of_operator_kept 0 _ _ c.in_ok-step-in-Operator.step c.of_operator.result refl c.of_operator.ensures.says c.of_operator.ensures.opens c.in_ok-step-in-Operator.ensures.safe
 
-pub returns-in-Call-clause-safe : goal.returns-in-Call-clause-safe
-returns-in-Call-clause-safe c =
+pub returns-in_ok-step-in-Call-clause-safe : goal.returns-in_ok-step-in-Call-clause-safe
+returns-in_ok-step-in-Call-clause-safe c =
     leaves-open of_kept bodies_in of_call_kept bodies_of 0 0 _ _ c.in_ok-step-in-Call.step c.of_call.result refl c.of_call.ensures.says c.of_call.ensures.opens c.in_ok-step-in-Call.ensures.safe
