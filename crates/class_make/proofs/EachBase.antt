@@ -6,12 +6,11 @@ use Rattle.py_node.specs.declared.refs.PyObjectRef.{PyObjectRef}
 use Rattle.py_node.specs.declared.refs.PyTypeRef.{PyTypeRef}
 use Rattle.class_table.specs.Keys.{numbers}
 use Rattle.plain_machine.specs.Objects.{class_number}
-use Rattle.plain_machine.specs.Plain.{PlainWorld}
 use Rattle.plain_machine.specs.World.{class_at, datum_at}
 use Rattle.class_world.specs.declared.world.World.{World}
 use Rattle.class_world.specs.Reading.{Reading, plain}
 use Rattle.class_world.specs.Sound.{IsClass, IsOf, Holding, Holds, AllHold, of_class_ref, of_each, of_option}
-use Rattle.class_world.proofs.Claims.{each-push, each-get}
+use Rattle.class_world.proofs.Claims.{each-push}
 use Rattle.class_make.specs.Say.{classes_of, derived, winner, with_class}
 use Rattle.class_make.specs.Rows.{of_class_node}
 

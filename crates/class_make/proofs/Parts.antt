@@ -1,6 +1,7 @@
 -- The parts that a class is made from, as they are read.
-use Rattle.std.proofs.Common.{◌≡◌, ℕ, suc, ◌<◌, ◌≤◌, ◌-◌, take, true, false, cond, List, [], ◌∷◌, length, drop, get_or, Option, Some, None, Result, Ok, Err, IfOk, refl, sym, ap, ◌∙◌, subst, arith, not, eqb}
+use Rattle.std.proofs.Common.{◌≡◌, ℕ, suc, ◌≤◌, ◌-◌, take, true, false, cond, List, [], ◌∷◌, length, drop, get_or, Option, Some, None, Result, Ok, Err, IfOk, refl, sym, ap, ◌∙◌, subst, arith, not, eqb}
 use Rattle.std.specs.Prelude.{◌&&◌, is_some, IfSome}
+use Rattle.std.proofs.lemmas.Bool.{eqb-true, true≢false}
 use Rattle.py_node.specs.declared.memory.OutOfMemory.{OutOfMemory}
 use Rattle.py_node.specs.declared.refs.PyObjectRef.{PyObjectRef}
 use Rattle.py_node.specs.declared.refs.PyTypeRef.{PyTypeRef}
@@ -47,14 +48,14 @@ winner-goes u meta o c name bases es args kw e f =
 -- none, some one of which is no class, or classes
 pub none-goes : (u : PlainWorld) (meta : ℕ) (name : Text) (bs : List PyObjectRef) (cs : List PyTypeRef) (c : PyTypeRef) (es : Entries) (args : List PyObjectRef) (kw : Bindings) → eqb (length bs) 0 ≡ true → cs ≡ c ∷ [] → c.0 ≡ 0 → on_bases u meta name (numbers cs) es ≡ by_bases u meta name bs es args kw
 none-goes u meta name [] cs c es args kw l e f = ap (λ (cs : List PyTypeRef). on_bases u meta name (numbers cs) es) e ∙ ap (λ c. on_bases u meta name (c ∷ []) es) f
-none-goes u meta name (b ∷ bs) cs c es args kw l e f = cc
+none-goes u meta name (b ∷ bs) cs c es args kw l e f = let no : length (b ∷ bs) ≡ 0 = eqb-true (length (b ∷ bs)) 0 l in absurd (omega (arith, no))
 
 pub other-goes : (u : PlainWorld) (meta : ℕ) (name : Text) (bs : List PyObjectRef) (b : PyObjectRef) (es : Entries) (args : List PyObjectRef) (kw : Bindings) → eqb (length bs) 0 ≡ false → classes_of u bs ≡ Err b → Asks u (Chose 0 ∷ []) (ToAttribute (DoGetAttr b (known_text MroEntries))) ≡ by_bases u meta name bs es args kw
-other-goes u meta name [] b es args kw l e = cc
+other-goes u meta name [] b es args kw l e = let no : true ≡ false = l in absurd (true≢false no)
 other-goes u meta name (a ∷ bs) b es args kw l e = ap (λ r. by_classes u meta name (a ∷ bs) r es args kw) (sym e)
 
 pub classes-go : (u : PlainWorld) (meta : ℕ) (name : Text) (bs : List PyObjectRef) (cs : List ℕ) (o : Option ℕ) (es : Entries) (args : List PyObjectRef) (kw : Bindings) → eqb (length bs) 0 ≡ false → classes_of u bs ≡ Ok cs → winner u meta bs ≡ o → by_winner u meta o name cs es args kw ≡ by_bases u meta name bs es args kw
-classes-go u meta name [] cs o es args kw l e f = cc
+classes-go u meta name [] cs o es args kw l e f = let no : true ≡ false = l in absurd (true≢false no)
 classes-go u meta name (a ∷ bs) cs o es args kw l e f =
     ap (λ o. by_winner u meta o name cs es args kw) (sym f) ∙ ap (λ r. by_classes u meta name (a ∷ bs) r es args kw) (sym e)
 

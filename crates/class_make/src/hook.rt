@@ -61,11 +61,7 @@ pub(crate) fn made(
 
 // Makes a class and tells of it, unless the world refuses it: its bases have no order, or its qualified name is no text.
 #[tactic(auto, unfolding(crate::specs::Say::class_job_say, crate::specs::Say::made_unless))]
-fn new_class(
-    world: &mut World,
-    plan: Plan,
-    kw: Keywords,
-) -> Result<Step<ClassKept>, OutOfMemory>
+fn new_class(world: &mut World, plan: Plan, kw: Keywords) -> Result<Step<ClassKept>, OutOfMemory>
     requires meta { Holds world.old (IsClass plan.meta.0) }
     requires meta_of { Holds world.old (IsOf plan.meta.0 TypeType) }
     requires bases { AllHold world.old (of_each of_class_ref plan.bases.items) }

@@ -1,5 +1,4 @@
-use Rattle.std.proofs.Common.{◌∙◌, refl, sym, ap, add-one, arith}
-use Rattle.std.specs.Prelude.{option_map}
+use Rattle.std.proofs.Common.{refl, add-one, arith}
 use Rattle.class_make.proofs.Making.{node-at}
 use Rattle.class_make.proofs.EachBase.{winning-step, winning-none, winning-ends, node-holds}
 use Rattle.class_make.proofs.bases.winner.Goals as goal

@@ -1,5 +1,4 @@
-use Rattle.std.proofs.Common.{◌≡◌, ◌∷◌, [], ◌++◌, Some, true, map, length, nat_le, string_bytes, arith}
-use Rattle.std.proofs.lemmas.List.{length-map}
+use Rattle.std.proofs.Common.{◌≡◌, ◌∷◌, [], ◌++◌, Some, map, string_bytes, arith}
 use Rattle.serde_json.specs.Find.{as_str}
 use Rattle.serde_json.specs.View.{view, items_view}
 use Rattle.py_node.specs.Tree.{tree_of}
@@ -17,9 +16,8 @@ read_class-returns-clause-ok t c =
     let none : nothing_in (items_view p.rest.now) ≡ Some tt = grind arith in
     let text : as_str (view p.name.now) ≡ Some (string_bytes c.in_ok-text.text) = grind arith in
     let base : list_of (view p.base_list.now) ≡ Some (map tree_of bases.items) = grind arith in
-    let few : nat_le (length (map tree_of bases.items)) 1 ≡ true = rw (length-map bases.items tree_of) (grind arith) in
     let body : body_of (view p.entry_list.now) ≡ Some (map named entries.items) = grind arith in
-    rw (parts, none, text, base, few, body, class-tree c.in_ok-text.text bases c.new.result entries c.new.ensures.items)
+    rw (parts, none, text, base, body, class-tree c.in_ok-text.text bases c.new.result entries c.new.ensures.items)
 
 pub read_exprs-read_expr-requires : goal.read_exprs-read_expr-requires
 read_exprs-read_expr-requires t c =
