@@ -17,7 +17,7 @@ use Rattle.py_node.specs.declared.task.Step.TheVariants.{Ask, End}
 use Rattle.py_node.specs.declared.task.Task.TheVariants as task
 use Rattle.py_node.specs.declared.task.EvalTask.TheVariants as eval
 use Rattle.py_node.specs.Tree.{Text, Tree, TDict, KeyedTrees, no_keyed, keyed, keyed_of}
-use Rattle.plain_machine.specs.Dicts.{Entries as Pairs, entries_from}
+use Rattle.plain_machine.specs.Dicts.{entries_from}
 use Rattle.plain_machine.specs.Plain.{PlainWorld, DoEval, ToEval, Answered, Told, Said, Asks, Ends}
 use Rattle.plain_machine.specs.Row.{Row, value, fault, end}
 use Rattle.plain_machine.specs.Sound.{key_at}
@@ -33,7 +33,7 @@ use Rattle.class_world.specs.Rows.{Steps}
 use Rattle.eval_forms.specs.declared.EvalKept.{EvalKept}
 use Rattle.eval_forms.specs.declared.EvalKept.TheVariants.{Key, Value as OfKey}
 use Rattle.eval_forms.specs.declared.Own.TheVariants as own
-use Rattle.eval_forms.specs.Say.{tested, evaluate_pairs, make_dict, eval_say}
+use Rattle.eval_forms.specs.Say.{Pairs, tested, evaluate_pairs, make_dict, eval_say}
 use Rattle.eval_forms.specs.Rows.{answered, eval_stands, pairs_of, pairs_told, pairs, pairs_at, has_pair, IsOther, IsOwn, Closes, Continues, GoesOn, Resumes, operands}
 use Rattle.eval_forms.proofs.Operands.{append-nil, append-on, on-other}
 

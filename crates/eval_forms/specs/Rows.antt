@@ -27,9 +27,8 @@ use Rattle.eval_forms.specs.declared.call_form.Called.{Called}
 use Rattle.eval_forms.specs.declared.call_form.Called.TheVariants as called
 use Rattle.eval_forms.specs.declared.Own.{Own}
 use Rattle.eval_forms.specs.declared.Own.TheVariants as own
-use Rattle.plain_machine.specs.Dicts.{Entries as Pairs}
 use Rattle.class_world.specs.Keyed.{of_pairs}
-use Rattle.eval_forms.specs.Say.{callee_tree, eval_say}
+use Rattle.eval_forms.specs.Say.{Pairs, callee_tree, eval_say}
 
 -- the values of the operands so far, as they were learnt
 abbrev pub answered : PyObjectRef → Fact

@@ -12,7 +12,7 @@ use Rattle.plain_machine.specs.Plain.{ANumber, AText, ATuple, AList, ADict, AFun
 use Rattle.plain_machine.specs.World.{ref, slot_at, variable, or_else_var, with_binding, with_node, next_node}
 use Rattle.plain_machine.specs.Args.{two_of, filled}
 use Rattle.plain_machine.specs.Known.{the_type, the_int, the_str, the_tuple, the_list, the_dict, the_function}
-use Rattle.plain_machine.specs.Dicts.{Entries as Pairs, entries_from}
+use Rattle.plain_machine.specs.Dicts.{entries_from}
 use Rattle.plain_machine.specs.Objects.{class_object, type_object}
 use Rattle.plain_machine.specs.Sound.{key_at}
 use Rattle.plain_machine.specs.Row.{Row, start, ask, pass, end, value, none, fault, on_value, on_done, make, limited, truth, evaluate}
@@ -62,6 +62,10 @@ one_of (a ∷ (b ∷ more)) = None
 abbrev pub bind_say : PlainWorld → Text → Option PyObjectRef → Row
 bind_say w x None = end w (fault ArgCount)
 bind_say w x (Some v) = end (with_binding w x v) (value v)
+
+-- keys with their values
+abbrev pub Pairs : Type 0
+Pairs = List (PyObjectRef × PyObjectRef)
 
 -- a tuple of the operands
 abbrev pub tuple_say : PlainWorld → List PyObjectRef → Row
