@@ -1,5 +1,5 @@
 -- Dicts whose keys and values are evaluated in order.
-use Rattle.std.proofs.Common.{◌≡◌, ℕ, zero, suc, ◌<◌, ◌≤◌, true, false, cond, List, [], ◌∷◌, ◌++◌, length, map, Option, Some, None, Ok, Err, refl, sym, ap, ◌∙◌, subst, arith, length-append}
+use Rattle.std.proofs.Common.{◌≡◌, ℕ, zero, suc, ◌<◌, ◌≤◌, true, false, cond, List, [], ◌∷◌, ◌++◌, length, map, Some, None, Ok, Err, refl, sym, ap, ◌∙◌, subst, arith}
 use Rattle.std.specs.Prelude.{slice_get, is_some, Result, IfOk}
 use Rattle.std.specs.Global.{Vec}
 use Rattle.std.proofs.lemmas.Bool.{ltb-true, lt-ltb}
@@ -18,8 +18,8 @@ use Rattle.py_node.specs.declared.task.Task.TheVariants as task
 use Rattle.py_node.specs.declared.task.EvalTask.TheVariants as eval
 use Rattle.py_node.specs.Tree.{Text, Tree, TDict, KeyedTrees, no_keyed, keyed, keyed_of}
 use Rattle.plain_machine.specs.Dicts.{entries_from}
-use Rattle.plain_machine.specs.Plain.{PlainWorld, DoEval, ToEval, Answered, Told, Said, Asks, Ends}
-use Rattle.plain_machine.specs.Row.{Row, value, fault, end}
+use Rattle.plain_machine.specs.Plain.{PlainWorld, DoEval, ToEval, Answered, Told, Asks, Ends}
+use Rattle.plain_machine.specs.Row.{Row, fault, end}
 use Rattle.plain_machine.specs.Sound.{key_at}
 use Rattle.class_world.specs.Held.{Held}
 use Rattle.class_world.specs.Keyed.{of_pairs}
@@ -33,8 +33,8 @@ use Rattle.class_world.specs.Rows.{Steps}
 use Rattle.eval_forms.specs.declared.EvalKept.{EvalKept}
 use Rattle.eval_forms.specs.declared.EvalKept.TheVariants.{Key, Value as OfKey}
 use Rattle.eval_forms.specs.declared.Own.TheVariants as own
-use Rattle.eval_forms.specs.Say.{Pairs, tested, evaluate_pairs, make_dict, eval_say}
-use Rattle.eval_forms.specs.Rows.{answered, eval_stands, pairs_of, pairs_told, pairs, pairs_at, has_pair, IsOther, IsOwn, Closes, Continues, GoesOn, Resumes, operands}
+use Rattle.eval_forms.specs.Say.{Pairs, evaluate_pairs, make_dict, eval_say}
+use Rattle.eval_forms.specs.Rows.{answered, eval_stands, of_eval_kept, pairs_of, pairs_told, pairs, pairs_at, has_pair, IsOther, IsOwn, Closes, Continues, GoesOn, Resumes, operands}
 use Rattle.eval_forms.proofs.Operands.{append-nil, append-on, on-other}
 
 -- the pairs past the first so many
@@ -67,7 +67,7 @@ past-none tree [] (suc n) e = refl
 past-none tree (q ∷ ps) zero e = cc
 past-none tree (q ∷ ps) (suc n) e = past-none tree ps n e
 
-count : KeyedTrees → ℕ
+abbrev count : KeyedTrees → ℕ
 count no_keyed = 0
 count (keyed k e ps) = suc (count ps)
 
@@ -139,7 +139,7 @@ module _ (w : World) (e : ℕ) (f : Form) (es : Vec (PyObjectRef × PyObjectRef)
           subst (λ said. Steps eval_say (eval_stands t) t job told said (Ask (task.Eval (eval.Eval p.1)) (OfKey e es v)) w) (sym asks) (refl, refl, record { says = λ u s more. ap (λ l. eval_say u job (l ++ Answered s ∷ more)) (append-nil told) })
 
   -- what is answered no object ends the dict so, in the place of a key
-  pub key-other : (s : Result Answer Fault) → IsOther s → Resumes (Key e es) s w w (End s)
+  key-other : (s : Result Answer Fault) → IsOther s → Resumes (Key e es) s w w (End s)
   key-other s o = λ t r.
       let job = DoEval (TDict (pairs_of (t.tree e))) in
       let told = pairs_told es.items ++ Answered (ended_of s) ∷ [] in
@@ -148,7 +148,7 @@ module _ (w : World) (e : ℕ) (f : Form) (es : Vec (PyObjectRef × PyObjectRef)
       (r, subst (λ said. Steps eval_say (eval_stands t) t job told said (End s) w) (sym ends) (refl, refl))
 
   -- and in that of a value
-  pub value-other : (v : PyObjectRef) (s : Result Answer Fault) → IsOther s → Resumes (OfKey e es v) s w w (End s)
+  value-other : (v : PyObjectRef) (s : Result Answer Fault) → IsOther s → Resumes (OfKey e es v) s w w (End s)
   value-other v s o = λ t r.
       let job = DoEval (TDict (pairs_of (t.tree e))) in
       let told = (pairs_told es.items ++ answered v ∷ []) ++ Answered (ended_of s) ∷ [] in
@@ -157,7 +157,7 @@ module _ (w : World) (e : ℕ) (f : Form) (es : Vec (PyObjectRef × PyObjectRef)
       (r, subst (λ said. Steps eval_say (eval_stands t) t job told said (End s) w) (sym ends) (refl, refl))
 
   -- what is no key is refused
-  pub key-refused : (v u : PyObjectRef) → ((t : Reading) → is_some (key_at (plain t w) v) ≡ false) → Resumes (OfKey e es v) (Ok (Value u)) w w (End (fault KeyType))
+  key-refused : (v u : PyObjectRef) → ((t : Reading) → is_some (key_at (plain t w) v) ≡ false) → Resumes (OfKey e es v) (Ok (Value u)) w w (End (fault KeyType))
   key-refused v u n = λ t r.
       let job = DoEval (TDict (pairs_of (t.tree e))) in
       let told = (pairs_told es.items ++ answered v ∷ []) ++ answered u ∷ [] in
@@ -166,6 +166,33 @@ module _ (w : World) (e : ℕ) (f : Form) (es : Vec (PyObjectRef × PyObjectRef)
       ∙ row-pair t (answered v ∷ answered u ∷ []) r
       ∙ ap (λ b. cond b (evaluate_pairs (plain t w) (rest t) (λ fs. make_dict (plain t w) (entries_from (plain t w) (es.items ++ (v, u) ∷ fs)))) (end (plain t w) (fault KeyType)) []) (n t) in
       (r, subst (λ said. Steps eval_say (eval_stands t) t job told said (End (fault KeyType)) w) (sym ends) (refl, refl))
+
+-- a dict that waits has the pair that it waits for
+pair-there : (ps : List (ℕ × ℕ)) (n : ℕ) → n < length ps → (p : ℕ × ℕ) × (slice_get ps n ≡ Some p)
+pair-there [] n h = absurd (omega arith)
+pair-there (p ∷ ps) zero h = (p, refl)
+pair-there (p ∷ ps) (suc n) h = pair-there ps n (omega arith)
+
+pub key-ends : (w : World) (e : ℕ) (es : Vec (PyObjectRef × PyObjectRef)) (s : Result Answer Fault) → IsOther s → AllHold w (of_eval_kept (Key e es)) → Resumes (Key e es) s w w (End s)
+unfolding Holds
+key-ends w e es s o h =
+    let f = h.1.0.0 in
+    let p = pair-there (pairs f) (length es.items) (ltb-true (length es.items) (length (pairs f)) h.1.0.2) in
+    key-other w e f es p.0 h.1.0.1 p.1 h.1.1.1.1.0 s o
+
+pub value-ends : (w : World) (e : ℕ) (es : Vec (PyObjectRef × PyObjectRef)) (k : PyObjectRef) (s : Result Answer Fault) → IsOther s → AllHold w (of_eval_kept (OfKey e es k)) → Resumes (OfKey e es k) s w w (End s)
+unfolding Holds
+value-ends w e es k s o h =
+    let f = h.1.0.0 in
+    let p = pair-there (pairs f) (length es.items) (ltb-true (length es.items) (length (pairs f)) h.1.0.2) in
+    value-other w e f es p.0 h.1.0.1 p.1 h.1.1.1.1.1.0 k s o
+
+pub refused-ends : (w : World) (e : ℕ) (es : Vec (PyObjectRef × PyObjectRef)) (k v : PyObjectRef) → ((t : Reading) → is_some (key_at (plain t w) k) ≡ false) → AllHold w (of_eval_kept (OfKey e es k)) → Resumes (OfKey e es k) (Ok (Value v)) w w (End (fault KeyType))
+unfolding Holds
+refused-ends w e es k v n h =
+    let f = h.1.0.0 in
+    let p = pair-there (pairs f) (length es.items) (ltb-true (length es.items) (length (pairs f)) h.1.0.2) in
+    key-refused w e f es p.0 h.1.0.1 p.1 h.1.1.1.1.1.0 k v n
 
 told-pushed : (es : Pairs) (k v : PyObjectRef) → (pairs_told es ++ answered k ∷ []) ++ answered v ∷ [] ≡ pairs_told (es ++ (k, v) ∷ [])
 told-pushed [] k v = refl

@@ -30,7 +30,7 @@ pub(crate) fn next_key(
     ensures goes { IfOk result (λ step. GoesOn (EvalKept.Key e found) world.old world.new step) }
     ensures safe { Leaves of_eval_kept world.old world.new result }
 {
-    match pairs(world.form(e)).get(found.len()) {
+    match pair(world.form(e), found.len()) {
         Some(pair) => Ok(Step::Ask(Task::Eval(EvalTask::Eval(pair.0)), EvalKept::Key(e, found))),
         None => make_dict(world, &found),
     }
@@ -44,6 +44,13 @@ fn pairs(form: &Form) -> &[(u64, u64)]
         Form::Dict(pairs) => pairs,
         _ => &[],
     }
+}
+
+// The pair of a dict at a place.
+fn pair(form: &Form, place: usize) -> Option<(u64, u64)>
+    ensures { result ≡ slice_get (pairs form.now) place }
+{
+    pairs(form).get(place).copied()
 }
 
 // A key was evaluated: its value is.

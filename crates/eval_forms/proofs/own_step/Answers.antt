@@ -120,8 +120,8 @@ returns-in-Dict-clause-goes c =
     let long = ap (λ o. length (operands_at o)) (sym c.form.ensures.stored) ∙ c.requires.all in
     own-dict c.args.world.now c.next_key.new.world c.args.e f c.args.values.items c.new.result c.next_key.result c.form.ensures.stored long own c.new.ensures.items c.next_key.ensures.goes
 
-pub returns-clause-goes : goal.returns-clause-goes
-returns-clause-goes c =
+pub returns-in-NotYet-clause-goes : goal.returns-in-NotYet-clause-goes
+returns-in-NotYet-clause-goes c =
     let w = c.args.world.now in
     let f = c.form.result.now in
     let own = subst (λ o. IsOwn o f) c.in-NotYet.is c.in_ok-constant.ensures in
