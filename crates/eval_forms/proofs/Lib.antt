@@ -2,3 +2,4 @@ pub mod Operands
 pub mod ClassForm
 pub mod Keys
 pub mod Arguments
+pub mod DictForm

@@ -31,7 +31,7 @@ use Rattle.eval_forms.specs.declared.EvalKept.{EvalKept}
 use Rattle.eval_forms.specs.declared.EvalKept.TheVariants.{Operands}
 use Rattle.eval_forms.specs.declared.Own.TheVariants as own
 use Rattle.py_node.specs.declared.expr.Word.{Word}
-use Rattle.eval_forms.specs.Say.{operand_trees, own_say, one_of, func_say, set_attr_say, attr_say, called_say, op_say, not_yet, class_say, entry_names, eval_say}
+use Rattle.eval_forms.specs.Say.{operand_trees, own_say, one_of, func_say, tuple_say, list_say, set_attr_say, attr_say, called_say, op_say, not_yet, class_say, entry_names, eval_say}
 use Rattle.plain_machine.specs.Args.{two_of}
 use Rattle.eval_forms.specs.Rows.{answered, eval_stands, Continues, Closes, TakesAt, Takes, StepsAt, EndsSo, HasValues, IsLater, IsOther, IsOwn, operands, operands_at, has_operand, evaluated_tree, args_of}
 
@@ -48,6 +48,8 @@ entry_trees-list text tree (e ∷ es) = ap (λ l. tree e.1 ∷ l) (entry_trees-l
 
 -- what is evaluated for the operands of an expression of the store are the operands of its tree
 pub operand_trees-form : (text : ℕ → Text) (tree : ℕ → Tree) (f : Form) → operand_trees (form_tree text tree f) ≡ map (λ e. evaluated_tree f (tree e)) (operands f)
+operand_trees-form text tree (form.Tuple es) = list_of-trees_of (map tree es.items)
+operand_trees-form text tree (form.List es) = list_of-trees_of (map tree es.items)
 operand_trees-form text tree (form.Op word es) = list_of-trees_of (map tree es.items)
 operand_trees-form text tree (form.Class x bs kw es) =
     ap (λ l. l ++ entry_trees (entry_list (map (part text tree) es.items))) (list_of-trees_of (map tree bs.items))
@@ -73,7 +75,7 @@ module _ (w : PlainWorld) where
   evaluate-ask (t ∷ ts) go (v ∷ vs) e h = evaluate-ask ts (λ us. go (v ∷ us)) vs e h
 
   -- an answer that is no object is passed on
-  on-other : (r : Result Answer Fault) (go : PyObjectRef → Row) (more : Told) → IsOther r → on_value w (ended_of r) go more ≡ Ends w (ended_of r)
+  pub on-other : (r : Result Answer Fault) (go : PyObjectRef → Row) (more : Told) → IsOther r → on_value w (ended_of r) go more ≡ Ends w (ended_of r)
   on-other (Ok (Value v)) go more o = absurd o
   on-other (Ok Done) go more o = refl
   on-other (Ok (Number z)) go more o = refl
@@ -116,6 +118,8 @@ operand-holds w (form.SetAttr o x b) (suc zero) e h p = let same : b ≡ e = cc 
 operand-holds w (form.SetAttr o x b) (suc (suc n)) e h p = cc
 operand-holds w (form.Call f es kw) zero e h p = let same : f ≡ e = cc in subst (λ e. Holds w (IsExpression e)) same h.0
 operand-holds w (form.Call f es kw) (suc n) e h p = cc
+operand-holds w (form.Tuple es) n e h p = expression-in w es.items n e h.0 p
+operand-holds w (form.List es) n e h p = expression-in w es.items n e h.0 p
 operand-holds w (form.Op word es) n e h p = expression-in w es.items n e h.0 p
 operand-holds w (form.Class x bs kw es) n e h p = append-holds w bs.items (map (λ e. e.1) es.items) n e h.1.0 h.1.1.1.1.1.0 p
 operand-holds w _ n e h p = cc
@@ -236,6 +240,25 @@ own-func w new e f vs x ps rest b (Ok step) h l o k =
     own-closes w new e f vs (λ t u. func_say u (t.text x.0) (map (λ p. t.text p.0) ps.items) rest (t.tree b)) step h l (says-func x ps rest b vs f o) k
 own-func w new e f vs x ps rest b (Err out) h l o k = tt
 
+-- a tuple and a list
+says-tuple : (vs : List PyObjectRef) (f : Form) → IsOwn own.Tuple f → (t : Reading) (u : PlainWorld) → own_say u (form_tree t.text t.tree f) vs [] ≡ tuple_say u vs []
+says-tuple vs (form.Tuple es) o t u = refl
+says-tuple vs _ o t u = absurd o
+
+pub own-tuple : (w new : World) (e : ℕ) (f : Form) (vs : List PyObjectRef) (r : Result (Step EvalKept) OutOfMemory) → slice_get w.forms e ≡ Some f → length (operands f) ≡ length vs → IsOwn own.Tuple f
+    → IfOk r (λ step. Closes (λ t u. tuple_say u vs) w new step) → IfOk r (λ step. Continues e vs w new step)
+own-tuple w new e f vs (Ok step) h l o k = own-closes w new e f vs (λ t u. tuple_say u vs) step h l (says-tuple vs f o) k
+own-tuple w new e f vs (Err out) h l o k = tt
+
+says-list : (vs : List PyObjectRef) (f : Form) → IsOwn own.List f → (t : Reading) (u : PlainWorld) → own_say u (form_tree t.text t.tree f) vs [] ≡ list_say u vs []
+says-list vs (form.List es) o t u = refl
+says-list vs _ o t u = absurd o
+
+pub own-list : (w new : World) (e : ℕ) (f : Form) (vs : List PyObjectRef) (r : Result (Step EvalKept) OutOfMemory) → slice_get w.forms e ≡ Some f → length (operands f) ≡ length vs → IsOwn own.List f
+    → IfOk r (λ step. Closes (λ t u. list_say u vs) w new step) → IfOk r (λ step. Continues e vs w new step)
+own-list w new e f vs (Ok step) h l o k = own-closes w new e f vs (λ t u. list_say u vs) step h l (says-list vs f o) k
+own-list w new e f vs (Err out) h l o k = tt
+
 -- the steps of an attribute that is set, of a call, of an operation and of a class
 
 pub says-set : (x : PyStrInterned) (vs : List PyObjectRef) (f : Form) → IsOwn (own.SetAttr x) f → (t : Reading) (u : PlainWorld) (more : Told) → own_say u (form_tree t.text t.tree f) vs more ≡ set_attr_say u (t.text x.0) (two_of vs) more
@@ -287,6 +310,9 @@ unfolding call-row class-row
 says-later vs (form.Const k) o t u more = absurd o
 says-later vs (form.Name y) o t u more = absurd o
 says-later vs (form.Bind y e) o t u more = absurd o
+says-later vs (form.Tuple es) o t u more = absurd o
+says-later vs (form.List es) o t u more = absurd o
+says-later vs (form.Dict ps) o t u more = absurd o
 says-later vs (form.Func y ps rest e) o t u more = absurd o
 says-later vs (form.Attr a y) o t u more = absurd o
 says-later vs (form.SetAttr a y b) o t u more = absurd o

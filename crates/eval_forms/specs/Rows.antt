@@ -12,7 +12,7 @@ use Rattle.py_node.specs.declared.task.Step.{Step}
 use Rattle.py_node.specs.declared.task.Step.TheVariants.{Ask, End}
 use Rattle.py_node.specs.declared.payload.Form.{Form}
 use Rattle.py_node.specs.declared.payload.Form.TheVariants as form
-use Rattle.py_node.specs.Tree.{literal_of, Tree, TAttr, TCall, TOp, TSetAttr, Trees, tree, no_trees, no_entries, TConst, LNone}
+use Rattle.py_node.specs.Tree.{literal_of, Tree, TAttr, TCall, TDict, TOp, TSetAttr, KeyedTrees, no_keyed, Trees, tree, no_trees, no_entries, TConst, LNone}
 use Rattle.plain_machine.specs.Plain.{PlainWorld, EvalJob, DoEval, DoInvoke, DoCall, PlainTask, ToAttribute, ToCall, Ended, Fact, Answered, Told, Said, Asks, Ends}
 use Rattle.plain_machine.specs.Row.{Row, value}
 use Rattle.plain_machine.specs.Rows.{Pending}
@@ -23,12 +23,13 @@ use Rattle.class_world.specs.Rows.{Group, Goes, Steps}
 use Rattle.class_world.specs.Claims.{of_method}
 use Rattle.class_world.specs.Sound.{Claim, IsNode, AreNodes, IsExpression, HasForm}
 use Rattle.eval_forms.specs.declared.EvalKept.{EvalKept}
-use Rattle.eval_forms.specs.declared.EvalKept.TheVariants.{Pass, SetDone, Operands, Load, Arguments}
+use Rattle.eval_forms.specs.declared.EvalKept.TheVariants.{Pass, SetDone, Operands, Load, Arguments, Key, Value as OfKey}
 use Rattle.eval_forms.specs.declared.call_form.Called.{Called}
 use Rattle.eval_forms.specs.declared.call_form.Called.TheVariants as called
 use Rattle.eval_forms.specs.declared.Own.{Own}
 use Rattle.eval_forms.specs.declared.Own.TheVariants as own
-use Rattle.eval_forms.specs.Say.{callee_tree, eval_say}
+use Rattle.class_world.specs.Keyed.{of_pairs}
+use Rattle.eval_forms.specs.Say.{Pairs, callee_tree, eval_say}
 
 -- the values of the operands so far, as they were learnt
 abbrev pub answered : PyObjectRef → Fact
@@ -63,6 +64,16 @@ abbrev pub called_told : Called → Told
 called_told (called.Object f) = answered f ∷ []
 called_told (called.Method m) = answered (record { 0 = 0 }) ∷ Answered (Ok (method_of m)) ∷ []
 
+-- the pairs of a dict
+abbrev pub pairs_of : Tree → KeyedTrees
+pairs_of (TDict ps) = ps
+pairs_of _ = no_keyed
+
+-- the keys and the values so far, as they were learnt
+abbrev pub pairs_told : Pairs → Told
+pairs_told [] = []
+pairs_told (e ∷ es) = answered e.0 ∷ answered e.1 ∷ pairs_told es
+
 -- the row that goes on, at each answer, just as the row that the code keeps this for
 abbrev pub eval_stands : Reading → EvalKept → Pending EvalJob
 eval_stands t Pass = record { task = DoEval passing; told = map answered passed }
@@ -72,10 +83,15 @@ eval_stands t (Load e) =
     record { task = DoEval (method_call (args_of (t.tree e))); told = answered (record { 0 = 0 }) ∷ [] }
 eval_stands t (Arguments e f vs) =
     record { task = DoEval (called_tree f (args_of (t.tree e))); told = called_told f ++ map answered vs.items }
+eval_stands t (Key e es) = record { task = DoEval (TDict (pairs_of (t.tree e))); told = pairs_told es.items }
+eval_stands t (OfKey e es k) =
+    record { task = DoEval (TDict (pairs_of (t.tree e))); told = pairs_told es.items ++ answered k ∷ [] }
 
 -- the operands of an expression of the store, in order
 abbrev pub operands : Form → List ℕ
 operands (form.Bind x e) = e ∷ []
+operands (form.Tuple es) = es.items
+operands (form.List es) = es.items
 operands (form.Attr o x) = o ∷ []
 operands (form.SetAttr o x e) = o ∷ e ∷ []
 operands (form.Call f es kw) = f ∷ []
@@ -114,6 +130,19 @@ arguments_at (Some f) = arguments f
 abbrev pub has_argument : ℕ → Form → Bool
 has_argument n f = ltb n (length (arguments f))
 
+-- the pairs of a dict of the store
+abbrev pub pairs : Form → List (ℕ × ℕ)
+pairs (form.Dict ps) = ps.items
+pairs _ = []
+
+abbrev pub pairs_at : Option Form → List (ℕ × ℕ)
+pairs_at None = []
+pairs_at (Some f) = pairs f
+
+-- a dict of more pairs than so many
+abbrev pub has_pair : ℕ → Form → Bool
+has_pair n f = ltb n (length (pairs f))
+
 -- the task that calls it
 abbrev pub called_task : Called → List PyObjectRef → PlainTask
 called_task (called.Object f) args = ToCall (DoCall f args [])
@@ -131,6 +160,9 @@ of_eval_kept (Operands e vs) = IsExpression e ∷ HasForm e (has_operand (length
 of_eval_kept (Load e) = IsExpression e ∷ []
 of_eval_kept (Arguments e f vs) =
     IsExpression e ∷ HasForm e (has_argument (length vs.items)) ∷ AreNodes vs.items ∷ of_called f
+of_eval_kept (Key e es) = IsExpression e ∷ HasForm e (has_pair (length es.items)) ∷ of_pairs es.items
+of_eval_kept (OfKey e es k) =
+    IsExpression e ∷ HasForm e (has_pair (length es.items)) ∷ IsNode k ∷ of_pairs es.items
 
 -- the group: its jobs, what they say, what goes on, and what is claimed of that
 abbrev pub eval_group : Group EvalTask EvalJob EvalKept
@@ -159,6 +191,9 @@ abbrev pub IsLater : Form → Type 0
 IsLater (form.Const k) = ⊥
 IsLater (form.Name x) = ⊥
 IsLater (form.Bind x e) = ⊥
+IsLater (form.Tuple es) = ⊥
+IsLater (form.List es) = ⊥
+IsLater (form.Dict ps) = ⊥
 IsLater (form.Func x ps rest e) = ⊥
 IsLater (form.Attr o x) = ⊥
 IsLater (form.SetAttr o x e) = ⊥
@@ -175,6 +210,12 @@ IsOwn (own.Name x) (form.Name y) = x ≡ y
 IsOwn (own.Name x) _ = ⊥
 IsOwn (own.Bind x) (form.Bind y e) = x ≡ y
 IsOwn (own.Bind x) _ = ⊥
+IsOwn own.Tuple (form.Tuple es) = Unit {0}
+IsOwn own.Tuple _ = ⊥
+IsOwn own.List (form.List es) = Unit {0}
+IsOwn own.List _ = ⊥
+IsOwn own.Dict (form.Dict ps) = Unit {0}
+IsOwn own.Dict _ = ⊥
 IsOwn (own.Func x ps rest e) (form.Func y qs more b) = (x ≡ y) × (ps.items ≡ qs.items) × (rest ≡ more) × (e ≡ b)
 IsOwn (own.Func x ps rest e) _ = ⊥
 IsOwn (own.Op word) (form.Op other es) = word ≡ other

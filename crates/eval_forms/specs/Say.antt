@@ -1,17 +1,21 @@
 -- What the rows of expressions say.
-use Rattle.std.specs.Prelude.{ℕ, Bool, if◌then◌else◌, bytes_eq, codes, List, [], ◌∷◌, ◌++◌, Option, Some, None, Ok, length, take, drop, slice_get}
+use Rattle.std.specs.Prelude.{ℕ, Bool, cond, eqb, if◌then◌else◌, bytes_eq, codes, List, [], ◌∷◌, ◌++◌, Option, Some, None, Ok, is_some, length, take, drop, slice_get}
 use Rattle.py_node.specs.declared.refs.PyObjectRef.{PyObjectRef}
-use Rattle.py_node.specs.declared.raised.Cause.TheVariants.{ArgCount, NotYet, Unbound}
+use Rattle.py_node.specs.declared.raised.Cause.TheVariants.{ArgCount, KeyType, NotYet, Unbound}
 use Rattle.py_node.specs.declared.expr.Word.{Word}
 use Rattle.py_node.specs.declared.expr.Word.TheVariants as word
+use Rattle.py_node.specs.declared.expr.ObjectWord.TheVariants.{Is, TypeOf, Callable}
+use Rattle.py_node.specs.declared.entry.SlotId.TheVariants.{Call}
 use Rattle.py_node.specs.declared.task.PyNumberBinaryOp.TheVariants as op
-use Rattle.py_node.specs.Tree.{Text, Tree, TConst, TName, TBind, TFunc, TAttr, TSetAttr, TCall, TOp, TClass, Entries, no_entries, entry, Literal, LNone, LFalse, LTrue, LInt, LText, list_of, entry_trees}
-use Rattle.plain_machine.specs.Plain.{ANumber, AText, ATuple, ADict, AFunction, PlainWorld, Bindings, EvalJob, DoEval, DoAdd, DoGetAttr, DoSetAttr, DoLoadMethod, DoInvoke, DoCall, AsFunction, AsAttribute, Ended, ToAttribute, ToCall, ToOperator, Said}
-use Rattle.plain_machine.specs.World.{ref, variable, or_else_var, with_binding, with_node, next_node}
+use Rattle.py_node.specs.Tree.{Text, Tree, TConst, TName, TBind, TTuple, TList, TDict, TFunc, TAttr, TSetAttr, TCall, TOp, TClass, KeyedTrees, no_keyed, keyed as keyed_tree, Entries, no_entries, entry, Literal, LNone, LFalse, LTrue, LInt, LText, list_of, entry_trees}
+use Rattle.plain_machine.specs.Plain.{ANumber, AText, ATuple, AList, ADict, AFunction, PlainWorld, Bindings, EvalJob, DoEval, ToEval, DoAdd, DoGetAttr, DoSetAttr, DoLoadMethod, DoInvoke, DoCall, AsFunction, AsAttribute, Ended, ToAttribute, ToCall, ToOperator, Said}
+use Rattle.plain_machine.specs.World.{ref, slot_at, variable, or_else_var, with_binding, with_node, next_node}
 use Rattle.plain_machine.specs.Args.{two_of, filled}
-use Rattle.plain_machine.specs.Known.{the_type, the_int, the_str, the_tuple, the_dict, the_function}
+use Rattle.plain_machine.specs.Known.{the_type, the_int, the_str, the_tuple, the_list, the_dict, the_function}
+use Rattle.plain_machine.specs.Dicts.{entries_from}
 use Rattle.plain_machine.specs.Objects.{class_object, type_object}
-use Rattle.plain_machine.specs.Row.{Row, start, ask, pass, end, value, none, fault, on_done, make, evaluate}
+use Rattle.plain_machine.specs.Sound.{key_at}
+use Rattle.plain_machine.specs.Row.{Row, start, ask, pass, end, value, none, fault, on_value, on_done, make, limited, truth, evaluate}
 
 -- a constant is a fixed object, or a new one
 abbrev pub const_say : PlainWorld → Literal → Row
@@ -59,6 +63,37 @@ abbrev pub bind_say : PlainWorld → Text → Option PyObjectRef → Row
 bind_say w x None = end w (fault ArgCount)
 bind_say w x (Some v) = end (with_binding w x v) (value v)
 
+-- keys with their values
+abbrev pub Pairs : Type 0
+Pairs = List (PyObjectRef × PyObjectRef)
+
+-- a tuple of the operands
+abbrev pub tuple_say : PlainWorld → List PyObjectRef → Row
+tuple_say w vs = limited w vs (make w the_tuple (ATuple vs))
+
+-- a list of the operands
+abbrev pub list_say : PlainWorld → List PyObjectRef → Row
+list_say w vs = limited w vs (make w the_list (AList vs))
+
+-- goes on where an object can be the key of a dict
+abbrev pub tested : PlainWorld → PyObjectRef → Row → Row
+tested w k go = cond (is_some (key_at w k)) go (end w (fault KeyType))
+
+-- each key is evaluated and then its value, and then the key is tested, before the next pair
+abbrev pub evaluate_pairs : PlainWorld → KeyedTrees → (Pairs → Row) → Row
+evaluate_pairs w no_keyed go = go []
+evaluate_pairs w (keyed_tree k e ps) go =
+    ask w (ToEval (DoEval k)) (λ r. on_value w r (λ key.
+    ask w (ToEval (DoEval e)) (λ s. on_value w s (λ v.
+    tested w key (evaluate_pairs w ps (λ es. go ((key, v) ∷ es)))))))
+
+-- a dict of keys with their values
+abbrev pub make_dict : PlainWorld → Pairs → Row
+make_dict w es = limited w es (make w the_dict (ADict es))
+
+abbrev pub dict_say : PlainWorld → KeyedTrees → Row
+dict_say w ps = evaluate_pairs w ps (λ es. make_dict w (entries_from w es))
+
 -- a function is a new object
 abbrev pub func_say : PlainWorld → Text → List Text → Bool → Tree → Row
 func_say w x ps rest e = make w the_function (AFunction x ps rest e None)
@@ -72,9 +107,27 @@ abbrev pub add_of : PlainWorld → Option (PyObjectRef × PyObjectRef) → Row
 add_of w None = end w (fault ArgCount)
 add_of w (Some p) = ask w (ToOperator (DoAdd p.0 p.1)) (end w)
 
--- the word's task, with the values of the operands
+-- whether the two operands are the same object
+abbrev pub is_of : PlainWorld → Option (PyObjectRef × PyObjectRef) → Row
+is_of w None = end w (fault ArgCount)
+is_of w (Some p) = end w (value (truth (eqb p.0.0 p.1.0)))
+
+-- the operand's class, as an object
+abbrev pub type_of : PlainWorld → Option PyObjectRef → Row
+type_of w None = end w (fault ArgCount)
+type_of w (Some o) = end w (value (type_object w o))
+
+-- whether the operand's class says how it is called
+abbrev pub callable_of : PlainWorld → Option PyObjectRef → Row
+callable_of w None = end w (fault ArgCount)
+callable_of w (Some o) = end w (value (truth (is_some (slot_at w o Call))))
+
+-- what the word says of the values of the operands: its task, or what it reads by itself
 abbrev pub op_say : PlainWorld → Word → List PyObjectRef → Row
 op_say w (word.Binary op.Add) vs = add_of w (two_of vs)
+op_say w (word.Object Is) vs = is_of w (two_of vs)
+op_say w (word.Object TypeOf) vs = type_of w (one_of vs)
+op_say w (word.Object Callable) vs = callable_of w (one_of vs)
 op_say w _ vs = not_yet w
 
 -- an attribute is set to the second operand, and the answer is None
@@ -112,9 +165,6 @@ called_say w f es (Some v) = callee_say w f es v
 
 -- a class: its name is a new text, its bases are a new tuple, its entries are a new dict, with a new text for each name, and the class of the first base, or `type`, is called with these
 
-abbrev pub Pairs : Type 0
-Pairs = List (PyObjectRef × PyObjectRef)
-
 -- new texts for names, with their values
 abbrev pub keyed : PlainWorld → Pairs → Bindings → PlainWorld × Pairs
 keyed w ps [] = (w, ps)
@@ -148,9 +198,11 @@ abbrev pub callee_tree : Tree → Tree
 callee_tree (TAttr o x) = o
 callee_tree f = f
 
--- the parts of an expression that are evaluated first, in order. A form that no stage so far has named has none
+-- the parts of an expression that are evaluated first, in order. A dict evaluates its pairs in its own step
 abbrev pub operand_trees : Tree → List Tree
 operand_trees (TBind x e) = e ∷ []
+operand_trees (TTuple es) = list_of es
+operand_trees (TList es) = list_of es
 operand_trees (TAttr o x) = o ∷ []
 operand_trees (TSetAttr o x e) = o ∷ e ∷ []
 operand_trees (TCall f es kw) = callee_tree f ∷ []
@@ -163,6 +215,9 @@ abbrev pub own_say : PlainWorld → Tree → List PyObjectRef → Row
 own_say w (TConst k) vs = const_say w k
 own_say w (TName x) vs = name_say w x
 own_say w (TBind x e) vs = bind_say w x (one_of vs)
+own_say w (TTuple es) vs = tuple_say w vs
+own_say w (TList es) vs = list_say w vs
+own_say w (TDict ps) vs = dict_say w ps
 own_say w (TFunc x ps rest e) vs = func_say w x ps rest e
 own_say w (TAttr o x) vs = attr_say w x (one_of vs)
 own_say w (TSetAttr o x e) vs = set_attr_say w x (two_of vs)

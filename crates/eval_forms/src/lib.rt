@@ -6,27 +6,30 @@ ghost use Rattle.py_node.specs.Faults.{raised};
 ghost use Rattle.class_world.specs.Sound.{AllHold, Holds, IsExpression, IsName, IsNode, AreNodes, of_form, of_node_ref, of_option};
 ghost use Rattle.class_world.specs.Claims.{of_eval_task, of_ended, of_step, Leaves};
 ghost use Rattle.class_world.specs.Reading.{Reading, Reads};
-ghost use Rattle.eval_forms.specs.Say.{one_of, bind_say, func_say, add_of, op_say};
-ghost use Rattle.plain_machine.specs.Args.{two_of};
+ghost use Rattle.eval_forms.specs.Say.{one_of, bind_say, func_say, tuple_say, list_say};
 ghost use Rattle.py_node.specs.Tree.{TConst, literal_of};
-ghost use Rattle.eval_forms.specs.Rows.{Begins, Resumes, Continues, ContinuesTree, Closes, Takes, IsOwn, HasValues, IsLater, IsOther, of_eval_kept, operands, operands_at};
+ghost use Rattle.eval_forms.specs.Rows.{Begins, Resumes, Continues, ContinuesTree, Closes, IsOwn, HasValues, IsLater, IsOther, of_eval_kept, operands, operands_at};
 
 mod attr;
 mod call_form;
 mod class_form;
+mod dict_form;
 mod names;
+mod words;
 
 use attr::{attr_step, set_attr_step};
 use call_form::{Called, argued, call_step, evaluated, loaded};
 use class_form::class_step;
-use class_world::args::two_of;
+use class_world::limits::is_within_limit;
 use class_world::{Fixed, World};
+use dict_form::{keyed, next_key, valued};
 use names::name_step;
 use py_node::{
-    Answer, BuiltIn, Cause, Constant, EvalTask, Form, Function, OperatorTask, OutOfMemory, Payload,
-    PyNumberBinaryOp, PyObjectRef, PyStrInterned, Raised, Step, Task, Word,
+    Answer, BuiltIn, Cause, Constant, EvalTask, Form, Function, OutOfMemory, Payload, PyObjectRef,
+    PyStrInterned, Raised, Step, Task, Word,
 };
 use std::alloc::Global;
+use words::op_step;
 
 /// What a row of an expression keeps while it waits for an answer.
 #[derive(Drop)]
@@ -41,6 +44,10 @@ pub enum EvalKept {
     Load(u64),
     /// The call, what it calls, and the values of its arguments so far.
     Arguments(u64, Called, Vec<PyObjectRef>),
+    /// The dict whose next key is evaluated, and its pairs so far.
+    Key(u64, Vec<(PyObjectRef, PyObjectRef)>),
+    /// The dict, its pairs so far, and the key whose value is evaluated.
+    Value(u64, Vec<(PyObjectRef, PyObjectRef)>, PyObjectRef),
 }
 
 /// Begins a task.
@@ -77,6 +84,11 @@ pub fn resume(
             Ok(step)
         }
         EvalKept::Arguments(e, called, values) => argued(world, e, called, values, answer),
+        EvalKept::Key(e, pairs) => {
+            let step = keyed(world, e, pairs, answer);
+            Ok(step)
+        }
+        EvalKept::Value(e, pairs, key) => valued(world, e, pairs, key, answer),
         EvalKept::SetDone => {
             let step = set_done(world, answer);
             Ok(step)
@@ -174,6 +186,8 @@ fn operand(form: &Form, place: usize) -> Option<u64>
             }
         }
         Form::Call(func, _, _) => first_of(*func, place),
+        Form::Tuple(items) => items.get(place).copied(),
+        Form::List(items) => items.get(place).copied(),
         Form::Op(_, operands) => operands.get(place).copied(),
         Form::Class(_, bases, _, entries) => {
             if place < bases.len() {
@@ -202,6 +216,9 @@ pub enum Own {
     Const(Constant),
     Name(PyStrInterned),
     Bind(PyStrInterned),
+    Tuple,
+    List,
+    Dict,
     /// The function's name, its parameters, whether the last one takes the rest, and its body.
     Func(PyStrInterned, Vec<PyStrInterned>, bool, u64),
     Attr(PyStrInterned),
@@ -235,6 +252,9 @@ fn own_step(
             Ok(step)
         }
         Own::Bind(name) => bind_step(world, name, one_of(&values)),
+        Own::Tuple => tuple_step(world, values),
+        Own::List => list_step(world, values),
+        Own::Dict => next_key(world, e, Vec::new(alloc)),
         Own::Func(name, params, rest, body) => func_step(world, name, params, rest, body),
         Own::Attr(name) => {
             let step = attr_step(name, one_of(&values));
@@ -249,7 +269,7 @@ fn own_step(
             Ok(step)
         }
         Own::Op(word) => {
-            let step = op_step(word, &values);
+            let step = op_step(world, word, &values);
             Ok(step)
         }
         Own::Class(name, bases, names) => class_step(world, name, bases, &names, &values),
@@ -268,6 +288,9 @@ fn own_of(alloc: Global, form: &Form) -> Result<Own, OutOfMemory>
         }
         Form::Name(name) => Ok(Own::Name(*name)),
         Form::Bind(name, _) => Ok(Own::Bind(*name)),
+        Form::Tuple(_) => Ok(Own::Tuple),
+        Form::List(_) => Ok(Own::List),
+        Form::Dict(_) => Ok(Own::Dict),
         Form::Func(name, params, rest, body) => {
             let copy = params.clone()?;
             Ok(Own::Func(*name, copy, *rest, *body))
@@ -352,13 +375,43 @@ fn bind_step(
 }
 
 // The operand of a form with one.
-fn one_of(values: &[PyObjectRef]) -> Option<PyObjectRef>
+pub(crate) fn one_of(values: &[PyObjectRef]) -> Option<PyObjectRef>
     ensures { result ≡ one_of values.now }
 {
     match values {
         [a] => Some(*a),
         _ => None,
     }
+}
+
+// A new tuple of the operands.
+#[tactic(auto, unfolding(py_node::specs::BuiltIns::place_of))]
+fn tuple_step(world: &mut World, values: Vec<PyObjectRef>) -> Result<Step<EvalKept>, OutOfMemory>
+    requires { Holds world.old (AreNodes values.items) }
+    ensures goes { IfOk result (λ step. Closes (λ t w. tuple_say w values.items) world.old world.new step) }
+    ensures safe { Leaves of_eval_kept world.old world.new result }
+{
+    if !is_within_limit(values.len()) {
+        return Ok(Step::raise(Cause::TooLong));
+    }
+    let class = world.built_in(BuiltIn::Tuple);
+    let node = world.make_node(class, Payload::Tuple(values))?;
+    Ok(Step::End(Ok(Answer::Value(node))))
+}
+
+// A new list of the operands.
+#[tactic(auto, unfolding(py_node::specs::BuiltIns::place_of))]
+fn list_step(world: &mut World, values: Vec<PyObjectRef>) -> Result<Step<EvalKept>, OutOfMemory>
+    requires { Holds world.old (AreNodes values.items) }
+    ensures goes { IfOk result (λ step. Closes (λ t w. list_say w values.items) world.old world.new step) }
+    ensures safe { Leaves of_eval_kept world.old world.new result }
+{
+    if !is_within_limit(values.len()) {
+        return Ok(Step::raise(Cause::TooLong));
+    }
+    let class = world.built_in(BuiltIn::List);
+    let node = world.make_node(class, Payload::List(values))?;
+    Ok(Step::End(Ok(Answer::Value(node))))
 }
 
 // A function is a new object.
@@ -388,30 +441,8 @@ fn func_step(
     Ok(Step::End(Ok(Answer::Value(node))))
 }
 
-// The word's task, with the values of the operands.
-fn op_step(word: Word, values: &[PyObjectRef]) -> Step<EvalKept>
-    ensures goes { (w : World) → Takes (λ t u. op_say u word values.now) w w result }
-    ensures safe { (w : World) → Holds w (AreNodes values.now) → AllHold w (of_step of_eval_kept result) }
-{
-    match word {
-        Word::Binary(PyNumberBinaryOp::Add) => add_step(values),
-        _ => not_yet(),
-    }
-}
-
-// A sum, with the values of its operands.
-fn add_step(values: &[PyObjectRef]) -> Step<EvalKept>
-    ensures goes { (w : World) → Takes (λ t u. add_of u (two_of values.now)) w w result }
-    ensures safe { (w : World) → Holds w (AreNodes values.now) → AllHold w (of_step of_eval_kept result) }
-{
-    match two_of(values) {
-        None => Step::raise(Cause::ArgCount),
-        Some((a, b)) => Step::Ask(Task::Operator(OperatorTask::Add(a, b)), EvalKept::Pass),
-    }
-}
-
 // What no stage so far has named.
-fn not_yet() -> Step<EvalKept>
+pub(crate) fn not_yet() -> Step<EvalKept>
     ensures { result ≡ Step.End (Err (raised Cause.NotYet)) }
 {
     Step::raise(Cause::NotYet)

@@ -6,8 +6,8 @@ use Rattle.serde_json.specs.Data.{depth, items_depth}
 use Rattle.serde_json.specs.View.{view, items_view}
 use Rattle.serde_json.specs.declared.value.Value.{Value}
 use Rattle.py_node.specs.declared.expr.Expr.{Expr, Class, the_lemmas}
-use Rattle.py_node.specs.Tree.{TClass, Entries, no_entries, entry, entries_of, trees_of, tree_of}
-use Rattle.script_text.specs.Forms.{of_two, expr_of, exprs_of, entry_of, entries_in, named, named_entries, class}
+use Rattle.py_node.specs.Tree.{TClass, Entries, no_entries, entry, entries_of, trees_of, tree_of, pair_of}
+use Rattle.script_text.specs.Forms.{of_two, expr_of, exprs_of, pair_in, pairs_in, entry_of, entries_in, named, named_entries, class}
 
 -- what is left, with what was found before it
 abbrev pub onto : {A : Type 0} → List A → Option (List A) → Option (List A)
@@ -52,6 +52,12 @@ pub entries-turn : (vs : List Value) (i : ℕ) (v : Value) (found : List (String
     → entries_in (items_view vs) ≡ onto (map named (found ++ e ∷ [])) (entries_in (items_view (drop (i + 1) vs)))
 unfolding entries_in
 entries-turn vs i v found e = turn (λ w. entry_of (view w)) (λ ws. entries_in (items_view ws)) named (λ w ws. refl) vs i v found e (entries_in (items_view vs))
+
+pub pairs-turn : (vs : List Value) (i : ℕ) (v : Value) (found : List (Expr × Expr)) (p : Expr × Expr) → i < length vs → v ≡ get_or vs i v → pair_in (view v) ≡ Some (pair_of p)
+    → pairs_in (items_view vs) ≡ onto (map pair_of found) (pairs_in (items_view (drop i vs)))
+    → pairs_in (items_view vs) ≡ onto (map pair_of (found ++ p ∷ [])) (pairs_in (items_view (drop (i + 1) vs)))
+unfolding pairs_in
+pairs-turn vs i v found p = turn (λ w. pair_in (view w)) (λ ws. pairs_in (items_view ws)) pair_of (λ w ws. refl) vs i v found p (pairs_in (items_view vs))
 
 entries-named : (fs : List (String Global × Expr)) → entries_of (map (λ e. (e.0, tree_of e.1)) fs) ≡ named_entries (map named fs)
 entries-named [] = refl

@@ -1,14 +1,15 @@
 -- Which expression a JSON value spells.
-use Rattle.std.specs.Prelude.{⊤, ◌&&◌, ◌==◌, List, [], ◌∷◌, length, codes, bytes_eq, Bool, true, false, not, if◌then◌else◌, Option, Some, None, option_map, option_and_then, String, string_bytes}
+use Rattle.std.specs.Prelude.{⊤, ℕ, ◌&&◌, ◌==◌, List, [], ◌∷◌, length, codes, bytes_eq, Bool, true, false, not, if◌then◌else◌, Option, Some, None, option_map, option_and_then, String, string_bytes}
 use Rattle.std.specs.List.{list_any}
 use Rattle.serde_json.specs.Data.{Data, null, boolean, number, string, array, object, Items, no_items, item}
 use Rattle.serde_json.specs.Find.{as_i64, as_str}
 use Rattle.std.specs.declared.alloc.Global.{Global}
 use Rattle.py_node.specs.declared.expr.Expr.{Expr}
 use Rattle.py_node.specs.declared.expr.Word.{Word}
-use Rattle.py_node.specs.declared.expr.Word.TheVariants.{Binary}
+use Rattle.py_node.specs.declared.expr.Word.TheVariants.{Binary, Object}
+use Rattle.py_node.specs.declared.expr.ObjectWord.TheVariants.{Is, TypeOf, Callable}
 use Rattle.py_node.specs.declared.task.PyNumberBinaryOp.TheVariants.{Add}
-use Rattle.py_node.specs.Tree.{Text, LNone, LFalse, LTrue, LInt, LText, Tree, TConst, TName, TBind, TFunc, TAttr, TSetAttr, TCall, TOp, TClass, Entries, no_entries, entry, trees_of, tree_of}
+use Rattle.py_node.specs.Tree.{Text, LNone, LFalse, LTrue, LInt, LText, Tree, TConst, TName, TBind, TTuple, TList, TDict, TFunc, TAttr, TSetAttr, TCall, TOp, TClass, Entries, no_entries, entry, keyed_of, trees_of, tree_of}
 
 -- f of two parts, where both are there
 abbrev pub of_two : {A B C : Type 0} → (A → B → C) → Option A → Option B → Option C
@@ -22,7 +23,12 @@ of_three f None b c = None
 
 -- the operation that a word stands for
 abbrev pub word_of : Text → Option Word
-word_of text = if bytes_eq text (codes "+") then Some (Binary Add) else None
+word_of text =
+    if bytes_eq text (codes "+") then Some (Binary Add)
+    else (if bytes_eq text (codes "is") then Some (Object Is)
+    else (if bytes_eq text (codes "typeof") then Some (Object TypeOf)
+    else (if bytes_eq text (codes "callable") then Some (Object Callable)
+    else None)))
 
 abbrev pub operation_of : Data → Option Word
 operation_of d = option_and_then word_of (as_str d)
@@ -63,14 +69,28 @@ abbrev pub named_entries : List Named → Entries
 named_entries [] = no_entries
 named_entries (e ∷ es) = entry e.0 e.1 (named_entries es)
 
--- each operation that is read so far has two operands
+-- how many operands a word takes
+abbrev pub takes : Word → ℕ → Bool
+takes (Object TypeOf) n = n == 1
+takes (Object Callable) n = n == 1
+takes _ n = n == 2
+
 abbrev pub operation : Option Word → Option (List Tree) → Option Tree
-operation (Some w) (Some ts) = if length ts == 2 then Some (TOp w (trees_of ts)) else None
+operation (Some w) (Some ts) = if takes w (length ts) then Some (TOp w (trees_of ts)) else None
 operation (Some w) None = None
 operation None ts = None
 
-abbrev pub pair : Text → Tree → Named
-pair text t = (text, t)
+abbrev pub pair : {A : Type 0} → A → Tree → A × Tree
+pair a t = (a, t)
+
+abbrev pub tuple : List Tree → Tree
+tuple ts = TTuple (trees_of ts)
+
+abbrev pub list : List Tree → Tree
+list ts = TList (trees_of ts)
+
+abbrev pub dict : List (Tree × Tree) → Tree
+dict ps = TDict (keyed_of ps)
 
 -- no parameter takes the rest of the arguments yet
 abbrev pub func : Text → List Text → Tree → Tree
@@ -103,13 +123,16 @@ unfoldable mutual
   array_of (item head ds) = option_and_then (λ word.
       if bytes_eq word (codes "name") then name_of ds
       else (if bytes_eq word (codes "bind") then bind_of ds
+      else (if bytes_eq word (codes "tuple") then option_map tuple (exprs_of ds)
+      else (if bytes_eq word (codes "list") then option_map list (exprs_of ds)
+      else (if bytes_eq word (codes "dict") then option_map dict (pairs_in ds)
       else (if bytes_eq word (codes "func") then func_of ds
       else (if bytes_eq word (codes "attr") then attr_of ds
       else (if bytes_eq word (codes "setattr") then setattr_of ds
       else (if bytes_eq word (codes "call") then call_of ds
       else (if bytes_eq word (codes "op") then op_of ds
       else (if bytes_eq word (codes "class") then class_of ds
-      else None)))))))) (as_str head)
+      else None))))))))))) (as_str head)
 
   -- a name
   pub name_of : Items → Option Tree
@@ -159,6 +182,19 @@ unfoldable mutual
   pub exprs_of : Items → Option (List Tree)
   exprs_of no_items = Some []
   exprs_of (item d ds) = of_two ◌∷◌ (expr_of d) (exprs_of ds)
+
+  -- the pairs of a dict: each is an array of a key and a value
+  pub pairs_in : Items → Option (List (Tree × Tree))
+  pairs_in no_items = Some []
+  pairs_in (item d ds) = of_two ◌∷◌ (pair_in d) (pairs_in ds)
+
+  pub pair_in : Data → Option (Tree × Tree)
+  pair_in (array ds) = paired_of ds
+  pair_in _ = None
+
+  pub paired_of : Items → Option (Tree × Tree)
+  paired_of (item k (item e no_items)) = of_two pair (expr_of k) (expr_of e)
+  paired_of _ = None
 
   -- a list of entries
   pub body_of : Data → Option (List Named)

@@ -1,13 +1,13 @@
 //! The forms of expressions.
 
-ghost use Rattle.std.specs.Prelude.{◌≡◌, Some, None, Err, IfOk, IfErr, ok_or, is_ok, nat_le, length, map, string_bytes};
+ghost use Rattle.std.specs.Prelude.{◌≡◌, Some, None, Err, IfOk, IfErr, ok_or, is_ok, nat_le, length, map, option_map, string_bytes};
 ghost use Rattle.serde_json.specs.Find.{as_str};
 ghost use Rattle.serde_json.specs.View.{view, items_view};
-ghost use Rattle.py_node.specs.Tree.{tree_of, texts_of};
-ghost use Rattle.script_text.specs.Forms.{word_of, operation_of, texts_in, all_differ, params_of, nothing_in, expr_of, array_of, name_of, bind_of, func_of, attr_of, setattr_of, call_of, op_of, class_of, list_of, exprs_of, body_of, entries_in, entry_of, named_of, differing, named};
+ghost use Rattle.py_node.specs.Tree.{tree_of, pair_of, texts_of};
+ghost use Rattle.script_text.specs.Forms.{word_of, operation_of, takes, tuple, list, dict, pairs_in, pair_in, paired_of, texts_in, all_differ, params_of, nothing_in, expr_of, array_of, name_of, bind_of, func_of, attr_of, setattr_of, call_of, op_of, class_of, list_of, exprs_of, body_of, entries_in, entry_of, named_of, differing, named};
 
 use crate::parts::{Unread, next, no_more, one, three, three_and_rest, two, two_and_rest};
-use py_node::{Constant, Expr, PyNumberBinaryOp, Word};
+use py_node::{Constant, Expr, ObjectWord, PyNumberBinaryOp, Word};
 use serde_json::Value;
 use std::alloc::{AllocError, Global};
 use std::collections::BTreeSet;
@@ -18,8 +18,25 @@ fn find_word(text: &str) -> Option<Word>
 {
     if text == "+" {
         Some(Word::Binary(PyNumberBinaryOp::Add))
+    } else if text == "is" {
+        Some(Word::Object(ObjectWord::Is))
+    } else if text == "typeof" {
+        Some(Word::Object(ObjectWord::TypeOf))
+    } else if text == "callable" {
+        Some(Word::Object(ObjectWord::Callable))
     } else {
         None
+    }
+}
+
+// Whether a word takes so many operands.
+fn takes(word: Word, count: usize) -> bool
+    ensures { result ≡ takes word count }
+{
+    match word {
+        Word::Object(ObjectWord::TypeOf) => count == 1,
+        Word::Object(ObjectWord::Callable) => count == 1,
+        _ => count == 2,
     }
 }
 
@@ -139,6 +156,12 @@ fn read_array(alloc: Global, items: &[Value]) -> Result<Expr, Unread>
         read_name(alloc, rest)
     } else if word == "bind" {
         read_bind(alloc, rest)
+    } else if word == "tuple" {
+        read_tuple(alloc, rest)
+    } else if word == "list" {
+        read_items(alloc, rest)
+    } else if word == "dict" {
+        read_dict(alloc, rest)
     } else if word == "func" {
         read_func(alloc, rest)
     } else if word == "attr" {
@@ -178,6 +201,36 @@ fn read_bind(alloc: Global, items: &[Value]) -> Result<Expr, Unread>
     let text = read_text(alloc, name)?;
     let expr = read_expr(alloc, value)?;
     Ok(Expr::Bind(text, Box::new(alloc, expr)?))
+}
+
+// The items of a tuple.
+#[cycle(forms)]
+fn read_tuple(alloc: Global, items: &[Value]) -> Result<Expr, Unread>
+    ensures ok { IfOk result (λ e. option_map tuple (exprs_of (items_view items.now)) ≡ Some (tree_of e)) }
+    ensures shape { result ≡ Err Unread.Shape → option_map tuple (exprs_of (items_view items.now)) ≡ None }
+{
+    let parts = read_exprs(alloc, items)?;
+    Ok(Expr::Tuple(parts))
+}
+
+// The items of a list.
+#[cycle(forms)]
+fn read_items(alloc: Global, items: &[Value]) -> Result<Expr, Unread>
+    ensures ok { IfOk result (λ e. option_map list (exprs_of (items_view items.now)) ≡ Some (tree_of e)) }
+    ensures shape { result ≡ Err Unread.Shape → option_map list (exprs_of (items_view items.now)) ≡ None }
+{
+    let parts = read_exprs(alloc, items)?;
+    Ok(Expr::List(parts))
+}
+
+// The keys of a dict with their values.
+#[cycle(forms)]
+fn read_dict(alloc: Global, items: &[Value]) -> Result<Expr, Unread>
+    ensures ok { IfOk result (λ e. option_map dict (pairs_in (items_view items.now)) ≡ Some (tree_of e)) }
+    ensures shape { result ≡ Err Unread.Shape → option_map dict (pairs_in (items_view items.now)) ≡ None }
+{
+    let pairs = read_pairs(alloc, items)?;
+    Ok(Expr::Dict(pairs))
 }
 
 // A name, the parameters, which all differ, and the body.
@@ -235,7 +288,7 @@ fn read_call(alloc: Global, items: &[Value]) -> Result<Expr, Unread>
     Ok(Expr::Call(Box::new(alloc, function)?, args, Vec::new(alloc)))
 }
 
-// The word of an operation, and two operands.
+// The word of an operation, and its operands.
 #[tactic(auto, unfolding(crate::specs::Forms::op_of))]
 #[cycle(forms)]
 fn read_op(alloc: Global, items: &[Value]) -> Result<Expr, Unread>
@@ -245,7 +298,7 @@ fn read_op(alloc: Global, items: &[Value]) -> Result<Expr, Unread>
     let (head, rest) = next(items)?;
     let word = read_word(head)?;
     let operands = read_exprs(alloc, rest)?;
-    if operands.len() == 2 {
+    if takes(word, operands.len()) {
         Ok(Expr::Op(word, operands))
     } else {
         Err(Unread::Shape)
@@ -292,6 +345,45 @@ pub(crate) fn read_exprs(alloc: Global, items: &[Value]) -> Result<Vec<Expr>, Un
         found.push(read_expr(alloc, item)?)?;
     }
     Ok(found)
+}
+
+// The pairs of a dict.
+#[tactic(auto, unfolding(crate::specs::Forms::pairs_in))]
+#[cycle(forms)]
+fn read_pairs(alloc: Global, items: &[Value]) -> Result<Vec<(Expr, Expr)>, Unread>
+    ensures ok { IfOk result (λ v. pairs_in (items_view items.now) ≡ Some (map pair_of v.items)) }
+    ensures shape { result ≡ Err Unread.Shape → pairs_in (items_view items.now) ≡ None }
+{
+    let mut found = Vec::with_capacity(alloc, items.len())?;
+    for item in items {
+        found.push(read_pair(alloc, item)?)?;
+    }
+    Ok(found)
+}
+
+// A pair is an array of a key and a value.
+#[tactic(auto, unfolding(crate::specs::Forms::pair_in))]
+#[cycle(forms)]
+fn read_pair(alloc: Global, value: &Value) -> Result<(Expr, Expr), Unread>
+    ensures ok { IfOk result (λ p. pair_in (view value.now) ≡ Some (pair_of p)) }
+    ensures shape { result ≡ Err Unread.Shape → pair_in (view value.now) ≡ None }
+{
+    match value {
+        Value::Array(items) => read_paired(alloc, items.as_slice()),
+        _ => Err(Unread::Shape),
+    }
+}
+
+#[tactic(auto, unfolding(crate::specs::Forms::paired_of))]
+#[cycle(forms)]
+fn read_paired(alloc: Global, items: &[Value]) -> Result<(Expr, Expr), Unread>
+    ensures ok { IfOk result (λ p. paired_of (items_view items.now) ≡ Some (pair_of p)) }
+    ensures shape { result ≡ Err Unread.Shape → paired_of (items_view items.now) ≡ None }
+{
+    let (first, second) = two(items)?;
+    let key = read_expr(alloc, first)?;
+    let value = read_expr(alloc, second)?;
+    Ok((key, value))
 }
 
 // A list of entries.

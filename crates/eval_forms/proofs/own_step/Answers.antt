@@ -8,7 +8,8 @@ use Rattle.eval_forms.specs.Say.{one_of, attr_say, set_attr_say, called_say, op_
 use Rattle.plain_machine.specs.Args.{two_of}
 use Rattle.eval_forms.specs.Rows.{IsOwn, Takes, Continues, operands_at, args_of}
 use Rattle.eval_forms.proofs.ClassForm.{takes-same}
-use Rattle.eval_forms.proofs.Operands.{own-takes, own-takes-read, says-attr, says-set, says-call, attr-name, call-func, says-op, says-class, class-long, class-names, set-name, one-holds, own-func, own-later}
+use Rattle.eval_forms.proofs.Operands.{own-takes, own-takes-read, says-attr, says-set, says-call, attr-name, call-func, says-op, says-class, class-long, class-names, set-name, one-holds, own-func, own-later, own-tuple, own-list}
+use Rattle.eval_forms.proofs.DictForm.{no-pairs, own-dict}
 use Rattle.class_world.proofs.Growth.{grows-itself}
 use Rattle.eval_forms.proofs.own_step.Goals as goal
 
@@ -85,16 +86,42 @@ returns-in-Op-clause-goes c =
     let own = subst (λ o. IsOwn o f) c.in-Op.is c.in_ok-constant.ensures in
     let long = ap (λ o. length (operands_at o)) (sym c.form.ensures.stored) ∙ c.requires.all in
     let goes = rw c.deref-in-Op.ensures.value at c.op_step-step.ensures.goes in
-    own-takes w w c.args.e f vs (λ t u. op_say u word vs) c.op_step-step.result c.form.ensures.stored long (says-op word vs f own) (goes w)
+    own-takes w w c.args.e f vs (λ t u. op_say u word vs) c.op_step-step.result c.form.ensures.stored long (says-op word vs f own) goes
 
 pub returns-in-Op-clause-safe : goal.returns-in-Op-clause-safe
 returns-in-Op-clause-safe c =
     let w = c.args.world.now in
-    let safe = rw c.deref-in-Op.ensures.value at c.op_step-step.ensures.safe in
-    (grows-itself w, safe w c.requires.values)
+    (grows-itself w, c.op_step-step.ensures.safe)
 
-pub returns-clause-goes : goal.returns-clause-goes
-returns-clause-goes c =
+pub op_step-step-requires : goal.op_step-step-requires
+op_step-step-requires c = rw c.deref-in-Op.ensures.value c.requires.values
+
+pub returns-in-Tuple-clause-goes : goal.returns-in-Tuple-clause-goes
+returns-in-Tuple-clause-goes c =
+    let f = c.form.result.now in
+    let own = subst (λ o. IsOwn o f) c.in-Tuple.is c.in_ok-constant.ensures in
+    let long = ap (λ o. length (operands_at o)) (sym c.form.ensures.stored) ∙ c.requires.all in
+    own-tuple c.args.world.now c.tuple_step.new.world c.args.e f c.args.values.items c.tuple_step.result c.form.ensures.stored long own c.tuple_step.ensures.goes
+
+pub returns-in-List-clause-goes : goal.returns-in-List-clause-goes
+returns-in-List-clause-goes c =
+    let f = c.form.result.now in
+    let own = subst (λ o. IsOwn o f) c.in-List.is c.in_ok-constant.ensures in
+    let long = ap (λ o. length (operands_at o)) (sym c.form.ensures.stored) ∙ c.requires.all in
+    own-list c.args.world.now c.list_step.new.world c.args.e f c.args.values.items c.list_step.result c.form.ensures.stored long own c.list_step.ensures.goes
+
+pub next_key-requires-clause-found : goal.next_key-requires-clause-found
+next_key-requires-clause-found c = rw c.new.ensures.items (no-pairs _)
+
+pub returns-in-Dict-clause-goes : goal.returns-in-Dict-clause-goes
+returns-in-Dict-clause-goes c =
+    let f = c.form.result.now in
+    let own = subst (λ o. IsOwn o f) c.in-Dict.is c.in_ok-constant.ensures in
+    let long = ap (λ o. length (operands_at o)) (sym c.form.ensures.stored) ∙ c.requires.all in
+    own-dict c.args.world.now c.next_key.new.world c.args.e f c.args.values.items c.new.result c.next_key.result c.form.ensures.stored long own c.new.ensures.items c.next_key.ensures.goes
+
+pub returns-in-NotYet-clause-goes : goal.returns-in-NotYet-clause-goes
+returns-in-NotYet-clause-goes c =
     let w = c.args.world.now in
     let f = c.form.result.now in
     let own = subst (λ o. IsOwn o f) c.in-NotYet.is c.in_ok-constant.ensures in

@@ -3,7 +3,7 @@ use Rattle.serde_json.specs.Find.{as_str}
 use Rattle.serde_json.specs.View.{view, items_view}
 use Rattle.py_node.specs.Tree.{tree_of}
 use Rattle.script_text.specs.Forms.{class_of, list_of, body_of, nothing_in, named}
-use Rattle.script_text.proofs.Lists.{depth-here, exprs-turn, entries-turn, class-tree}
+use Rattle.script_text.proofs.Lists.{depth-here, exprs-turn, entries-turn, pairs-turn, class-tree}
 use Rattle.script_text.proofs.forms.+forms.Goals as goal
 
 pub read_class-returns-clause-ok : goal.read_class-returns-clause-ok
@@ -30,6 +30,18 @@ read_exprs-loop-item-preserved t c =
     let e = c.in_ok-read_expr.field-0 in
     let grown : c.push.new.self.items ≡ l.found.items ++ e ∷ [] = grind arith in
     rw grown (exprs-turn c.args.items.now l.item-index c.item-item.result l.found.items e (omega arith) c.item-item.is c.in_ok-read_expr.ensures.ok l.invariant)
+
+pub read_pairs-read_pair-requires : goal.read_pairs-read_pair-requires
+read_pairs-read_pair-requires t c =
+    let here = depth-here c.args.items.now c.loop-item.item-index c.item-item.result (omega arith) c.item-item.is in
+    (omega (arith, here), tt)
+
+pub read_pairs-loop-item-preserved : goal.read_pairs-loop-item-preserved
+read_pairs-loop-item-preserved t c =
+    let l = c.loop-item in
+    let e = c.in_ok-read_pair.field-0 in
+    let grown : c.push.new.self.items ≡ l.found.items ++ e ∷ [] = grind arith in
+    rw grown (pairs-turn c.args.items.now l.item-index c.item-item.result l.found.items e (omega arith) c.item-item.is c.in_ok-read_pair.ensures.ok l.invariant)
 
 pub read_entries-read_entry-requires : goal.read_entries-read_entry-requires
 read_entries-read_entry-requires t c =

@@ -1,8 +1,8 @@
 use Rattle.std.proofs.Common.{◌≡◌, ◌+◌, ◌*◌, drop, map}
 use Rattle.serde_json.specs.Data.{depth, items_depth}
 use Rattle.serde_json.specs.View.{view, items_view}
-use Rattle.py_node.specs.Tree.{tree_of}
-use Rattle.script_text.specs.Forms.{exprs_of, entries_in, named}
+use Rattle.py_node.specs.Tree.{tree_of, pair_of}
+use Rattle.script_text.specs.Forms.{exprs_of, entries_in, pairs_in, named}
 use Rattle.script_text.proofs.Lists.{onto}
 use Rattle.script_text.proofs.forms.+forms.Given as goal
 
@@ -14,6 +14,24 @@ decreases-read_array l = 4 * items_depth (items_view l.items.now) + 3
 
 abbrev pub decreases-read_bind : goal.decreases-read_bind
 decreases-read_bind l = 4 * items_depth (items_view l.items.now) + 2
+
+abbrev pub decreases-read_tuple : goal.decreases-read_tuple
+decreases-read_tuple l = 4 * items_depth (items_view l.items.now) + 2
+
+abbrev pub decreases-read_items : goal.decreases-read_items
+decreases-read_items l = 4 * items_depth (items_view l.items.now) + 2
+
+abbrev pub decreases-read_dict : goal.decreases-read_dict
+decreases-read_dict l = 4 * items_depth (items_view l.items.now) + 2
+
+abbrev pub decreases-read_pairs : goal.decreases-read_pairs
+decreases-read_pairs l = 4 * items_depth (items_view l.items.now) + 1
+
+abbrev pub decreases-read_pair : goal.decreases-read_pair
+decreases-read_pair l = 4 * depth (view l.value.now)
+
+abbrev pub decreases-read_paired : goal.decreases-read_paired
+decreases-read_paired l = 4 * items_depth (items_view l.items.now) + 3
 
 abbrev pub decreases-read_func : goal.decreases-read_func
 decreases-read_func l = 4 * items_depth (items_view l.items.now) + 2
@@ -53,6 +71,9 @@ decreases-read_named l = 4 * items_depth (items_view l.items.now) + 3
 
 abbrev pub invariant-read_exprs-loop-item : goal.invariant-read_exprs-loop-item
 invariant-read_exprs-loop-item l = exprs_of (items_view l.items) ≡ onto (map tree_of l.found.items) (exprs_of (items_view (drop l.item-index l.items)))
+
+abbrev pub invariant-read_pairs-loop-item : goal.invariant-read_pairs-loop-item
+invariant-read_pairs-loop-item l = pairs_in (items_view l.items) ≡ onto (map pair_of l.found.items) (pairs_in (items_view (drop l.item-index l.items)))
 
 abbrev pub invariant-read_entries-loop-item : goal.invariant-read_entries-loop-item
 invariant-read_entries-loop-item l = entries_in (items_view l.items) ≡ onto (map named l.found.items) (entries_in (items_view (drop l.item-index l.items)))

@@ -1,6 +1,6 @@
 use Rattle.std.proofs.Common.{sym, ◌∙◌}
 use Rattle.class_world.proofs.Filled.{two-hold}
-use Rattle.eval_forms.proofs.add_step.Goals as goal
+use Rattle.eval_forms.proofs.words.add_step.Goals as goal
 
 pub returns-in-Some-clause-safe : goal.returns-in-Some-clause-safe
 returns-in-Some-clause-safe c = λ w h.
