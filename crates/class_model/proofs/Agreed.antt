@@ -7,7 +7,7 @@ use Rattle.py_node.specs.declared.entry.SlotEntry.{SlotEntry}
 use Rattle.py_node.specs.declared.slots.Sort.{Sort}
 use Rattle.py_node.specs.declared.slots.Sort.TheVariants.{ByItself, BySequence, ByMapping, Nearest}
 use Rattle.py_node.specs.Slots.{is_slot, all_slots, sort_of}
-use Rattle.class_model.specs.Order.{Holds}
+use Rattle.class_model.specs.Order.{Includes}
 use Rattle.class_model.specs.Class.{Classes, class_at, lin, own_of, first_along, along}
 use Rattle.class_model.specs.Slot.{Keys, Natives, is_name_of, wrapped, heap_entry, is_heap_at, given_entry, is_by_itself, entry, has_table, first_with, read_along}
 
@@ -18,30 +18,30 @@ bind-agrees {A = A} {B = B} f g o p e h = go o h ∙ ap (option_and_then g) e
     go None h = refl
     go (Some x) h = h x refl
 
-pub first_along-agrees : {V : Type 0} (f g : ℕ → Option V) (line : List ℕ) → ((x : ℕ) → Holds line x → f x ≡ g x) → first_along f line ≡ first_along g line
+pub first_along-agrees : {V : Type 0} (f g : ℕ → Option V) (line : List ℕ) → ((x : ℕ) → Includes line x → f x ≡ g x) → first_along f line ≡ first_along g line
 first_along-agrees f g [] h = refl
 first_along-agrees f g (c ∷ cs) h =
     let a = h c (inl refl) in
     let b = first_along-agrees f g cs (λ x k. h x (inr k)) in
     cc (a, b)
 
-first_with-agrees : (f g : ℕ → Bool) (line : List ℕ) → ((x : ℕ) → Holds line x → f x ≡ g x) → first_with f line ≡ first_with g line
+first_with-agrees : (f g : ℕ → Bool) (line : List ℕ) → ((x : ℕ) → Includes line x → f x ≡ g x) → first_with f line ≡ first_with g line
 first_with-agrees f g [] h = refl
 first_with-agrees f g (c ∷ cs) h =
     let a = h c (inl refl) in
     let b = first_with-agrees f g cs (λ x k. h x (inr k)) in
     cc (a, b)
 
-first_with-held : (f : ℕ → Bool) (line : List ℕ) (x : ℕ) → first_with f line ≡ Some x → Holds line x
+first_with-held : (f : ℕ → Bool) (line : List ℕ) (x : ℕ) → first_with f line ≡ Some x → Includes line x
 first_with-held f [] x e = cc
 first_with-held f (c ∷ cs) x e = go (f c) (first_with-held f cs x) e
   where
-    go : (b : Bool) → (first_with f cs ≡ Some x → Holds cs x) → cond b (Some c) (first_with f cs) ≡ Some x → Holds (c ∷ cs) x
+    go : (b : Bool) → (first_with f cs ≡ Some x → Includes cs x) → cond b (Some c) (first_with f cs) ≡ Some x → Includes (c ∷ cs) x
     go true more e = inl (cc)
     go false more e = inr (more e)
 
 -- slots are read alike where the classes along the line have the same entries
-pub read_along-agrees : (f g : ℕ → SlotId → Option SlotEntry) (sort : Sort) (c : ℕ) (line : List ℕ) (s : SlotId) → f c ≡ g c → ((x : ℕ) → Holds line x → f x ≡ g x) → read_along f sort c line s ≡ read_along g sort c line s
+pub read_along-agrees : (f g : ℕ → SlotId → Option SlotEntry) (sort : Sort) (c : ℕ) (line : List ℕ) (s : SlotId) → f c ≡ g c → ((x : ℕ) → Includes line x → f x ≡ g x) → read_along f sort c line s ≡ read_along g sort c line s
 read_along-agrees f g ByItself c line s e h = ap (λ own. own s) e
 read_along-agrees f g BySequence c line s e h =
     bind-agrees (λ d. f d s) (λ d. g d s) (first_with (λ d. has_table (f d) BySequence all_slots) line) (first_with (λ d. has_table (g d) BySequence all_slots) line) (first_with-agrees _ _ line (λ x k. ap (λ own. has_table own BySequence all_slots) (h x k))) (λ x k. ap (λ own. own s) (h x (first_with-held _ line x k)))
@@ -50,7 +50,7 @@ read_along-agrees f g ByMapping c line s e h =
 read_along-agrees f g Nearest c line s e h = first_along-agrees (λ d. f d s) (λ d. g d s) line (λ x k. ap (λ own. own s) (h x k))
 
 -- two tables, and the classes at which they agree on a slot's names
-module _ {K L : Type 0} (keys : Keys K) (others : Keys L) (natives : Natives) (s : SlotId) (t : Classes K) (u : Classes L) (At : ℕ → Type 0) (inside : (x : ℕ) (l : List ℕ) (y : ℕ) → At x → lin t x ≡ Some l → Holds l y → At y) (lins : (x : ℕ) → At x → lin t x ≡ lin u x) (heaps : (x : ℕ) → At x → is_heap_at (class_at t x) ≡ is_heap_at (class_at u x)) (owns : (x : ℕ) → At x → own_of (is_name_of keys s) (class_at t x) ≡ own_of (is_name_of others s) (class_at u x)) where
+module _ {K L : Type 0} (keys : Keys K) (others : Keys L) (natives : Natives) (s : SlotId) (t : Classes K) (u : Classes L) (At : ℕ → Type 0) (inside : (x : ℕ) (l : List ℕ) (y : ℕ) → At x → lin t x ≡ Some l → Includes l y → At y) (lins : (x : ℕ) → At x → lin t x ≡ lin u x) (heaps : (x : ℕ) → At x → is_heap_at (class_at t x) ≡ is_heap_at (class_at u x)) (owns : (x : ℕ) → At x → own_of (is_name_of keys s) (class_at t x) ≡ own_of (is_name_of others s) (class_at u x)) where
   heap_entry-agrees : (c : ℕ) (line : List ℕ) → At c → lin t c ≡ Some line → heap_entry keys t c line s ≡ heap_entry others u c line s
   heap_entry-agrees c line p e =
       let a = owns c p in

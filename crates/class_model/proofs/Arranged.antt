@@ -1,11 +1,11 @@
 -- All orders are among the arrangements, so that the least of them is found.
 use Rattle.std.proofs.Common.{◌≡◌, ℕ, zero, suc, ◌≤◌, Bool, true, false, cond, List, [], ◌∷◌, map, filter, length, Option, Some, None, inl, inr, refl, sym, ap, arith}
-use Rattle.class_model.specs.Order.{members_of, is_order, ranks, is_lexicographic, without, unique, arrangements, all_arrangements, lesser, least, least_order, Holds, Distinct, IsOrder, IsLeastOrder}
-use Rattle.class_model.proofs.Held.{Holds-equal, Holds-flat_map, Holds-map, Holds-filter, from_filter, Holds-without, from_without, Holds-unique, from_unique, distinct-fewer}
+use Rattle.class_model.specs.Order.{members_of, is_order, ranks, is_lexicographic, without, unique, arrangements, all_arrangements, lesser, least, least_order, Includes, Distinct, IsOrder, IsLeastOrder}
+use Rattle.class_model.proofs.Held.{Includes-equal, Includes-flat_map, Includes-map, Includes-filter, from_filter, Includes-without, from_without, Includes-unique, from_unique, distinct-fewer}
 use Rattle.class_model.proofs.Tests.{Decides-order}
 use Rattle.class_model.proofs.Lexicographic.{least-none, least-first}
 
-arranged : (n : ℕ) (ms xs : List ℕ) → Distinct xs → ((y : ℕ) → Holds xs y → Holds ms y) → ((y : ℕ) → Holds ms y → Holds xs y) → length xs ≤ n → Holds (arrangements n ms) xs
+arranged : (n : ℕ) (ms xs : List ℕ) → Distinct xs → ((y : ℕ) → Includes xs y → Includes ms y) → ((y : ℕ) → Includes ms y → Includes xs y) → length xs ≤ n → Includes (arrangements n ms) xs
 unfolding arrangements
 arranged zero ms [] d to from few = inl refl
 arranged zero ms (x ∷ xs) d to from few = absurd (omega arith)
@@ -14,31 +14,31 @@ arranged (suc n) [] (x ∷ xs) d to from few = absurd (to x (inl refl))
 arranged (suc n) (m ∷ ms) [] d to from few = absurd (from m (inl refl))
 arranged (suc n) (m ∷ ms) (x ∷ xs) d to from few =
     let rest = without x (m ∷ ms) in
-    Holds-flat_map (λ z. map (λ zs. z ∷ zs) (arrangements n (without z (m ∷ ms)))) (m ∷ ms) x (x ∷ xs) (to x (inl refl)) (Holds-map (λ zs. x ∷ zs) (arrangements n rest) xs (arranged n rest xs d.1 (λ y h. Holds-without x y (m ∷ ms) (to y (inr h)) (λ e. d.0 (Holds-equal xs y x e h))) (λ y h. back y h) (omega arith)))
+    Includes-flat_map (λ z. map (λ zs. z ∷ zs) (arrangements n (without z (m ∷ ms)))) (m ∷ ms) x (x ∷ xs) (to x (inl refl)) (Includes-map (λ zs. x ∷ zs) (arrangements n rest) xs (arranged n rest xs d.1 (λ y h. Includes-without x y (m ∷ ms) (to y (inr h)) (λ e. d.0 (Includes-equal xs y x e h))) (λ y h. back y h) (omega arith)))
   where
-    back : (y : ℕ) → Holds (without x (m ∷ ms)) y → Holds xs y
+    back : (y : ℕ) → Includes (without x (m ∷ ms)) y → Includes xs y
     back y h = let r = from_without x y (m ∷ ms) h in elim (from y r.0) [ inl e ↦ absurd (r.1 (sym e)) | inr k ↦ k ]
 
 -- the orders that are among the arrangements
 tried : ℕ → List ℕ → List (List ℕ) → List (List ℕ)
 tried c bases lines = filter (is_order c bases lines) (all_arrangements (members_of c lines))
 
-order-tried : (c : ℕ) (bases : List ℕ) (lines : List (List ℕ)) (xs : List ℕ) → IsOrder c bases lines xs → Holds (tried c bases lines) xs
+order-tried : (c : ℕ) (bases : List ℕ) (lines : List (List ℕ)) (xs : List ℕ) → IsOrder c bases lines xs → Includes (tried c bases lines) xs
 unfolding all_arrangements tried
 order-tried c bases lines xs o =
     let ms = members_of c lines in
-    let to : (y : ℕ) → Holds xs y → Holds (unique ms) y = λ y h. Holds-unique ms y (o.members_only y h) in
-    Holds-filter (is_order c bases lines) (all_arrangements ms) xs (arranged (length (unique ms)) (unique ms) xs o.distinct to (λ y h. o.all_members y (from_unique ms y h)) (distinct-fewer xs (unique ms) o.distinct to)) ((Decides-order c bases lines xs).1 o)
+    let to : (y : ℕ) → Includes xs y → Includes (unique ms) y = λ y h. Includes-unique ms y (o.members_only y h) in
+    Includes-filter (is_order c bases lines) (all_arrangements ms) xs (arranged (length (unique ms)) (unique ms) xs o.distinct to (λ y h. o.all_members y (from_unique ms y h)) (distinct-fewer xs (unique ms) o.distinct to)) ((Decides-order c bases lines xs).1 o)
 
-least-held : (key : List ℕ → List ℕ) (all : List (List ℕ)) (z : List ℕ) → least key all ≡ Some z → Holds all z
+least-held : (key : List ℕ → List ℕ) (all : List (List ℕ)) (z : List ℕ) → least key all ≡ Some z → Includes all z
 least-held key [] z e = cc
 least-held key (a ∷ all) z e = go (least key all) (least-held key all) e
   where
-    pick : (y : List ℕ) (b : Bool) → Holds all y → ◌≡◌ {A = Option (List ℕ)} (Some (cond b a y)) (Some z) → Holds (a ∷ all) z
+    pick : (y : List ℕ) (b : Bool) → Includes all y → ◌≡◌ {A = Option (List ℕ)} (Some (cond b a y)) (Some z) → Includes (a ∷ all) z
     pick y true h e = inl cc
-    pick y false h e = inr (Holds-equal all y z (cc) h)
+    pick y false h e = inr (Includes-equal all y z (cc) h)
 
-    go : (o : Option (List ℕ)) → ((w : List ℕ) → o ≡ Some w → Holds all w) → lesser key a o ≡ Some z → Holds (a ∷ all) z
+    go : (o : Option (List ℕ)) → ((w : List ℕ) → o ≡ Some w → Includes all w) → lesser key a o ≡ Some z → Includes (a ∷ all) z
     go None f e = inl cc
     go (Some y) f e = pick y (is_lexicographic (key a) (key y)) (f y refl) e
 

@@ -2,17 +2,17 @@
 use Rattle.std.proofs.Common.{◌≡◌, ℕ, Bool, true, false, cond, ◌&&◌, List, [], ◌∷◌, ◌++◌, map, Option, Some, None, inl, inr, refl, sym, ap, ◌∙◌}
 use Rattle.std.proofs.lemmas.Bool.{both_ways, and_parts, false_from_ne_true}
 use Rattle.std.proofs.lemmas.List.{map-append}
-use Rattle.class_model.specs.Order.{Holds}
+use Rattle.class_model.specs.Order.{Includes}
 use Rattle.class_model.specs.Class.{Classes, lin, is_sub, is_along}
 use Rattle.class_model.specs.Layout.{derives_all, first_best, solid, best_of}
 use Rattle.class_model.proofs.Tests.{Decides-has}
 use Rattle.class_model.proofs.Rule.{lin-inside, lin-itself}
 
 module _ {K : Type 0} (t : Classes K) where
-  along-of : (a b : ℕ) → is_sub t a b ≡ true → (line : List ℕ) × (lin t a ≡ Some line) × Holds line b
+  along-of : (a b : ℕ) → is_sub t a b ≡ true → (line : List ℕ) × (lin t a ≡ Some line) × Includes line b
   along-of a b e = go (lin t a) refl e
     where
-      go : (o : Option (List ℕ)) → lin t a ≡ o → is_along b o ≡ true → (line : List ℕ) × (lin t a ≡ Some line) × Holds line b
+      go : (o : Option (List ℕ)) → lin t a ≡ o → is_along b o ≡ true → (line : List ℕ) × (lin t a ≡ Some line) × Includes line b
       go None l h = cc
       go (Some line) l h = (line, l, (Decides-has line b).0 h)
 
@@ -56,11 +56,11 @@ module _ {K : Type 0} (t : Classes K) where
       let rest = derives-below c w ds e q.1 in
       ap (λ b. b && derives_all t (Some c) ds) (sub-trans c w d e q.0) ∙ rest
 
-  pub derives-each : (w : ℕ) (f : ℕ → Option ℕ) (bs : List ℕ) (b y : ℕ) → derives_all t (Some w) (map f bs) ≡ true → Holds bs b → f b ≡ Some y → is_sub t w y ≡ true
+  pub derives-each : (w : ℕ) (f : ℕ → Option ℕ) (bs : List ℕ) (b y : ℕ) → derives_all t (Some w) (map f bs) ≡ true → Includes bs b → f b ≡ Some y → is_sub t w y ≡ true
   derives-each w f [] b y e h k = absurd h
   derives-each w f (x ∷ bs) b y e h k = go (f x) refl e (λ q r. derives-each w f bs b y q r k)
     where
-      go : (o : Option ℕ) → f x ≡ o → derives_all t (Some w) (o ∷ map f bs) ≡ true → (derives_all t (Some w) (map f bs) ≡ true → Holds bs b → is_sub t w y ≡ true) → is_sub t w y ≡ true
+      go : (o : Option ℕ) → f x ≡ o → derives_all t (Some w) (o ∷ map f bs) ≡ true → (derives_all t (Some w) (map f bs) ≡ true → Includes bs b → is_sub t w y ≡ true) → is_sub t w y ≡ true
       go None i e more = cc
       go (Some d) i e more =
           let q = and_parts (is_sub t w d) (derives_all t (Some w) (map f bs)) e in
@@ -106,7 +106,7 @@ module _ {K : Type 0} (t : Classes K) where
     best-stays e = stays-along e before best
 
     -- no earlier one is the best any more
-    passed : is_sub t w s ≡ false → (x : ℕ) → Holds before x → derives_all t (solid t x) (map (solid t) (before ++ b ∷ [])) ≡ false
+    passed : is_sub t w s ≡ false → (x : ℕ) → Includes before x → derives_all t (solid t x) (map (solid t) (before ++ b ∷ [])) ≡ false
     passed n x h = false_from_ne_true _ (λ q. go (solid t x) refl (sym (ap (derives_all t (solid t x)) all-is) ∙ q))
       where
         go : (o : Option ℕ) → solid t x ≡ o → derives_all t o (map (solid t) before ++ Some s ∷ []) ≡ true → ⊥
@@ -114,7 +114,7 @@ module _ {K : Type 0} (t : Classes K) where
         go (Some y) k q =
             both_ways _ n (sub-trans w y s (derives-each w (solid t) before x y first h k) (derives-last y s (map (solid t) before) q))
 
-    moves-along : derives_all t (solid t b) (map (solid t) (before ++ b ∷ [])) ≡ true → (bs : List ℕ) → ((x : ℕ) → Holds bs x → derives_all t (solid t x) (map (solid t) (before ++ b ∷ [])) ≡ false) → first_best t (solid t) (before ++ b ∷ []) (bs ++ b ∷ []) ≡ Some b
+    moves-along : derives_all t (solid t b) (map (solid t) (before ++ b ∷ [])) ≡ true → (bs : List ℕ) → ((x : ℕ) → Includes bs x → derives_all t (solid t x) (map (solid t) (before ++ b ∷ [])) ≡ false) → first_best t (solid t) (before ++ b ∷ []) (bs ++ b ∷ []) ≡ Some b
     moves-along e [] h = ap (λ v. cond v (Some b) None) e
     moves-along e (x ∷ bs) h =
         ap (λ v. cond v (Some x) (first_best t (solid t) (before ++ b ∷ []) (bs ++ b ∷ []))) (h x (inl refl)) ∙ moves-along e bs (λ y k. h y (inr k))

@@ -1,7 +1,7 @@
 -- The chain of best bases ends by itself.
 use Rattle.std.proofs.Common.{◌≡◌, ℕ, zero, suc, true, List, [], ◌∷◌, length, Option, Some, None, refl, sym, ◌∙◌}
 use Rattle.std.specs.Prelude.{option_and_then}
-use Rattle.class_model.specs.Order.{linear, Holds}
+use Rattle.class_model.specs.Order.{linear, Includes}
 use Rattle.class_model.specs.Class.{Classes, is_class, bases_of, lin}
 use Rattle.class_model.specs.Layout.{solid, best_of, base}
 use Rattle.class_model.specs.Sound.{AreSound}
@@ -32,10 +32,10 @@ none-chain next (suc n) = tt
 
 module _ {K : Type 0} (t : Classes K) where
   -- the best base is one of the bases
-  pub base-held : (c b : ℕ) → base t c ≡ Some b → (bs : List ℕ) × (bases_of t c ≡ Some bs) × Holds bs b
+  pub base-held : (c b : ℕ) → base t c ≡ Some b → (bs : List ℕ) × (bases_of t c ≡ Some bs) × Includes bs b
   base-held c b e = go (bases_of t c) refl e
     where
-      go : (o : Option (List ℕ)) → bases_of t c ≡ o → option_and_then (best_of t) o ≡ Some b → (bs : List ℕ) × (bases_of t c ≡ Some bs) × Holds bs b
+      go : (o : Option (List ℕ)) → bases_of t c ≡ o → option_and_then (best_of t) o ≡ Some b → (bs : List ℕ) × (bases_of t c ≡ Some bs) × Includes bs b
       go None h e = cc
       go (Some bs) h e = (bs, h, first_best-held t (solid t) bs bs b e)
 
@@ -50,7 +50,7 @@ module _ {K : Type 0} (t : Classes K) where
           let made = linear-made (bases_of t) n c line e in
           let held = base-held c b h in
           let same : held.0 ≡ made.direct = cc (held.1, made.of_class) in
-          let has : Holds made.direct b = rw (sym same) held.2 in
+          let has : Includes made.direct b = rw (sym same) held.2 in
           let deep = all_some-has (linear (bases_of t) n) made.direct made.lines b made.of_bases has in
           more b deep.0 deep.2
 

@@ -3,7 +3,7 @@ use Rattle.std.proofs.Common.{◌≡◌, ℕ, true, ◌≤◌, Bool, List, [], �
 use Rattle.std.specs.Prelude.{option_map, option_and_then}
 use Rattle.py_node.specs.declared.refs.PyObjectRef.{PyObjectRef}
 use Rattle.py_node.specs.Attributes.{with_value}
-use Rattle.class_model.specs.Order.{least_order, all_some, linear, Holds}
+use Rattle.class_model.specs.Order.{least_order, all_some, linear, Includes}
 use Rattle.class_model.specs.Class.{Class, Classes, is_class, bases_of, lin}
 use Rattle.class_model.specs.Numbers.{limit}
 use Rattle.class_model.specs.Change.{with_class, with_changed, with_class_attr}
@@ -18,7 +18,7 @@ module _ {K : Type 0} where
   lin-by t c bs lines line h k e =
       lin-rule t c ∙ ap (option_and_then (λ bs. option_and_then (least_order c bs) (all_some (map (lin t) bs)))) h ∙ ap (option_and_then (least_order c bs)) k ∙ e
 
-  pub lin-one : (t : Classes K) (c b : ℕ) (line : List ℕ) → bases_of t c ≡ Some (b ∷ []) → lin t b ≡ Some line → (Holds line c → ⊥) → lin t c ≡ Some (c ∷ line)
+  pub lin-one : (t : Classes K) (c b : ℕ) (line : List ℕ) → bases_of t c ≡ Some (b ∷ []) → lin t b ≡ Some line → (Includes line c → ⊥) → lin t c ≡ Some (c ∷ line)
   lin-one t c b line h e apart =
       lin-by t c (b ∷ []) (line ∷ []) (c ∷ line) h (ap (λ o. all_some (o ∷ [])) e) (least_order-one_base c b line (lin-begins t b line e) (lin-distinct t b line e) apart)
 

@@ -2,15 +2,15 @@
 use Rattle.std.proofs.Common.{◌≡◌, ℕ, zero, suc, ◌≤◌, Bool, true, false, List, [], ◌∷◌, length, Option, Some, inl, inr, refl, sym, ap, subst, ◌∙◌, arith}
 use Rattle.std.specs.List.{flat_map}
 use Rattle.std.proofs.lemmas.Bool.{false≢true}
-use Rattle.class_model.specs.Order.{has, linear, Holds}
-use Rattle.class_model.proofs.Held.{Holds-equal, Holds-flat_map, from_flat_map, Subsequence-holds, Subsequence-rest, Subsequence-length}
+use Rattle.class_model.specs.Order.{has, linear, Includes}
+use Rattle.class_model.proofs.Held.{Includes-equal, Includes-flat_map, from_flat_map, Subsequence-holds, Subsequence-rest, Subsequence-length}
 use Rattle.class_model.proofs.Tests.{Decides-has}
 use Rattle.class_model.proofs.Arranged.{least_order-order}
 use Rattle.class_model.proofs.Linear.{linear-made, linear-from, linear-zero, linear-grows, linear-order, all_some-at, all_some-holds}
 
 module _ (bases : ℕ → Option (List ℕ)) where
   -- each class along a linearisation has one, no deeper
-  pub linear-member : (n c : ℕ) (xs : List ℕ) (x : ℕ) → linear bases n c ≡ Some xs → Holds xs x → (ys : List ℕ) × (linear bases n x ≡ Some ys)
+  pub linear-member : (n c : ℕ) (xs : List ℕ) (x : ℕ) → linear bases n c ≡ Some xs → Includes xs x → (ys : List ℕ) × (linear bases n x ≡ Some ys)
   linear-member zero c xs x e h = absurd (linear-zero bases c xs e)
   linear-member (suc n) c xs x e h =
       let made = linear-made bases n c xs e in
@@ -30,13 +30,13 @@ module _ (bases : ℕ → Option (List ℕ)) where
   linear-known (suc n) c xs e = let made = linear-made bases n c xs e in (made.direct, made.of_class)
 
   -- a class's bases are along its linearisation
-  pub linear-bases : (n c : ℕ) (xs bs : List ℕ) (x : ℕ) → linear bases n c ≡ Some xs → bases c ≡ Some bs → Holds bs x → Holds xs x
+  pub linear-bases : (n c : ℕ) (xs bs : List ℕ) (x : ℕ) → linear bases n c ≡ Some xs → bases c ≡ Some bs → Includes bs x → Includes xs x
   linear-bases zero c xs bs x e h k = absurd (linear-zero bases c xs e)
   linear-bases (suc n) c xs bs x e h k =
       let made = linear-made bases n c xs e in
       let o = least_order-order c made.direct made.lines xs made.is in
       let s : bs ≡ made.direct = let p = made.of_class in cc in
-      let P : List ℕ → Type 0 = λ w. Holds w x in
+      let P : List ℕ → Type 0 = λ w. Includes w x in
       Subsequence-holds made.direct xs x o.keeps_bases (subst P s k)
 
   -- a linearisation is depth enough for itself
@@ -59,24 +59,24 @@ module _ (bases : ℕ → Option (List ℕ)) where
       go false t deep =
           let m = linear-made bases n c (x ∷ xs) e in
           let o = least_order-order c m.direct m.lines (x ∷ xs) m.is in
-          let away : (y : List ℕ) → Holds m.lines y → Holds y x → ⊥ =
-          λ y h p. false≢true (sym t ∙ (Decides-has (flat_map (λ l. l) m.lines) c).1 (Holds-flat_map (λ l. l) m.lines y c h (Holds-equal y x c o.begins p))) in
-          let shorter : (y : List ℕ) → Holds m.lines y → length y ≤ k = λ y h. let r = Subsequence-length y xs (Subsequence-rest y xs x (o.keeps y h) (away y h)) in omega (arith, r, l) in
+          let away : (y : List ℕ) → Includes m.lines y → Includes y x → ⊥ =
+          λ y h p. false≢true (sym t ∙ (Decides-has (flat_map (λ l. l) m.lines) c).1 (Includes-flat_map (λ l. l) m.lines y c h (Includes-equal y x c o.begins p))) in
+          let shorter : (y : List ℕ) → Includes m.lines y → length y ≤ k = λ y h. let r = Subsequence-length y xs (Subsequence-rest y xs x (o.keeps y h) (away y h)) in omega (arith, r, l) in
           linear-from bases k c (x ∷ xs) m.direct m.lines m.of_class (all_some-at (linear bases n) (linear bases k) m.direct m.lines (λ b y p h q. deep b y k q (shorter y h)) m.of_bases) m.is
 
   -- what a member's linearisation holds, the whole one holds
-  pub linear-inside : (n c : ℕ) (xs : List ℕ) (x : ℕ) (ys : List ℕ) (y : ℕ) → linear bases n c ≡ Some xs → Holds xs x → linear bases n x ≡ Some ys → Holds ys y → Holds xs y
+  pub linear-inside : (n c : ℕ) (xs : List ℕ) (x : ℕ) (ys : List ℕ) (y : ℕ) → linear bases n c ≡ Some xs → Includes xs x → linear bases n x ≡ Some ys → Includes ys y → Includes xs y
   linear-inside zero c xs x ys y e h f k = absurd (linear-zero bases c xs e)
   linear-inside (suc n) c xs x ys y e h f k =
       let made = linear-made bases n c xs e in
       let o = least_order-order c made.direct made.lines xs made.is in
       elim (o.members_only x h) [
-        | inl i ↦ let same : ys ≡ xs = let g = ap (linear bases (suc n)) i in cc in let P : List ℕ → Type 0 = λ w. Holds w y in subst P same k
+        | inl i ↦ let same : ys ≡ xs = let g = ap (linear bases (suc n)) i in cc in let P : List ℕ → Type 0 = λ w. Includes w y in subst P same k
         | inr p ↦
             let r = from_flat_map (λ l. l) made.lines x p in
             let b = all_some-holds (linear bases n) made.direct made.lines r.0 made.of_bases r.1 in
             let q = linear-member n b.0 r.0 x b.2 r.2 in
             let up = linear-grows bases bases (λ d bs p. p) n (suc n) (omega arith) x q.0 q.1 in
             let same : linear bases n x ≡ Some ys = cc (q.1, up, f) in
-            o.all_members y (inr (Holds-flat_map (λ l. l) made.lines r.0 y r.1 (linear-inside n b.0 r.0 x ys y b.2 r.2 same k)))
+            o.all_members y (inr (Includes-flat_map (λ l. l) made.lines r.0 y r.1 (linear-inside n b.0 r.0 x ys y b.2 r.2 same k)))
       ]

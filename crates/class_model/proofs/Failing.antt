@@ -4,7 +4,7 @@ use Rattle.std.specs.Prelude.{is_some, is_none, slice_get, option_map, option_an
 use Rattle.std.proofs.lemmas.Bool.{or_cases, or_left, or_right, and_parts, and_from}
 use Rattle.py_node.specs.declared.raised.Cause.{Cause}
 use Rattle.py_node.specs.declared.raised.Cause.TheVariants.{LocalPrecedence, MroConflict}
-use Rattle.class_model.specs.Order.{has, all_some, least_order, Holds}
+use Rattle.class_model.specs.Order.{has, all_some, least_order, Includes}
 use Rattle.class_model.specs.Class.{Class, Classes, bases_of, lin, past_first}
 use Rattle.class_model.specs.Numbers.{is_ascending, ascend_from, numbers_of}
 use Rattle.class_model.specs.Change.{with_bases, is_blamed, blamed_along, stands_past, breaks_precedence, order_cause, caused, failing}
@@ -16,12 +16,12 @@ use Rattle.class_model.proofs.Rule.{bases_of-get, lin-rule, all_some-map}
 
 -- the precedence of bases
 
-past-to : (b : ℕ) (ls : List (List ℕ)) → stands_past b ls ≡ true → (j : ℕ) × ((l : List ℕ) × ((slice_get ls j ≡ Some l) × Holds (past_first l) b))
+past-to : (b : ℕ) (ls : List (List ℕ)) → stands_past b ls ≡ true → (j : ℕ) × ((l : List ℕ) × ((slice_get ls j ≡ Some l) × Includes (past_first l) b))
 past-to b [] e = cc
 past-to b (l ∷ ls) e =
     elim (or_cases (has (past_first l) b) (stands_past b ls) e) [ inl h ↦ (zero, (l, (refl, (Decides-has (past_first l) b).0 h))) | inr h ↦ let r = past-to b ls h in (suc r.0, r.1) ]
 
-past-from : (b : ℕ) (ls : List (List ℕ)) (j : ℕ) (l : List ℕ) → slice_get ls j ≡ Some l → Holds (past_first l) b → stands_past b ls ≡ true
+past-from : (b : ℕ) (ls : List (List ℕ)) (j : ℕ) (l : List ℕ) → slice_get ls j ≡ Some l → Includes (past_first l) b → stands_past b ls ≡ true
 past-from b [] j l e h = cc
 past-from b (m ∷ ls) zero l e h =
     let same : m ≡ l = cc in
@@ -40,7 +40,7 @@ breaks-to (b ∷ bs) (l ∷ ls) e =
           record { place = suc r.place; later = suc r.later; base = r.base; line = r.line; before = omega (arith, before); at_place = r.at_place; at_later = r.at_later; past = r.past }
     ]
 
-breaks-at : (bs : List ℕ) (ls : List (List ℕ)) (i j b : ℕ) (l : List ℕ) → i < j → slice_get bs i ≡ Some b → slice_get ls j ≡ Some l → Holds (past_first l) b → breaks_precedence bs ls ≡ true
+breaks-at : (bs : List ℕ) (ls : List (List ℕ)) (i j b : ℕ) (l : List ℕ) → i < j → slice_get bs i ≡ Some b → slice_get ls j ≡ Some l → Includes (past_first l) b → breaks_precedence bs ls ≡ true
 breaks-at [] ls i j b l m e f h = cc
 breaks-at (c ∷ bs) [] i j b l m e f h = cc
 breaks-at (c ∷ bs) (k ∷ ls) i zero b l m e f h = absurd (omega (arith, m))

@@ -1,7 +1,7 @@
 -- Classes stay sound, and their places stay, where one class is changed and keeps its number, bases and members.
 use Rattle.std.proofs.Common.{◌≡◌, ℕ, cond, not, ◌&&◌, ◌||◌, List, [], ◌∷◌, ◌++◌, length, Some, inl, inr, refl, sym, ap, ◌∙◌}
 use Rattle.std.specs.Prelude.{nat_lt, is_some, option_map}
-use Rattle.class_model.specs.Order.{Holds}
+use Rattle.class_model.specs.Order.{Includes}
 use Rattle.class_model.specs.Class.{Class, Classes, class_at, is_class, bases_of, lin, is_along}
 use Rattle.class_model.specs.Numbers.{ascend_from}
 use Rattle.class_model.specs.Change.{with_changed}
@@ -13,14 +13,14 @@ use Rattle.class_model.proofs.Changed.{lin-changed}
 use Rattle.class_model.proofs.Solid.{solid_within-same, base-agrees}
 
 module _ {K L : Type 0} (t : Classes K) (u : Classes L) where
-  pub layout_along-agrees : (line : List ℕ) → ((x : ℕ) → Holds line x → is_solid t x ≡ is_solid u x) → layout_along t line ≡ layout_along u line
+  pub layout_along-agrees : (line : List ℕ) → ((x : ℕ) → Includes line x → is_solid t x ≡ is_solid u x) → layout_along t line ≡ layout_along u line
   layout_along-agrees [] h = refl
   layout_along-agrees (c ∷ cs) h =
       let a : layout_along t cs ≡ layout_along u cs = layout_along-agrees cs (λ x k. h x (inr k)) in
       ap (λ l. l ++ cond (is_solid t c) (c ∷ []) []) a ∙ ap (λ b. layout_along u cs ++ cond b (c ∷ []) []) (h c (inl refl))
 
   -- a layout is that of the linearisation
-  pub layout-agrees : (c : ℕ) → lin t c ≡ lin u c → ((line : List ℕ) (x : ℕ) → lin t c ≡ Some line → Holds line x → is_solid t x ≡ is_solid u x) → layout t c ≡ layout u c
+  pub layout-agrees : (c : ℕ) → lin t c ≡ lin u c → ((line : List ℕ) (x : ℕ) → lin t c ≡ Some line → Includes line x → is_solid t x ≡ is_solid u x) → layout t c ≡ layout u c
   layout-agrees c e h =
       bind-agrees (λ line. Some (layout_along t line)) (λ line. Some (layout_along u line)) (lin t c) (lin u c) e (λ line q. ap Some (layout_along-agrees line (λ x k. h line x q k)))
 

@@ -2,7 +2,7 @@
 use Rattle.std.proofs.Common.{◌≡◌, ℕ, ◌<◌, Bool, true, false, cond, List, [], ◌∷◌, Option, Some, None, ◌⊎◌, inl, inr, refl, sym, ap, ◌∙◌, arith}
 use Rattle.std.specs.Prelude.{◌&&◌, ltb, eqb}
 use Rattle.std.proofs.lemmas.Bool.{ltb-true, lt-ltb, eqb-true, eq-eqb, or_cases, or_left, or_right, and_parts, and_from, cases_order, both_ways}
-use Rattle.class_model.specs.Order.{is_lexicographic, lesser, least, Holds}
+use Rattle.class_model.specs.Order.{is_lexicographic, lesser, least, Includes}
 
 -- the head is less, or the heads are the same and the rest is before
 Ahead : ℕ → List ℕ → ℕ → List ℕ → Type 0
@@ -51,22 +51,22 @@ other_way (x ∷ xs) (y ∷ ys) e = from_ahead y x ys xs (turn (is_lexicographic
 -- one of the keys stands before all of them
 module _ (key : List ℕ → List ℕ) where
   IsFirst : List ℕ → List (List ℕ) → Type 0
-  IsFirst z all = (y : List ℕ) → Holds all y → is_lexicographic (key z) (key y) ≡ true
+  IsFirst z all = (y : List ℕ) → Includes all y → is_lexicographic (key z) (key y) ≡ true
 
   -- as the least of none, of the first alone, or of the first and the least of the others
-  step : (a : List ℕ) (all : List (List ℕ)) (o : Option (List ℕ)) → (o ≡ None → (y : List ℕ) → Holds all y → ⊥) → ((w : List ℕ) → o ≡ Some w → IsFirst w all) → (z : List ℕ) → lesser key a o ≡ Some z → IsFirst z (a ∷ all)
+  step : (a : List ℕ) (all : List (List ℕ)) (o : Option (List ℕ)) → (o ≡ None → (y : List ℕ) → Includes all y → ⊥) → ((w : List ℕ) → o ≡ Some w → IsFirst w all) → (z : List ℕ) → lesser key a o ≡ Some z → IsFirst z (a ∷ all)
   unfolding IsFirst
   step a all None none more z e y (inl i) = let s : z ≡ a = cc in ap (λ w. is_lexicographic (key z) (key w)) (sym i ∙ sym s) ∙ itself (key z)
   step a all None none more z e y (inr h) = absurd (none refl y h)
   step a all (Some w) none more z e y h = pick (is_lexicographic (key a) (key w)) refl h (cc)
     where
-      pick : (b : Bool) → is_lexicographic (key a) (key w) ≡ b → Holds (a ∷ all) y → z ≡ cond b a w → is_lexicographic (key z) (key y) ≡ true
+      pick : (b : Bool) → is_lexicographic (key a) (key w) ≡ b → Includes (a ∷ all) y → z ≡ cond b a w → is_lexicographic (key z) (key y) ≡ true
       pick true t (inl i) s = ap (λ v. is_lexicographic (key z) (key v)) (sym i ∙ sym s) ∙ itself (key z)
       pick true t (inr k) s = ap (λ v. is_lexicographic (key v) (key y)) s ∙ passed (key a) (key w) (key y) t (more w refl y k)
       pick false t (inl i) s = ap (λ v. is_lexicographic (key v) (key y)) s ∙ ap (λ v. is_lexicographic (key w) (key v)) (sym i) ∙ other_way (key a) (key w) t
       pick false t (inr k) s = ap (λ v. is_lexicographic (key v) (key y)) s ∙ more w refl y k
 
-  pub least-none : (all : List (List ℕ)) → least key all ≡ None → (y : List ℕ) → Holds all y → ⊥
+  pub least-none : (all : List (List ℕ)) → least key all ≡ None → (y : List ℕ) → Includes all y → ⊥
   least-none [] e y h = h
   least-none (a ∷ all) e y h = go (least key all) e
     where
@@ -74,7 +74,7 @@ module _ (key : List ℕ → List ℕ) where
       go None e = cc
       go (Some w) e = cc
 
-  pub least-first : (all : List (List ℕ)) (z : List ℕ) → least key all ≡ Some z → (y : List ℕ) → Holds all y → is_lexicographic (key z) (key y) ≡ true
+  pub least-first : (all : List (List ℕ)) (z : List ℕ) → least key all ≡ Some z → (y : List ℕ) → Includes all y → is_lexicographic (key z) (key y) ≡ true
   unfolding IsFirst
   least-first [] z e y h = absurd h
   least-first (a ∷ all) z e y h = step a all (least key all) (least-none all) (least-first all) z e y h

@@ -1,7 +1,7 @@
 -- Linearisations by depth: what they are made of, and what they depend on.
 use Rattle.std.proofs.Common.{◌≡◌, ℕ, zero, suc, ◌≤◌, List, [], ◌∷◌, map, Option, Some, None, inl, inr, refl, sym, ap, subst, ◌∙◌, arith}
 use Rattle.std.specs.Prelude.{option_map, option_and_then}
-use Rattle.class_model.specs.Order.{least_order, all_some, linear, Holds, Distinct, BeginsWith}
+use Rattle.class_model.specs.Order.{least_order, all_some, linear, Includes, Distinct, BeginsWith}
 use Rattle.class_model.proofs.Arranged.{least_order-order}
 
 -- where a linearisation comes from
@@ -34,18 +34,18 @@ unfolding linear
 linear-zero bases c xs e = cc
 
 -- the lines of the bases are there again where each base has its line again
-pub all_some-at : (f g : ℕ → Option (List ℕ)) (bs : List ℕ) (ls : List (List ℕ)) → ((b : ℕ) (l : List ℕ) → Holds bs b → Holds ls l → f b ≡ Some l → g b ≡ Some l) → all_some (map f bs) ≡ Some ls → all_some (map g bs) ≡ Some ls
+pub all_some-at : (f g : ℕ → Option (List ℕ)) (bs : List ℕ) (ls : List (List ℕ)) → ((b : ℕ) (l : List ℕ) → Includes bs b → Includes ls l → f b ≡ Some l → g b ≡ Some l) → all_some (map f bs) ≡ Some ls → all_some (map g bs) ≡ Some ls
 all_some-at f g [] ls h e = e
 all_some-at f g (b ∷ bs) ls h e = go (f b) (λ l k. h b l (inl refl) k) (λ ms k r. all_some-at f g bs ms (λ a l p q. h a l (inr p) (k l q)) r) e
   where
-    push : (l : List ℕ) (r : Option (List (List ℕ))) → (Holds ls l → g b ≡ Some l) → ((ms : List (List ℕ)) → ((m : List ℕ) → Holds ms m → Holds ls m) → r ≡ Some ms → all_some (map g bs) ≡ Some ms) → option_map (λ xs. l ∷ xs) r ≡ Some ls → all_some (g b ∷ map g bs) ≡ Some ls
+    push : (l : List ℕ) (r : Option (List (List ℕ))) → (Includes ls l → g b ≡ Some l) → ((ms : List (List ℕ)) → ((m : List ℕ) → Includes ms m → Includes ls m) → r ≡ Some ms → all_some (map g bs) ≡ Some ms) → option_map (λ xs. l ∷ xs) r ≡ Some ls → all_some (g b ∷ map g bs) ≡ Some ls
     push l None k more e = cc
     push l (Some ms) k more e =
         let s : l ∷ ms ≡ ls = cc in
-        let within : (m : List ℕ) → Holds (l ∷ ms) m → Holds ls m = λ m. let Q : List (List ℕ) → Type 0 = λ w. Holds w m in subst Q s in
+        let within : (m : List ℕ) → Includes (l ∷ ms) m → Includes ls m = λ m. let Q : List (List ℕ) → Type 0 = λ w. Includes w m in subst Q s in
         rw (k (within l (inl refl))) (ap (option_map (λ xs. l ∷ xs)) (more ms (λ m q. within m (inr q)) refl) ∙ e)
 
-    go : (o : Option (List ℕ)) → ((l : List ℕ) → Holds ls l → o ≡ Some l → g b ≡ Some l) → ((ms : List (List ℕ)) → ((m : List ℕ) → Holds ms m → Holds ls m) → all_some (map f bs) ≡ Some ms → all_some (map g bs) ≡ Some ms) → all_some (o ∷ map f bs) ≡ Some ls → all_some (g b ∷ map g bs) ≡ Some ls
+    go : (o : Option (List ℕ)) → ((l : List ℕ) → Includes ls l → o ≡ Some l → g b ≡ Some l) → ((ms : List (List ℕ)) → ((m : List ℕ) → Includes ms m → Includes ls m) → all_some (map f bs) ≡ Some ms → all_some (map g bs) ≡ Some ms) → all_some (o ∷ map f bs) ≡ Some ls → all_some (g b ∷ map g bs) ≡ Some ls
     go None k more e = cc
     go (Some l) k more e = push l (all_some (map f bs)) (λ q. k l q refl) more e
 
@@ -74,32 +74,32 @@ linear-order bases (suc n) c xs e =
     (o.begins, o.distinct)
 
 -- each line comes of a base
-pub all_some-holds : (f : ℕ → Option (List ℕ)) (bs : List ℕ) (ls : List (List ℕ)) (l : List ℕ) → all_some (map f bs) ≡ Some ls → Holds ls l → (b : ℕ) × Holds bs b × (f b ≡ Some l)
+pub all_some-holds : (f : ℕ → Option (List ℕ)) (bs : List ℕ) (ls : List (List ℕ)) (l : List ℕ) → all_some (map f bs) ≡ Some ls → Includes ls l → (b : ℕ) × Includes bs b × (f b ≡ Some l)
 all_some-holds f [] [] l e h = absurd h
 all_some-holds f [] (m ∷ ls) l e h = cc
 all_some-holds f (b ∷ bs) ls l e h = go (f b) refl (all_some-holds f bs) e
   where
-    push : (m : List ℕ) → f b ≡ Some m → (r : Option (List (List ℕ))) → ((ms : List (List ℕ)) (w : List ℕ) → r ≡ Some ms → Holds ms w → (x : ℕ) × Holds bs x × (f x ≡ Some w)) → option_map (λ xs. m ∷ xs) r ≡ Some ls → (x : ℕ) × Holds (b ∷ bs) x × (f x ≡ Some l)
+    push : (m : List ℕ) → f b ≡ Some m → (r : Option (List (List ℕ))) → ((ms : List (List ℕ)) (w : List ℕ) → r ≡ Some ms → Includes ms w → (x : ℕ) × Includes bs x × (f x ≡ Some w)) → option_map (λ xs. m ∷ xs) r ≡ Some ls → (x : ℕ) × Includes (b ∷ bs) x × (f x ≡ Some l)
     push m q None more e = cc
     push m q (Some ms) more e =
         let s : m ∷ ms ≡ ls = cc in
-        let P : List (List ℕ) → Type 0 = λ w. Holds w l in
+        let P : List (List ℕ) → Type 0 = λ w. Includes w l in
         elim (subst P (sym s) h) [ inl i ↦ (b, inl refl, q ∙ ap Some i) | inr k ↦ let r = more ms l refl k in (r.0, inr r.1, r.2) ]
 
-    go : (o : Option (List ℕ)) → f b ≡ o → ((ms : List (List ℕ)) (w : List ℕ) → all_some (map f bs) ≡ Some ms → Holds ms w → (x : ℕ) × Holds bs x × (f x ≡ Some w)) → all_some (o ∷ map f bs) ≡ Some ls → (x : ℕ) × Holds (b ∷ bs) x × (f x ≡ Some l)
+    go : (o : Option (List ℕ)) → f b ≡ o → ((ms : List (List ℕ)) (w : List ℕ) → all_some (map f bs) ≡ Some ms → Includes ms w → (x : ℕ) × Includes bs x × (f x ≡ Some w)) → all_some (o ∷ map f bs) ≡ Some ls → (x : ℕ) × Includes (b ∷ bs) x × (f x ≡ Some l)
     go None q more e = cc
     go (Some m) q more e = push m q (all_some (map f bs)) more e
 
 -- each base has a line
-pub all_some-has : (f : ℕ → Option (List ℕ)) (bs : List ℕ) (ls : List (List ℕ)) (b : ℕ) → all_some (map f bs) ≡ Some ls → Holds bs b → (l : List ℕ) × Holds ls l × (f b ≡ Some l)
+pub all_some-has : (f : ℕ → Option (List ℕ)) (bs : List ℕ) (ls : List (List ℕ)) (b : ℕ) → all_some (map f bs) ≡ Some ls → Includes bs b → (l : List ℕ) × Includes ls l × (f b ≡ Some l)
 all_some-has f [] ls b e h = absurd h
 all_some-has f (x ∷ bs) ls b e h = go (f x) refl (λ ms. all_some-has f bs ms b) e h
   where
-    push : (l : List ℕ) → f x ≡ Some l → (r : Option (List (List ℕ))) → ((ms : List (List ℕ)) → r ≡ Some ms → Holds bs b → (k : List ℕ) × Holds ms k × (f b ≡ Some k)) → option_map (λ xs. l ∷ xs) r ≡ Some ls → Holds (x ∷ bs) b → (k : List ℕ) × Holds ls k × (f b ≡ Some k)
+    push : (l : List ℕ) → f x ≡ Some l → (r : Option (List (List ℕ))) → ((ms : List (List ℕ)) → r ≡ Some ms → Includes bs b → (k : List ℕ) × Includes ms k × (f b ≡ Some k)) → option_map (λ xs. l ∷ xs) r ≡ Some ls → Includes (x ∷ bs) b → (k : List ℕ) × Includes ls k × (f b ≡ Some k)
     push l q None more e h = cc
-    push l q (Some ms) more e (inl i) = let s : l ∷ ms ≡ ls = cc in let P : List (List ℕ) → Type 0 = λ w. Holds w l in (l, subst P s (inl refl), ap f (sym i) ∙ q)
-    push l q (Some ms) more e (inr h) = let s : l ∷ ms ≡ ls = cc in let r = more ms refl h in let P : List (List ℕ) → Type 0 = λ w. Holds w r.0 in (r.0, subst P s (inr r.1), r.2)
+    push l q (Some ms) more e (inl i) = let s : l ∷ ms ≡ ls = cc in let P : List (List ℕ) → Type 0 = λ w. Includes w l in (l, subst P s (inl refl), ap f (sym i) ∙ q)
+    push l q (Some ms) more e (inr h) = let s : l ∷ ms ≡ ls = cc in let r = more ms refl h in let P : List (List ℕ) → Type 0 = λ w. Includes w r.0 in (r.0, subst P s (inr r.1), r.2)
 
-    go : (o : Option (List ℕ)) → f x ≡ o → ((ms : List (List ℕ)) → all_some (map f bs) ≡ Some ms → Holds bs b → (k : List ℕ) × Holds ms k × (f b ≡ Some k)) → all_some (o ∷ map f bs) ≡ Some ls → Holds (x ∷ bs) b → (k : List ℕ) × Holds ls k × (f b ≡ Some k)
+    go : (o : Option (List ℕ)) → f x ≡ o → ((ms : List (List ℕ)) → all_some (map f bs) ≡ Some ms → Includes bs b → (k : List ℕ) × Includes ms k × (f b ≡ Some k)) → all_some (o ∷ map f bs) ≡ Some ls → Includes (x ∷ bs) b → (k : List ℕ) × Includes ls k × (f b ≡ Some k)
     go None q more e h = cc
     go (Some l) q more e h = push l q (all_some (map f bs)) more e h

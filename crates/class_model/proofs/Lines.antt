@@ -2,13 +2,13 @@
 use Rattle.std.proofs.Common.{◌≡◌, ℕ, zero, suc, ◌<◌, ◌≤◌, true, not, cond, ◌||◌, List, [], ◌∷◌, map, length, Option, Some, None, inl, inr, refl, sym, ap, subst, ◌∙◌, arith}
 use Rattle.std.specs.Prelude.{nat_lt, option_map, option_and_then}
 use Rattle.class_model.proofs.Arranged.{least_order-order}
-use Rattle.class_model.specs.Order.{linear, least_order, all_some, Holds, Distinct, Subsequence}
+use Rattle.class_model.specs.Order.{linear, least_order, all_some, Includes, Distinct, Subsequence}
 use Rattle.class_model.specs.Class.{Class, Classes, is_class, bases_of, lin}
 use Rattle.class_model.specs.Numbers.{limit}
 use Rattle.class_model.specs.Change.{with_class}
 use Rattle.class_model.specs.Layout.{built_ins, is_empty, first_best, solid_within, solid, best_of, base}
 use Rattle.class_model.specs.Sound.{AreSound}
-use Rattle.class_model.proofs.Held.{Holds-equal, Subsequence-holds, Subsequence-itself, from_flat_map}
+use Rattle.class_model.proofs.Held.{Includes-equal, Subsequence-holds, Subsequence-itself, from_flat_map}
 use Rattle.class_model.proofs.Linear.{linear-made, linear-zero, all_some-holds}
 use Rattle.class_model.proofs.Agreed.{bind-agrees}
 use Rattle.class_model.proofs.Rule.{lin-from, lin-classes, lin-below, lin-least}
@@ -20,7 +20,7 @@ pub all_some-some : {A : Type 0} (xs : List A) → all_some (map Some xs) ≡ So
 all_some-some [] = refl
 all_some-some (x ∷ xs) = ap (option_map (λ ys. x ∷ ys)) (all_some-some xs)
 
-lines-same : (f g : ℕ → Option (List ℕ)) (bs : List ℕ) → ((b : ℕ) → Holds bs b → f b ≡ g b) → map f bs ≡ map g bs
+lines-same : (f g : ℕ → Option (List ℕ)) (bs : List ℕ) → ((b : ℕ) → Includes bs b → f b ≡ g b) → map f bs ≡ map g bs
 lines-same f g [] h = refl
 lines-same f g (b ∷ bs) h =
     let a = h b (inl refl) in
@@ -31,7 +31,7 @@ pub subsequence-distinct : (bs xs : List ℕ) → Subsequence bs xs → Distinct
 subsequence-distinct [] xs s d = tt
 subsequence-distinct (b ∷ bs) [] s d = absurd s
 subsequence-distinct (b ∷ bs) (x ∷ xs) (inl p) d =
-    (λ h. d.0 (Holds-equal xs b x p.0 (Subsequence-holds bs xs b p.1 h)), subsequence-distinct bs xs p.1 d.1)
+    (λ h. d.0 (Includes-equal xs b x p.0 (Subsequence-holds bs xs b p.1 h)), subsequence-distinct bs xs p.1 d.1)
 subsequence-distinct (b ∷ bs) (x ∷ xs) (inr s) d = subsequence-distinct (b ∷ bs) xs s d.1
 
 subsequence-trans : (l m xs : List ℕ) → Subsequence l m → Subsequence m xs → Subsequence l xs
@@ -58,7 +58,7 @@ module _ {K : Type 0} where
       subst P s l.least.order.keeps_bases
 
   -- the linearisation of each class along it is kept
-  keeps-deep : (t : Classes K) (n c : ℕ) (line : List ℕ) (x : ℕ) (l : List ℕ) → linear (bases_of t) n c ≡ Some line → Holds line x → lin t x ≡ Some l → Subsequence l line
+  keeps-deep : (t : Classes K) (n c : ℕ) (line : List ℕ) (x : ℕ) (l : List ℕ) → linear (bases_of t) n c ≡ Some line → Includes line x → lin t x ≡ Some l → Subsequence l line
   keeps-deep t zero c line x l e h f = absurd (linear-zero (bases_of t) c line e)
   keeps-deep t (suc n) c line x l e h f =
       let made = linear-made (bases_of t) n c line e in
@@ -72,14 +72,14 @@ module _ {K : Type 0} where
             subsequence-trans l r.0 line (keeps-deep t n b.0 r.0 x l b.2 r.2 f) (o.keeps r.0 r.1)
       ]
 
-  pub keeps-members : (t : Classes K) (c : ℕ) (line : List ℕ) (x : ℕ) (l : List ℕ) → lin t c ≡ Some line → Holds line x → lin t x ≡ Some l → Subsequence l line
+  pub keeps-members : (t : Classes K) (c : ℕ) (line : List ℕ) (x : ℕ) (l : List ℕ) → lin t c ≡ Some line → Includes line x → lin t x ≡ Some l → Subsequence l line
   keeps-members t c line x l e h f = keeps-deep t (length t) c line x l e h f
 
   -- the lines of classes hold classes alone
-  pub lines-below : (t : Classes K) (bs : List ℕ) (lines : List (List ℕ)) (l : List ℕ) (x : ℕ) → all_some (map (lin t) bs) ≡ Some lines → Holds lines l → Holds l x → x < limit t
+  pub lines-below : (t : Classes K) (bs : List ℕ) (lines : List (List ℕ)) (l : List ℕ) (x : ℕ) → all_some (map (lin t) bs) ≡ Some lines → Includes lines l → Includes l x → x < limit t
   lines-below t bs lines l x e h k = let r = all_some-holds (lin t) bs lines l e h in lin-below t r.0 l x r.2 k
 
-module _ {K : Type 0} (t : Classes K) (k : Class K) (ok : AreSound t) (fresh : limit t ≤ k.number) (bases : (b : ℕ) → Holds k.bases b → is_class t b ≡ true) where
+module _ {K : Type 0} (t : Classes K) (k : Class K) (ok : AreSound t) (fresh : limit t ≤ k.number) (bases : (b : ℕ) → Includes k.bases b → is_class t b ≡ true) where
   -- the least order over the linearisations of the bases
   pub lin-value : (line : List ℕ) → option_and_then (least_order k.number k.bases) (all_some (map (lin t) k.bases)) ≡ Some line → lin (with_class t k) k.number ≡ Some line
   lin-value line e = go (all_some (map (lin t) k.bases)) refl e

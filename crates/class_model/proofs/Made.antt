@@ -2,7 +2,7 @@
 use Rattle.std.proofs.Common.{◌≡◌, ℕ, suc, ◌<◌, ◌≤◌, Bool, true, false, cond, not, eqb, List, [], ◌∷◌, map, length, Option, Some, None, inl, inr, refl, sym, ap, subst, ◌∙◌, arith, length-append}
 use Rattle.std.specs.Prelude.{nat_lt, is_some, option_and_then}
 use Rattle.std.proofs.lemmas.Bool.{false_from_ne_true, ltb-true, and_parts}
-use Rattle.class_model.specs.Order.{has, Holds}
+use Rattle.class_model.specs.Order.{has, Includes}
 use Rattle.class_model.specs.Class.{Class, Classes, class_at, is_class, bases_of, lin, is_sub, is_along}
 use Rattle.class_model.specs.Numbers.{numbers_of, past_all, limit}
 use Rattle.class_model.specs.Change.{with_class}
@@ -15,7 +15,7 @@ use Rattle.class_model.proofs.Changed.{bases_of-before, bases_of-last, lin-push}
 use Rattle.class_model.proofs.Solid.{is_solid-push, solid_within-grows, base-push}
 use Rattle.class_model.proofs.Kept.{layout-agrees, is_place-agrees}
 
-map-same : (f g : ℕ → Option ℕ) (bs : List ℕ) → ((b : ℕ) → Holds bs b → f b ≡ g b) → map f bs ≡ map g bs
+map-same : (f g : ℕ → Option ℕ) (bs : List ℕ) → ((b : ℕ) → Includes bs b → f b ≡ g b) → map f bs ≡ map g bs
 map-same f g [] h = refl
 map-same f g (b ∷ bs) h =
     let a = h b (inl refl) in
@@ -23,34 +23,34 @@ map-same f g (b ∷ bs) h =
     cc (a, r)
 
 module _ {K : Type 0} (u : Classes K) where
-  best-held : (f : ℕ → Option ℕ) (all bs : List ℕ) (b : ℕ) → first_best u f all bs ≡ Some b → Holds bs b
+  best-held : (f : ℕ → Option ℕ) (all bs : List ℕ) (b : ℕ) → first_best u f all bs ≡ Some b → Includes bs b
   best-held f all [] b e = cc
   best-held f all (x ∷ bs) b e = go (derives_all u (f x) (map f all)) (best-held f all bs b) e
     where
-      go : (w : Bool) → (first_best u f all bs ≡ Some b → Holds bs b) → cond w (Some x) (first_best u f all bs) ≡ Some b → Holds (x ∷ bs) b
+      go : (w : Bool) → (first_best u f all bs ≡ Some b → Includes bs b) → cond w (Some x) (first_best u f all bs) ≡ Some b → Includes (x ∷ bs) b
       go true more e = inl (cc)
       go false more e = inr (more e)
 
   -- the best base rests on the solid classes of the bases alone
-  best-same : (f g : ℕ → Option ℕ) (all bs : List ℕ) → map f all ≡ map g all → ((b : ℕ) → Holds bs b → f b ≡ g b) → first_best u f all bs ≡ first_best u g all bs
+  best-same : (f g : ℕ → Option ℕ) (all bs : List ℕ) → map f all ≡ map g all → ((b : ℕ) → Includes bs b → f b ≡ g b) → first_best u f all bs ≡ first_best u g all bs
   best-same f g all [] e h = refl
   best-same f g all (b ∷ bs) e h =
       ap (λ os. cond (derives_all u (f b) os) (Some b) (first_best u f all bs)) e
       ∙ ap (λ o. cond (derives_all u o (map g all)) (Some b) (first_best u f all bs)) (h b (inl refl))
       ∙ ap (cond (derives_all u (g b) (map g all)) (Some b)) (best-same f g all bs e (λ x k. h x (inr k)))
 
-has-no : (line : List ℕ) (c : ℕ) → (Holds line c → ⊥) → has line c ≡ false
+has-no : (line : List ℕ) (c : ℕ) → (Includes line c → ⊥) → has line c ≡ false
 has-no line c h = false_from_ne_true (has line c) (λ e. h ((Decides-has line c).0 e))
 
 -- where each class's number is below one, this can be the next class's
-past_all-within : (xs : List ℕ) (n : ℕ) → ((x : ℕ) → Holds xs x → x < n) → past_all xs ≤ n
+past_all-within : (xs : List ℕ) (n : ℕ) → ((x : ℕ) → Includes xs x → x < n) → past_all xs ≤ n
 past_all-within [] n h = omega arith
 past_all-within (x ∷ xs) n h =
     let here = h x (inl refl) in
     let rest = past_all-within xs n (λ y k. h y (inr k)) in
     elim (nat_lt x (past_all xs)) as (λ b. cond b (past_all xs) (suc x) ≤ n) [ true ↦ rest | false ↦ omega arith ]
 
-held-there : {K : Type 0} (t : Classes K) (x : ℕ) → Holds (numbers_of t) x → is_class t x ≡ true
+held-there : {K : Type 0} (t : Classes K) (x : ℕ) → Includes (numbers_of t) x → is_class t x ≡ true
 held-there [] x h = absurd h
 held-there (j ∷ t) x (inl e) = ap is_some (at-here j t x e)
 held-there (j ∷ t) x (inr h) = elim (eqb j.number x) as (λ b. is_some (cond b (Some j) (class_at t x)) ≡ true) [ true ↦ refl | false ↦ held-there t x h ]
@@ -108,7 +108,7 @@ module _ {K : Type 0} (t : Classes K) (k : Class K) (ok : AreSound t) where
       some (Some j) h = refl
 
   -- the new class
-  module _ (fresh : limit t ≤ k.number) (bases : (b : ℕ) → Holds k.bases b → is_class t b ≡ true) where
+  module _ (fresh : limit t ≤ k.number) (bases : (b : ℕ) → Includes k.bases b → is_class t b ≡ true) where
     each : (P : ℕ → Type 0) → ((c : ℕ) → is_class t c ≡ true → P c) → P k.number → (c : ℕ) → is_class more c ≡ true → P c
     each P f last c l = elim (old-or-last t k c l) [ inl h ↦ f c h | inr e ↦ subst P (sym e) last ]
 
@@ -133,7 +133,7 @@ module _ {K : Type 0} (t : Classes K) (k : Class K) (ok : AreSound t) where
         let f = solid_within more (length t) in
         let r = some-of (base more k.number) best in
         let held = best-held more (solid more) k.bases k.bases r.0 (sym base-last ∙ r.1) in
-        let same : (b : ℕ) → Holds k.bases b → f b ≡ solid more b = λ b h. deep (length t) b (omega arith) (bases b h) ∙ sym (solid-old b (bases b h)) in
+        let same : (b : ℕ) → Includes k.bases b → f b ≡ solid more b = λ b h. deep (length t) b (omega arith) (bases b h) ∙ sym (solid-old b (bases b h)) in
         let found : first_best more f k.bases k.bases ≡ Some r.0 = best-same more f (solid more) k.bases k.bases (map-same f (solid more) k.bases same) same ∙ sym base-last ∙ r.1 in
         let there : is_some (f r.0) ≡ true = ap is_some (deep (length t) r.0 (omega arith) (bases r.0 held)) ∙ ok.solid r.0 (bases r.0 held) in
         ap is_some (solid-last ∙ ap (λ o. cond (is_solid more k.number) (Some k.number) (option_and_then f o)) found) ∙ either (is_solid more k.number) (f r.0) there
@@ -162,6 +162,6 @@ module _ {K : Type 0} (t : Classes K) (k : Class K) (ok : AreSound t) where
     }
       where
         -- a base of any class was there
-        old : (c b : ℕ) (bs : List ℕ) → bases_of more c ≡ Some bs → Holds bs b → is_class t b ≡ true
+        old : (c b : ℕ) (bs : List ℕ) → bases_of more c ≡ Some bs → Includes bs b → is_class t b ≡ true
         old c b bs e h =
-            each (λ c. bases_of more c ≡ Some bs → is_class t b ≡ true) (λ c l e. ok.there c b bs (sym (bases_of-before t k c l) ∙ e) h) (λ e. let P : List ℕ → Type 0 = λ bs. Holds bs b in bases b (subst P (sym (last-bases bs e)) h)) c (inside c bs e) e
+            each (λ c. bases_of more c ≡ Some bs → is_class t b ≡ true) (λ c l e. ok.there c b bs (sym (bases_of-before t k c l) ∙ e) h) (λ e. let P : List ℕ → Type 0 = λ bs. Includes bs b in bases b (subst P (sym (last-bases bs e)) h)) c (inside c bs e) e

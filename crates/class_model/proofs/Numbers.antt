@@ -4,7 +4,7 @@ use Rattle.std.specs.Prelude.{nat_lt, leb, is_some, slice_get, option_map}
 use Rattle.std.specs.Bool.{Decides}
 use Rattle.std.proofs.lemmas.Bool.{eq-eqb, ne_eqb, eqb-true, eqb-false, ltb-true, ltb-false, lt-ltb, le-ltb, le-leb, leb-true, and_parts, false_from_ne_true}
 use Rattle.std.proofs.lemmas.List.{map-append}
-use Rattle.class_model.specs.Order.{Holds}
+use Rattle.class_model.specs.Order.{Includes}
 use Rattle.class_model.specs.Class.{Class, Classes, class_at, is_class}
 use Rattle.class_model.specs.Numbers.{numbers_of, ascend_from, is_ascending, Ascending, past_all, limit}
 use Rattle.class_model.specs.Change.{with_class, with_changed}
@@ -23,7 +23,7 @@ past_all-head x xs = go (nat_lt x (past_all xs)) refl
     go true e = let l = ltb-true x (past_all xs) e in (l, omega arith)
     go false e = let l = ltb-false x (past_all xs) e in (omega arith, omega arith)
 
-past_all-above : (xs : List ℕ) (x : ℕ) → Holds xs x → x < past_all xs
+past_all-above : (xs : List ℕ) (x : ℕ) → Includes xs x → x < past_all xs
 past_all-above [] x h = absurd h
 past_all-above (y ∷ xs) x (inl e) = let p = past_all-head y xs in omega (arith, p.0, e)
 past_all-above (y ∷ xs) x (inr h) = let p = past_all-head y xs in let l = past_all-above xs x h in omega (arith, p.1, l)
@@ -60,17 +60,17 @@ module _ {K : Type 0} where
       go true more e = (0, e)
       go false more e = let r = more e in (suc r.0, r.1)
 
-  pub number-held : (t : Classes K) (i : ℕ) (k : Class K) → slice_get t i ≡ Some k → Holds (numbers_of t) k.number
+  pub number-held : (t : Classes K) (i : ℕ) (k : Class K) → slice_get t i ≡ Some k → Includes (numbers_of t) k.number
   number-held [] i k e = cc
   number-held (j ∷ t) zero k e = let s : j ≡ k = cc in inl (ap (λ (x : Class K). x.number) s)
   number-held (j ∷ t) (suc i) k e = inr (number-held t i k e)
 
-  pub at-held : (t : Classes K) (c : ℕ) → is_class t c ≡ true → Holds (numbers_of t) c
+  pub at-held : (t : Classes K) (c : ℕ) → is_class t c ≡ true → Includes (numbers_of t) c
   at-held t c e =
       let r = some-of (class_at t c) e in
       let p = at-place t c r.0 r.1 in
       let s = at-number t c r.0 r.1 in
-      let P : ℕ → Type 0 = λ x. Holds (numbers_of t) x in
+      let P : ℕ → Type 0 = λ x. Includes (numbers_of t) x in
       subst P s (number-held t p.0 r.0 p.1)
 
   pub below-limit : (t : Classes K) (c : ℕ) → is_class t c ≡ true → c < limit t
@@ -92,7 +92,7 @@ module _ {K : Type 0} where
   at-other [] k c n = at-past k [] c n
   at-other (j ∷ t) k c n = ap (cond (eqb j.number c) (Some j)) (at-other t k c n)
 
-  at-end : (t : Classes K) (k : Class K) → ((x : ℕ) → Holds (numbers_of t) x → x ≡ k.number → ⊥) → class_at (with_class t k) k.number ≡ Some k
+  at-end : (t : Classes K) (k : Class K) → ((x : ℕ) → Includes (numbers_of t) x → x ≡ k.number → ⊥) → class_at (with_class t k) k.number ≡ Some k
   at-end [] k n = at-here k [] k.number refl
   at-end (j ∷ t) k n =
       at-past j (with_class t k) k.number (n j.number (inl refl)) ∙ at-end t k (λ x h. n x (inr h))

@@ -1,26 +1,26 @@
 -- With one base a class has one order, itself before the base's linearisation; with none it stands alone.
 use Rattle.std.proofs.Common.{◌≡◌, ℕ, List, [], ◌∷◌, ◌++◌, Some, inl, inr, refl, sym, subst, ◌∙◌}
-use Rattle.class_model.specs.Order.{members_of, least_order, Holds, Distinct, Subsequence, BeginsWith, IsOrder}
-use Rattle.class_model.proofs.Held.{Holds-equal, Holds-left, Holds-sides, Subsequence-more, Subsequence-itself, Subsequence-full, Subsequence-rest, distinct-fewer}
+use Rattle.class_model.specs.Order.{members_of, least_order, Includes, Distinct, Subsequence, BeginsWith, IsOrder}
+use Rattle.class_model.proofs.Held.{Includes-equal, Includes-left, Includes-sides, Subsequence-more, Subsequence-itself, Subsequence-full, Subsequence-rest, distinct-fewer}
 use Rattle.class_model.proofs.Arranged.{least_order-only}
 
-module _ (c b : ℕ) (line : List ℕ) (begins : BeginsWith b line) (distinct : Distinct line) (apart : Holds line c → ⊥) where
+module _ (c b : ℕ) (line : List ℕ) (begins : BeginsWith b line) (distinct : Distinct line) (apart : Includes line c → ⊥) where
   begun : (l : List ℕ) → BeginsWith b l → Subsequence (b ∷ []) l
   begun [] h = absurd h
   begun (x ∷ l) h = inl (sym h, tt)
 
-  alone : (x : ℕ) → Holds (line ++ []) x → Holds line x
-  alone x h = elim (Holds-sides line [] x h) [ inl a ↦ a | inr b ↦ absurd b ]
+  alone : (x : ℕ) → Includes (line ++ []) x → Includes line x
+  alone x h = elim (Includes-sides line [] x h) [ inl a ↦ a | inr b ↦ absurd b ]
 
-  inside : (x : ℕ) → Holds (c ∷ line) x → Holds (members_of c (line ∷ [])) x
+  inside : (x : ℕ) → Includes (c ∷ line) x → Includes (members_of c (line ∷ [])) x
   inside x (inl e) = inl e
-  inside x (inr h) = inr (Holds-left line [] x h)
+  inside x (inr h) = inr (Includes-left line [] x h)
 
-  outside : (x : ℕ) → Holds (members_of c (line ∷ [])) x → Holds (c ∷ line) x
+  outside : (x : ℕ) → Includes (members_of c (line ∷ [])) x → Includes (c ∷ line) x
   outside x (inl e) = inl e
   outside x (inr h) = inr (alone x h)
 
-  keeps : (m : List ℕ) → Holds (line ∷ []) m → Subsequence m (c ∷ line)
+  keeps : (m : List ℕ) → Includes (line ∷ []) m → Subsequence m (c ∷ line)
   keeps m (inl e) = let P : List ℕ → Type 0 = λ w. Subsequence w (c ∷ line) in subst P e (Subsequence-more c line line (Subsequence-itself line))
   keeps m (inr h) = absurd h
 
@@ -38,12 +38,12 @@ module _ (c b : ℕ) (line : List ℕ) (begins : BeginsWith b line) (distinct : 
   only [] o = absurd o.begins
   only (x ∷ xs) o =
       let e : x ≡ c = o.begins in
-      let few = distinct-fewer xs line o.distinct.1 (λ y h. within y (o.members_only y (inr h)) (λ k. o.distinct.0 (Holds-equal xs y x (sym k ∙ sym e) h))) in
-      let rest : Subsequence line xs = Subsequence-rest line xs x (o.keeps line (inl refl)) (λ h. apart (Holds-equal line x c e h)) in
+      let few = distinct-fewer xs line o.distinct.1 (λ y h. within y (o.members_only y (inr h)) (λ k. o.distinct.0 (Includes-equal xs y x (sym k ∙ sym e) h))) in
+      let rest : Subsequence line xs = Subsequence-rest line xs x (o.keeps line (inl refl)) (λ h. apart (Includes-equal line x c e h)) in
       let same = Subsequence-full line xs rest few in
       cc (e, same)
     where
-      within : (y : ℕ) → Holds (members_of c (line ∷ [])) y → (c ≡ y → ⊥) → Holds line y
+      within : (y : ℕ) → Includes (members_of c (line ∷ [])) y → (c ≡ y → ⊥) → Includes line y
       within y (inl k) n = absurd (n k)
       within y (inr k) n = alone y k
 

@@ -2,10 +2,10 @@
 use Rattle.std.proofs.Common.{◌≡◌, ℕ, zero, suc, ◌<◌, true, List, [], ◌∷◌, map, length, Option, Some, None, inl, inr, refl, sym, ap, ◌∙◌, arith}
 use Rattle.std.specs.Prelude.{is_some, option_map, option_and_then}
 use Rattle.std.proofs.lemmas.List.{length-map}
-use Rattle.class_model.specs.Order.{has, least_order, all_some, linear, Holds, Distinct, BeginsWith}
+use Rattle.class_model.specs.Order.{has, least_order, all_some, linear, Includes, Distinct, BeginsWith}
 use Rattle.class_model.specs.Class.{Class, Classes, class_at, is_class, bases_of, lin, IsLeastLine}
 use Rattle.class_model.specs.Numbers.{numbers_of, limit}
-use Rattle.class_model.proofs.Held.{Holds-flat_map, distinct-fewer}
+use Rattle.class_model.proofs.Held.{Includes-flat_map, distinct-fewer}
 use Rattle.class_model.proofs.Tests.{Decides-has}
 use Rattle.class_model.proofs.Arranged.{least_order-order, least_order-least}
 use Rattle.class_model.proofs.Linear.{linear-made, linear-from, linear-zero, linear-grows, linear-order, all_some-at}
@@ -13,15 +13,15 @@ use Rattle.class_model.proofs.Numbers.{at-held, below-limit}
 use Rattle.class_model.proofs.Depth.{linear-member, linear-known, linear-bases, linear-length, linear-inside}
 
 -- it depends on the bases of the classes along it alone
-pub linear-along : (f g : ℕ → Option (List ℕ)) (n c : ℕ) (xs : List ℕ) → linear f n c ≡ Some xs → ((x : ℕ) → Holds xs x → f x ≡ g x) → linear g n c ≡ Some xs
+pub linear-along : (f g : ℕ → Option (List ℕ)) (n c : ℕ) (xs : List ℕ) → linear f n c ≡ Some xs → ((x : ℕ) → Includes xs x → f x ≡ g x) → linear g n c ≡ Some xs
 linear-along f g zero c xs e h = absurd (linear-zero f c xs e)
 linear-along f g (suc n) c xs e h =
     let made = linear-made f n c xs e in
     let o = least_order-order c made.direct made.lines xs made.is in
     let here : g c ≡ Some made.direct = sym (h c (o.all_members c (inl refl))) ∙ made.of_class in
-    linear-from g n c xs made.direct made.lines here (all_some-at (linear f n) (linear g n) made.direct made.lines (λ b l p k q. linear-along f g n b l q (λ x r. h x (o.all_members x (inr (Holds-flat_map (λ l. l) made.lines l x k r))))) made.of_bases) made.is
+    linear-from g n c xs made.direct made.lines here (all_some-at (linear f n) (linear g n) made.direct made.lines (λ b l p k q. linear-along f g n b l q (λ x r. h x (o.all_members x (inr (Includes-flat_map (λ l. l) made.lines l x k r))))) made.of_bases) made.is
 
-BeginsWith-holds : (c : ℕ) (line : List ℕ) → BeginsWith c line → Holds line c
+BeginsWith-holds : (c : ℕ) (line : List ℕ) → BeginsWith c line → Includes line c
 BeginsWith-holds c [] h = absurd h
 BeginsWith-holds c (x ∷ line) h = inl h
 
@@ -48,16 +48,16 @@ module _ {K : Type 0} where
   pub lin-distinct : (t : Classes K) (c : ℕ) (line : List ℕ) → lin t c ≡ Some line → Distinct line
   lin-distinct t c line e = (linear-order (bases_of t) (length t) c line e).1
 
-  pub lin-held : (t : Classes K) (c : ℕ) (line : List ℕ) → lin t c ≡ Some line → Holds line c
+  pub lin-held : (t : Classes K) (c : ℕ) (line : List ℕ) → lin t c ≡ Some line → Includes line c
   lin-held t c line e = BeginsWith-holds c line (lin-begins t c line e)
 
   pub lin-itself : (t : Classes K) (c : ℕ) (line : List ℕ) → lin t c ≡ Some line → has line c ≡ true
   lin-itself t c line e = (Decides-has line c).1 (lin-held t c line e)
 
-  pub lin-member : (t : Classes K) (c : ℕ) (line : List ℕ) (x : ℕ) → lin t c ≡ Some line → Holds line x → (l : List ℕ) × (lin t x ≡ Some l)
+  pub lin-member : (t : Classes K) (c : ℕ) (line : List ℕ) (x : ℕ) → lin t c ≡ Some line → Includes line x → (l : List ℕ) × (lin t x ≡ Some l)
   lin-member t c line x e h = linear-member (bases_of t) (length t) c line x e h
 
-  pub lin-inside : (t : Classes K) (c : ℕ) (line : List ℕ) (x : ℕ) (l : List ℕ) (y : ℕ) → lin t c ≡ Some line → Holds line x → lin t x ≡ Some l → Holds l y → Holds line y
+  pub lin-inside : (t : Classes K) (c : ℕ) (line : List ℕ) (x : ℕ) (l : List ℕ) (y : ℕ) → lin t c ≡ Some line → Includes line x → lin t x ≡ Some l → Includes l y → Includes line y
   lin-inside t c line x l y e h f k = linear-inside (bases_of t) (length t) c line x l y e h f k
 
   -- the class itself is in the table
@@ -67,13 +67,13 @@ module _ {K : Type 0} where
   pub lin-within : (t : Classes K) (c : ℕ) (line : List ℕ) → lin t c ≡ Some line → is_class t c ≡ true
   lin-within t c line e = ap is_some (lin-there t c line e).1
 
-  pub lin-classes : (t : Classes K) (c : ℕ) (line : List ℕ) (x : ℕ) → lin t c ≡ Some line → Holds line x → is_class t x ≡ true
+  pub lin-classes : (t : Classes K) (c : ℕ) (line : List ℕ) (x : ℕ) → lin t c ≡ Some line → Includes line x → is_class t x ≡ true
   lin-classes t c line x e h = let r = lin-member t c line x e h in lin-within t x r.0 r.1
 
-  pub lin-below : (t : Classes K) (c : ℕ) (line : List ℕ) (x : ℕ) → lin t c ≡ Some line → Holds line x → x < limit t
+  pub lin-below : (t : Classes K) (c : ℕ) (line : List ℕ) (x : ℕ) → lin t c ≡ Some line → Includes line x → x < limit t
   lin-below t c line x e h = below-limit t x (lin-classes t c line x e h)
 
-  pub lin-bases : (t : Classes K) (c : ℕ) (line bs : List ℕ) (x : ℕ) → lin t c ≡ Some line → bases_of t c ≡ Some bs → Holds bs x → Holds line x
+  pub lin-bases : (t : Classes K) (c : ℕ) (line bs : List ℕ) (x : ℕ) → lin t c ≡ Some line → bases_of t c ≡ Some bs → Includes bs x → Includes line x
   lin-bases t c line bs x e h k = linear-bases (bases_of t) (length t) c line bs x e h k
 
   -- however deep it was found, it is the linearisation
@@ -105,5 +105,5 @@ module _ {K : Type 0} where
       of_class (Some bs) g h = of_bases bs g (all_some (map (lin t) bs)) refl h
 
   -- tables that give a class's whole line the same bases give it the same linearisation
-  pub lin-along : (t u : Classes K) (c : ℕ) (line : List ℕ) → lin t c ≡ Some line → ((x : ℕ) → Holds line x → bases_of t x ≡ bases_of u x) → lin u c ≡ Some line
+  pub lin-along : (t u : Classes K) (c : ℕ) (line : List ℕ) → lin t c ≡ Some line → ((x : ℕ) → Includes line x → bases_of t x ≡ bases_of u x) → lin u c ≡ Some line
   lin-along t u c line e h = lin-from u (length t) c line (linear-along (bases_of t) (bases_of u) (length t) c line e h)

@@ -6,11 +6,11 @@ use Rattle.py_node.specs.declared.refs.PyObjectRef.{PyObjectRef}
 use Rattle.py_node.specs.declared.entry.SlotId.{SlotId}
 use Rattle.py_node.specs.Attributes.{value_of, with_value}
 use Rattle.py_node.specs.Slots.{names_of, all_slots, sort_of}
-use Rattle.class_model.specs.Order.{has, Holds}
+use Rattle.class_model.specs.Order.{has, Includes}
 use Rattle.class_model.specs.Class.{Class, Classes, class_at, lin, own_of, along, found_by, found}
 use Rattle.class_model.specs.Slot.{Keys, Natives, is_one_of, is_name_of, is_heap_at, entry, entries, read_along, slot}
 use Rattle.class_model.specs.Change.{with_class, with_class_attr}
-use Rattle.class_model.proofs.Held.{Holds-equal}
+use Rattle.class_model.proofs.Held.{Includes-equal}
 use Rattle.class_model.proofs.Tests.{Decides-has}
 use Rattle.class_model.proofs.Numbers.{at-before, at-changed, at-changed_away}
 use Rattle.class_model.proofs.Rule.{lin-held, lin-member, lin-inside, lin-classes, lin-along}
@@ -19,17 +19,17 @@ use Rattle.class_model.proofs.Agreed.{bind-agrees, first_along-agrees, read_alon
 
 module _ {K : Type 0} where
   -- tables that have the same classes along a line
-  pub lin-alike : (t u : Classes K) (c : ℕ) (line : List ℕ) → lin t c ≡ Some line → ((x : ℕ) → Holds line x → class_at t x ≡ class_at u x) → (x : ℕ) → Holds line x → lin t x ≡ lin u x
+  pub lin-alike : (t u : Classes K) (c : ℕ) (line : List ℕ) → lin t c ≡ Some line → ((x : ℕ) → Includes line x → class_at t x ≡ class_at u x) → (x : ℕ) → Includes line x → lin t x ≡ lin u x
   lin-alike t u c line e h x k =
       let r = lin-member t c line x e k in
       r.1 ∙ sym (lin-along t u x r.0 r.1 (λ y p. ap (option_map (λ (j : Class K). j.bases)) (h y (lin-inside t c line x r.0 y e k r.1 p))))
 
-  pub found_by-along : (test : K → Bool) (t u : Classes K) (c : ℕ) (line : List ℕ) → lin t c ≡ Some line → ((x : ℕ) → Holds line x → class_at t x ≡ class_at u x) → found_by test t c ≡ found_by test u c
+  pub found_by-along : (test : K → Bool) (t u : Classes K) (c : ℕ) (line : List ℕ) → lin t c ≡ Some line → ((x : ℕ) → Includes line x → class_at t x ≡ class_at u x) → found_by test t c ≡ found_by test u c
   found_by-along test t u c line e h =
       let same : lin t c ≡ lin u c = lin-alike t u c line e h c (lin-held t c line e) in
-      bind-agrees (along test t) (along test u) (lin t c) (lin u c) same (λ l k. first_along-agrees (λ x. own_of test (class_at t x)) (λ x. own_of test (class_at u x)) l (λ x p. ap (own_of test) (h x (let s : l ≡ line = cc in let P : List ℕ → Type 0 = λ w. Holds w x in subst P s p))))
+      bind-agrees (along test t) (along test u) (lin t c) (lin u c) same (λ l k. first_along-agrees (λ x. own_of test (class_at t x)) (λ x. own_of test (class_at u x)) l (λ x p. ap (own_of test) (h x (let s : l ≡ line = cc in let P : List ℕ → Type 0 = λ w. Includes w x in subst P s p))))
 
-  before : (t : Classes K) (k : Class K) (c : ℕ) (line : List ℕ) → lin t c ≡ Some line → (x : ℕ) → Holds line x → class_at t x ≡ class_at (with_class t k) x
+  before : (t : Classes K) (k : Class K) (c : ℕ) (line : List ℕ) → lin t c ≡ Some line → (x : ℕ) → Includes line x → class_at t x ≡ class_at (with_class t k) x
   before t k c line e x h = sym (at-before t k x (lin-classes t c line x e h))
 
   -- what is found stays the same for the classes that were there
@@ -40,22 +40,22 @@ module _ {K : Type 0} where
   found-push same t k c n line e = found_by-push (λ j. same j n) t k c line e
 
   module _ (keys : Keys K) (natives : Natives) where
-    pub entry-along : (t u : Classes K) (c : ℕ) (line : List ℕ) (s : SlotId) → lin t c ≡ Some line → ((x : ℕ) → Holds line x → class_at t x ≡ class_at u x) → entry keys natives t c s ≡ entry keys natives u c s
+    pub entry-along : (t u : Classes K) (c : ℕ) (line : List ℕ) (s : SlotId) → lin t c ≡ Some line → ((x : ℕ) → Includes line x → class_at t x ≡ class_at u x) → entry keys natives t c s ≡ entry keys natives u c s
     entry-along t u c line s e h =
-        entry-agrees keys keys natives s t u (λ x. Holds line x) (λ x l y k f p. lin-inside t c line x l y e k f p) (lin-alike t u c line e h) (λ x k. ap is_heap_at (h x k)) (λ x k. ap (own_of (is_name_of keys s)) (h x k)) c (lin-held t c line e)
+        entry-agrees keys keys natives s t u (λ x. Includes line x) (λ x l y k f p. lin-inside t c line x l y e k f p) (lin-alike t u c line e h) (λ x k. ap is_heap_at (h x k)) (λ x k. ap (own_of (is_name_of keys s)) (h x k)) c (lin-held t c line e)
 
-    pub entries-along : (t u : Classes K) (c : ℕ) (line : List ℕ) → lin t c ≡ Some line → ((x : ℕ) → Holds line x → class_at t x ≡ class_at u x) → entries keys natives t c ≡ entries keys natives u c
+    pub entries-along : (t u : Classes K) (c : ℕ) (line : List ℕ) → lin t c ≡ Some line → ((x : ℕ) → Includes line x → class_at t x ≡ class_at u x) → entries keys natives t c ≡ entries keys natives u c
     entries-along t u c line e h = λ i. map (λ s. entry-along t u c line s e h i) all_slots
 
-    pub slot-along : (t u : Classes K) (c : ℕ) (line : List ℕ) (s : SlotId) → lin t c ≡ Some line → ((x : ℕ) → Holds line x → class_at t x ≡ class_at u x) → slot keys natives t c s ≡ slot keys natives u c s
+    pub slot-along : (t u : Classes K) (c : ℕ) (line : List ℕ) (s : SlotId) → lin t c ≡ Some line → ((x : ℕ) → Includes line x → class_at t x ≡ class_at u x) → slot keys natives t c s ≡ slot keys natives u c s
     slot-along t u c line s e h = bind-agrees (λ l. read_along (entry keys natives t) (sort_of s) c l s) (λ l. read_along (entry keys natives u) (sort_of s) c l s) (lin t c) (lin u c) (lin-alike t u c line e h c (lin-held t c line e)) each
       where
-        same : (x : ℕ) → Holds line x → entry keys natives t x ≡ entry keys natives u x
+        same : (x : ℕ) → Includes line x → entry keys natives t x ≡ entry keys natives u x
         same x k = let r = lin-member t c line x e k in λ i z. entry-along t u x r.0 z r.1 (λ y p. h y (lin-inside t c line x r.0 y e k r.1 p)) i
 
         each : (l : List ℕ) → lin t c ≡ Some l → read_along (entry keys natives t) (sort_of s) c l s ≡ read_along (entry keys natives u) (sort_of s) c l s
         each l f =
-            read_along-agrees (entry keys natives t) (entry keys natives u) (sort_of s) c l s (same c (lin-held t c line e)) (λ x p. same x (let q : l ≡ line = cc in let P : List ℕ → Type 0 = λ w. Holds w x in subst P q p))
+            read_along-agrees (entry keys natives t) (entry keys natives u) (sort_of s) c l s (same c (lin-held t c line e)) (λ x p. same x (let q : l ≡ line = cc in let P : List ℕ → Type 0 = λ w. Includes w x in subst P q p))
 
     -- one more class
     pub entry-push : (t : Classes K) (k : Class K) (c : ℕ) (line : List ℕ) (s : SlotId) → lin t c ≡ Some line → entry keys natives (with_class t k) c s ≡ entry keys natives t c s
@@ -67,9 +67,9 @@ module _ {K : Type 0} where
     pub slot-push : (t : Classes K) (k : Class K) (c : ℕ) (line : List ℕ) (s : SlotId) → lin t c ≡ Some line → slot keys natives (with_class t k) c s ≡ slot keys natives t c s
     slot-push t k c line s e = sym (slot-along t (with_class t k) c line s e (before t k c line e))
 
-    away : (t : Classes K) (c : ℕ) (n : K) (v : PyObjectRef) (line : List ℕ) → has line c ≡ false → (x : ℕ) → Holds line x → class_at t x ≡ class_at (with_class_attr keys.same t c n v) x
+    away : (t : Classes K) (c : ℕ) (n : K) (v : PyObjectRef) (line : List ℕ) → has line c ≡ false → (x : ℕ) → Includes line x → class_at t x ≡ class_at (with_class_attr keys.same t c n v) x
     away t c n v line e x h =
-        sym (at-changed_away (λ k. record k { attrs = with_value keys.same k.attrs n v }) (λ k. refl) t c x (λ i. false≢true (sym e ∙ (Decides-has line c).1 (Holds-equal line x c i h))))
+        sym (at-changed_away (λ k. record k { attrs = with_value keys.same k.attrs n v }) (λ k. refl) t c x (λ i. false≢true (sym e ∙ (Decides-has line c).1 (Includes-equal line x c i h))))
 
     -- an attribute of a class that is not along the line
     pub entry-attr-away : (t : Classes K) (c : ℕ) (n : K) (v : PyObjectRef) (d : ℕ) (line : List ℕ) → lin t d ≡ Some line → has line c ≡ false → entries keys natives (with_class_attr keys.same t c n v) d ≡ entries keys natives t d

@@ -4,7 +4,7 @@ use Rattle.std.proofs.lemmas.Bool.{lt-ltb}
 use Rattle.std.specs.Prelude.{nat_lt, option_map, option_and_then}
 use Rattle.py_node.specs.declared.refs.PyObjectRef.{PyObjectRef}
 use Rattle.py_node.specs.Attributes.{with_value}
-use Rattle.class_model.specs.Order.{linear, Holds}
+use Rattle.class_model.specs.Order.{linear, Includes}
 use Rattle.class_model.specs.Class.{Class, Classes, is_class, bases_of, lin, is_sub, is_along}
 use Rattle.class_model.specs.Numbers.{limit}
 use Rattle.class_model.specs.Change.{with_class, with_class_attr}
@@ -15,15 +15,15 @@ use Rattle.class_model.proofs.Changed.{bases_of-before, bases_of-last, lin-push,
 use Rattle.class_model.proofs.Numbers.{at-before, at-last, at-changed, length-changed}
 use Rattle.class_model.proofs.Agreed.{bind-agrees}
 
-pub first_best-held : {K : Type 0} (t : Classes K) (f : ℕ → Option ℕ) (all bs : List ℕ) (b : ℕ) → first_best t f all bs ≡ Some b → Holds bs b
+pub first_best-held : {K : Type 0} (t : Classes K) (f : ℕ → Option ℕ) (all bs : List ℕ) (b : ℕ) → first_best t f all bs ≡ Some b → Includes bs b
 first_best-held t f all [] b e = cc
 first_best-held t f all (x ∷ bs) b e = go (derives_all t (f x) (map f all)) (first_best-held t f all bs b) e
   where
-    go : (w : Bool) → (first_best t f all bs ≡ Some b → Holds bs b) → cond w (Some x) (first_best t f all bs) ≡ Some b → Holds (x ∷ bs) b
+    go : (w : Bool) → (first_best t f all bs ≡ Some b → Includes bs b) → cond w (Some x) (first_best t f all bs) ≡ Some b → Includes (x ∷ bs) b
     go true more e = inl (cc)
     go false more e = inr (more e)
 
-map-agrees : (f g : ℕ → Option ℕ) (bs : List ℕ) → ((b : ℕ) → Holds bs b → f b ≡ g b) → map f bs ≡ map g bs
+map-agrees : (f g : ℕ → Option ℕ) (bs : List ℕ) → ((b : ℕ) → Includes bs b → f b ≡ g b) → map f bs ≡ map g bs
 map-agrees f g [] h = refl
 map-agrees f g (b ∷ bs) h =
     let a = h b (inl refl) in
@@ -31,7 +31,7 @@ map-agrees f g (b ∷ bs) h =
     cc (a, r)
 
 -- the solid class is the class or comes of its bases
-module _ {K : Type 0} (t : Classes K) (At : ℕ → Type 0) (inside : (x : ℕ) (bs : List ℕ) (b : ℕ) → At x → bases_of t x ≡ Some bs → Holds bs b → At b) where
+module _ {K : Type 0} (t : Classes K) (At : ℕ → Type 0) (inside : (x : ℕ) (bs : List ℕ) (b : ℕ) → At x → bases_of t x ≡ Some bs → Includes bs b → At b) where
   solid_within-at : (n c d : ℕ) → At c → solid_within t n c ≡ Some d → At d
   unfolding solid_within
   solid_within-at zero c d p e = cc
@@ -50,7 +50,7 @@ module _ {K : Type 0} (t : Classes K) (At : ℕ → Type 0) (inside : (x : ℕ) 
       go false more e = deep (λ b q k. more b d q k) (bases_of t c) refl e
 
 -- two tables, and the classes at which they agree
-module _ {K L : Type 0} (t : Classes K) (u : Classes L) (At : ℕ → Type 0) (inside : (x : ℕ) (bs : List ℕ) (b : ℕ) → At x → bases_of t x ≡ Some bs → Holds bs b → At b) (alike : (x : ℕ) → At x → bases_of t x ≡ bases_of u x) (lins : (x : ℕ) → At x → lin t x ≡ lin u x) (solids : (x : ℕ) → At x → is_solid t x ≡ is_solid u x) where
+module _ {K L : Type 0} (t : Classes K) (u : Classes L) (At : ℕ → Type 0) (inside : (x : ℕ) (bs : List ℕ) (b : ℕ) → At x → bases_of t x ≡ Some bs → Includes bs b → At b) (alike : (x : ℕ) → At x → bases_of t x ≡ bases_of u x) (lins : (x : ℕ) → At x → lin t x ≡ lin u x) (solids : (x : ℕ) → At x → is_solid t x ≡ is_solid u x) where
   derives_all-agrees : (o : Option ℕ) (ds : List (Option ℕ)) → ((d : ℕ) → o ≡ Some d → At d) → derives_all t o ds ≡ derives_all u o ds
   derives_all-agrees None ds h = refl
   derives_all-agrees (Some c) [] h = refl
@@ -60,7 +60,7 @@ module _ {K L : Type 0} (t : Classes K) (u : Classes L) (At : ℕ → Type 0) (i
       let r = derives_all-agrees (Some c) ds h in
       ap (λ w. w && derives_all t (Some c) ds) a ∙ ap (λ w. is_sub u c d && w) r
 
-  pub first_best-agrees : (f g : ℕ → Option ℕ) (all bs : List ℕ) → ((b : ℕ) → Holds all b → f b ≡ g b) → ((b d : ℕ) → Holds all b → f b ≡ Some d → At d) → ((b : ℕ) → Holds bs b → Holds all b) → first_best t f all bs ≡ first_best u g all bs
+  pub first_best-agrees : (f g : ℕ → Option ℕ) (all bs : List ℕ) → ((b : ℕ) → Includes all b → f b ≡ g b) → ((b d : ℕ) → Includes all b → f b ≡ Some d → At d) → ((b : ℕ) → Includes bs b → Includes all b) → first_best t f all bs ≡ first_best u g all bs
   first_best-agrees f g all [] same at within = refl
   first_best-agrees f g all (b ∷ bs) same at within =
       let p = within b (inl refl) in
@@ -69,7 +69,7 @@ module _ {K L : Type 0} (t : Classes K) (u : Classes L) (At : ℕ → Type 0) (i
       let r = first_best-agrees f g all bs same at (λ x k. within x (inr k)) in
       ap (λ w. cond w (Some b) (first_best t f all bs)) a ∙ ap (cond (derives_all u (g b) (map g all)) (Some b)) r
 
-  step-agrees : (f g : ℕ → Option ℕ) (c : ℕ) → At c → ((bs : List ℕ) (b : ℕ) → bases_of t c ≡ Some bs → Holds bs b → f b ≡ g b) → ((b d : ℕ) → At b → f b ≡ Some d → At d) → cond (is_solid t c) (Some c) (option_and_then (λ bs. option_and_then f (first_best t f bs bs)) (bases_of t c)) ≡ cond (is_solid u c) (Some c) (option_and_then (λ bs. option_and_then g (first_best u g bs bs)) (bases_of u c))
+  step-agrees : (f g : ℕ → Option ℕ) (c : ℕ) → At c → ((bs : List ℕ) (b : ℕ) → bases_of t c ≡ Some bs → Includes bs b → f b ≡ g b) → ((b d : ℕ) → At b → f b ≡ Some d → At d) → cond (is_solid t c) (Some c) (option_and_then (λ bs. option_and_then f (first_best t f bs bs)) (bases_of t c)) ≡ cond (is_solid u c) (Some c) (option_and_then (λ bs. option_and_then g (first_best u g bs bs)) (bases_of u c))
   step-agrees f g c p same at =
       let a : option_and_then (λ bs. option_and_then f (first_best t f bs bs)) (bases_of t c) ≡ option_and_then (λ bs. option_and_then g (first_best u g bs bs)) (bases_of u c) =
       bind-agrees (λ bs. option_and_then f (first_best t f bs bs)) (λ bs. option_and_then g (first_best u g bs bs)) (bases_of t c) (bases_of u c) (alike c p) (λ bs e. bind-agrees f g (first_best t f bs bs) (first_best u g bs bs) (first_best-agrees f g bs bs (λ b h. same bs b e h) (λ b d h k. at b d (inside c bs b p e h) k) (λ b h. h)) (λ b k. same bs b e (first_best-held t f bs bs b k))) in
@@ -89,8 +89,8 @@ module _ {K L : Type 0} (t : Classes K) (u : Classes L) (At : ℕ → Type 0) (i
   solid_within-grows (suc n) zero c line l e p = absurd (omega arith)
   solid_within-grows (suc n) (suc m) c line l e p =
       let made = linear-made (bases_of t) n c line e in
-      let same : (bs : List ℕ) (b : ℕ) → bases_of t c ≡ Some bs → Holds bs b → solid_within t n b ≡ solid_within u m b =
-      λ bs b k h. let s : bs ≡ made.direct = let q = made.of_class in cc in let P : List ℕ → Type 0 = λ w. Holds w b in let r = all_some-has (linear (bases_of t) n) made.direct made.lines b made.of_bases (subst P s h) in solid_within-grows n m b r.0 (omega arith) r.2 (inside c bs b p k h) in
+      let same : (bs : List ℕ) (b : ℕ) → bases_of t c ≡ Some bs → Includes bs b → solid_within t n b ≡ solid_within u m b =
+      λ bs b k h. let s : bs ≡ made.direct = let q = made.of_class in cc in let P : List ℕ → Type 0 = λ w. Includes w b in let r = all_some-has (linear (bases_of t) n) made.direct made.lines b made.of_bases (subst P s h) in solid_within-grows n m b r.0 (omega arith) r.2 (inside c bs b p k h) in
       step-agrees (solid_within t n) (solid_within u m) c p same (λ b d q k. solid_within-at t At inside n b d q k)
 
   pub base-agrees : (c : ℕ) → At c → ((b : ℕ) → At b → solid t b ≡ solid u b) → base t c ≡ base u c
@@ -112,14 +112,14 @@ module _ {K : Type 0} where
   Lined : Classes K → ℕ → Type 0
   Lined t x = (l : List ℕ) × (lin t x ≡ Some l)
 
-  lined-inside : (t : Classes K) (x : ℕ) (bs : List ℕ) (b : ℕ) → Lined t x → bases_of t x ≡ Some bs → Holds bs b → Lined t b
+  lined-inside : (t : Classes K) (x : ℕ) (bs : List ℕ) (b : ℕ) → Lined t x → bases_of t x ≡ Some bs → Includes bs b → Lined t b
   unfolding Lined
   lined-inside t x bs b r e h = lin-member t x r.0 b r.1 (lin-bases t x r.0 bs b r.1 e h)
 
   -- the solid class of a class is along its linearisation
-  pub solid-held : (t : Classes K) (c : ℕ) (line : List ℕ) (d : ℕ) → lin t c ≡ Some line → solid t c ≡ Some d → Holds line d
+  pub solid-held : (t : Classes K) (c : ℕ) (line : List ℕ) (d : ℕ) → lin t c ≡ Some line → solid t c ≡ Some d → Includes line d
   solid-held t c line d e h =
-      solid_within-at t (λ x. Holds line x) (λ x bs b p k q. let r = lin-member t c line x e p in lin-inside t c line x r.0 b e p r.1 (lin-bases t x r.0 bs b r.1 k q)) (length t) c d (lin-held t c line e) h
+      solid_within-at t (λ x. Includes line x) (λ x bs b p k q. let r = lin-member t c line x e p in lin-inside t c line x r.0 b e p r.1 (lin-bases t x r.0 bs b r.1 k q)) (length t) c d (lin-held t c line e) h
 
   pub is_solid-push : (t : Classes K) (k : Class K) (c : ℕ) → is_class t c ≡ true → is_solid (with_class t k) c ≡ is_solid t c
   is_solid-push t k c l = ap (λ o. nat_lt c built_ins || has_members o) (at-before t k c l)

@@ -4,7 +4,7 @@ use Rattle.std.specs.Prelude.{is_some}
 use Rattle.std.proofs.lemmas.Bool.{eq-eqb, ne_eqb}
 use Rattle.py_node.specs.declared.refs.PyObjectRef.{PyObjectRef}
 use Rattle.py_node.specs.Attributes.{with_value}
-use Rattle.class_model.specs.Order.{has, Holds}
+use Rattle.class_model.specs.Order.{has, Includes}
 use Rattle.class_model.specs.Class.{Class, Classes, is_class, bases_of, lin, is_sub, is_along, renamed}
 use Rattle.class_model.specs.Numbers.{ascend_from, limit}
 use Rattle.class_model.specs.Change.{with_class, with_class_attr}
@@ -17,7 +17,7 @@ use Rattle.class_model.proofs.Changed.{bases_of-before, bases_of-last, lin-push,
 use Rattle.class_model.proofs.Renamed.{at-renamed, numbers-renamed, bases_of-renamed, lin-renamed, is_sub-renamed, solid-renamed, base-renamed}
 use Rattle.class_model.proofs.Solid.{bases_of-attr, solid-push, solid-one_base, solid-built_in, solid-attr, base-push, base-one_base, base-root, base-attr}
 
-has-none : (line : List ℕ) (c : ℕ) → (Holds line c → ⊥) → has line c ≡ false
+has-none : (line : List ℕ) (c : ℕ) → (Includes line c → ⊥) → has line c ≡ false
 has-none line c h = go (has line c) refl
   where
     go : (b : Bool) → has line c ≡ b → b ≡ false
@@ -59,16 +59,16 @@ module _ {K : Type 0} where
         let r = lined b l in
         is_sub-push b k.number l ∙ ap (is_along k.number) r.1 ∙ has-none r.0 k.number (λ h. let q = lin-below t b r.0 k.number r.1 h in omega arith)
 
-    module _ (root : is_empty k.bases ≡ eqb k.number 0) (there : (b : ℕ) → Holds k.bases b → is_class t b ≡ true) (order : is_some (lin (with_class t k) k.number) ≡ true) (solids : is_some (solid (with_class t k) k.number) ≡ true) (best : is_some (base (with_class t k) k.number) ≡ not (eqb k.number 0)) where
+    module _ (root : is_empty k.bases ≡ eqb k.number 0) (there : (b : ℕ) → Includes k.bases b → is_class t b ≡ true) (order : is_some (lin (with_class t k) k.number) ≡ true) (solids : is_some (solid (with_class t k) k.number) ≡ true) (best : is_some (base (with_class t k) k.number) ≡ not (eqb k.number 0)) where
       sound-more : AreSound (with_class t k)
       sound-more = record {
         ascending = ascending-push t k ok.ascending fresh;
         root = λ c bs e. each (λ c. bases_of (with_class t k) c ≡ Some bs → is_empty bs ≡ eqb c 0) (λ c l e. ok.root c bs (sym (bases_of-before t k c l) ∙ e)) (λ e. ap is_empty (sym (last-bases bs e)) ∙ root) c (inside (with_class t k) c bs e) e;
         there = λ c b bs e h.
-            let l : is_class t b ≡ true = each (λ c. bases_of (with_class t k) c ≡ Some bs → is_class t b ≡ true) (λ c l e. ok.there c b bs (sym (bases_of-before t k c l) ∙ e) h) (λ e. let P : List ℕ → Type 0 = λ bs. Holds bs b in there b (subst P (sym (last-bases bs e)) h)) c (inside (with_class t k) c bs e) e in
+            let l : is_class t b ≡ true = each (λ c. bases_of (with_class t k) c ≡ Some bs → is_class t b ≡ true) (λ c l e. ok.there c b bs (sym (bases_of-before t k c l) ∙ e) h) (λ e. let P : List ℕ → Type 0 = λ bs. Includes bs b in there b (subst P (sym (last-bases bs e)) h)) c (inside (with_class t k) c bs e) e in
             ap is_some (at-before t k b l) ∙ l;
         apart = λ c b bs e h.
-            each (λ c. bases_of (with_class t k) c ≡ Some bs → is_sub (with_class t k) b c ≡ false) (λ c l e. let q = sym (bases_of-before t k c l) ∙ e in is_sub-push b c (ok.there c b bs q h) ∙ ok.apart c b bs q h) (λ e. let P : List ℕ → Type 0 = λ bs. Holds bs b in apart-last b (there b (subst P (sym (last-bases bs e)) h))) c (inside (with_class t k) c bs e) e;
+            each (λ c. bases_of (with_class t k) c ≡ Some bs → is_sub (with_class t k) b c ≡ false) (λ c l e. let q = sym (bases_of-before t k c l) ∙ e in is_sub-push b c (ok.there c b bs q h) ∙ ok.apart c b bs q h) (λ e. let P : List ℕ → Type 0 = λ bs. Includes bs b in apart-last b (there b (subst P (sym (last-bases bs e)) h))) c (inside (with_class t k) c bs e) e;
         order = each (λ c. is_some (lin (with_class t k) c) ≡ true) (λ c l. let r = lined c l in ap is_some (lin-push t k c r.0 r.1)) order;
         solid = each (λ c. is_some (solid (with_class t k) c) ≡ true) (λ c l. let r = lined c l in ap is_some (solid-push t k c r.0 r.1) ∙ ok.solid c l) solids;
         best = each (λ c. is_some (base (with_class t k) c) ≡ not (eqb c 0)) (λ c l. let r = lined c l in ap is_some (base-push t k c r.0 r.1) ∙ ok.best c l) best;
@@ -90,14 +90,14 @@ module _ {K : Type 0} where
         let d = some-of (solid t b) (ok.solid b l) in
         let m = below-limit t b l in
         let more : eqb k.number 0 ≡ false = ne_eqb k.number 0 (λ z. omega arith) in
-        sound-more (ap is_empty e ∙ sym more) (λ x h. let P : List ℕ → Type 0 = λ bs. Holds bs x in elim (subst P e h) [ inl q ↦ ap (is_class t) (sym q) ∙ l | inr q ↦ absurd q ]) (ap is_some (lin-one_base t k fresh b r.0 e r.1)) (solid-below b e l) (ap is_some (base-one_base t k fresh b r.0 d.0 e r.1 d.1) ∙ ap not (sym more))
+        sound-more (ap is_empty e ∙ sym more) (λ x h. let P : List ℕ → Type 0 = λ bs. Includes bs x in elim (subst P e h) [ inl q ↦ ap (is_class t) (sym q) ∙ l | inr q ↦ absurd q ]) (ap is_some (lin-one_base t k fresh b r.0 e r.1)) (solid-below b e l) (ap is_some (base-one_base t k fresh b r.0 d.0 e r.1 d.1) ∙ ap not (sym more))
 
   -- the first class
   pub sound-first : (k : Class K) → k.number ≡ 0 → k.bases ≡ [] → AreSound (with_class [] k)
   sound-first k z e =
       let fresh : limit {K = K} [] ≤ k.number = omega arith in
       let none : eqb k.number 0 ≡ true = eq-eqb k.number 0 z in
-      sound-more [] k sound-empty fresh (ap is_empty e ∙ sym none) (λ b h. let P : List ℕ → Type 0 = λ bs. Holds bs b in absurd (subst P e h)) (ap is_some (lin-root [] k fresh e)) (ap is_some (solid-built_in [] k fresh (omega arith))) (ap is_some (base-root [] k fresh e) ∙ ap not (sym none))
+      sound-more [] k sound-empty fresh (ap is_empty e ∙ sym none) (λ b h. let P : List ℕ → Type 0 = λ bs. Includes bs b in absurd (subst P e h)) (ap is_some (lin-root [] k fresh e)) (ap is_some (solid-built_in [] k fresh (omega arith))) (ap is_some (base-root [] k fresh e) ∙ ap not (sym none))
 
   -- an attribute that is set
   pub sound-attr : (same : K → K → Bool) (t : Classes K) (c : ℕ) (n : K) (v : PyObjectRef) → AreSound t → AreSound (with_class_attr same t c n v)

@@ -5,7 +5,7 @@ use Rattle.std.proofs.lemmas.Bool.{eq-eqb, ne_eqb, false_from_ne_true}
 use Rattle.std.proofs.lemmas.List.{append-nil}
 use Rattle.py_node.specs.declared.refs.PyObjectRef.{PyObjectRef}
 use Rattle.py_node.specs.Attributes.{with_value}
-use Rattle.class_model.specs.Order.{has, Holds}
+use Rattle.class_model.specs.Order.{has, Includes}
 use Rattle.class_model.specs.Class.{Class, Classes, is_class, lin, subclasses}
 use Rattle.class_model.specs.Numbers.{is_ascending, limit}
 use Rattle.class_model.specs.Change.{with_class, with_class_attr}
@@ -53,7 +53,7 @@ module _ {K : Type 0} where
           λ q. lin-below t k.number r.0 c r.1 (lin-bases t k.number r.0 k.bases c r.1 (ap (option_map (λ (j : Class K). j.bases)) h) ((Decides-has k.bases c).0 q)) in
           false_from_ne_true (has k.bases c) (λ q. let l = held q in omega arith)
 
-  pub subclasses-new : (t : Classes K) (k : Class K) → is_ascending t ≡ true → limit t ≤ k.number → ((d : ℕ) → is_class t d ≡ true → (l : List ℕ) × (lin t d ≡ Some l)) → ((b : ℕ) → Holds k.bases b → is_class t b ≡ true) → subclasses (with_class t k) k.number ≡ []
+  pub subclasses-new : (t : Classes K) (k : Class K) → is_ascending t ≡ true → limit t ≤ k.number → ((d : ℕ) → is_class t d ≡ true → (l : List ℕ) × (lin t d ≡ Some l)) → ((b : ℕ) → Includes k.bases b → is_class t b ≡ true) → subclasses (with_class t k) k.number ≡ []
   subclasses-new t k up past lines there =
       subclasses-push_away t k k.number (false_from_ne_true (has k.bases k.number) (λ h. let l = below-limit t k.number (there k.number ((Decides-has k.bases k.number).0 h)) in omega arith)) ∙ subclasses-past t k.number up past lines
 

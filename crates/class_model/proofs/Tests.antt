@@ -3,22 +3,22 @@ use Rattle.std.proofs.Common.{◌≡◌, ℕ, Bool, true, false, cond, not, ◌&
 use Rattle.std.specs.Bool.{Decides}
 use Rattle.std.proofs.lemmas.Bool.{eqb-true, eqb-false, false≢true}
 use Rattle.std.proofs.lemmas.Bool.Decides.{Decides-eqb, Decides-not, Decides-and, Decides-or, Decides-like}
-use Rattle.class_model.specs.Order.{has, is_within, is_distinct, is_subsequence, are_subsequences, begins_with, members_of, is_order, Holds, Distinct, Subsequence, BeginsWith, IsOrder}
+use Rattle.class_model.specs.Order.{has, is_within, is_distinct, is_subsequence, are_subsequences, begins_with, members_of, is_order, Includes, Distinct, Subsequence, BeginsWith, IsOrder}
 use Rattle.class_model.proofs.Held.{Subsequence-skip}
 
-pub Decides-has : (ys : List ℕ) (x : ℕ) → Decides (has ys x) (Holds ys x)
+pub Decides-has : (ys : List ℕ) (x : ℕ) → Decides (has ys x) (Includes ys x)
 Decides-has [] x = (λ e. absurd (false≢true e), λ h. absurd h)
 Decides-has (y ∷ ys) x = Decides-or (eqb y x) (has ys x) (Decides-eqb y x) (Decides-has ys x)
 
 -- what holds of the head and of each other member
-each_of : {A : Type 0} (P : A → Type 0) (x : A) (xs : List A) → P x × ((z : A) → Holds xs z → P z) → (z : A) → Holds (x ∷ xs) z → P z
+each_of : {A : Type 0} (P : A → Type 0) (x : A) (xs : List A) → P x × ((z : A) → Includes xs z → P z) → (z : A) → Includes (x ∷ xs) z → P z
 each_of P x xs p z (inl e) = subst P e p.0
 each_of P x xs p z (inr h) = p.1 z h
 
-Decides-within : (xs ys : List ℕ) → Decides (is_within xs ys) ((x : ℕ) → Holds xs x → Holds ys x)
+Decides-within : (xs ys : List ℕ) → Decides (is_within xs ys) ((x : ℕ) → Includes xs x → Includes ys x)
 Decides-within [] ys = (λ e x h. absurd h, λ h. refl)
 Decides-within (x ∷ xs) ys =
-    Decides-like (has ys x && is_within xs ys) (each_of (λ z. Holds ys z) x xs) (λ f. (f x (inl refl), λ z h. f z (inr h))) (Decides-and (has ys x) (is_within xs ys) (Decides-has ys x) (Decides-within xs ys))
+    Decides-like (has ys x && is_within xs ys) (each_of (λ z. Includes ys z) x xs) (λ f. (f x (inl refl), λ z h. f z (inr h))) (Decides-and (has ys x) (is_within xs ys) (Decides-has ys x) (Decides-within xs ys))
 
 pub Decides-distinct : (xs : List ℕ) → Decides (is_distinct xs) (Distinct xs)
 Decides-distinct [] = (λ e. tt, λ h. refl)
@@ -33,7 +33,7 @@ Decides-subsequence (x ∷ xs) (y ∷ ys) = go (eqb x y) refl (Decides-subsequen
     go true e there past = (λ h. inl (eqb-true x y e, there.0 h), λ s. there.1 (elim s [ inl p ↦ p.1 | inr r ↦ Subsequence-skip x xs ys r ]))
     go false e there past = (λ h. inr (past.0 h), λ s. past.1 (elim s [ inl p ↦ absurd (eqb-false x y e p.0) | inr r ↦ r ]))
 
-Decides-subsequences : (ls : List (List ℕ)) (xs : List ℕ) → Decides (are_subsequences ls xs) ((l : List ℕ) → Holds ls l → Subsequence l xs)
+Decides-subsequences : (ls : List (List ℕ)) (xs : List ℕ) → Decides (are_subsequences ls xs) ((l : List ℕ) → Includes ls l → Subsequence l xs)
 Decides-subsequences [] xs = (λ e l h. absurd h, λ h. refl)
 Decides-subsequences (l ∷ ls) xs =
     Decides-like (is_subsequence l xs && are_subsequences ls xs) (each_of (λ m. Subsequence m xs) l ls) (λ f. (f l (inl refl), λ m h. f m (inr h))) (Decides-and (is_subsequence l xs) (are_subsequences ls xs) (Decides-subsequence l xs) (Decides-subsequences ls xs))

@@ -2,7 +2,7 @@
 use Rattle.std.specs.Prelude.{◌≡◌, ℕ, ◌<◌, ◌≤◌, ◌↔◌, List, map, Some, None, slice_get}
 use Rattle.py_node.specs.declared.raised.Cause.{Cause}
 use Rattle.py_node.specs.declared.raised.Cause.TheVariants.{LocalPrecedence, MroConflict}
-use Rattle.class_model.specs.Order.{Holds, IsOrder}
+use Rattle.class_model.specs.Order.{Includes, IsOrder}
 use Rattle.class_model.specs.Class.{Classes, bases_of, lin, past_first}
 use Rattle.class_model.specs.Change.{with_bases, failing}
 
@@ -15,7 +15,7 @@ pub record BreaksPrecedence (bases : List ℕ) (lines : List (List ℕ)) : Type 
   pub before : place < later
   pub at_place : slice_get bases place ≡ Some base
   pub at_later : slice_get lines later ≡ Some line
-  pub past : Holds (past_first line) base
+  pub past : Includes (past_first line) base
 
 -- the bases of a class have these linearisations, and the class has no order
 pub record IsBlamed {K : Type 0} (t : Classes K) (d : ℕ) (bases : List ℕ) (lines : List (List ℕ)) : Type 0 where

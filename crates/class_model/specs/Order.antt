@@ -94,13 +94,13 @@ linear bases (suc n) c = option_and_then (λ bs. option_and_then (least_order c 
 
 -- the same in words
 
-abbrev pub Holds : {A : Type 0} → List A → A → Type 0
-Holds [] x = ⊥
-Holds (y ∷ ys) x = (y ≡ x) ⊎ Holds ys x
+abbrev pub Includes : {A : Type 0} → List A → A → Type 0
+Includes [] x = ⊥
+Includes (y ∷ ys) x = (y ≡ x) ⊎ Includes ys x
 
 abbrev pub Distinct : List ℕ → Type 0
 Distinct [] = Unit {0}
-Distinct (x ∷ xs) = (Holds xs x → ⊥) × Distinct xs
+Distinct (x ∷ xs) = (Includes xs x → ⊥) × Distinct xs
 
 abbrev pub Subsequence : List ℕ → List ℕ → Type 0
 Subsequence [] ys = Unit {0}
@@ -114,10 +114,10 @@ BeginsWith c (x ∷ xs) = x ≡ c
 pub record IsOrder (c : ℕ) (bases : List ℕ) (lines : List (List ℕ)) (xs : List ℕ) : Type 0 where
   pub begins : BeginsWith c xs
   pub distinct : Distinct xs
-  pub members_only : (x : ℕ) → Holds xs x → Holds (members_of c lines) x
-  pub all_members : (x : ℕ) → Holds (members_of c lines) x → Holds xs x
+  pub members_only : (x : ℕ) → Includes xs x → Includes (members_of c lines) x
+  pub all_members : (x : ℕ) → Includes (members_of c lines) x → Includes xs x
   pub keeps_bases : Subsequence bases xs
-  pub keeps : (l : List ℕ) → Holds lines l → Subsequence l xs
+  pub keeps : (l : List ℕ) → Includes lines l → Subsequence l xs
 
 -- of all orders, it has the least list of ranks
 pub record IsLeastOrder (c : ℕ) (bases : List ℕ) (lines : List (List ℕ)) (xs : List ℕ) : Type 0 where

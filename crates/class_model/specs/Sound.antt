@@ -1,6 +1,6 @@
 -- What the classes of a machine keep to.
 use Rattle.std.specs.Prelude.{◌≡◌, ℕ, true, false, not, eqb, List, Some, is_some}
-use Rattle.class_model.specs.Order.{Holds}
+use Rattle.class_model.specs.Order.{Includes}
 use Rattle.class_model.specs.Class.{Classes, is_class, bases_of, is_sub, lin}
 use Rattle.class_model.specs.Numbers.{is_ascending}
 use Rattle.class_model.specs.Layout.{is_empty, base, solid}
@@ -11,9 +11,9 @@ pub record AreSound {K : Type 0} (t : Classes K) : Type 0 where
   -- only the class 0, `object`, has no base
   pub root : (c : ℕ) (bs : List ℕ) → bases_of t c ≡ Some bs → is_empty bs ≡ eqb c 0
   -- bases are classes that are there
-  pub there : (c b : ℕ) (bs : List ℕ) → bases_of t c ≡ Some bs → Holds bs b → is_class t b ≡ true
+  pub there : (c b : ℕ) (bs : List ℕ) → bases_of t c ≡ Some bs → Includes bs b → is_class t b ≡ true
   -- no class derives from a base that derives from it
-  pub apart : (c b : ℕ) (bs : List ℕ) → bases_of t c ≡ Some bs → Holds bs b → is_sub t b c ≡ false
+  pub apart : (c b : ℕ) (bs : List ℕ) → bases_of t c ≡ Some bs → Includes bs b → is_sub t b c ≡ false
   -- each class has an order
   pub order : (c : ℕ) → is_class t c ≡ true → is_some (lin t c) ≡ true
   -- each class has a solid class, and each but `object` a best base

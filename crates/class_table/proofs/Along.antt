@@ -14,12 +14,12 @@ use Rattle.py_node.specs.Attributes.{value_of, is_same_name}
 use Rattle.py_node.specs.declared.known.Known.{Known}
 use Rattle.py_node.specs.declared.known.Known.TheVariants as known
 use Rattle.py_node.specs.Slots.{is_slot, names_of, sort_of}
-use Rattle.class_model.specs.Order.{Holds}
+use Rattle.class_model.specs.Order.{Includes}
 use Rattle.class_model.specs.Class.{Class, Classes, class_at, is_heap, lin, own_of, or_else, first_along, along}
 use Rattle.class_model.specs.Slot.{is_none, is_one_of, is_name_of, wrapped, heap_entry, is_heap_at, given_entry, is_by_itself, entry}
 use Rattle.class_model.specs.BuiltIn.{natives_of}
 use Rattle.class_table.specs.Keys.{numbers, table_keys}
-use Rattle.class_table.specs.Kept.{Kept, plain}
+use Rattle.class_table.specs.Stored.{StoredClass, classes_of}
 use Rattle.class_table.proofs.Slots.{names-hash}
 
 pub wrapped_or_else : (s : SlotId) (a b : Option PyObjectRef) → wrapped s (or_else a b) ≡ or_else (wrapped s a) (wrapped s b)
@@ -122,23 +122,23 @@ module _ (t : Classes PyStrInterned) (c : ℕ) (k : Class PyStrInterned) (line :
 pub given-native : (t : Classes PyStrInterned) (c : ℕ) (s : SlotId) → is_heap_at (class_at t c) ≡ false → given_entry table_keys natives_of t s c ≡ natives_of c s
 given-native t c s e = ap (λ b. cond b (option_and_then (λ line. heap_entry table_keys t c line s) (lin t c)) (natives_of c s)) e
 
-pub wrapped-along-found : (s : SlotId) (kept : List Kept) (line : List PyTypeRef) (i : ℕ) (d : PyTypeRef) (e : SlotEntry) → i < length line → Some e ≡ wrapped s (own_of (is_name_of table_keys s) (class_at (plain kept) (get_or line i d).0)) → wrapped s (along (is_name_of table_keys s) (plain kept) (numbers (drop i line))) ≡ Some e
+pub wrapped-along-found : (s : SlotId) (kept : List StoredClass) (line : List PyTypeRef) (i : ℕ) (d : PyTypeRef) (e : SlotEntry) → i < length line → Some e ≡ wrapped s (own_of (is_name_of table_keys s) (class_at (classes_of kept) (get_or line i d).0)) → wrapped s (along (is_name_of table_keys s) (classes_of kept) (numbers (drop i line))) ≡ Some e
 wrapped-along-found s kept line i d e l is =
-    ap (wrapped s) (first_along-at (λ c. own_of (is_name_of table_keys s) (class_at (plain kept) c)) line i d l)
-    ∙ wrapped_or_else s (own_of (is_name_of table_keys s) (class_at (plain kept) (get_or line i d).0)) (along (is_name_of table_keys s) (plain kept) (numbers (drop (i + 1) line)))
-    ∙ ap (λ o. or_else o (wrapped s (along (is_name_of table_keys s) (plain kept) (numbers (drop (i + 1) line))))) (sym is)
+    ap (wrapped s) (first_along-at (λ c. own_of (is_name_of table_keys s) (class_at (classes_of kept) c)) line i d l)
+    ∙ wrapped_or_else s (own_of (is_name_of table_keys s) (class_at (classes_of kept) (get_or line i d).0)) (along (is_name_of table_keys s) (classes_of kept) (numbers (drop (i + 1) line)))
+    ∙ ap (λ o. or_else o (wrapped s (along (is_name_of table_keys s) (classes_of kept) (numbers (drop (i + 1) line))))) (sym is)
 
-pub held-at : (line : List PyTypeRef) (i : ℕ) (d : PyTypeRef) → i < length line → Holds (numbers line) (get_or line i d).0
+pub held-at : (line : List PyTypeRef) (i : ℕ) (d : PyTypeRef) → i < length line → Includes (numbers line) (get_or line i d).0
 held-at [] i d l = absurd (omega arith)
 held-at (c ∷ line) zero d l = inl refl
 held-at (c ∷ line) (suc i) d l = inr (held-at line i d (omega arith))
 
 -- a class that gives the slot nothing may be left out
-pub wrapped-along-next : (s : SlotId) (kept : List Kept) (line : List PyTypeRef) (i : ℕ) (d : PyTypeRef) → i < length line → wrapped s (own_of (is_name_of table_keys s) (class_at (plain kept) (get_or line i d).0)) ≡ None → wrapped s (along (is_name_of table_keys s) (plain kept) (numbers (drop (i + 1) line))) ≡ wrapped s (along (is_name_of table_keys s) (plain kept) (numbers (drop i line)))
+pub wrapped-along-next : (s : SlotId) (kept : List StoredClass) (line : List PyTypeRef) (i : ℕ) (d : PyTypeRef) → i < length line → wrapped s (own_of (is_name_of table_keys s) (class_at (classes_of kept) (get_or line i d).0)) ≡ None → wrapped s (along (is_name_of table_keys s) (classes_of kept) (numbers (drop (i + 1) line))) ≡ wrapped s (along (is_name_of table_keys s) (classes_of kept) (numbers (drop i line)))
 wrapped-along-next s kept line i d l is =
-    let rest = along (is_name_of table_keys s) (plain kept) (numbers (drop (i + 1) line)) in
+    let rest = along (is_name_of table_keys s) (classes_of kept) (numbers (drop (i + 1) line)) in
     sym (
-    ap (wrapped s) (first_along-at (λ c. own_of (is_name_of table_keys s) (class_at (plain kept) c)) line i d l)
-    ∙ wrapped_or_else s (own_of (is_name_of table_keys s) (class_at (plain kept) (get_or line i d).0)) rest
+    ap (wrapped s) (first_along-at (λ c. own_of (is_name_of table_keys s) (class_at (classes_of kept) c)) line i d l)
+    ∙ wrapped_or_else s (own_of (is_name_of table_keys s) (class_at (classes_of kept) (get_or line i d).0)) rest
     ∙ ap (λ o. or_else o (wrapped s rest)) is
     )

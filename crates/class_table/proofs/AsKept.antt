@@ -4,41 +4,41 @@ use Rattle.std.specs.Prelude.{slice_get, option_and_then}
 use Rattle.py_node.specs.declared.entry.SlotId.{SlotId}
 use Rattle.py_node.specs.declared.entry.SlotEntry.{SlotEntry}
 use Rattle.py_node.specs.Slots.{place_of, sort_of}
-use Rattle.class_model.specs.Order.{Holds}
+use Rattle.class_model.specs.Order.{Includes}
 use Rattle.class_model.specs.Class.{is_class, lin, subclasses}
 use Rattle.class_model.specs.Layout.{base, solid}
 use Rattle.class_model.specs.Slot.{entry, slot, read_along}
 use Rattle.class_model.specs.BuiltIn.{natives_of}
 use Rattle.class_model.proofs.Rule.{lin-classes}
 use Rattle.class_table.specs.Keys.{table_keys}
-use Rattle.class_table.specs.Kept.{Kept, IsHere, plain}
+use Rattle.class_table.specs.Stored.{StoredClass, IsHere, classes_of}
 use Rattle.class_table.specs.Coherent.{IsCoherent}
 use Rattle.py_node.proofs.SlotTables.{slot-at_place}
 use Rattle.class_table.proofs.Refreshed.{entries-at}
 
-module _ (kept : List Kept) (ok : IsCoherent kept) (c : ℕ) (k : Kept) (here : IsHere kept c k) where
-  pub entry-kept : (s : SlotId) → option_and_then (λ e. e) (slice_get k.slots (place_of s)) ≡ entry table_keys natives_of (plain kept) c s
+module _ (kept : List StoredClass) (ok : IsCoherent kept) (c : ℕ) (k : StoredClass) (here : IsHere kept c k) where
+  pub entry-kept : (s : SlotId) → option_and_then (λ e. e) (slice_get k.slots (place_of s)) ≡ entry table_keys natives_of (classes_of kept) c s
   entry-kept s =
       ap (λ ys. option_and_then (λ (e : Option SlotEntry). e) (slice_get ys (place_of s))) (ok.slots here.place k here.at)
-      ∙ ap (option_and_then (λ (e : Option SlotEntry). e)) (entries-at (plain kept) k.number (place_of s) s (slot-at_place s))
-      ∙ ap (λ n. entry table_keys natives_of (plain kept) n s) here.number
+      ∙ ap (option_and_then (λ (e : Option SlotEntry). e)) (entries-at (classes_of kept) k.number (place_of s) s (slot-at_place s))
+      ∙ ap (λ n. entry table_keys natives_of (classes_of kept) n s) here.number
 
-  pub line-kept : lin (plain kept) c ≡ Some k.mro
-  line-kept = ap (lin (plain kept)) (sym here.number) ∙ ok.mro here.place k here.at
+  pub line-kept : lin (classes_of kept) c ≡ Some k.mro
+  line-kept = ap (lin (classes_of kept)) (sym here.number) ∙ ok.mro here.place k here.at
 
-  pub base-kept : base (plain kept) c ≡ k.base
-  base-kept = ap (base (plain kept)) (sym here.number) ∙ ok.base here.place k here.at
+  pub base-kept : base (classes_of kept) c ≡ k.base
+  base-kept = ap (base (classes_of kept)) (sym here.number) ∙ ok.base here.place k here.at
 
-  pub solid-kept : solid (plain kept) c ≡ k.solid
-  solid-kept = ap (solid (plain kept)) (sym here.number) ∙ ok.solid here.place k here.at
+  pub solid-kept : solid (classes_of kept) c ≡ k.solid
+  solid-kept = ap (solid (classes_of kept)) (sym here.number) ∙ ok.solid here.place k here.at
 
-  pub subclasses-kept : k.subclasses ≡ subclasses (plain kept) c
-  subclasses-kept = ok.subclasses here.place k here.at ∙ ap (subclasses (plain kept)) here.number
+  pub subclasses-kept : k.subclasses ≡ subclasses (classes_of kept) c
+  subclasses-kept = ok.subclasses here.place k here.at ∙ ap (subclasses (classes_of kept)) here.number
 
-  pub line-within : (line : List ℕ) → line ≡ k.mro → (x : ℕ) → Holds line x → is_class (plain kept) x ≡ true
-  line-within line e x h = let P : List ℕ → Type 0 = λ l. Holds l x in lin-classes (plain kept) c k.mro x line-kept (subst P e h)
+  pub line-within : (line : List ℕ) → line ≡ k.mro → (x : ℕ) → Includes line x → is_class (classes_of kept) x ≡ true
+  line-within line e x h = let P : List ℕ → Type 0 = λ l. Includes l x in lin-classes (classes_of kept) c k.mro x line-kept (subst P e h)
 
-  pub slot-kept : (s : SlotId) (line : List ℕ) → line ≡ k.mro → read_along (entry table_keys natives_of (plain kept)) (sort_of s) c line s ≡ slot table_keys natives_of (plain kept) c s
+  pub slot-kept : (s : SlotId) (line : List ℕ) → line ≡ k.mro → read_along (entry table_keys natives_of (classes_of kept)) (sort_of s) c line s ≡ slot table_keys natives_of (classes_of kept) c s
   slot-kept s line e =
-      ap (λ l. read_along (entry table_keys natives_of (plain kept)) (sort_of s) c l s) e
-      ∙ sym (ap (option_and_then (λ l. read_along (entry table_keys natives_of (plain kept)) (sort_of s) c l s)) line-kept)
+      ap (λ l. read_along (entry table_keys natives_of (classes_of kept)) (sort_of s) c l s) e
+      ∙ sym (ap (option_and_then (λ l. read_along (entry table_keys natives_of (classes_of kept)) (sort_of s) c l s)) line-kept)

@@ -25,7 +25,7 @@ use Rattle.class_model.proofs.Slots.{entry-attr-away, entry-attr-other}
 use Rattle.class_model.proofs.Solid.{base-attr, solid-attr}
 use Rattle.class_model.proofs.Sound.{sound-attr}
 use Rattle.class_table.specs.Keys.{table_keys}
-use Rattle.class_table.specs.Kept.{Kept, class_of, plain}
+use Rattle.class_table.specs.Stored.{StoredClass, class_of, classes_of}
 use Rattle.class_table.specs.Coherent.{HasLines, IsCoherent}
 use Rattle.class_table.specs.Patch.{IsNear, AreNear, IsRefreshed, settled, refreshed_one}
 use Rattle.class_table.proofs.Distinct.{all-set}
@@ -46,22 +46,22 @@ with_changed-set f n (j ∷ t) (suc i) k up e =
 alike : (a b x : PyStrInterned) → is_same_name a b ≡ true → is_same_name a x ≡ is_same_name b x
 alike a b x e = ap (λ n. eqb n x.0) (eqb-true a.0 b.0 e)
 
-module _ (kept : List Kept) (ok : IsCoherent kept) (c : ℕ) (k : Kept) (within : c < length kept) (at : k ≡ get_or kept c k) (n : PyStrInterned) (v : PyObjectRef) where
-  changed : Kept
+module _ (kept : List StoredClass) (ok : IsCoherent kept) (c : ℕ) (k : StoredClass) (within : c < length kept) (at : k ≡ get_or kept c k) (n : PyStrInterned) (v : PyObjectRef) where
+  changed : StoredClass
   changed = record k { attrs = with_value is_same_name k.attrs n v }
 
   new : Classes PyStrInterned
-  new = with_class_attr is_same_name (plain kept) k.number n v
+  new = with_class_attr is_same_name (classes_of kept) k.number n v
 
-  plain-changed : plain (set kept c changed) ≡ new
+  plain-changed : classes_of (set kept c changed) ≡ new
   unfolding changed new
   plain-changed =
       map-set class_of kept c changed
-      ∙ sym (with_changed-set (λ k. record k { attrs = with_value is_same_name k.attrs n v }) 0 (plain kept) c (class_of k) ok.sound.ascending (slice_get-map class_of kept c ∙ ap (option_map class_of) (there kept c k within at)))
+      ∙ sym (with_changed-set (λ k. record k { attrs = with_value is_same_name k.attrs n v }) 0 (classes_of kept) c (class_of k) ok.sound.ascending (slice_get-map class_of kept c ∙ ap (option_map class_of) (there kept c k within at)))
 
   -- what the table had at a place
-  record Was (d : ℕ) (y : Kept) : Type 0 where
-    old : Kept
+  record Was (d : ℕ) (y : StoredClass) : Type 0 where
+    old : StoredClass
     there : slice_get kept d ≡ Some old
     number : old.number ≡ y.number
     mro : old.mro ≡ y.mro
@@ -70,56 +70,56 @@ module _ (kept : List Kept) (ok : IsCoherent kept) (c : ℕ) (k : Kept) (within 
     solid : old.solid ≡ y.solid
     subclasses : old.subclasses ≡ y.subclasses
 
-  was : (d : ℕ) (y : Kept) → slice_get (set kept c changed) d ≡ Some y → Was d y
+  was : (d : ℕ) (y : StoredClass) → slice_get (set kept c changed) d ≡ Some y → Was d y
   unfolding changed
   was d y e = elim (get-set_cases kept c changed d y e) [
     | inl r ↦ record {
       old = k;
       there = ap (slice_get kept) r.0 ∙ there kept c k within at;
-      number = ap (λ (x : Kept). x.number) r.1;
-      mro = ap (λ (x : Kept). x.mro) r.1;
-      slots = ap (λ (x : Kept). x.slots) r.1;
-      base = ap (λ (x : Kept). x.base) r.1;
-      solid = ap (λ (x : Kept). x.solid) r.1;
-      subclasses = ap (λ (x : Kept). x.subclasses) r.1;
+      number = ap (λ (x : StoredClass). x.number) r.1;
+      mro = ap (λ (x : StoredClass). x.mro) r.1;
+      slots = ap (λ (x : StoredClass). x.slots) r.1;
+      base = ap (λ (x : StoredClass). x.base) r.1;
+      solid = ap (λ (x : StoredClass). x.solid) r.1;
+      subclasses = ap (λ (x : StoredClass). x.subclasses) r.1;
     }
     | inr r ↦ record { old = y; there = r.1; number = refl; mro = refl; slots = refl; base = refl; solid = refl; subclasses = refl }
   ]
 
-  old-lin : (d : ℕ) (y : Kept) (w : Was d y) → lin (plain kept) y.number ≡ Some y.mro
-  old-lin d y w = ap (lin (plain kept)) (sym w.number) ∙ ok.mro d w.old w.there ∙ ap Some w.mro
+  old-lin : (d : ℕ) (y : StoredClass) (w : Was d y) → lin (classes_of kept) y.number ≡ Some y.mro
+  old-lin d y w = ap (lin (classes_of kept)) (sym w.number) ∙ ok.mro d w.old w.there ∙ ap Some w.mro
 
-  new-lin : (d : ℕ) (y : Kept) (w : Was d y) → lin new y.number ≡ Some y.mro
+  new-lin : (d : ℕ) (y : StoredClass) (w : Was d y) → lin new y.number ≡ Some y.mro
   unfolding new
-  new-lin d y w = lin-attr is_same_name (plain kept) k.number n v y.number ∙ old-lin d y w
+  new-lin d y w = lin-attr is_same_name (classes_of kept) k.number n v y.number ∙ old-lin d y w
 
-  old-slots : (d : ℕ) (y : Kept) (w : Was d y) → y.slots ≡ entries table_keys natives_of (plain kept) y.number
-  old-slots d y w = sym w.slots ∙ ok.slots d w.old w.there ∙ ap (entries table_keys natives_of (plain kept)) w.number
+  old-slots : (d : ℕ) (y : StoredClass) (w : Was d y) → y.slots ≡ entries table_keys natives_of (classes_of kept) y.number
+  old-slots d y w = sym w.slots ∙ ok.slots d w.old w.there ∙ ap (entries table_keys natives_of (classes_of kept)) w.number
 
   pub lines-changed : HasLines (set kept c (record k { attrs = with_value is_same_name k.attrs n v }))
   unfolding changed new
-  lines-changed = record { ascending = ap is_ascending plain-changed ∙ (sound-attr is_same_name (plain kept) k.number n v ok.sound).ascending; mro = λ d y e. ap (λ t. lin t y.number) plain-changed ∙ new-lin d y (was d y e) }
+  lines-changed = record { ascending = ap is_ascending plain-changed ∙ (sound-attr is_same_name (classes_of kept) k.number n v ok.sound).ascending; mro = λ d y e. ap (λ t. lin t y.number) plain-changed ∙ new-lin d y (was d y e) }
 
-  near-one : (d : ℕ) (y : Kept) (w : Was d y) → IsNear new n y
+  near-one : (d : ℕ) (y : StoredClass) (w : Was d y) → IsNear new n y
   unfolding new
   near-one d y w = record {
-    count = ap length (old-slots d y w) ∙ length-entries (plain kept) y.number;
+    count = ap length (old-slots d y w) ∙ length-entries (classes_of kept) y.number;
     others = λ s h.
         ap (λ ys. slice_get ys (place_of s)) (old-slots d y w)
-        ∙ entries-at (plain kept) y.number (place_of s) s (slot-at_place s)
-        ∙ ap Some (sym (entry-attr-other table_keys natives_of (plain kept) k.number n v y.number s alike h));
+        ∙ entries-at (classes_of kept) y.number (place_of s) s (slot-at_place s)
+        ∙ ap Some (sym (entry-attr-other table_keys natives_of (classes_of kept) k.number n v y.number s alike h));
   }
 
   pub near-changed : AreNear n k.number (set kept c (record k { attrs = with_value is_same_name k.attrs n v }))
   unfolding changed
   near-changed = λ d y e h. let P : Classes PyStrInterned → Type 0 = λ t. IsNear t n y in subst P (sym plain-changed) (near-one d y (was d y e))
 
-  module _ (final : List Kept) (r : IsRefreshed k.number (set kept c (record k { attrs = with_value is_same_name k.attrs n v })) final) where
-    pub plain-final : plain final ≡ with_class_attr is_same_name (plain kept) k.number n v
+  module _ (final : List StoredClass) (r : IsRefreshed k.number (set kept c (record k { attrs = with_value is_same_name k.attrs n v })) final) where
+    pub plain-final : classes_of final ≡ with_class_attr is_same_name (classes_of kept) k.number n v
     unfolding changed new
     plain-final = plain-refreshed k.number (set kept c changed) final r ∙ plain-changed
 
-    record IsNow (x : Kept) : Type 0 where
+    record IsNow (x : StoredClass) : Type 0 where
       mro : lin new x.number ≡ Some x.mro
       slots : x.slots ≡ entries table_keys natives_of new x.number
       base : base new x.number ≡ x.base
@@ -127,38 +127,38 @@ module _ (kept : List Kept) (ok : IsCoherent kept) (c : ℕ) (k : Kept) (within 
       subclasses : x.subclasses ≡ subclasses new x.number
 
     -- what the class has in the end
-    common : (d : ℕ) (y x : Kept) (w : Was d y) → y.number ≡ x.number → y.mro ≡ x.mro → y.base ≡ x.base → y.solid ≡ x.solid → y.subclasses ≡ x.subclasses → x.slots ≡ entries table_keys natives_of new x.number → IsNow x
+    common : (d : ℕ) (y x : StoredClass) (w : Was d y) → y.number ≡ x.number → y.mro ≡ x.mro → y.base ≡ x.base → y.solid ≡ x.solid → y.subclasses ≡ x.subclasses → x.slots ≡ entries table_keys natives_of new x.number → IsNow x
     unfolding new
     common d y x w i m b s c' h =
         let e : w.old.number ≡ x.number = w.number ∙ i in
         record {
           mro = ap (lin new) (sym i) ∙ new-lin d y w ∙ ap Some m;
           slots = h;
-          base = base-attr is_same_name (plain kept) k.number n v x.number ∙ ap (base (plain kept)) (sym e) ∙ ok.base d w.old w.there ∙ w.base ∙ b;
-          solid = solid-attr is_same_name (plain kept) k.number n v x.number ∙ ap (solid (plain kept)) (sym e) ∙ ok.solid d w.old w.there ∙ w.solid ∙ s;
-          subclasses = sym c' ∙ sym w.subclasses ∙ ok.subclasses d w.old w.there ∙ ap (subclasses (plain kept)) e ∙ sym (subclasses-attr is_same_name (plain kept) k.number n v x.number);
+          base = base-attr is_same_name (classes_of kept) k.number n v x.number ∙ ap (base (classes_of kept)) (sym e) ∙ ok.base d w.old w.there ∙ w.base ∙ b;
+          solid = solid-attr is_same_name (classes_of kept) k.number n v x.number ∙ ap (solid (classes_of kept)) (sym e) ∙ ok.solid d w.old w.there ∙ w.solid ∙ s;
+          subclasses = sym c' ∙ sym w.subclasses ∙ ok.subclasses d w.old w.there ∙ ap (subclasses (classes_of kept)) e ∙ sym (subclasses-attr is_same_name (classes_of kept) k.number n v x.number);
         }
 
-    anew : (d : ℕ) (y x : Kept) (w : Was d y) (b : Bool) → has y.mro k.number ≡ b → cond b (settled new y) y ≡ x → IsNow x
+    anew : (d : ℕ) (y x : StoredClass) (w : Was d y) (b : Bool) → has y.mro k.number ≡ b → cond b (settled new y) y ≡ x → IsNow x
     unfolding new
     anew d y x w true test e =
-        common d y x w (ap (λ (z : Kept). z.number) e) (ap (λ (z : Kept). z.mro) e) (ap (λ (z : Kept). z.base) e) (ap (λ (z : Kept). z.solid) e) (ap (λ (z : Kept). z.subclasses) e) (ap (λ (z : Kept). z.slots) (sym e) ∙ ap (λ (z : Kept). entries table_keys natives_of new z.number) e)
+        common d y x w (ap (λ (z : StoredClass). z.number) e) (ap (λ (z : StoredClass). z.mro) e) (ap (λ (z : StoredClass). z.base) e) (ap (λ (z : StoredClass). z.solid) e) (ap (λ (z : StoredClass). z.subclasses) e) (ap (λ (z : StoredClass). z.slots) (sym e) ∙ ap (λ (z : StoredClass). entries table_keys natives_of new z.number) e)
     anew d y x w false test e =
-        common d y x w (ap (λ (z : Kept). z.number) e) (ap (λ (z : Kept). z.mro) e) (ap (λ (z : Kept). z.base) e) (ap (λ (z : Kept). z.solid) e) (ap (λ (z : Kept). z.subclasses) e) (
-        ap (λ (z : Kept). z.slots) (sym e)
+        common d y x w (ap (λ (z : StoredClass). z.number) e) (ap (λ (z : StoredClass). z.mro) e) (ap (λ (z : StoredClass). z.base) e) (ap (λ (z : StoredClass). z.solid) e) (ap (λ (z : StoredClass). z.subclasses) e) (
+        ap (λ (z : StoredClass). z.slots) (sym e)
         ∙ old-slots d y w
-        ∙ sym (entry-attr-away table_keys natives_of (plain kept) k.number n v y.number y.mro (old-lin d y w) test)
-        ∙ ap (λ (z : Kept). entries table_keys natives_of new z.number) e
+        ∙ sym (entry-attr-away table_keys natives_of (classes_of kept) k.number n v y.number y.mro (old-lin d y w) test)
+        ∙ ap (λ (z : StoredClass). entries table_keys natives_of new z.number) e
         )
 
-    all : (d : ℕ) (x : Kept) → slice_get final d ≡ Some x → IsNow x
+    all : (d : ℕ) (x : StoredClass) → slice_get final d ≡ Some x → IsNow x
     unfolding changed
     all d x e =
         let mid = set kept c changed in
         let l : d < length mid = let a = slice_get_within final d x e in let b = r.count in omega arith in
         let y = get_or mid d x in
         let h : slice_get mid d ≡ Some y = slice_get-get_or mid d x l in
-        let q : refreshed_one (plain mid) k.number y ≡ x = let z = r.at d y h in cc in
+        let q : refreshed_one (classes_of mid) k.number y ≡ x = let z = r.at d y h in cc in
         anew d y x (was d y h) (has y.mro k.number) refl (ap (λ (t : Classes PyStrInterned). refreshed_one t k.number y) (sym plain-changed) ∙ q)
 
     pub coherent-final : IsCoherent final
@@ -169,6 +169,6 @@ module _ (kept : List Kept) (ok : IsCoherent kept) (c : ℕ) (k : Kept) (within 
       base = λ d x e. ap (λ t. base t x.number) plain-final ∙ (all d x e).base;
       solid = λ d x e. ap (λ t. solid t x.number) plain-final ∙ (all d x e).solid;
       subclasses = λ d x e. (all d x e).subclasses ∙ ap (λ t. subclasses t x.number) (sym plain-final);
-      sound = subst AreSound (sym plain-final) (sound-attr is_same_name (plain kept) k.number n v ok.sound);
-      attrs = subst (λ t. All (λ k. AreNamesDistinct k.attrs) t) (sym plain-final) (all-set (plain kept) k.number n v ok.attrs);
+      sound = subst AreSound (sym plain-final) (sound-attr is_same_name (classes_of kept) k.number n v ok.sound);
+      attrs = subst (λ t. All (λ k. AreNamesDistinct k.attrs) t) (sym plain-final) (all-set (classes_of kept) k.number n v ok.attrs);
     }

@@ -5,7 +5,7 @@ use Rattle.std.specs.Option.{option_or}
 use Rattle.std.proofs.lemmas.Bool.{false_from_ne_true}
 use Rattle.py_node.specs.declared.raised.Cause.{Cause}
 use Rattle.py_node.specs.declared.raised.Cause.TheVariants.{EmptyBases, NotBaseType, LayoutConflict, DuplicateBase, LocalPrecedence, MroConflict}
-use Rattle.class_model.specs.Order.{is_distinct, least_order, all_some, Holds, Distinct, IsOrder}
+use Rattle.class_model.specs.Order.{is_distinct, least_order, all_some, Includes, Distinct, IsOrder}
 use Rattle.class_model.specs.Class.{Classes, class_at, lin}
 use Rattle.class_model.specs.Numbers.{limit}
 use Rattle.class_model.specs.Layout.{solid}
@@ -244,7 +244,7 @@ module _ {K : Type 0} (t : Classes K) where
           ap (λ o. option_or o (refused_order t (b ∷ bs))) (all-fit b bs w.fit)
           ∙ ap (λ d. cond d (option_and_then (refused_lines t (b ∷ bs)) (all_some (map (lin t) (b ∷ bs)))) (Some DuplicateBase)) (false_from_ne_true (is_distinct (b ∷ bs)) (λ q. w.twice ((Decides-distinct (b ∷ bs)).0 q)))
 
-  apart : (bs : List ℕ) (ls : List (List ℕ)) → map (lin t) bs ≡ map Some ls → (l : List ℕ) → Holds ls l → Holds l (limit t) → ⊥
+  apart : (bs : List ℕ) (ls : List (List ℕ)) → map (lin t) bs ≡ map Some ls → (l : List ℕ) → Includes ls l → Includes l (limit t) → ⊥
   apart bs ls e l h k = let r = lines-below t bs ls l (limit t) (ap all_some e ∙ all_some-some ls) h k in omega arith
 
   lined-of : (bs : List ℕ) (c : Cause) → refused_layout t bs ≡ None → (u : IsUnordered bs c) → AreLined t bs u.lines

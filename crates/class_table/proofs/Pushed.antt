@@ -7,7 +7,7 @@ use Rattle.std.specs.List.{All}
 use Rattle.py_node.specs.declared.refs.PyStrInterned.{PyStrInterned}
 use Rattle.py_node.specs.declared.refs.PyTypeRef.{PyTypeRef}
 use Rattle.py_node.specs.Attributes.{AreNamesDistinct}
-use Rattle.class_model.specs.Order.{has, Holds, Distinct}
+use Rattle.class_model.specs.Order.{has, Includes, Distinct}
 use Rattle.class_model.specs.Class.{Class, Classes, is_class, lin, subclasses}
 use Rattle.class_model.specs.Numbers.{is_ascending, limit}
 use Rattle.class_model.specs.Layout.{built_ins, is_empty, base, solid, best_of}
@@ -23,7 +23,7 @@ use Rattle.class_model.proofs.Solid.{first_best-held, base-push, solid-push}
 use Rattle.class_model.proofs.Made.{solid-made, sound-made}
 use Rattle.class_model.proofs.Lines.{bases-distinct, lin-value, best-value, solid-value}
 use Rattle.class_table.specs.Keys.{table_keys, number_of}
-use Rattle.class_table.specs.Kept.{Kept, class_of, plain}
+use Rattle.class_table.specs.Stored.{StoredClass, class_of, classes_of}
 use Rattle.class_table.specs.Coherent.{HasLines, IsCoherent}
 use Rattle.class_table.specs.Patch.{settled}
 use Rattle.class_table.specs.New.{IsBelow, IsBest}
@@ -41,7 +41,7 @@ pub there-of : (t : Classes PyStrInterned) (n : ℕ) (bs : List ℕ) → IsBelow
 there-of t n [] h = tt
 there-of t n (b ∷ bs) h = h
 
-pub each-there : (t : Classes PyStrInterned) (bs : List ℕ) → AreThere t bs → (b : ℕ) → Holds bs b → is_class t b ≡ true
+pub each-there : (t : Classes PyStrInterned) (bs : List ℕ) → AreThere t bs → (b : ℕ) → Includes bs b → is_class t b ≡ true
 each-there t [] l b h = absurd h
 each-there t (c ∷ bs) l b (inl e) = ap (is_class t) (sym e) ∙ l.0
 each-there t (c ∷ bs) l b (inr h) = each-there t bs l.1 b h
@@ -69,37 +69,37 @@ root-of : (t : Classes PyStrInterned) (n : ℕ) (bs : List ℕ) → IsBelow t n 
 root-of t n [] h l = sym (eq-eqb n 0 h)
 root-of t n (b ∷ bs) h l = let m = below-limit t b h.0 in sym (ne_eqb n 0 (λ e. omega arith))
 
-module _ (kept : List Kept) (ok : IsCoherent kept) (new : Class PyStrInterned) (room : limit (plain kept) ≤ new.number) (below : IsBelow (plain kept) new.number new.bases) (best : Option PyTypeRef) (is_best : IsBest (plain kept) new.bases best) where
+module _ (kept : List StoredClass) (ok : IsCoherent kept) (new : Class PyStrInterned) (room : limit (classes_of kept) ≤ new.number) (below : IsBelow (classes_of kept) new.number new.bases) (best : Option PyTypeRef) (is_best : IsBest (classes_of kept) new.bases best) where
   grown : Classes PyStrInterned
-  grown = with_class (plain kept) new
+  grown = with_class (classes_of kept) new
 
-  held : (b : ℕ) → Holds new.bases b → is_class (plain kept) b ≡ true
-  held = each-there (plain kept) new.bases (there-of (plain kept) new.number new.bases below)
+  held : (b : ℕ) → Includes new.bases b → is_class (classes_of kept) b ≡ true
+  held = each-there (classes_of kept) new.bases (there-of (classes_of kept) new.number new.bases below)
 
   -- what is so of the further class
-  pub line-given : (rest : List ℕ) → Follows (plain kept) new.bases rest → lin (with_class (plain kept) new) new.number ≡ Some (new.number ∷ rest)
-  line-given rest f = lin-value (plain kept) new ok.sound room held (new.number ∷ rest) (f new.number room)
+  pub line-given : (rest : List ℕ) → Follows (classes_of kept) new.bases rest → lin (with_class (classes_of kept) new) new.number ≡ Some (new.number ∷ rest)
+  line-given rest f = lin-value (classes_of kept) new ok.sound room held (new.number ∷ rest) (f new.number room)
 
-  pub base-given : base (with_class (plain kept) new) new.number ≡ number_of best
-  base-given = best-value (plain kept) new ok.sound room held ∙ best-is (plain kept) new.bases best is_best
+  pub base-given : base (with_class (classes_of kept) new) new.number ≡ number_of best
+  base-given = best-value (classes_of kept) new ok.sound room held ∙ best-is (classes_of kept) new.bases best is_best
 
-  pub solid-given : solid (with_class (plain kept) new) new.number ≡ cond (nat_lt new.number built_ins || not (is_empty new.members)) (Some new.number) (option_and_then (solid (plain kept)) (number_of best))
+  pub solid-given : solid (with_class (classes_of kept) new) new.number ≡ cond (nat_lt new.number built_ins || not (is_empty new.members)) (Some new.number) (option_and_then (solid (classes_of kept)) (number_of best))
   solid-given =
-      solid-value (plain kept) new ok.sound room held
-      ∙ ap (λ o. cond (nat_lt new.number built_ins || not (is_empty new.members)) (Some new.number) (option_and_then (solid (plain kept)) o)) (best-is (plain kept) new.bases best is_best)
+      solid-value (classes_of kept) new ok.sound room held
+      ∙ ap (λ o. cond (nat_lt new.number built_ins || not (is_empty new.members)) (Some new.number) (option_and_then (solid (classes_of kept)) o)) (best-is (classes_of kept) new.bases best is_best)
 
-  has-base : is_some (base (with_class (plain kept) new) new.number) ≡ not (is_empty new.bases)
-  has-base = ap is_some (best-value (plain kept) new ok.sound room held) ∙ best-some (plain kept) new.bases best is_best
+  has-base : is_some (base (with_class (classes_of kept) new) new.number) ≡ not (is_empty new.bases)
+  has-base = ap is_some (best-value (classes_of kept) new ok.sound room held) ∙ best-some (classes_of kept) new.bases best is_best
 
-  has-solid : (bs : List ℕ) → new.bases ≡ bs → is_some (solid (with_class (plain kept) new) new.number) ≡ true
+  has-solid : (bs : List ℕ) → new.bases ≡ bs → is_some (solid (with_class (classes_of kept) new) new.number) ≡ true
   has-solid [] e =
-      let P : List ℕ → Type 0 = λ bs. IsBelow (plain kept) new.number bs in
+      let P : List ℕ → Type 0 = λ bs. IsBelow (classes_of kept) new.number bs in
       let zero : new.number ≡ 0 = subst P e below in
-      ap is_some (solid-value (plain kept) new ok.sound room held ∙ ap (λ w. cond (w || not (is_empty new.members)) (Some new.number) (option_and_then (solid (plain kept)) (best_of (plain kept) new.bases))) (lt-ltb new.number built_ins (omega arith)))
-  has-solid (b ∷ bs) e = solid-made (plain kept) new ok.sound room held (has-base ∙ ap (λ ds. not (is_empty ds)) e)
+      ap is_some (solid-value (classes_of kept) new ok.sound room held ∙ ap (λ w. cond (w || not (is_empty new.members)) (Some new.number) (option_and_then (solid (classes_of kept)) (best_of (classes_of kept) new.bases))) (lt-ltb new.number built_ins (omega arith)))
+  has-solid (b ∷ bs) e = solid-made (classes_of kept) new ok.sound room held (has-base ∙ ap (λ ds. not (is_empty ds)) e)
 
-  module _ (stored : Kept) (fresh : IsFresh kept new stored) (d : Kept) where
-    mid : List Kept
+  module _ (stored : StoredClass) (fresh : IsFresh kept new stored) (d : StoredClass) where
+    mid : List StoredClass
     mid = noted stored.bases stored.number kept
 
     called : stored.number ≡ new.number
@@ -108,16 +108,16 @@ module _ (kept : List Kept) (ok : IsCoherent kept) (new : Class PyStrInterned) (
     above : stored.bases ≡ new.bases
     above = ap (λ (c : Class PyStrInterned). c.bases) fresh.class
 
-    sound-given : AreSound (with_class (plain kept) new)
+    sound-given : AreSound (with_class (classes_of kept) new)
     sound-given =
-        let root = root-of (plain kept) new.number new.bases below room in
-        sound-made (plain kept) new ok.sound room held root (ap is_some fresh.mro) (has-solid new.bases refl) (has-base ∙ ap not root)
+        let root = root-of (classes_of kept) new.number new.bases below room in
+        sound-made (classes_of kept) new ok.sound room held root (ap is_some fresh.mro) (has-solid new.bases refl) (has-base ∙ ap not root)
 
-    pub plain-attached : plain (noted stored.bases stored.number kept ++ stored ∷ []) ≡ with_class (plain kept) new
+    pub plain-attached : classes_of (noted stored.bases stored.number kept ++ stored ∷ []) ≡ with_class (classes_of kept) new
     plain-attached =
         map-append class_of (noted stored.bases stored.number kept) (stored ∷ [])
         ∙ ap (λ ys. ys ++ class_of stored ∷ []) (plain-noted stored.bases stored.number kept)
-        ∙ ap (λ k. plain kept ++ k ∷ []) fresh.class
+        ∙ ap (λ k. classes_of kept ++ k ∷ []) fresh.class
 
     pub length-mid : length (noted stored.bases stored.number kept) ≡ length kept
     length-mid = length-map kept (noting stored.bases stored.number)
@@ -126,86 +126,86 @@ module _ (kept : List Kept) (ok : IsCoherent kept) (new : Class PyStrInterned) (
     unfolding grown called
     fresh-lin = ap (lin grown) called ∙ fresh.mro
 
-    old-lin : (i : ℕ) (k : Kept) → slice_get kept i ≡ Some k → lin grown k.number ≡ Some k.mro
+    old-lin : (i : ℕ) (k : StoredClass) → slice_get kept i ≡ Some k → lin grown k.number ≡ Some k.mro
     unfolding grown
-    old-lin i k e = lin-push (plain kept) new k.number k.mro (ok.mro i k e)
+    old-lin i k e = lin-push (classes_of kept) new k.number k.mro (ok.mro i k e)
 
     pub lines-attached : HasLines (noted stored.bases stored.number kept ++ stored ∷ [])
     unfolding grown mid
     lines-attached = record {
-      ascending = ap is_ascending plain-attached ∙ ascending-push (plain kept) new ok.sound.ascending room;
+      ascending = ap is_ascending plain-attached ∙ ascending-push (classes_of kept) new ok.sound.ascending room;
       mro = λ i x e.
           ap (λ t. lin t x.number) plain-attached
           ∙ elim (get-push_cases mid stored i x e) [
-            | inl a ↦ let w = was stored.bases stored.number kept i x a in ap (λ (z : Kept). lin grown z.number) (sym w.2) ∙ old-lin i w.0 w.1 ∙ ap (λ (z : Kept). Some z.mro) w.2
-            | inr r ↦ ap (λ (z : Kept). lin grown z.number) (sym r.1) ∙ fresh-lin ∙ ap (λ (z : Kept). Some z.mro) r.1
+            | inl a ↦ let w = was stored.bases stored.number kept i x a in ap (λ (z : StoredClass). lin grown z.number) (sym w.2) ∙ old-lin i w.0 w.1 ∙ ap (λ (z : StoredClass). Some z.mro) w.2
+            | inr r ↦ ap (λ (z : StoredClass). lin grown z.number) (sym r.1) ∙ fresh-lin ∙ ap (λ (z : StoredClass). Some z.mro) r.1
           ];
     }
 
-    pub last : (x : Kept) → get_or (noted stored.bases stored.number kept ++ stored ∷ []) (length kept) x ≡ stored
+    pub last : (x : StoredClass) → get_or (noted stored.bases stored.number kept ++ stored ∷ []) (length kept) x ≡ stored
     last x = get_or_push (noted stored.bases stored.number kept) stored x (length kept) length-mid
 
     pub within-attached : length kept < length (noted stored.bases stored.number kept ++ stored ∷ [])
     within-attached = let a = length-append (noted stored.bases stored.number kept) (stored ∷ []) in let b = length-mid in omega (arith, a, b)
 
     -- the class that was put at the end is given its slots
-    pub settled-at : (cur found : List Kept) (n : ℕ) → cur ≡ noted stored.bases stored.number kept ++ stored ∷ [] → n ≡ length kept → ((x : Kept) → found ≡ set cur n (settled (plain cur) (get_or cur n x))) → found ≡ set (noted stored.bases stored.number kept ++ stored ∷ []) (length kept) (settled (with_class (plain kept) new) stored)
+    pub settled-at : (cur found : List StoredClass) (n : ℕ) → cur ≡ noted stored.bases stored.number kept ++ stored ∷ [] → n ≡ length kept → ((x : StoredClass) → found ≡ set cur n (settled (classes_of cur) (get_or cur n x))) → found ≡ set (noted stored.bases stored.number kept ++ stored ∷ []) (length kept) (settled (with_class (classes_of kept) new) stored)
     settled-at cur found n e size is =
         let all = noted stored.bases stored.number kept ++ stored ∷ [] in
         is stored
-        ∙ ap (λ (ys : List Kept). set ys n (settled (plain ys) (get_or ys n stored))) e
-        ∙ ap (λ (m : ℕ). set all m (settled (plain all) (get_or all m stored))) size
-        ∙ ap (λ (z : Kept). set all (length kept) (settled (plain all) z)) (last stored)
+        ∙ ap (λ (ys : List StoredClass). set ys n (settled (classes_of ys) (get_or ys n stored))) e
+        ∙ ap (λ (m : ℕ). set all m (settled (classes_of all) (get_or all m stored))) size
+        ∙ ap (λ (z : StoredClass). set all (length kept) (settled (classes_of all) z)) (last stored)
         ∙ ap (λ (t : Classes PyStrInterned). set all (length kept) (settled t stored)) plain-attached
 
-    record IsNow (x : Kept) : Type 0 where
+    record IsNow (x : StoredClass) : Type 0 where
       mro : lin grown x.number ≡ Some x.mro
       slots : x.slots ≡ entries table_keys natives_of grown x.number
       base : base grown x.number ≡ x.base
       solid : solid grown x.number ≡ x.solid
       subclasses : x.subclasses ≡ subclasses grown x.number
 
-    now-old : (i : ℕ) (k : Kept) → slice_get kept i ≡ Some k → IsNow (noting stored.bases stored.number k)
+    now-old : (i : ℕ) (k : StoredClass) → slice_get kept i ≡ Some k → IsNow (noting stored.bases stored.number k)
     unfolding grown called above
     now-old i k e =
         let l = ok.mro i k e in
         record {
           mro = old-lin i k e;
-          slots = ok.slots i k e ∙ sym (entries-push table_keys natives_of (plain kept) new k.number k.mro l);
-          base = base-push (plain kept) new k.number k.mro l ∙ ok.base i k e;
-          solid = solid-push (plain kept) new k.number k.mro l ∙ ok.solid i k e;
+          slots = ok.slots i k e ∙ sym (entries-push table_keys natives_of (classes_of kept) new k.number k.mro l);
+          base = base-push (classes_of kept) new k.number k.mro l ∙ ok.base i k e;
+          solid = solid-push (classes_of kept) new k.number k.mro l ∙ ok.solid i k e;
           subclasses =
               ap (λ ys. ys ++ cond (has stored.bases k.number) (stored.number ∷ []) []) (ok.subclasses i k e)
-              ∙ ap (λ bs. subclasses (plain kept) k.number ++ cond (has bs k.number) (stored.number ∷ []) []) above
-              ∙ ap (λ n. subclasses (plain kept) k.number ++ cond (has new.bases k.number) (n ∷ []) []) called
-              ∙ sym (subclasses-push (plain kept) new k.number);
+              ∙ ap (λ bs. subclasses (classes_of kept) k.number ++ cond (has bs k.number) (stored.number ∷ []) []) above
+              ∙ ap (λ n. subclasses (classes_of kept) k.number ++ cond (has new.bases k.number) (n ∷ []) []) called
+              ∙ sym (subclasses-push (classes_of kept) new k.number);
         }
 
-    all-lines : (c : ℕ) → is_class (plain kept) c ≡ true → (l : List ℕ) × (lin (plain kept) c ≡ Some l)
+    all-lines : (c : ℕ) → is_class (classes_of kept) c ≡ true → (l : List ℕ) × (lin (classes_of kept) c ≡ Some l)
     all-lines c l = let h = class-here kept ok.sound.ascending c l in (h.0.mro, line-kept kept ok c h.0 h.1)
 
-    now-fresh : (x : Kept) → settled grown stored ≡ x → IsNow x
+    now-fresh : (x : StoredClass) → settled grown stored ≡ x → IsNow x
     unfolding grown called
     now-fresh x e =
-        let n : new.number ≡ x.number = sym called ∙ ap (λ (z : Kept). z.number) e in
+        let n : new.number ≡ x.number = sym called ∙ ap (λ (z : StoredClass). z.number) e in
         record {
-          mro = ap (λ (z : Kept). lin grown z.number) (sym e) ∙ fresh-lin ∙ ap (λ (z : Kept). Some z.mro) e;
-          slots = ap (λ (z : Kept). z.slots) (sym e) ∙ ap (λ (z : Kept). entries table_keys natives_of grown z.number) e;
-          base = ap (base grown) (sym n) ∙ fresh.base ∙ ap (λ (z : Kept). z.base) e;
-          solid = ap (solid grown) (sym n) ∙ fresh.solid ∙ ap (λ (z : Kept). z.solid) e;
+          mro = ap (λ (z : StoredClass). lin grown z.number) (sym e) ∙ fresh-lin ∙ ap (λ (z : StoredClass). Some z.mro) e;
+          slots = ap (λ (z : StoredClass). z.slots) (sym e) ∙ ap (λ (z : StoredClass). entries table_keys natives_of grown z.number) e;
+          base = ap (base grown) (sym n) ∙ fresh.base ∙ ap (λ (z : StoredClass). z.base) e;
+          solid = ap (solid grown) (sym n) ∙ fresh.solid ∙ ap (λ (z : StoredClass). z.solid) e;
           subclasses =
-              ap (λ (z : Kept). z.subclasses) (sym e)
+              ap (λ (z : StoredClass). z.subclasses) (sym e)
               ∙ fresh.subclasses
-              ∙ sym (subclasses-new (plain kept) new ok.sound.ascending room all-lines held)
+              ∙ sym (subclasses-new (classes_of kept) new ok.sound.ascending room all-lines held)
               ∙ ap (subclasses grown) n;
         }
 
-    module _ (final : List Kept) (is : final ≡ set (noted stored.bases stored.number kept ++ stored ∷ []) (length kept) (settled (with_class (plain kept) new) stored)) where
-      pub plain-added : plain final ≡ with_class (plain kept) new
+    module _ (final : List StoredClass) (is : final ≡ set (noted stored.bases stored.number kept ++ stored ∷ []) (length kept) (settled (with_class (classes_of kept) new) stored)) where
+      pub plain-added : classes_of final ≡ with_class (classes_of kept) new
       plain-added =
-          ap plain is ∙ plain-set (noted stored.bases stored.number kept ++ stored ∷ []) (length kept) stored (settled (with_class (plain kept) new) stored) within-attached (sym (last stored)) refl ∙ plain-attached
+          ap classes_of is ∙ plain-set (noted stored.bases stored.number kept ++ stored ∷ []) (length kept) stored (settled (with_class (classes_of kept) new) stored) within-attached (sym (last stored)) refl ∙ plain-attached
 
-      now : (i : ℕ) (x : Kept) → slice_get final i ≡ Some x → IsNow x
+      now : (i : ℕ) (x : StoredClass) → slice_get final i ≡ Some x → IsNow x
       unfolding grown mid
       now i x e = elim (get-set_cases (mid ++ stored ∷ []) (length kept) (settled grown stored) i x (ap (λ ys. slice_get ys i) (sym is) ∙ e)) [
         | inl r ↦ now-fresh x r.1
@@ -225,23 +225,23 @@ module _ (kept : List Kept) (ok : IsCoherent kept) (new : Class PyStrInterned) (
         solid = λ i x e. ap (λ t. solid t x.number) plain-added ∙ (now i x e).solid;
         subclasses = λ i x e. (now i x e).subclasses ∙ ap (λ t. subclasses t x.number) (sym plain-added);
         sound = subst AreSound (sym plain-added) sound-given;
-        attrs = subst (λ t. All (λ k. AreNamesDistinct k.attrs) t) (sym plain-added) (all-added (plain kept) new ok.attrs fresh.attrs);
+        attrs = subst (λ t. All (λ k. AreNamesDistinct k.attrs) t) (sym plain-added) (all-added (classes_of kept) new ok.attrs fresh.attrs);
       }
 
 -- the class as it is made, before it is put into the table
-module _ (kept : List Kept) (ok : IsCoherent kept) (new : Class PyStrInterned) (room : limit (plain kept) ≤ new.number) (below : IsBelow (plain kept) new.number new.bases) (before : List Kept) (same : before ≡ kept) (stored : Kept) (h : IsFresh before new stored) where
+module _ (kept : List StoredClass) (ok : IsCoherent kept) (new : Class PyStrInterned) (room : limit (classes_of kept) ≤ new.number) (below : IsBelow (classes_of kept) new.number new.bases) (before : List StoredClass) (same : before ≡ kept) (stored : StoredClass) (h : IsFresh before new stored) where
   pub fresh-of : IsFresh kept new stored
-  fresh-of = let P : List Kept → Type 0 = λ ys. IsFresh ys new stored in subst P same h
+  fresh-of = let P : List StoredClass → Type 0 = λ ys. IsFresh ys new stored in subst P same h
 
-  pub bases-there : AreThere (plain kept) stored.bases
-  bases-there = let P : List ℕ → Type 0 = λ bs. AreThere (plain kept) bs in subst P (sym (ap (λ (c : Class PyStrInterned). c.bases) fresh-of.class)) (there-of (plain kept) new.number new.bases below)
+  pub bases-there : AreThere (classes_of kept) stored.bases
+  bases-there = let P : List ℕ → Type 0 = λ bs. AreThere (classes_of kept) bs in subst P (sym (ap (λ (c : Class PyStrInterned). c.bases) fresh-of.class)) (there-of (classes_of kept) new.number new.bases below)
 
   pub bases-once : Distinct stored.bases
   bases-once =
-      subst Distinct (sym (ap (λ (c : Class PyStrInterned). c.bases) fresh-of.class)) (bases-distinct (with_class (plain kept) new) new.number stored.mro new.bases fresh-of.mro (bases_of-last (plain kept) new room new.bases refl))
+      subst Distinct (sym (ap (λ (c : Class PyStrInterned). c.bases) fresh-of.class)) (bases-distinct (with_class (classes_of kept) new) new.number stored.mro new.bases fresh-of.mro (bases_of-last (classes_of kept) new room new.bases refl))
 
 -- the same, step by step as the code goes
-module _ (kept : List Kept) (ok : IsCoherent kept) (new : Class PyStrInterned) (room : limit (plain kept) ≤ new.number) (below : IsBelow (plain kept) new.number new.bases) (best : Option PyTypeRef) (is_best : IsBest (plain kept) new.bases best) (stored : Kept) (n : ℕ) (before items cur : List Kept) (size : n ≡ length kept) (same : before ≡ kept) (h : IsFresh before new stored) (put : items ≡ noted stored.bases stored.number kept ++ stored ∷ []) (is : cur ≡ items) where
+module _ (kept : List StoredClass) (ok : IsCoherent kept) (new : Class PyStrInterned) (room : limit (classes_of kept) ≤ new.number) (below : IsBelow (classes_of kept) new.number new.bases) (best : Option PyTypeRef) (is_best : IsBest (classes_of kept) new.bases best) (stored : StoredClass) (n : ℕ) (before items cur : List StoredClass) (size : n ≡ length kept) (same : before ≡ kept) (h : IsFresh before new stored) (put : items ≡ noted stored.bases stored.number kept ++ stored ∷ []) (is : cur ≡ items) where
   fresh : IsFresh kept new stored
   fresh = fresh-of kept ok new room below before same stored h
 
@@ -249,7 +249,7 @@ module _ (kept : List Kept) (ok : IsCoherent kept) (new : Class PyStrInterned) (
   attached = is ∙ put
 
   pub step-lines : HasLines cur
-  step-lines = let P : List Kept → Type 0 = λ ys. HasLines ys in subst P (sym attached) (lines-attached kept ok new room below best is_best stored fresh stored)
+  step-lines = let P : List StoredClass → Type 0 = λ ys. HasLines ys in subst P (sym attached) (lines-attached kept ok new room below best is_best stored fresh stored)
 
   pub step-inside : n < length cur
   step-inside =
@@ -257,16 +257,16 @@ module _ (kept : List Kept) (ok : IsCoherent kept) (new : Class PyStrInterned) (
       let a = ap length attached in
       omega (arith, w, a, size)
 
-  pub step-full : (x : Kept) → length (get_or cur n x).slots ≡ 73
+  pub step-full : (x : StoredClass) → length (get_or cur n x).slots ≡ 73
   step-full x =
-      ap (λ (k : Kept). length k.slots) (
-      ap (λ (ys : List Kept). get_or ys n x) attached
+      ap (λ (k : StoredClass). length k.slots) (
+      ap (λ (ys : List StoredClass). get_or ys n x) attached
       ∙ ap (λ (m : ℕ). get_or (noted stored.bases stored.number kept ++ stored ∷ []) m x) size
       ∙ last kept ok new room below best is_best stored fresh stored x
       )
       ∙ fresh.full
 
-  pub step-done : (final done : List Kept) → ((x : Kept) → done ≡ set cur n (settled (plain cur) (get_or cur n x))) → final ≡ done → IsCoherent final × (plain final ≡ with_class (plain kept) new)
+  pub step-done : (final done : List StoredClass) → ((x : StoredClass) → done ≡ set cur n (settled (classes_of cur) (get_or cur n x))) → final ≡ done → IsCoherent final × (classes_of final ≡ with_class (classes_of kept) new)
   step-done final done says e =
       let all = e ∙ settled-at kept ok new room below best is_best stored fresh stored cur done n attached size says in (
         coherent-added kept ok new room below best is_best stored fresh stored final all,

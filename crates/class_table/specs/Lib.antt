@@ -1,5 +1,5 @@
 pub mod Keys
-pub mod Kept
+pub mod Stored
 pub mod Coherent
 pub mod Patch
 pub mod New

@@ -7,18 +7,18 @@ use Rattle.class_model.specs.Order.{has}
 use Rattle.class_model.specs.Class.{Class, lin}
 use Rattle.class_model.specs.Layout.{base, solid}
 use Rattle.class_model.specs.Change.{with_class}
-use Rattle.class_table.specs.Kept.{Kept, class_of, plain}
+use Rattle.class_table.specs.Stored.{StoredClass, class_of, classes_of}
 
 -- a class as it is made, before its slots are found: what is kept of it is so of the classes with this one more
-pub record IsFresh (kept : List Kept) (c : Class PyStrInterned) (k : Kept) : Type 0 where
+pub record IsFresh (kept : List StoredClass) (c : Class PyStrInterned) (k : StoredClass) : Type 0 where
   pub class : class_of k ≡ c
   pub attrs : AreNamesDistinct c.attrs
   pub full : length k.slots ≡ slot_count
-  pub mro : lin (with_class (plain kept) c) c.number ≡ Some k.mro
-  pub base : base (with_class (plain kept) c) c.number ≡ k.base
-  pub solid : solid (with_class (plain kept) c) c.number ≡ k.solid
+  pub mro : lin (with_class (classes_of kept) c) c.number ≡ Some k.mro
+  pub base : base (with_class (classes_of kept) c) c.number ≡ k.base
+  pub solid : solid (with_class (classes_of kept) c) c.number ≡ k.solid
   pub subclasses : k.subclasses ≡ []
 
 -- a class is noted as the last direct subclass of each of its bases
-abbrev pub noted : List ℕ → ℕ → List Kept → List Kept
-noted bases n kept = map (λ (k : Kept). record k { subclasses = k.subclasses ++ cond (has bases k.number) (n ∷ []) [] }) kept
+abbrev pub noted : List ℕ → ℕ → List StoredClass → List StoredClass
+noted bases n kept = map (λ (k : StoredClass). record k { subclasses = k.subclasses ++ cond (has bases k.number) (n ∷ []) [] }) kept

@@ -8,25 +8,25 @@ use Rattle.class_model.specs.Class.{Classes}
 use Rattle.class_model.specs.Slot.{is_name_of, entry, entries}
 use Rattle.class_model.specs.BuiltIn.{natives_of}
 use Rattle.class_table.specs.Keys.{table_keys}
-use Rattle.class_table.specs.Kept.{Kept, plain}
+use Rattle.class_table.specs.Stored.{StoredClass, classes_of}
 
 -- every slot but those of a name holds what its definition says
-pub record IsNear (t : Classes PyStrInterned) (name : PyStrInterned) (k : Kept) : Type 0 where
+pub record IsNear (t : Classes PyStrInterned) (name : PyStrInterned) (k : StoredClass) : Type 0 where
   pub count : length k.slots ≡ slot_count
   pub others : (s : SlotId) → is_name_of table_keys s name ≡ false → slice_get k.slots (place_of s) ≡ Some (entry table_keys natives_of t k.number s)
 
 -- the same of each class that has a class along its linearisation
-abbrev pub AreNear : PyStrInterned → ℕ → List Kept → Type 0
-AreNear name class kept = (i : ℕ) (k : Kept) → slice_get kept i ≡ Some k → has k.mro class ≡ true → IsNear (plain kept) name k
+abbrev pub AreNear : PyStrInterned → ℕ → List StoredClass → Type 0
+AreNear name class kept = (i : ℕ) (k : StoredClass) → slice_get kept i ≡ Some k → has k.mro class ≡ true → IsNear (classes_of kept) name k
 
 -- a class with the slots of its definition
-abbrev pub settled : Classes PyStrInterned → Kept → Kept
+abbrev pub settled : Classes PyStrInterned → StoredClass → StoredClass
 settled t k = record k { slots = entries table_keys natives_of t k.number }
 
 -- the slots are found anew where the class is along the linearisation
-abbrev pub refreshed_one : Classes PyStrInterned → ℕ → Kept → Kept
+abbrev pub refreshed_one : Classes PyStrInterned → ℕ → StoredClass → StoredClass
 refreshed_one t class k = cond (has k.mro class) (settled t k) k
 
-pub record IsRefreshed (class : ℕ) (old new : List Kept) : Type 0 where
+pub record IsRefreshed (class : ℕ) (old new : List StoredClass) : Type 0 where
   pub count : length new ≡ length old
-  pub at : (i : ℕ) (k : Kept) → slice_get old i ≡ Some k → slice_get new i ≡ Some (refreshed_one (plain old) class k)
+  pub at : (i : ℕ) (k : StoredClass) → slice_get old i ≡ Some k → slice_get new i ≡ Some (refreshed_one (classes_of old) class k)

@@ -8,7 +8,7 @@ ghost use Rattle.class_model.specs.Class.{is_class};
 ghost use Rattle.class_model.specs.Numbers.{is_ascending, limit};
 ghost use Rattle.class_model.specs.Layout.{built_ins, is_empty};
 ghost use Rattle.class_model.specs.Change.{with_class};
-ghost use Rattle.class_table.specs.Kept.{Kept, plain};
+ghost use Rattle.class_table.specs.Stored.{StoredClass, classes_of};
 ghost use Rattle.class_table.specs.Keys.{numbers, number_of};
 ghost use Rattle.class_table.specs.Coherent.{IsCoherent};
 ghost use Rattle.class_table.specs.New.{IsBelow, IsBest, class_of_new};
@@ -77,10 +77,10 @@ fn with_line(
     rest: &[PyTypeRef],
 ) -> Result<Stored, OutOfMemory>
     requires coherent { IsCoherent classes.now }
-    requires below { IsBelow (plain classes.now) new.number.0 (numbers new.bases.items) }
-    requires fresh { limit (plain classes.now) ≤ new.number.0 }
-    requires best { IsBest (plain classes.now) (numbers new.bases.items) best }
-    requires rest { Follows (plain classes.now) (numbers new.bases.items) (numbers rest.now) }
+    requires below { IsBelow (classes_of classes.now) new.number.0 (numbers new.bases.items) }
+    requires fresh { limit (classes_of classes.now) ≤ new.number.0 }
+    requires best { IsBest (classes_of classes.now) (numbers new.bases.items) best }
+    requires rest { Follows (classes_of classes.now) (numbers new.bases.items) (numbers rest.now) }
     ensures { IfOk result (λ k. IsFresh classes.now (class_of_new new) k) }
 {
     are_distinct(&new.attrs);
@@ -112,11 +112,11 @@ fn build(
     best: Option<PyTypeRef>,
 ) -> Result<Stored, ClassFault>
     requires coherent { IsCoherent classes.now }
-    requires below { IsBelow (plain classes.now) new.number.0 (numbers new.bases.items) }
-    requires fresh { limit (plain classes.now) ≤ new.number.0 }
-    requires best { IsBest (plain classes.now) (numbers new.bases.items) best }
+    requires below { IsBelow (classes_of classes.now) new.number.0 (numbers new.bases.items) }
+    requires fresh { limit (classes_of classes.now) ≤ new.number.0 }
+    requires best { IsBest (classes_of classes.now) (numbers new.bases.items) best }
     ensures fresh { IfOk result (λ k. IsFresh classes.now (class_of_new new) k) }
-    ensures refused { WithMemory result (refusal result ≡ refused_order (plain classes.now) (numbers new.bases.items)) }
+    ensures refused { WithMemory result (refusal result ≡ refused_order (classes_of classes.now) (numbers new.bases.items)) }
 {
     let rest = match rest_of_line(classes, alloc, &new.bases) {
         Ok(rest) => rest,
@@ -130,8 +130,8 @@ fn build(
 
 // Notes a class as the last direct subclass of one that is there.
 fn note_in(classes: &mut [Stored], base: PyTypeRef, number: PyTypeRef) -> Result<(), OutOfMemory>
-    requires ascending { is_ascending (plain classes.old) ≡ true }
-    requires there { is_class (plain classes.old) base.0 ≡ true }
+    requires ascending { is_ascending (classes_of classes.old) ≡ true }
+    requires there { is_class (classes_of classes.old) base.0 ≡ true }
     ensures ok { OnOk result (classes.new ≡ noted (base.0 ∷ []) number.0 classes.old) }
     ensures err { OnErr result (classes.new ≡ classes.old) }
 {
@@ -144,9 +144,9 @@ fn note_in(classes: &mut [Stored], base: PyTypeRef, number: PyTypeRef) -> Result
 
 // Takes the last direct subclass off one that is there.
 fn forget_in(classes: &mut [Stored], base: PyTypeRef)
-    requires ascending { is_ascending (plain classes.old) ≡ true }
-    requires there { is_class (plain classes.old) base.0 ≡ true }
-    ensures { (n : ℕ) (kept : List Kept) → classes.old ≡ noted (base.0 ∷ []) n kept → classes.new ≡ kept }
+    requires ascending { is_ascending (classes_of classes.old) ≡ true }
+    requires there { is_class (classes_of classes.old) base.0 ≡ true }
+    ensures { (n : ℕ) (kept : List StoredClass) → classes.old ≡ noted (base.0 ∷ []) n kept → classes.new ≡ kept }
 {
     let at = place(classes, base);
     classes[at].forget_subclass();
@@ -154,8 +154,8 @@ fn forget_in(classes: &mut [Stored], base: PyTypeRef)
 
 // Notes a class as the last direct subclass of each of its bases.
 fn note(classes: &mut [Stored], bases: &[PyTypeRef], number: PyTypeRef) -> Result<(), OutOfMemory>
-    requires ascending { is_ascending (plain classes.old) ≡ true }
-    requires there { AreThere (plain classes.old) (numbers bases.now) }
+    requires ascending { is_ascending (classes_of classes.old) ≡ true }
+    requires there { AreThere (classes_of classes.old) (numbers bases.now) }
     requires distinct { Distinct (numbers bases.now) }
     ensures ok { OnOk result (classes.new ≡ noted (numbers bases.now) number.0 classes.old) }
     ensures err { OnErr result (classes.new ≡ classes.old) }
@@ -177,8 +177,8 @@ fn note(classes: &mut [Stored], bases: &[PyTypeRef], number: PyTypeRef) -> Resul
 
 // Puts a class at the end, and notes it in its bases.
 fn attach(classes: &mut Vec<Stored>, stored: Stored) -> Result<(), OutOfMemory>
-    requires ascending { is_ascending (plain classes.old.items) ≡ true }
-    requires there { AreThere (plain classes.old.items) stored.bases }
+    requires ascending { is_ascending (classes_of classes.old.items) ≡ true }
+    requires there { AreThere (classes_of classes.old.items) stored.bases }
     requires distinct { Distinct stored.bases }
     ensures ok { OnOk result (classes.new.items ≡ noted stored.bases stored.number classes.old.items ++ stored ∷ []) }
     ensures err { OnErr result (classes.new.items ≡ classes.old.items) }
@@ -197,14 +197,14 @@ pub(crate) fn add(
     best: Option<PyTypeRef>,
 ) -> Result<PyTypeRef, ClassFault>
     requires coherent { IsCoherent classes.old.items }
-    requires below { IsBelow (plain classes.old.items) new.number.0 (numbers new.bases.items) }
-    requires fresh { limit (plain classes.old.items) ≤ new.number.0 }
-    requires best { IsBest (plain classes.old.items) (numbers new.bases.items) best }
+    requires below { IsBelow (classes_of classes.old.items) new.number.0 (numbers new.bases.items) }
+    requires fresh { limit (classes_of classes.old.items) ≤ new.number.0 }
+    requires best { IsBest (classes_of classes.old.items) (numbers new.bases.items) best }
     ensures number { IfOk result (λ c. c ≡ new.number) }
     ensures coherent { OnOk result (IsCoherent classes.new.items) }
-    ensures added { OnOk result (plain classes.new.items ≡ with_class (plain classes.old.items) (class_of_new new)) }
+    ensures added { OnOk result (classes_of classes.new.items ≡ with_class (classes_of classes.old.items) (class_of_new new)) }
     ensures refused { WithMemory result (refusal result ≡
-        refused_order (plain classes.old.items) (numbers new.bases.items)) }
+        refused_order (classes_of classes.old.items) (numbers new.bases.items)) }
     ensures err { OnErr result (classes.new.items ≡ classes.old.items) }
 {
     let at = classes.len();

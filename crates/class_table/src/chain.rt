@@ -5,7 +5,7 @@ ghost use Rattle.std.specs.Iterator.{YieldsFirstBy, item_count};
 ghost use Rattle.class_model.specs.Class.{is_class};
 ghost use Rattle.class_model.specs.Layout.{base};
 ghost use Rattle.class_model.specs.Chain.{chain_from, base_chain, IsChain};
-ghost use Rattle.class_table.specs.Kept.{plain};
+ghost use Rattle.class_table.specs.Stored.{classes_of};
 ghost use Rattle.class_table.specs.Keys.{number_of};
 ghost use Rattle.class_table.specs.Coherent.{IsCoherent};
 
@@ -25,15 +25,15 @@ impl<'a> Model for BaseChain<'a> {
     ghost use Rattle.std.specs.Prelude.{◌≡◌, ℕ, true, List, IfSome};
     ghost use Rattle.class_model.specs.Class.{is_class};
     ghost use Rattle.class_model.specs.Chain.{chain_from};
-    ghost use Rattle.class_table.specs.Kept.{plain};
+    ghost use Rattle.class_table.specs.Stored.{classes_of};
     ghost use Rattle.class_table.specs.Keys.{number_of};
     ghost use Rattle.class_table.specs.Coherent.{IsCoherent};
 
     ghost Value = { List ℕ };
 
-    ghost view = { λ s. chain_from (plain s.classes.now) (number_of s.next) };
+    ghost view = { λ s. chain_from (classes_of s.classes.now) (number_of s.next) };
 
-    ghost invariant = { λ s. IsCoherent s.classes.now × IfSome s.next (λ c. is_class (plain s.classes.now) c.0 ≡ true) };
+    ghost invariant = { λ s. IsCoherent s.classes.now × IfSome s.next (λ c. is_class (classes_of s.classes.now) c.0 ≡ true) };
 }
 
 impl<'a> Iterator for BaseChain<'a> {
@@ -53,9 +53,9 @@ impl<'a> Iterator for BaseChain<'a> {
 // The chain from a class on.
 pub(crate) fn chain(classes: &[Stored], class: PyTypeRef) -> BaseChain<'_>
     requires coherent { IsCoherent classes.now }
-    requires there { is_class (plain classes.now) class.0 ≡ true }
-    ensures chain { result ≡ base_chain (plain classes.now) class.0 }
-    ensures whole { IsChain (base (plain classes.now)) (Some class.0) result }
+    requires there { is_class (classes_of classes.now) class.0 ≡ true }
+    ensures chain { result ≡ base_chain (classes_of classes.now) class.0 }
+    ensures whole { IsChain (base (classes_of classes.now)) (Some class.0) result }
 {
     BaseChain {
         classes,
@@ -66,12 +66,12 @@ pub(crate) fn chain(classes: &[Stored], class: PyTypeRef) -> BaseChain<'_>
 // The best base of a class, from which its chain goes on.
 pub(crate) fn base_of(classes: &[Stored], class: PyTypeRef) -> Option<PyTypeRef>
     requires coherent { IsCoherent classes.now }
-    requires there { is_class (plain classes.now) class.0 ≡ true }
-    ensures base { number_of result ≡ base (plain classes.now) class.0 }
-    ensures there { IfSome result (λ b. is_class (plain classes.now) b.0 ≡ true) }
+    requires there { is_class (classes_of classes.now) class.0 ≡ true }
+    ensures base { number_of result ≡ base (classes_of classes.now) class.0 }
+    ensures there { IfSome result (λ b. is_class (classes_of classes.now) b.0 ≡ true) }
     ensures root { (result ≡ None) ↔ (class.0 ≡ 0) }
-    ensures chain { chain_from (plain classes.now) (Some class.0) ≡
-        class.0 ∷ chain_from (plain classes.now) (number_of result) }
+    ensures chain { chain_from (classes_of classes.now) (Some class.0) ≡
+        class.0 ∷ chain_from (classes_of classes.now) (number_of result) }
 {
     stored_at(classes, class).base()
 }

@@ -4,7 +4,7 @@ ghost use Rattle.std.specs.Prelude.{◌≡◌, true, IfOk, OnOk, Some};
 ghost use Rattle.py_node.specs.Attributes.{is_same_name};
 ghost use Rattle.class_model.specs.Numbers.{is_ascending};
 ghost use Rattle.class_model.specs.Collect.{with_values, attributes_along};
-ghost use Rattle.class_table.specs.Kept.{plain};
+ghost use Rattle.class_table.specs.Stored.{classes_of};
 ghost use Rattle.class_table.specs.Keys.{numbers};
 ghost use Rattle.class_table.specs.Given.{AreGiven};
 
@@ -19,8 +19,8 @@ pub(crate) fn attributes_along(
     alloc: Global,
     line: &[PyTypeRef],
 ) -> Result<PyAttributes, OutOfMemory>
-    requires { is_ascending (plain classes.now) ≡ true }
-    ensures { IfOk result (λ a. a ≡ attributes_along is_same_name (plain classes.now) (numbers line.now)) }
+    requires { is_ascending (classes_of classes.now) ≡ true }
+    ensures { IfOk result (λ a. a ≡ attributes_along is_same_name (classes_of classes.now) (numbers line.now)) }
 {
     let mut found = PyAttributes::new(alloc);
     for class in line.iter().rev() {

@@ -7,7 +7,7 @@ ghost use Rattle.class_model.specs.Class.{class_at, is_heap, own_of, along, firs
 ghost use Rattle.class_model.specs.Slot.{is_none, is_name_of, wrapped, heap_entry, given_entry, is_by_itself, entry};
 ghost use Rattle.class_model.specs.Numbers.{is_ascending};
 ghost use Rattle.class_model.specs.BuiltIn.{natives_of};
-ghost use Rattle.class_table.specs.Kept.{Kept, class_of, plain};
+ghost use Rattle.class_table.specs.Stored.{StoredClass, class_of, classes_of};
 ghost use Rattle.class_table.specs.Keys.{numbers, table_keys};
 ghost use Rattle.class_table.specs.Coherent.{HasLines};
 
@@ -48,8 +48,8 @@ fn own_wrapper(attrs: &PyAttributes, slot: SlotId) -> Option<SlotEntry>
 
 // The same of a class by its number, where there is such a class.
 fn wrapper_at(classes: &[Stored], near: usize, class: PyTypeRef, slot: SlotId) -> Option<SlotEntry>
-    requires { is_ascending (plain classes.now) ≡ true }
-    ensures { result ≡ wrapped slot (own_of (is_name_of table_keys slot) (class_at (plain classes.now) class.0)) }
+    requires { is_ascending (classes_of classes.now) ≡ true }
+    ensures { result ≡ wrapped slot (own_of (is_name_of table_keys slot) (class_at (classes_of classes.now) class.0)) }
 {
     match find_near(classes, near, class) {
         None => None,
@@ -65,8 +65,8 @@ fn wrapper_along(
     line: &[PyTypeRef],
     slot: SlotId,
 ) -> Option<SlotEntry>
-    requires { is_ascending (plain classes.now) ≡ true }
-    ensures { result ≡ wrapped slot (along (is_name_of table_keys slot) (plain classes.now) (numbers line.now)) }
+    requires { is_ascending (classes_of classes.now) ≡ true }
+    ensures { result ≡ wrapped slot (along (is_name_of table_keys slot) (classes_of classes.now) (numbers line.now)) }
 {
     for (place, class) in line.iter().enumerate() {
         if let Some(entry) = wrapper_at(classes, likely(near, place), *class, slot) {
@@ -84,8 +84,8 @@ fn heap_entry(
     line: &[PyTypeRef],
     slot: SlotId,
 ) -> Option<SlotEntry>
-    requires { is_ascending (plain classes.now) ≡ true }
-    ensures { result ≡ heap_entry table_keys (plain classes.now) class.0 (numbers line.now) slot }
+    requires { is_ascending (classes_of classes.now) ≡ true }
+    ensures { result ≡ heap_entry table_keys (classes_of classes.now) class.0 (numbers line.now) slot }
 {
     if slot == SlotId::New {
         wrapper_at(classes, likely(near, 0), class, slot)
@@ -97,7 +97,7 @@ fn heap_entry(
 // What a class has in a slot by its attributes or as a native.
 fn given_entry(classes: &[Stored], near: usize, class: PyTypeRef, slot: SlotId) -> Option<SlotEntry>
     requires { HasLines classes.now }
-    ensures { result ≡ given_entry table_keys natives_of (plain classes.now) slot class.0 }
+    ensures { result ≡ given_entry table_keys natives_of (classes_of classes.now) slot class.0 }
 {
     match find_near(classes, near, class) {
         Some(stored) if stored.is_heap() => heap_entry(
@@ -119,7 +119,7 @@ fn given_along(
     slot: SlotId,
 ) -> Option<SlotEntry>
     requires { HasLines classes.now }
-    ensures { result ≡ first_along (given_entry table_keys natives_of (plain classes.now) slot) (numbers line.now) }
+    ensures { result ≡ first_along (given_entry table_keys natives_of (classes_of classes.now) slot) (numbers line.now) }
 {
     for (place, class) in line.iter().enumerate() {
         if let Some(entry) = given_entry(classes, likely(near, place), *class, slot) {
@@ -146,8 +146,8 @@ fn is_own(slot: SlotId) -> bool
 pub(crate) fn entry(classes: &[Stored], place: usize, slot: SlotId) -> Option<SlotEntry>
     requires lines { HasLines classes.now }
     requires inside { place < length classes.now }
-    ensures { (d : Kept) → result ≡
-        entry table_keys natives_of (plain classes.now) (slice_index_or classes.now place d).number slot }
+    ensures { (d : StoredClass) → result ≡
+        entry table_keys natives_of (classes_of classes.now) (slice_index_or classes.now place d).number slot }
 {
     let stored = &classes[place];
     if is_inherited(stored, slot) {

@@ -8,7 +8,7 @@ ghost use Rattle.class_model.specs.Change.{with_class, with_class_attr};
 ghost use Rattle.class_model.specs.Slot.{is_heap_at};
 ghost use Rattle.class_table.specs.Keys.{numbers};
 ghost use Rattle.class_table.specs.New.{class_of_new};
-ghost use Rattle.class_table.specs.Kept.{plain};
+ghost use Rattle.class_table.specs.Stored.{classes_of};
 ghost use Rattle.class_table.specs.Coherent.{IsCoherent};
 ghost use Rattle.class_table.specs.Refused.{refusal, WithMemory, IsEarly, refused_bases, refused_attr, AreThere, heap_class};
 
@@ -25,8 +25,8 @@ use std::alloc::Global;
 
 // Whether a class was made by a script.
 fn is_heap(classes: &[Stored], class: PyTypeRef) -> bool
-    requires { is_ascending (plain classes.now) ≡ true }
-    ensures { result ≡ is_heap_at (class_at (plain classes.now) class.0) }
+    requires { is_ascending (classes_of classes.now) ≡ true }
+    ensures { result ≡ is_heap_at (class_at (classes_of classes.now) class.0) }
 {
     match find(classes, class) {
         None => false,
@@ -68,15 +68,15 @@ pub(crate) fn add_heap(
     members: Vec<PyStrInterned>,
 ) -> Result<PyTypeRef, ClassFault>
     requires coherent { IsCoherent classes.old.items }
-    requires bases { AreThere (plain classes.old.items) (numbers bases.items) }
-    requires fresh { limit (plain classes.old.items) ≤ number.0 }
+    requires bases { AreThere (classes_of classes.old.items) (numbers bases.items) }
+    requires fresh { limit (classes_of classes.old.items) ≤ number.0 }
     ensures number { IfOk result (λ c. c ≡ number) }
     ensures coherent { OnOk result (IsCoherent classes.new.items) }
-    ensures added { OnOk result (plain classes.new.items ≡
-        with_class (plain classes.old.items) (heap_class name.now number.0 (numbers bases.items) attrs members.items)) }
-    ensures early { IsEarly (plain classes.old.items) (numbers bases.items) (refusal result) }
+    ensures added { OnOk result (classes_of classes.new.items ≡
+        with_class (classes_of classes.old.items) (heap_class name.now number.0 (numbers bases.items) attrs members.items)) }
+    ensures early { IsEarly (classes_of classes.old.items) (numbers bases.items) (refusal result) }
     ensures refused { WithMemory result (refusal result ≡
-        refused_bases (plain classes.old.items) (numbers bases.items)) }
+        refused_bases (classes_of classes.old.items) (numbers bases.items)) }
     ensures err { OnErr result (classes.new.items ≡ classes.old.items) }
 {
     let best = match best_base(classes, &bases) {
@@ -98,11 +98,11 @@ pub(crate) fn set_heap(
     value: PyObjectRef,
 ) -> Result<(), ClassFault>
     requires coherent { IsCoherent classes.old.items }
-    requires there { is_class (plain classes.old.items) class.0 ≡ true }
+    requires there { is_class (classes_of classes.old.items) class.0 ≡ true }
     ensures coherent { OnOk result (IsCoherent classes.new.items) }
-    ensures immutable { refusal result ≡ refused_attr (plain classes.old.items) class.0 }
-    ensures set { OnOk result (plain classes.new.items ≡
-        with_class_attr is_same_name (plain classes.old.items) class.0 name value) }
+    ensures immutable { refusal result ≡ refused_attr (classes_of classes.old.items) class.0 }
+    ensures set { OnOk result (classes_of classes.new.items ≡
+        with_class_attr is_same_name (classes_of classes.old.items) class.0 name value) }
     ensures err { OnErr result (classes.new.items ≡ classes.old.items) }
 {
     if !is_heap(classes, class) {

@@ -6,7 +6,7 @@ ghost use Rattle.class_model.specs.Numbers.{is_ascending, limit};
 ghost use Rattle.class_model.specs.Layout.{solid, best_of};
 ghost use Rattle.mro_merge.specs.Lists.{rows};
 ghost use Rattle.class_table.specs.Keys.{numbers, number_of};
-ghost use Rattle.class_table.specs.Kept.{plain};
+ghost use Rattle.class_table.specs.Stored.{classes_of};
 ghost use Rattle.class_table.specs.Coherent.{IsCoherent};
 ghost use Rattle.class_table.specs.New.{IsBest};
 ghost use Rattle.class_table.specs.Refused.{refusal, WithMemory, cause_of, is_base_at, refused_layout, refused_order, refused_bases, IsEarly, AreThere};
@@ -21,8 +21,8 @@ use std::alloc::Global;
 
 // Whether a class may have subclasses.
 fn is_base(classes: &[Stored], class: PyTypeRef) -> bool
-    requires { is_ascending (plain classes.now) ≡ true }
-    ensures { result ≡ is_base_at (class_at (plain classes.now) class.0) }
+    requires { is_ascending (classes_of classes.now) ≡ true }
+    ensures { result ≡ is_base_at (class_at (classes_of classes.now) class.0) }
 {
     match find(classes, class) {
         None => false,
@@ -33,8 +33,8 @@ fn is_base(classes: &[Stored], class: PyTypeRef) -> bool
 // The solid class of a class that is there.
 fn solid_of(classes: &[Stored], class: PyTypeRef) -> Option<PyTypeRef>
     requires coherent { IsCoherent classes.now }
-    requires there { is_class (plain classes.now) class.0 ≡ true }
-    ensures { number_of result ≡ solid (plain classes.now) class.0 }
+    requires there { is_class (classes_of classes.now) class.0 ≡ true }
+    ensures { number_of result ≡ solid (classes_of classes.now) class.0 }
 {
     stored_at(classes, class).solid()
 }
@@ -42,8 +42,8 @@ fn solid_of(classes: &[Stored], class: PyTypeRef) -> Option<PyTypeRef>
 // The same: each class has one.
 pub(crate) fn solid_class(classes: &[Stored], class: PyTypeRef) -> PyTypeRef
     requires coherent { IsCoherent classes.now }
-    requires there { is_class (plain classes.now) class.0 ≡ true }
-    ensures { solid (plain classes.now) class.0 ≡ Some result.0 }
+    requires there { is_class (classes_of classes.now) class.0 ≡ true }
+    ensures { solid (classes_of classes.now) class.0 ≡ Some result.0 }
 {
     match solid_of(classes, class) {
         None => unreachable!(),
@@ -54,8 +54,8 @@ pub(crate) fn solid_class(classes: &[Stored], class: PyTypeRef) -> PyTypeRef
 // The solid class of the best base, where there is one.
 pub(crate) fn inherited(classes: &[Stored], best: Option<PyTypeRef>) -> Option<PyTypeRef>
     requires coherent { IsCoherent classes.now }
-    requires there { IfSome best (λ b. is_class (plain classes.now) b.0 ≡ true) }
-    ensures { number_of result ≡ option_and_then (solid (plain classes.now)) (number_of best) }
+    requires there { IfSome best (λ b. is_class (classes_of classes.now) b.0 ≡ true) }
+    ensures { number_of result ≡ option_and_then (solid (classes_of classes.now)) (number_of best) }
 {
     match best {
         None => None,
@@ -66,7 +66,7 @@ pub(crate) fn inherited(classes: &[Stored], best: Option<PyTypeRef>) -> Option<P
 // Whether one solid class derives from another.
 fn is_under(classes: &[Stored], class: Option<PyTypeRef>, other: Option<PyTypeRef>) -> bool
     requires { IsCoherent classes.now }
-    ensures { result ≡ is_under (plain classes.now) (number_of class) (number_of other) }
+    ensures { result ≡ is_under (classes_of classes.now) (number_of class) (number_of other) }
 {
     match class {
         None => false,
@@ -80,7 +80,7 @@ fn is_under(classes: &[Stored], class: Option<PyTypeRef>, other: Option<PyTypeRe
 // Whether a class is there and derives from another.
 fn derives(classes: &[Stored], class: PyTypeRef, other: PyTypeRef) -> bool
     requires { IsCoherent classes.now }
-    ensures { result ≡ is_under (plain classes.now) (Some class.0) (Some other.0) }
+    ensures { result ≡ is_under (classes_of classes.now) (Some class.0) (Some other.0) }
 {
     match find(classes, class) {
         None => false,
@@ -91,9 +91,9 @@ fn derives(classes: &[Stored], class: PyTypeRef, other: PyTypeRef) -> bool
 // The better of two bases: the one whose solid class derives from the other's.
 fn better_of(classes: &[Stored], best: PyTypeRef, base: PyTypeRef) -> Result<PyTypeRef, Cause>
     requires coherent { IsCoherent classes.now }
-    requires best { is_class (plain classes.now) best.0 ≡ true }
-    requires base { is_class (plain classes.now) base.0 ≡ true }
-    ensures { number_found result ≡ better_of (plain classes.now) best.0 base.0 }
+    requires best { is_class (classes_of classes.now) best.0 ≡ true }
+    requires base { is_class (classes_of classes.now) base.0 ≡ true }
+    ensures { number_found result ≡ better_of (classes_of classes.now) best.0 base.0 }
 {
     let first = solid_of(classes, best);
     let second = solid_of(classes, base);
@@ -113,10 +113,10 @@ fn next_best(
     base: PyTypeRef,
 ) -> Result<PyTypeRef, Cause>
     requires coherent { IsCoherent classes.now }
-    requires best { IfSome best (λ b. is_class (plain classes.now) b.0 ≡ true) }
-    requires base { is_class (plain classes.now) base.0 ≡ true }
-    ensures next { number_found result ≡ next_best (plain classes.now) (number_of best) base.0 }
-    ensures there { IfOk result (λ b. is_class (plain classes.now) b.0 ≡ true) }
+    requires best { IfSome best (λ b. is_class (classes_of classes.now) b.0 ≡ true) }
+    requires base { is_class (classes_of classes.now) base.0 ≡ true }
+    ensures next { number_found result ≡ next_best (classes_of classes.now) (number_of best) base.0 }
+    ensures there { IfOk result (λ b. is_class (classes_of classes.now) b.0 ≡ true) }
 {
     if !is_base(classes, base) {
         return Err(Cause::NotBaseType);
@@ -130,8 +130,8 @@ fn next_best(
 // The best of some bases, if there are any.
 fn best_along(classes: &[Stored], bases: &[PyTypeRef]) -> Result<Option<PyTypeRef>, Cause>
     requires coherent { IsCoherent classes.now }
-    requires there { AreThere (plain classes.now) (numbers bases.now) }
-    ensures { number_best result ≡ best_along (plain classes.now) None (numbers bases.now) }
+    requires there { AreThere (classes_of classes.now) (numbers bases.now) }
+    ensures { number_best result ≡ best_along (classes_of classes.now) None (numbers bases.now) }
 {
     let mut best = None;
     for base in bases {
@@ -146,9 +146,9 @@ fn best_along(classes: &[Stored], bases: &[PyTypeRef]) -> Result<Option<PyTypeRe
 // The best base of a class that a script makes, or why it may not have these bases.
 pub(crate) fn best_base(classes: &[Stored], bases: &[PyTypeRef]) -> Result<PyTypeRef, Cause>
     requires coherent { IsCoherent classes.now }
-    requires there { AreThere (plain classes.now) (numbers bases.now) }
-    ensures best { IfOk result (λ b. best_of (plain classes.now) (numbers bases.now) ≡ Some b.0) }
-    ensures refused { cause_of result ≡ refused_layout (plain classes.now) (numbers bases.now) }
+    requires there { AreThere (classes_of classes.now) (numbers bases.now) }
+    ensures best { IfOk result (λ b. best_of (classes_of classes.now) (numbers bases.now) ≡ Some b.0) }
+    ensures refused { cause_of result ≡ refused_layout (classes_of classes.now) (numbers bases.now) }
 {
     match best_along(classes, bases) {
         Err(cause) => Err(cause),
@@ -160,9 +160,9 @@ pub(crate) fn best_base(classes: &[Stored], bases: &[PyTypeRef]) -> Result<PyTyp
 // The best of at most one base.
 pub(crate) fn only(classes: &[Stored], bases: &[PyTypeRef]) -> Option<PyTypeRef>
     requires coherent { IsCoherent classes.now }
-    requires there { AreThere (plain classes.now) (numbers bases.now) }
+    requires there { AreThere (classes_of classes.now) (numbers bases.now) }
     requires one { length bases.now ≤ 1 }
-    ensures { IsBest (plain classes.now) (numbers bases.now) result }
+    ensures { IsBest (classes_of classes.now) (numbers bases.now) result }
 {
     match bases {
         [] => None,
@@ -177,8 +177,8 @@ fn lines(
     bases: &[PyTypeRef],
 ) -> Result<Vec<Vec<PyTypeRef>>, OutOfMemory>
     requires coherent { IsCoherent classes.now }
-    requires there { AreThere (plain classes.now) (numbers bases.now) }
-    ensures { IfOk result (λ v. map Some (rows v.items) ≡ map (lin (plain classes.now)) (numbers bases.now)) }
+    requires there { AreThere (classes_of classes.now) (numbers bases.now) }
+    ensures { IfOk result (λ v. map Some (rows v.items) ≡ map (lin (classes_of classes.now)) (numbers bases.now)) }
 {
     let mut lines = Vec::new(alloc);
     for base in bases {
@@ -195,9 +195,9 @@ pub(crate) fn rest_of_line(
     bases: &[PyTypeRef],
 ) -> Result<Vec<PyTypeRef>, ClassFault>
     requires coherent { IsCoherent classes.now }
-    requires there { AreThere (plain classes.now) (numbers bases.now) }
-    ensures rest { IfOk result (λ v. Follows (plain classes.now) (numbers bases.now) (numbers v.items)) }
-    ensures refused { WithMemory result (refusal result ≡ refused_order (plain classes.now) (numbers bases.now)) }
+    requires there { AreThere (classes_of classes.now) (numbers bases.now) }
+    ensures rest { IfOk result (λ v. Follows (classes_of classes.now) (numbers bases.now) (numbers v.items)) }
+    ensures refused { WithMemory result (refusal result ≡ refused_order (classes_of classes.now) (numbers bases.now)) }
 {
     let lines = match lines(classes, alloc, bases) {
         Ok(lines) => lines,
@@ -216,9 +216,9 @@ pub(crate) fn may_derive(
     bases: &[PyTypeRef],
 ) -> Result<(), ClassFault>
     requires coherent { IsCoherent classes.now }
-    requires there { AreThere (plain classes.now) (numbers bases.now) }
-    ensures early { IsEarly (plain classes.now) (numbers bases.now) (refusal result) }
-    ensures refused { WithMemory result (refusal result ≡ refused_bases (plain classes.now) (numbers bases.now)) }
+    requires there { AreThere (classes_of classes.now) (numbers bases.now) }
+    ensures early { IsEarly (classes_of classes.now) (numbers bases.now) (refusal result) }
+    ensures refused { WithMemory result (refusal result ≡ refused_bases (classes_of classes.now) (numbers bases.now)) }
 {
     match best_base(classes, bases) {
         Ok(_) => {}
@@ -236,7 +236,7 @@ pub(crate) fn places(
     alloc: Global,
     rest: &[PyTypeRef],
 ) -> Result<Vec<usize>, OutOfMemory>
-    requires { is_ascending (plain classes.now) ≡ true }
+    requires { is_ascending (classes_of classes.now) ≡ true }
 {
     let mut places = Vec::new(alloc);
     places.push(classes.len())?;

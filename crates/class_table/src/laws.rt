@@ -1,7 +1,7 @@
 //! What is so of every table of classes, and is the result of no call.
 
 ghost use Rattle.std.specs.Prelude.{◌≡◌, ◌↔◌, ℕ, List, true, Some};
-ghost use Rattle.class_model.specs.Order.{Distinct, Holds, Subsequence};
+ghost use Rattle.class_model.specs.Order.{Distinct, Includes, Subsequence};
 ghost use Rattle.class_model.specs.Class.{is_class, bases_of, lin, is_sub};
 ghost use Rattle.class_model.specs.Failing.{FailsAsSaid, PassesAsSaid};
 
@@ -23,7 +23,7 @@ pub fn lines_keep_order(classes: &ClassTable)
     ensures distinct { (c : ℕ) (line : List ℕ) → lin classes.now c ≡ Some line → Distinct line }
     ensures bases { (c : ℕ) (line bs : List ℕ) → lin classes.now c ≡ Some line → bases_of classes.now c ≡ Some bs →
         Subsequence bs line }
-    ensures members { (c : ℕ) (line : List ℕ) (x : ℕ) (l : List ℕ) → lin classes.now c ≡ Some line → Holds line x →
+    ensures members { (c : ℕ) (line : List ℕ) (x : ℕ) (l : List ℕ) → lin classes.now c ≡ Some line → Includes line x →
         lin classes.now x ≡ Some l → Subsequence l line }
 {
     classes.sound();
@@ -36,7 +36,7 @@ pub fn deriving_is_an_order(classes: &ClassTable)
     ensures further { (a b c : ℕ) → is_sub classes.now a b ≡ true → is_sub classes.now b c ≡ true →
         is_sub classes.now a c ≡ true }
     ensures along { (c d : ℕ) (line : List ℕ) → lin classes.now c ≡ Some line →
-        (is_sub classes.now c d ≡ true) ↔ Holds line d }
+        (is_sub classes.now c d ≡ true) ↔ Includes line d }
 {
     classes.sound();
 }

@@ -3,16 +3,16 @@
 ghost use Rattle.std.specs.Prelude.{◌≡◌, ◌<◌, true, length, slice_get, Some, None, IfSome, IfNone, option_map, option_copied, leb};
 ghost use Rattle.class_model.specs.Class.{class_at, is_class};
 ghost use Rattle.class_model.specs.Numbers.{is_ascending, limit, numbers_of};
-ghost use Rattle.class_table.specs.Kept.{IsHere, class_of, number_at, plain};
+ghost use Rattle.class_table.specs.Stored.{IsHere, class_of, number_at, classes_of};
 
 use crate::stored::Stored;
 use py_node::PyTypeRef;
 
 // The place of a class, where there is such a class: its number, as long as no number is left out, or else by search.
 pub(crate) fn find_place(classes: &[Stored], class: PyTypeRef) -> Option<usize>
-    requires { is_ascending (plain classes.now) ≡ true }
+    requires { is_ascending (classes_of classes.now) ≡ true }
     ensures place { IfSome result (λ i. number_at classes.now i ≡ Some class.0) }
-    ensures none { IfNone result (class_at (plain classes.now) class.0 ≡ None) }
+    ensures none { IfNone result (class_at (classes_of classes.now) class.0 ≡ None) }
 {
     let guess = class.0 as usize;
     if guess < classes.len() && classes[guess].number().0 == class.0 {
@@ -23,9 +23,9 @@ pub(crate) fn find_place(classes: &[Stored], class: PyTypeRef) -> Option<usize>
 
 // The same, by search alone.
 fn search(classes: &[Stored], class: PyTypeRef) -> Option<usize>
-    requires { is_ascending (plain classes.now) ≡ true }
+    requires { is_ascending (classes_of classes.now) ≡ true }
     ensures place { IfSome result (λ i. number_at classes.now i ≡ Some class.0) }
-    ensures none { IfNone result (class_at (plain classes.now) class.0 ≡ None) }
+    ensures none { IfNone result (class_at (classes_of classes.now) class.0 ≡ None) }
 {
     match classes.binary_search_by_key(&class.0, |stored| stored.number.0) {
         Ok(place) => Some(place),
@@ -35,9 +35,9 @@ fn search(classes: &[Stored], class: PyTypeRef) -> Option<usize>
 
 // What is kept of a class, where there is such a class.
 pub(crate) fn find(classes: &[Stored], class: PyTypeRef) -> Option<&Stored>
-    requires { is_ascending (plain classes.now) ≡ true }
+    requires { is_ascending (classes_of classes.now) ≡ true }
     ensures here { IfSome result (λ k. IsHere classes.now class.0 k.now) }
-    ensures class { option_map class_of (option_copied result) ≡ class_at (plain classes.now) class.0 }
+    ensures class { option_map class_of (option_copied result) ≡ class_at (classes_of classes.now) class.0 }
 {
     match find_place(classes, class) {
         None => None,
@@ -52,9 +52,9 @@ pub(crate) fn likely(near: &[usize], index: usize) -> usize {
 
 // The same, where the class is likely kept at a place.
 pub(crate) fn find_near(classes: &[Stored], near: usize, class: PyTypeRef) -> Option<&Stored>
-    requires { is_ascending (plain classes.now) ≡ true }
+    requires { is_ascending (classes_of classes.now) ≡ true }
     ensures here { IfSome result (λ k. IsHere classes.now class.0 k.now) }
-    ensures class { option_map class_of (option_copied result) ≡ class_at (plain classes.now) class.0 }
+    ensures class { option_map class_of (option_copied result) ≡ class_at (classes_of classes.now) class.0 }
 {
     if near < classes.len() {
         let stored = &classes[near];
@@ -67,8 +67,8 @@ pub(crate) fn find_near(classes: &[Stored], near: usize, class: PyTypeRef) -> Op
 
 // The place of a class that is there.
 pub(crate) fn place(classes: &[Stored], class: PyTypeRef) -> usize
-    requires ascending { is_ascending (plain classes.now) ≡ true }
-    requires there { is_class (plain classes.now) class.0 ≡ true }
+    requires ascending { is_ascending (classes_of classes.now) ≡ true }
+    requires there { is_class (classes_of classes.now) class.0 ≡ true }
     ensures { number_at classes.now result ≡ Some class.0 }
 {
     match find_place(classes, class) {
@@ -79,18 +79,18 @@ pub(crate) fn place(classes: &[Stored], class: PyTypeRef) -> usize
 
 // What is kept of a class that is there.
 pub(crate) fn stored_at(classes: &[Stored], class: PyTypeRef) -> &Stored
-    requires ascending { is_ascending (plain classes.now) ≡ true }
-    requires there { is_class (plain classes.now) class.0 ≡ true }
+    requires ascending { is_ascending (classes_of classes.now) ≡ true }
+    requires there { is_class (classes_of classes.now) class.0 ≡ true }
     ensures here { IsHere classes.now class.0 result.now }
-    ensures class { class_at (plain classes.now) class.0 ≡ Some (class_of result.now) }
+    ensures class { class_at (classes_of classes.now) class.0 ≡ Some (class_of result.now) }
 {
     &classes[place(classes, class)]
 }
 
 // Whether a number is greater than all there.
 pub(crate) fn takes(classes: &[Stored], number: PyTypeRef) -> bool
-    requires { is_ascending (plain classes.now) ≡ true }
-    ensures { result ≡ leb (limit (plain classes.now)) number.0 }
+    requires { is_ascending (classes_of classes.now) ≡ true }
+    ensures { result ≡ leb (limit (classes_of classes.now)) number.0 }
 {
     if classes.is_empty() {
         true
@@ -101,10 +101,10 @@ pub(crate) fn takes(classes: &[Stored], number: PyTypeRef) -> bool
 
 // The number of the class at a place.
 pub(crate) fn number_in(classes: &[Stored], place: usize) -> PyTypeRef
-    requires ascending { is_ascending (plain classes.now) ≡ true }
+    requires ascending { is_ascending (classes_of classes.now) ≡ true }
     requires inside { place < length classes.now }
-    ensures number { slice_get (numbers_of (plain classes.now)) place ≡ Some result.0 }
-    ensures there { is_class (plain classes.now) result.0 ≡ true }
+    ensures number { slice_get (numbers_of (classes_of classes.now)) place ≡ Some result.0 }
+    ensures there { is_class (classes_of classes.now) result.0 ≡ true }
 {
     classes[place].number()
 }

@@ -4,7 +4,7 @@ ghost use Rattle.std.specs.Prelude.{◌≡◌, true, OnOk, OnErr};
 ghost use Rattle.py_node.specs.Attributes.{is_same_name};
 ghost use Rattle.class_model.specs.Class.{is_class};
 ghost use Rattle.class_model.specs.Change.{with_class_attr};
-ghost use Rattle.class_table.specs.Kept.{Kept, plain};
+ghost use Rattle.class_table.specs.Stored.{StoredClass, classes_of};
 ghost use Rattle.class_table.specs.Coherent.{IsCoherent};
 
 use crate::place::place;
@@ -20,9 +20,9 @@ pub(crate) fn put(
     value: PyObjectRef,
 ) -> Result<(), OutOfMemory>
     requires coherent { IsCoherent classes.old }
-    requires there { is_class (plain classes.old) class.0 ≡ true }
+    requires there { is_class (classes_of classes.old) class.0 ≡ true }
     ensures coherent { OnOk result (IsCoherent classes.new) }
-    ensures ok { OnOk result (plain classes.new ≡ with_class_attr is_same_name (plain classes.old) class.0 name value) }
+    ensures ok { OnOk result (classes_of classes.new ≡ with_class_attr is_same_name (classes_of classes.old) class.0 name value) }
     ensures err { OnErr result (classes.new ≡ classes.old) }
 {
     let at = place(classes, class);
@@ -39,10 +39,10 @@ pub(crate) fn put_in(
     value: PyObjectRef,
 ) -> Result<(), OutOfMemory>
     requires coherent { IsCoherent classes.old.items }
-    requires there { is_class (plain classes.old.items) class.0 ≡ true }
+    requires there { is_class (classes_of classes.old.items) class.0 ≡ true }
     ensures coherent { OnOk result (IsCoherent classes.new.items) }
-    ensures ok { OnOk result (plain classes.new.items ≡
-        with_class_attr is_same_name (plain classes.old.items) class.0 name value) }
+    ensures ok { OnOk result (classes_of classes.new.items ≡
+        with_class_attr is_same_name (classes_of classes.old.items) class.0 name value) }
     ensures err { OnErr result (classes.new.items ≡ classes.old.items) }
 {
     put(classes, class, name, value)

@@ -5,12 +5,12 @@ ghost use Rattle.py_node.specs.declared.entry.SlotEntry.{SlotEntry as Entry};
 ghost use Rattle.py_node.specs.declared.entry.SlotId.{SlotId as Slot};
 ghost use Rattle.py_node.specs.Attributes.{is_same_name};
 ghost use Rattle.py_node.specs.Slots.{all_slots, sort_of};
-ghost use Rattle.class_model.specs.Order.{Holds};
+ghost use Rattle.class_model.specs.Order.{Includes};
 ghost use Rattle.class_model.specs.Class.{class_at, is_class, own_of, along, first_along, past_first};
 ghost use Rattle.class_model.specs.Slot.{entry, slot as slot_read, has_table, first_with, read_along};
 ghost use Rattle.class_model.specs.Numbers.{is_ascending};
 ghost use Rattle.class_model.specs.BuiltIn.{natives_of};
-ghost use Rattle.class_table.specs.Kept.{plain};
+ghost use Rattle.class_table.specs.Stored.{classes_of};
 ghost use Rattle.class_table.specs.Keys.{numbers, number_of, table_keys};
 ghost use Rattle.class_table.specs.Coherent.{IsCoherent};
 ghost use Rattle.class_table.specs.Table.{table_sort, any_filled};
@@ -26,8 +26,8 @@ pub(crate) fn own_at(
     class: PyTypeRef,
     name: PyStrInterned,
 ) -> Option<PyObjectRef>
-    requires { is_ascending (plain classes.now) ≡ true }
-    ensures { result ≡ own_of (λ k. is_same_name k name) (class_at (plain classes.now) class.0) }
+    requires { is_ascending (classes_of classes.now) ≡ true }
+    ensures { result ≡ own_of (λ k. is_same_name k name) (class_at (classes_of classes.now) class.0) }
 {
     match find_near(classes, near, class) {
         None => None,
@@ -42,8 +42,8 @@ pub(crate) fn value_along(
     line: &[PyTypeRef],
     name: PyStrInterned,
 ) -> Option<PyObjectRef>
-    requires { is_ascending (plain classes.now) ≡ true }
-    ensures { result ≡ along (λ k. is_same_name k name) (plain classes.now) (numbers line.now) }
+    requires { is_ascending (classes_of classes.now) ≡ true }
+    ensures { result ≡ along (λ k. is_same_name k name) (classes_of classes.now) (numbers line.now) }
 {
     for (place, class) in line.iter().enumerate() {
         if let Some(value) = own_at(classes, likely(near, place), *class, name) {
@@ -60,8 +60,8 @@ pub(crate) fn value_past(
     line: &[PyTypeRef],
     name: PyStrInterned,
 ) -> Option<PyObjectRef>
-    requires { is_ascending (plain classes.now) ≡ true }
-    ensures { result ≡ along (λ k. is_same_name k name) (plain classes.now) (past_first (numbers line.now)) }
+    requires { is_ascending (classes_of classes.now) ≡ true }
+    ensures { result ≡ along (λ k. is_same_name k name) (classes_of classes.now) (past_first (numbers line.now)) }
 {
     if line.is_empty() {
         None
@@ -78,8 +78,8 @@ pub(crate) fn value_past(
 // What a class itself has in a slot, as it is kept.
 pub(crate) fn own_entry(classes: &[Stored], class: PyTypeRef, slot: SlotId) -> Option<SlotEntry>
     requires coherent { IsCoherent classes.now }
-    requires there { is_class (plain classes.now) class.0 ≡ true }
-    ensures { result ≡ entry table_keys natives_of (plain classes.now) class.0 slot }
+    requires there { is_class (classes_of classes.now) class.0 ≡ true }
+    ensures { result ≡ entry table_keys natives_of (classes_of classes.now) class.0 slot }
 {
     stored_at(classes, class).entry(slot)
 }
@@ -87,8 +87,8 @@ pub(crate) fn own_entry(classes: &[Stored], class: PyTypeRef, slot: SlotId) -> O
 // The first own entry along some classes.
 fn nearest(classes: &[Stored], line: &[PyTypeRef], slot: SlotId) -> Option<SlotEntry>
     requires coherent { IsCoherent classes.now }
-    requires inside { (x : ℕ) → Holds (numbers line.now) x → is_class (plain classes.now) x ≡ true }
-    ensures { result ≡ first_along (λ d. entry table_keys natives_of (plain classes.now) d slot) (numbers line.now) }
+    requires inside { (x : ℕ) → Includes (numbers line.now) x → is_class (classes_of classes.now) x ≡ true }
+    ensures { result ≡ first_along (λ d. entry table_keys natives_of (classes_of classes.now) d slot) (numbers line.now) }
 {
     for class in line {
         if let Some(found) = own_entry(classes, *class, slot) {
@@ -126,8 +126,8 @@ fn slots_in(mapping: bool) -> &'static [SlotId]
 // Whether a class fills any of some slots.
 fn fills_any(classes: &[Stored], class: PyTypeRef, slots: &[SlotId]) -> bool
     requires coherent { IsCoherent classes.now }
-    requires there { is_class (plain classes.now) class.0 ≡ true }
-    ensures { result ≡ any_filled (entry table_keys natives_of (plain classes.now) class.0) slots.now }
+    requires there { is_class (classes_of classes.now) class.0 ≡ true }
+    ensures { result ≡ any_filled (entry table_keys natives_of (classes_of classes.now) class.0) slots.now }
 {
     for slot in slots {
         if own_entry(classes, class, *slot).is_some() {
@@ -140,8 +140,8 @@ fn fills_any(classes: &[Stored], class: PyTypeRef, slots: &[SlotId]) -> bool
 // Whether a class has the table of sequences, or of mappings.
 fn has_table(classes: &[Stored], class: PyTypeRef, mapping: bool) -> bool
     requires coherent { IsCoherent classes.now }
-    requires there { is_class (plain classes.now) class.0 ≡ true }
-    ensures { result ≡ has_table (entry table_keys natives_of (plain classes.now) class.0) (table_sort mapping)
+    requires there { is_class (classes_of classes.now) class.0 ≡ true }
+    ensures { result ≡ has_table (entry table_keys natives_of (classes_of classes.now) class.0) (table_sort mapping)
         all_slots }
 {
     fills_any(classes, class, slots_in(mapping))
@@ -155,8 +155,8 @@ fn of_table(
     slot: SlotId,
 ) -> Option<SlotEntry>
     requires coherent { IsCoherent classes.now }
-    requires inside { (x : ℕ) → Holds (numbers line.now) x → is_class (plain classes.now) x ≡ true }
-    ensures { result ≡ read_along (entry table_keys natives_of (plain classes.now)) (table_sort mapping) 0
+    requires inside { (x : ℕ) → Includes (numbers line.now) x → is_class (classes_of classes.now) x ≡ true }
+    ensures { result ≡ read_along (entry table_keys natives_of (classes_of classes.now)) (table_sort mapping) 0
         (numbers line.now) slot }
 {
     for class in line {
@@ -175,9 +175,9 @@ fn read_along(
     slot: SlotId,
 ) -> Option<SlotEntry>
     requires coherent { IsCoherent classes.now }
-    requires own { is_class (plain classes.now) class.0 ≡ true }
-    requires inside { (x : ℕ) → Holds (numbers line.now) x → is_class (plain classes.now) x ≡ true }
-    ensures { result ≡ read_along (entry table_keys natives_of (plain classes.now)) (sort_of slot) class.0
+    requires own { is_class (classes_of classes.now) class.0 ≡ true }
+    requires inside { (x : ℕ) → Includes (numbers line.now) x → is_class (classes_of classes.now) x ≡ true }
+    ensures { result ≡ read_along (entry table_keys natives_of (classes_of classes.now)) (sort_of slot) class.0
         (numbers line.now) slot }
 {
     match slot.sort() {
@@ -191,8 +191,8 @@ fn read_along(
 // A slot as it is read for a class.
 pub(crate) fn read(classes: &[Stored], class: PyTypeRef, slot: SlotId) -> Option<SlotEntry>
     requires coherent { IsCoherent classes.now }
-    requires there { is_class (plain classes.now) class.0 ≡ true }
-    ensures { result ≡ slot_read table_keys natives_of (plain classes.now) class.0 slot }
+    requires there { is_class (classes_of classes.now) class.0 ≡ true }
+    ensures { result ≡ slot_read table_keys natives_of (classes_of classes.now) class.0 slot }
 {
     read_along(classes, class, stored_at(classes, class).mro(), slot)
 }

@@ -4,7 +4,7 @@ ghost use Rattle.std.specs.Prelude.{◌≡◌, ◌<◌, length, slice_set, slice
 ghost use Rattle.py_node.specs.Slots.{place_of, slot_count};
 ghost use Rattle.class_model.specs.Slot.{is_name_of, entry};
 ghost use Rattle.class_model.specs.BuiltIn.{natives_of};
-ghost use Rattle.class_table.specs.Kept.{Kept, plain};
+ghost use Rattle.class_table.specs.Stored.{StoredClass, classes_of};
 ghost use Rattle.class_table.specs.Keys.{table_keys};
 ghost use Rattle.class_table.specs.Coherent.{HasLines};
 ghost use Rattle.class_table.specs.Patch.{IsNear, AreNear, IsRefreshed, settled};
@@ -32,10 +32,10 @@ fn is_name_of(slot: SlotId, name: PyStrInterned) -> bool
 fn patch_slot(classes: &mut [Stored], place: usize, slot: SlotId)
     requires lines { HasLines classes.old }
     requires inside { place < length classes.old }
-    ensures { (d : Kept) → classes.new ≡
+    ensures { (d : StoredClass) → classes.new ≡
         slice_set classes.old place (record (slice_index_or classes.old place d) {
           slots = slice_set (slice_index_or classes.old place d).slots (place_of slot)
-              (entry table_keys natives_of (plain classes.old) (slice_index_or classes.old place d).number slot);
+              (entry table_keys natives_of (classes_of classes.old) (slice_index_or classes.old place d).number slot);
         }) }
 {
     let found = entry(classes, place, slot);
@@ -46,9 +46,9 @@ fn patch_slot(classes: &mut [Stored], place: usize, slot: SlotId)
 fn patch(classes: &mut [Stored], at: usize, name: PyStrInterned)
     requires lines { HasLines classes.old }
     requires inside { at < length classes.old }
-    requires near { (d : Kept) → IsNear (plain classes.old) name (slice_index_or classes.old at d) }
-    ensures { (d : Kept) → classes.new ≡
-        slice_set classes.old at (settled (plain classes.old) (slice_index_or classes.old at d)) }
+    requires near { (d : StoredClass) → IsNear (classes_of classes.old) name (slice_index_or classes.old at d) }
+    ensures { (d : StoredClass) → classes.new ≡
+        slice_set classes.old at (settled (classes_of classes.old) (slice_index_or classes.old at d)) }
 {
     for place in 0..SLOTS {
         let slot = SlotId::at(place);
@@ -62,9 +62,9 @@ fn patch(classes: &mut [Stored], at: usize, name: PyStrInterned)
 pub(crate) fn settle(classes: &mut [Stored], at: usize)
     requires lines { HasLines classes.old }
     requires inside { at < length classes.old }
-    requires full { (d : Kept) → length (slice_index_or classes.old at d).slots ≡ slot_count }
-    ensures { (d : Kept) → classes.new ≡
-        slice_set classes.old at (settled (plain classes.old) (slice_index_or classes.old at d)) }
+    requires full { (d : StoredClass) → length (slice_index_or classes.old at d).slots ≡ slot_count }
+    ensures { (d : StoredClass) → classes.new ≡
+        slice_set classes.old at (settled (classes_of classes.old) (slice_index_or classes.old at d)) }
 {
     for place in 0..SLOTS {
         patch_slot(classes, at, SlotId::at(place));

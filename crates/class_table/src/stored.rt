@@ -5,7 +5,7 @@ ghost use Rattle.py_node.specs.Attributes.{value_of, with_value, is_same_name};
 ghost use Rattle.py_node.specs.Slots.{place_of};
 ghost use Rattle.class_model.specs.Order.{has};
 ghost use Rattle.class_model.specs.Class.{is_heap};
-ghost use Rattle.class_table.specs.Kept.{Kept, class_of};
+ghost use Rattle.class_table.specs.Stored.{StoredClass, class_of};
 ghost use Rattle.class_table.specs.Keys.{numbers, number_of};
 
 use py_node::{
@@ -49,9 +49,9 @@ pub(crate) struct Stored {
 impl Model for Stored {
     ghost use Rattle.std.specs.Prelude.{string_bytes};
     ghost use Rattle.class_table.specs.Keys.{numbers, number_of};
-    ghost use Rattle.class_table.specs.Kept.{Kept};
+    ghost use Rattle.class_table.specs.Stored.{StoredClass};
 
-    ghost Value = { Kept };
+    ghost Value = { StoredClass };
 
     ghost view = { λ a. record { name = string_bytes a.name; number = a.number.0; bases = numbers a.bases.items; attrs = a.attrs; members = a.members.items; flags = a.flags.0; mro = numbers a.mro.items; slots = a.slots.items; base = number_of a.base; solid = number_of a.solid; subclasses = numbers a.subclasses.items } };
 }

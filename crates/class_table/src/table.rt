@@ -15,7 +15,7 @@ ghost use Rattle.class_model.specs.BuiltIn.{natives_of};
 ghost use Rattle.class_model.specs.Start.{built_in_classes};
 ghost use Rattle.class_model.specs.Change.{with_class, with_class_attr};
 ghost use Rattle.class_table.specs.Keys.{numbers, number_of, table_keys};
-ghost use Rattle.class_table.specs.Kept.{plain};
+ghost use Rattle.class_table.specs.Stored.{classes_of};
 ghost use Rattle.class_table.specs.New.{IsBelow, class_of_new};
 ghost use Rattle.class_table.specs.Refused.{refusal, cause_of, refused_layout, refused_bases, refused_attr, WithMemory, IsEarly, AreThere, heap_class};
 ghost use Rattle.class_table.specs.Causes.{LacksBase, HasLayoutConflict, HasDuplicate, BreaksOrder, HasNoLine};
@@ -56,10 +56,10 @@ impl Model for ClassTable {
 
     ghost Value = { Classes Name };
 
-    ghost use Rattle.class_table.specs.Kept.{plain};
+    ghost use Rattle.class_table.specs.Stored.{classes_of};
     ghost use Rattle.class_table.specs.Coherent.{IsCoherent};
 
-    ghost view = { λ a. plain a.classes.items };
+    ghost view = { λ a. classes_of a.classes.items };
 
     ghost invariant = { λ a. IsCoherent a.classes.items };
 }

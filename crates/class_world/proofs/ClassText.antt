@@ -13,9 +13,9 @@ use Rattle.py_node.specs.declared.known.Known.{Known}
 use Rattle.py_node.specs.Known.{known_texts}
 use Rattle.py_node.specs.Slots.{all_slots}
 use Rattle.py_node.specs.Tree.{Text}
-use Rattle.reply_text.specs.Escapes.{escaped}
-use Rattle.reply_text.specs.Lines.{joined, end_of_line}
-use Rattle.reply_text.specs.Classes.{class_head, slots_head, slot_word, class_lines}
+use Rattle.plain_machine.specs.Escapes.{escaped}
+use Rattle.plain_machine.specs.Lines.{joined, end_of_line}
+use Rattle.plain_machine.specs.ClassLines.{class_head, slots_head, slot_word, class_lines}
 use Rattle.class_model.specs.Class.{Class, Classes, class_at, lin, renamed}
 use Rattle.class_model.specs.Numbers.{numbers_of}
 use Rattle.class_model.specs.Slot.{Keys, is_heap_at, entry}

@@ -7,7 +7,7 @@ use Rattle.py_node.specs.BuiltIns.{all_built_ins}
 use Rattle.class_model.specs.Class.{Class, Classes, is_class, lin}
 use Rattle.class_model.specs.Numbers.{limit}
 use Rattle.class_model.specs.Change.{with_class, with_class_attr}
-use Rattle.class_model.specs.Order.{Holds}
+use Rattle.class_model.specs.Order.{Includes}
 use Rattle.class_model.specs.Layout.{built_ins, best_of}
 use Rattle.class_model.specs.Sound.{AreSound}
 use Rattle.class_model.proofs.Numbers.{some-of, at-last}
@@ -29,7 +29,7 @@ module _ {K : Type 0} where
       go (Some line) l e = ap by_line (lin-push t k c line l) ∙ e
 
   -- a class that is made, past the built-in ones: as its best base
-  pub held_by-made : (t : Classes K) (k : Class K) (d : ℕ) (b : BuiltIn) → AreSound t → AreSound (with_class t k) → limit t ≤ k.number → built_ins ≤ k.number → ((x : ℕ) → Holds k.bases x → is_class t x ≡ true) → best_of t k.bases ≡ Some d → held_by t d ≡ Some b → held_by (with_class t k) k.number ≡ Some b
+  pub held_by-made : (t : Classes K) (k : Class K) (d : ℕ) (b : BuiltIn) → AreSound t → AreSound (with_class t k) → limit t ≤ k.number → built_ins ≤ k.number → ((x : ℕ) → Includes k.bases x → is_class t x ≡ true) → best_of t k.bases ≡ Some d → held_by t d ≡ Some b → held_by (with_class t k) k.number ≡ Some b
   held_by-made t k d b ok more fresh late bases best h = go (lin t d) refl h
     where
       go : (o : Option (List ℕ)) → lin t d ≡ o → by_line o ≡ Some b → held_by (with_class t k) k.number ≡ Some b

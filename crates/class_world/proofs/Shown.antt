@@ -6,7 +6,7 @@ use Rattle.std.specs.declared.alloc.Global.{Global}
 use Rattle.py_node.specs.declared.refs.PyObjectRef.{PyObjectRef}
 use Rattle.py_node.specs.declared.refs.PyStrInterned.{PyStrInterned}
 use Rattle.py_node.specs.Tree.{Text}
-use Rattle.reply_text.specs.Lines.{joined}
+use Rattle.plain_machine.specs.Lines.{joined}
 use Rattle.class_model.specs.Class.{Class, class_at}
 use Rattle.class_model.proofs.Renamed.{at-renamed}
 use Rattle.plain_machine.specs.Show.{dots, rest_text, item_texts, entry_text, tuple_text, list_text, dict_text, containers, text_within}

@@ -3,10 +3,10 @@
 ghost use Rattle.std.specs.Prelude.{◌≡◌, ◌++◌, ℕ, true, OnOk, codes, map, Some};
 ghost use Rattle.std.specs.List.{flat_map};
 ghost use Rattle.py_node.specs.Slots.{all_slots};
-ghost use Rattle.reply_text.specs.Escapes.{escaped};
-ghost use Rattle.reply_text.specs.Lines.{joined, end_of_line};
-ghost use Rattle.reply_text.specs.Classes.{class_head, slots_head, slot_word};
-ghost use Rattle.class_model.specs.Order.{Holds};
+ghost use Rattle.plain_machine.specs.Escapes.{escaped};
+ghost use Rattle.plain_machine.specs.Lines.{joined, end_of_line};
+ghost use Rattle.plain_machine.specs.ClassLines.{class_head, slots_head, slot_word};
+ghost use Rattle.class_model.specs.Order.{Includes};
 ghost use Rattle.class_model.specs.Class.{is_class};
 ghost use Rattle.class_model.specs.Numbers.{numbers_of};
 ghost use Rattle.class_table.specs.Keys.{table_keys, numbers};
@@ -73,7 +73,7 @@ fn push_names(
     name: &str,
     line: &[PyTypeRef],
 ) -> Result<(), OutOfMemory>
-    requires { (c : ℕ) → Holds (numbers line.now) c → is_class classes.now c ≡ true }
+    requires { (c : ℕ) → Includes (numbers line.now) c → is_class classes.now c ≡ true }
     ensures { OnOk result (out.new.items ≡ out.old.items ++ class_head name.now ++
         joined (codes ", ") (map escaped (map (name_at classes.now) (numbers line.now))) ++ end_of_line) }
 {
@@ -104,7 +104,7 @@ fn push_members(
     classes: &ClassTable,
     line: &[PyTypeRef],
 ) -> Result<(), OutOfMemory>
-    requires { (c : ℕ) → Holds (numbers line.now) c → is_class classes.now c ≡ true }
+    requires { (c : ℕ) → Includes (numbers line.now) c → is_class classes.now c ≡ true }
     ensures { OnOk result (out.new.items ≡ out.old.items ++
         joined (codes ", ") (map escaped (map (name_at classes.now) (numbers line.now)))) }
 {

@@ -1,8 +1,8 @@
 //! The text of an object, as replies show it.
 
 ghost use Rattle.std.specs.Prelude.{◌≡◌, ◌++◌, IfOk, OnOk, codes, string_bytes, option_map, map, take, drop};
-ghost use Rattle.reply_text.specs.Escapes.{escaped};
-ghost use Rattle.reply_text.specs.Lines.{joined};
+ghost use Rattle.plain_machine.specs.Escapes.{escaped};
+ghost use Rattle.plain_machine.specs.Lines.{joined};
 ghost use Rattle.plain_machine.specs.Show.{show, class_name, plain_text, fixed_text, datum_text, rest_text, item_texts, entry_text, tuple_end, tuple_text, list_text, dict_text, containers, text_within};
 ghost use Rattle.class_world.specs.Reading.{Reading, plain, datum};
 ghost use Rattle.class_world.specs.Sound.{IsNode, AreNodes, IsClass, Holds, AllHold, of_payload};

@@ -34,7 +34,7 @@ use Rattle.eval_forms.specs.declared.EvalKept.{EvalKept}
 use Rattle.eval_forms.specs.declared.EvalKept.TheVariants.{Key, Value as OfKey}
 use Rattle.eval_forms.specs.declared.Own.TheVariants as own
 use Rattle.eval_forms.specs.Say.{Pairs, evaluate_pairs, make_dict, eval_say}
-use Rattle.eval_forms.specs.Rows.{answered, eval_stands, of_eval_kept, pairs_of, pairs_told, pairs, pairs_at, has_pair, IsOther, IsOwn, Closes, Continues, GoesOn, Resumes, operands}
+use Rattle.eval_forms.specs.Rows.{answered, eval_stands, of_eval_kept, pairs_of, pairs_told, pairs, pairs_at, has_pair, IsOther, IsOwn, EndsRow, Continues, GoesOn, Resumes, operands}
 use Rattle.eval_forms.proofs.Operands.{append-nil, append-on, on-other}
 
 -- the pairs past the first so many
@@ -207,7 +207,7 @@ pair-found w new e es more k v step q h = λ t r.
 
 -- with the values of all pairs, the dict is made
 pub dict-made : (w new : World) (e : ℕ) (f : Form) (es : Vec (PyObjectRef × PyObjectRef)) (step : Step EvalKept) → slice_get w.forms e ≡ Some f → slice_get (pairs f) (length es.items) ≡ None → length es.items ≤ length (pairs_at (slice_get w.forms e)) → Holds w (CanBeKeys (map (λ e. e.0) es.items))
-    → Closes (λ t u. make_dict u (entries_from u es.items)) w new step → GoesOn (Key e es) w new step
+    → EndsRow (λ t u. make_dict u (entries_from u es.items)) w new step → GoesOn (Key e es) w new step
 dict-made w new e f es (Ask asked kept) h n l c k = absurd k
 dict-made w new e f es (End s) h n l c k = λ t r.
     let here = k t r in

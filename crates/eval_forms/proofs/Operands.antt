@@ -33,7 +33,7 @@ use Rattle.eval_forms.specs.declared.Own.TheVariants as own
 use Rattle.py_node.specs.declared.expr.Word.{Word}
 use Rattle.eval_forms.specs.Say.{operand_trees, own_say, one_of, func_say, tuple_say, list_say, set_attr_say, attr_say, called_say, op_say, not_yet, class_say, entry_names, eval_say}
 use Rattle.plain_machine.specs.Args.{two_of}
-use Rattle.eval_forms.specs.Rows.{answered, eval_stands, Continues, Closes, TakesAt, Takes, StepsAt, EndsSo, HasValues, IsLater, IsOther, IsOwn, operands, operands_at, has_operand, evaluated_tree, args_of}
+use Rattle.eval_forms.specs.Rows.{answered, eval_stands, Continues, EndsRow, TakesAt, Takes, StepsAt, EndsSo, HasValues, IsLater, IsOther, IsOwn, operands, operands_at, has_operand, evaluated_tree, args_of}
 
 pub list_of-trees_of : (ts : List Tree) → list_of (trees_of ts) ≡ ts
 list_of-trees_of [] = refl
@@ -177,7 +177,7 @@ own-first : (u : PlainWorld) (t : Reading) (w : World) (e : ℕ) (f : Form) (vs 
 own-first u t w e f vs r h l = ap (eval_say u (DoEval (t.tree e))) (sym (append-nil (map answered vs))) ∙ own-row u t w e f vs [] r h l
 
 -- an expression ends as the row of its own step says
-pub own-closes : (w new : World) (e : ℕ) (f : Form) (vs : List PyObjectRef) (row : Reading → PlainWorld → Row) (next : Step EvalKept) → slice_get w.forms e ≡ Some f → length (operands f) ≡ length vs → ((t : Reading) (u : PlainWorld) → own_say u (form_tree t.text t.tree f) vs [] ≡ row t u []) → Closes row w new next → Continues e vs w new next
+pub own-closes : (w new : World) (e : ℕ) (f : Form) (vs : List PyObjectRef) (row : Reading → PlainWorld → Row) (next : Step EvalKept) → slice_get w.forms e ≡ Some f → length (operands f) ≡ length vs → ((t : Reading) (u : PlainWorld) → own_say u (form_tree t.text t.tree f) vs [] ≡ row t u []) → EndsRow row w new next → Continues e vs w new next
 own-closes w new e f vs row (Ask asked kept) h l says k = absurd k
 own-closes w new e f vs row (End s) h l says k = λ t r.
     let here = k t r in
@@ -235,7 +235,7 @@ says-func x ps rest e vs _ o t u = absurd o
 
 pub own-func : (w new : World) (e : ℕ) (f : Form) (vs : List PyObjectRef) (x : PyStrInterned) (ps : Vec PyStrInterned) (rest : Bool) (b : ℕ) (r : Result (Step EvalKept) OutOfMemory)
     → slice_get w.forms e ≡ Some f → length (operands f) ≡ length vs → IsOwn (own.Func x ps rest b) f
-    → IfOk r (λ step. Closes (λ t u. func_say u (t.text x.0) (map (λ p. t.text p.0) ps.items) rest (t.tree b)) w new step) → IfOk r (λ step. Continues e vs w new step)
+    → IfOk r (λ step. EndsRow (λ t u. func_say u (t.text x.0) (map (λ p. t.text p.0) ps.items) rest (t.tree b)) w new step) → IfOk r (λ step. Continues e vs w new step)
 own-func w new e f vs x ps rest b (Ok step) h l o k =
     own-closes w new e f vs (λ t u. func_say u (t.text x.0) (map (λ p. t.text p.0) ps.items) rest (t.tree b)) step h l (says-func x ps rest b vs f o) k
 own-func w new e f vs x ps rest b (Err out) h l o k = tt
@@ -246,7 +246,7 @@ says-tuple vs (form.Tuple es) o t u = refl
 says-tuple vs _ o t u = absurd o
 
 pub own-tuple : (w new : World) (e : ℕ) (f : Form) (vs : List PyObjectRef) (r : Result (Step EvalKept) OutOfMemory) → slice_get w.forms e ≡ Some f → length (operands f) ≡ length vs → IsOwn own.Tuple f
-    → IfOk r (λ step. Closes (λ t u. tuple_say u vs) w new step) → IfOk r (λ step. Continues e vs w new step)
+    → IfOk r (λ step. EndsRow (λ t u. tuple_say u vs) w new step) → IfOk r (λ step. Continues e vs w new step)
 own-tuple w new e f vs (Ok step) h l o k = own-closes w new e f vs (λ t u. tuple_say u vs) step h l (says-tuple vs f o) k
 own-tuple w new e f vs (Err out) h l o k = tt
 
@@ -255,7 +255,7 @@ says-list vs (form.List es) o t u = refl
 says-list vs _ o t u = absurd o
 
 pub own-list : (w new : World) (e : ℕ) (f : Form) (vs : List PyObjectRef) (r : Result (Step EvalKept) OutOfMemory) → slice_get w.forms e ≡ Some f → length (operands f) ≡ length vs → IsOwn own.List f
-    → IfOk r (λ step. Closes (λ t u. list_say u vs) w new step) → IfOk r (λ step. Continues e vs w new step)
+    → IfOk r (λ step. EndsRow (λ t u. list_say u vs) w new step) → IfOk r (λ step. Continues e vs w new step)
 own-list w new e f vs (Ok step) h l o k = own-closes w new e f vs (λ t u. list_say u vs) step h l (says-list vs f o) k
 own-list w new e f vs (Err out) h l o k = tt
 
@@ -323,7 +323,7 @@ says-later vs (form.Class y bs kw es) o t u more =
 says-later vs _ o t u more = refl
 
 pub own-later : (w : World) (e : ℕ) (f : Form) (vs : List PyObjectRef) (next : Step EvalKept) → slice_get w.forms e ≡ Some f → length (operands f) ≡ length vs → IsLater f
-    → Closes (λ t u. not_yet u) w w next → Continues e vs w w next
+    → EndsRow (λ t u. not_yet u) w w next → Continues e vs w w next
 own-later w e f vs next h l o k = own-closes w w e f vs (λ t u. not_yet u) next h l (λ t u. says-later vs f o t u []) k
 
 long-trees : (tree : ℕ → Tree) (es : List ℕ) → length (list_of (trees_of (map tree es))) ≡ length es

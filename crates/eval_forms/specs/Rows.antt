@@ -251,9 +251,9 @@ abbrev pub Takes : (Reading → PlainWorld → Row) → World → World → Step
 Takes row old new step = (t : Reading) → Reads t new → Reads t old × TakesAt (row t) t (row t (plain t old) []) step new
 
 -- a step ends a row, as the row says under every reading
-abbrev pub Closes : (Reading → PlainWorld → Row) → World → World → Step EvalKept → Type 0
-Closes row old new (Ask asked kept) = ⊥
-Closes row old new (End r) = (t : Reading) → Reads t new → Reads t old × (row t (plain t old) [] ≡ Ends (plain t new) (ended_of r))
+abbrev pub EndsRow : (Reading → PlainWorld → Row) → World → World → Step EvalKept → Type 0
+EndsRow row old new (Ask asked kept) = ⊥
+EndsRow row old new (End r) = (t : Reading) → Reads t new → Reads t old × (row t (plain t old) [] ≡ Ends (plain t new) (ended_of r))
 
 -- an operand was answered no object
 abbrev pub IsOther : Result Answer Fault → Type 0

@@ -6,7 +6,7 @@ ghost use Rattle.class_world.specs.Sound.{AllHold, Holds, IsExpression};
 ghost use Rattle.class_world.specs.Claims.{of_ended, of_step, Leaves};
 ghost use Rattle.plain_machine.specs.Dicts.{entries_from};
 ghost use Rattle.eval_forms.specs.Say.{make_dict};
-ghost use Rattle.eval_forms.specs.Rows.{Closes, GoesOn, Resumes, of_eval_kept, pairs, pairs_at};
+ghost use Rattle.eval_forms.specs.Rows.{EndsRow, GoesOn, Resumes, of_eval_kept, pairs, pairs_at};
 
 use crate::{EvalKept, object_of};
 use class_world::World;
@@ -111,7 +111,7 @@ fn make_dict(
 ) -> Result<Step<EvalKept>, OutOfMemory>
     requires { AllHold world.old (of_pairs found.now) }
     ensures goes { IfOk result (λ step.
-        Closes (λ t w. make_dict w (entries_from w found.now)) world.old world.new step) }
+        EndsRow (λ t w. make_dict w (entries_from w found.now)) world.old world.new step) }
     ensures safe { Leaves of_eval_kept world.old world.new result }
 {
     let entries = world.entries_from(found)?;

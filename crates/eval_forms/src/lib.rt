@@ -8,7 +8,7 @@ ghost use Rattle.class_world.specs.Claims.{of_eval_task, of_ended, of_step, Leav
 ghost use Rattle.class_world.specs.Reading.{Reading, Reads};
 ghost use Rattle.eval_forms.specs.Say.{one_of, bind_say, func_say, tuple_say, list_say};
 ghost use Rattle.py_node.specs.Tree.{TConst, literal_of};
-ghost use Rattle.eval_forms.specs.Rows.{Begins, Resumes, Continues, ContinuesTree, Closes, IsOwn, HasValues, IsLater, IsOther, of_eval_kept, operands, operands_at};
+ghost use Rattle.eval_forms.specs.Rows.{Begins, Resumes, Continues, ContinuesTree, EndsRow, IsOwn, HasValues, IsLater, IsOther, of_eval_kept, operands, operands_at};
 
 mod attr;
 mod call_form;
@@ -362,7 +362,7 @@ fn bind_step(
 ) -> Result<Step<EvalKept>, OutOfMemory>
     requires name { Holds world.old (IsName name) }
     requires value { AllHold world.old (of_option of_node_ref value) }
-    ensures goes { IfOk result (λ step. Closes (λ t w. bind_say w (t.text name.0) value) world.old world.new step) }
+    ensures goes { IfOk result (λ step. EndsRow (λ t w. bind_say w (t.text name.0) value) world.old world.new step) }
     ensures safe { Leaves of_eval_kept world.old world.new result }
 {
     match value {
@@ -388,7 +388,7 @@ pub(crate) fn one_of(values: &[PyObjectRef]) -> Option<PyObjectRef>
 #[tactic(auto, unfolding(py_node::specs::BuiltIns::place_of))]
 fn tuple_step(world: &mut World, values: Vec<PyObjectRef>) -> Result<Step<EvalKept>, OutOfMemory>
     requires { Holds world.old (AreNodes values.items) }
-    ensures goes { IfOk result (λ step. Closes (λ t w. tuple_say w values.items) world.old world.new step) }
+    ensures goes { IfOk result (λ step. EndsRow (λ t w. tuple_say w values.items) world.old world.new step) }
     ensures safe { Leaves of_eval_kept world.old world.new result }
 {
     if !is_within_limit(values.len()) {
@@ -403,7 +403,7 @@ fn tuple_step(world: &mut World, values: Vec<PyObjectRef>) -> Result<Step<EvalKe
 #[tactic(auto, unfolding(py_node::specs::BuiltIns::place_of))]
 fn list_step(world: &mut World, values: Vec<PyObjectRef>) -> Result<Step<EvalKept>, OutOfMemory>
     requires { Holds world.old (AreNodes values.items) }
-    ensures goes { IfOk result (λ step. Closes (λ t w. list_say w values.items) world.old world.new step) }
+    ensures goes { IfOk result (λ step. EndsRow (λ t w. list_say w values.items) world.old world.new step) }
     ensures safe { Leaves of_eval_kept world.old world.new result }
 {
     if !is_within_limit(values.len()) {
@@ -425,7 +425,7 @@ fn func_step(
 ) -> Result<Step<EvalKept>, OutOfMemory>
     requires parts { AllHold world.old (of_form (Form.Func name params rest body)) }
     ensures goes { IfOk result (λ step.
-        Closes (λ t w.
+        EndsRow (λ t w.
         func_say w (t.text name.0) (map (λ p. t.text p.0) params.items) rest (t.tree body)) world.old world.new step) }
     ensures safe { Leaves of_eval_kept world.old world.new result }
 {

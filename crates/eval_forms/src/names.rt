@@ -5,7 +5,7 @@ ghost use Rattle.class_world.specs.Sound.{AllHold, Holds, IsName, IsNode};
 ghost use Rattle.class_world.specs.Claims.{of_step};
 ghost use Rattle.class_world.specs.Reading.{Reading, Reads};
 ghost use Rattle.eval_forms.specs.Say.{built_in_named, name_say};
-ghost use Rattle.eval_forms.specs.Rows.{Closes, of_eval_kept};
+ghost use Rattle.eval_forms.specs.Rows.{EndsRow, of_eval_kept};
 
 use crate::EvalKept;
 use class_world::{Fixed, World};
@@ -14,7 +14,7 @@ use py_node::{Answer, Cause, PyObjectRef, PyStrInterned, Step};
 // A name is that of a variable, or else of a built-in object.
 pub(crate) fn name_step(world: &World, name: PyStrInterned) -> Step<EvalKept>
     requires { Holds world.now (IsName name) }
-    ensures goes { Closes (λ t w. name_say w (t.text name.0)) world.now world.now result }
+    ensures goes { EndsRow (λ t w. name_say w (t.text name.0)) world.now world.now result }
     ensures safe { AllHold world.now (of_step of_eval_kept result) }
 {
     match world.variable(name) {

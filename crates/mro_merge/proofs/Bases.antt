@@ -1,7 +1,7 @@
 -- The lists of a class's bases: their heads are the bases.
 use Rattle.std.proofs.Common.{◌≡◌, ℕ, List, [], ◌∷◌, ◌++◌, Some, None, inl, inr, refl, sym, ap, subst, ◌∙◌}
 use Rattle.std.specs.Prelude.{option_map}
-use Rattle.class_model.specs.Order.{unique, without, least_order, Holds, Distinct, BeginsWith}
+use Rattle.class_model.specs.Order.{unique, without, least_order, Includes, Distinct, BeginsWith}
 use Rattle.class_model.proofs.Arranged.{least_order-least, least_order-none}
 use Rattle.mro_merge.specs.Merge.{IsApart, heads, with_heads, IsLeastMerge, HasNoMerge, AreLines, AreLinesOf, IsRest, HasNoOrder}
 use Rattle.mro_merge.specs.Steps.{merged}
@@ -23,14 +23,14 @@ lines-bases (b ∷ bs) [] h = absurd h
 lines-bases (b ∷ bs) ([] ∷ ls) h = absurd h.0
 lines-bases (b ∷ bs) ((x ∷ l) ∷ ls) h = (h.1, lines-bases bs ls h.2)
 
-begins-holds : (b : ℕ) (l : List ℕ) → BeginsWith b l → Holds l b
+begins-holds : (b : ℕ) (l : List ℕ) → BeginsWith b l → Includes l b
 begins-holds b [] h = absurd h
 begins-holds b (x ∷ l) h = inl h
 
-based : (bs : List ℕ) (ls : List (List ℕ)) → AreLinesOf bs ls → (b : ℕ) → Holds bs b → (l : List ℕ) × Holds ls l × Holds l b
+based : (bs : List ℕ) (ls : List (List ℕ)) → AreLinesOf bs ls → (b : ℕ) → Includes bs b → (l : List ℕ) × Includes ls l × Includes l b
 based [] ls h b k = absurd k
 based (a ∷ bs) [] h b k = absurd h
-based (a ∷ bs) (l ∷ ls) h b (inl e) = let P : ℕ → Type 0 = λ w. Holds l w in (l, inl refl, subst P e (begins-holds a l h.0))
+based (a ∷ bs) (l ∷ ls) h b (inl e) = let P : ℕ → Type 0 = λ w. Includes l w in (l, inl refl, subst P e (begins-holds a l h.0))
 based (a ∷ bs) (l ∷ ls) h b (inr k) = let r = based bs ls h.2 b k in (r.0, inr r.1, r.2)
 
 unique-distinct : (bs : List ℕ) → Distinct bs → unique bs ≡ bs

@@ -4,7 +4,7 @@ use Rattle.std.specs.Global.{Vec}
 use Rattle.std.proofs.lemmas.Bool.{eq-eqb, both_ways}
 use Rattle.std.proofs.lemmas.List.{map-append}
 use Rattle.py_node.specs.declared.refs.PyTypeRef.{PyTypeRef}
-use Rattle.class_model.specs.Order.{has, without, unique, Holds}
+use Rattle.class_model.specs.Order.{has, without, unique, Includes}
 use Rattle.class_model.specs.Class.{past_first}
 use Rattle.class_model.proofs.Tests.{Decides-has}
 use Rattle.mro_merge.specs.Lists.{numbers, rows}
@@ -32,7 +32,7 @@ pub without-other : (ms : List PyTypeRef) (x : ℕ) (k : PyTypeRef) → 0 < leng
 without-other [] x k l e n f = refl
 without-other (m ∷ ms) x k l e n f = sym (without-none x (m.0 ∷ numbers ms) apart)
   where
-    apart : Holds (m.0 ∷ numbers ms) x → ⊥
+    apart : Includes (m.0 ∷ numbers ms) x → ⊥
     apart (inl i) = n (ap (λ (w : PyTypeRef). w.0) e ∙ i)
     apart (inr h) = both_ways _ f ((Decides-has (numbers ms) x).1 h)
 

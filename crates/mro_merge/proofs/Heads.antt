@@ -4,9 +4,9 @@ use Rattle.std.specs.Global.{Vec}
 use Rattle.std.proofs.lemmas.List.{map-append, drop_more, take_rest}
 use Rattle.py_node.specs.declared.refs.PyTypeRef.{PyTypeRef}
 use Rattle.std.proofs.lemmas.Bool.{eq-eqb, ne_eqb, cases_eq}
-use Rattle.class_model.specs.Order.{has, without, unique, Holds}
+use Rattle.class_model.specs.Order.{has, without, unique, Includes}
 use Rattle.class_model.specs.Change.{stands_past, breaks_precedence}
-use Rattle.class_model.proofs.Held.{Holds-left, Holds-right, Holds-sides}
+use Rattle.class_model.proofs.Held.{Includes-left, Includes-right, Includes-sides}
 use Rattle.class_model.proofs.Tests.{Decides-has}
 use Rattle.mro_merge.specs.Lists.{numbers, rows}
 use Rattle.mro_merge.specs.Merge.{heads, AreLines}
@@ -31,14 +31,14 @@ past-seen seen x (y ∷ u) e = elim (cases_eq y x) [
 ]
 
 has-itself : (seen : List ℕ) (x y : ℕ) → y ≡ x → has (seen ++ x ∷ []) y ≡ true
-has-itself seen x y i = (Decides-has (seen ++ x ∷ []) y).1 (Holds-right seen (x ∷ []) y (inl (sym i)))
+has-itself seen x y i = (Decides-has (seen ++ x ∷ []) y).1 (Includes-right seen (x ∷ []) y (inl (sym i)))
 
 has-other : (seen : List ℕ) (x y : ℕ) → (y ≡ x → ⊥) → has (seen ++ x ∷ []) y ≡ has seen y
 has-other seen x y n =
-    same_tests _ _ (λ e. (Decides-has seen y).1 (back ((Decides-has (seen ++ x ∷ []) y).0 e))) (λ e. (Decides-has (seen ++ x ∷ []) y).1 (Holds-left seen (x ∷ []) y ((Decides-has seen y).0 e)))
+    same_tests _ _ (λ e. (Decides-has seen y).1 (back ((Decides-has (seen ++ x ∷ []) y).0 e))) (λ e. (Decides-has (seen ++ x ∷ []) y).1 (Includes-left seen (x ∷ []) y ((Decides-has seen y).0 e)))
   where
-    back : Holds (seen ++ x ∷ []) y → Holds seen y
-    back h = elim (Holds-sides seen (x ∷ []) y h) [ inl a ↦ a | inr b ↦ elim b [ inl e ↦ absurd (n (sym e)) | inr f ↦ absurd f ] ]
+    back : Includes (seen ++ x ∷ []) y → Includes seen y
+    back h = elim (Includes-sides seen (x ∷ []) y h) [ inl a ↦ a | inr b ↦ elim b [ inl e ↦ absurd (n (sym e)) | inr f ↦ absurd f ] ]
 
 past-more : (seen : List ℕ) (x : ℕ) (u : List ℕ) → past (seen ++ x ∷ []) u ≡ past seen (without x u)
 past-more seen x [] = refl

@@ -3,44 +3,44 @@ use Rattle.std.proofs.Common.{◌≡◌, ℕ, suc, ◌≤◌, true, cond, List, 
 use Rattle.std.specs.Prelude.{option_map}
 use Rattle.std.specs.List.{flat_map}
 use Rattle.std.proofs.lemmas.Bool.{both_ways, cases_Bool, or_cases, and_parts, ltb-true}
-use Rattle.class_model.specs.Order.{has, rank, ranks, members_of, is_lexicographic, least_order, Holds, Subsequence, IsOrder}
+use Rattle.class_model.specs.Order.{has, rank, ranks, members_of, is_lexicographic, least_order, Includes, Subsequence, IsOrder}
 use Rattle.mro_merge.specs.Steps.{merge}
-use Rattle.class_model.proofs.Held.{Holds-equal, Holds-flat_map, from_flat_map, Holds-left, Holds-right, Holds-sides, Subsequence-more, Subsequence-holds, Subsequence-rest}
+use Rattle.class_model.proofs.Held.{Includes-equal, Includes-flat_map, from_flat_map, Includes-left, Includes-right, Includes-sides, Subsequence-more, Subsequence-holds, Subsequence-rest}
 use Rattle.class_model.proofs.Tests.{Decides-has}
 use Rattle.class_model.proofs.Arranged.{least_order-order, least_order-none, least_order-least}
 use Rattle.mro_merge.specs.Merge.{IsMerge}
 use Rattle.mro_merge.proofs.Merged.{merge-sound, merge-best, merge-none}
 
-module _ (c : ℕ) (bs : List ℕ) (ls : List (List ℕ)) (apart : (l : List ℕ) → Holds ls l → Holds l c → ⊥) (based : (b : ℕ) → Holds bs b → (l : List ℕ) × Holds ls l × Holds l b) where
-  all_apart : (l : List ℕ) → Holds (ls ++ bs ∷ []) l → Holds l c → ⊥
-  all_apart l h k = elim (Holds-sides ls (bs ∷ []) l h) [
+module _ (c : ℕ) (bs : List ℕ) (ls : List (List ℕ)) (apart : (l : List ℕ) → Includes ls l → Includes l c → ⊥) (based : (b : ℕ) → Includes bs b → (l : List ℕ) × Includes ls l × Includes l b) where
+  all_apart : (l : List ℕ) → Includes (ls ++ bs ∷ []) l → Includes l c → ⊥
+  all_apart l h k = elim (Includes-sides ls (bs ∷ []) l h) [
     | inl a ↦ apart l a k
-    | inr b ↦ elim b [ inl e ↦ (let P : List ℕ → Type 0 = λ w. Holds w c in let r = based c (subst P (sym e) k) in apart r.0 r.1 r.2) | inr f ↦ f ]
+    | inr b ↦ elim b [ inl e ↦ (let P : List ℕ → Type 0 = λ w. Includes w c in let r = based c (subst P (sym e) k) in apart r.0 r.1 r.2) | inr f ↦ f ]
   ]
 
-  flat-to : (x : ℕ) → Holds (flat_map (λ l. l) (ls ++ bs ∷ [])) x → Holds (flat_map (λ l. l) ls) x
+  flat-to : (x : ℕ) → Includes (flat_map (λ l. l) (ls ++ bs ∷ [])) x → Includes (flat_map (λ l. l) ls) x
   flat-to x h =
       let r = from_flat_map (λ l. l) (ls ++ bs ∷ []) x h in
-      elim (Holds-sides ls (bs ∷ []) r.0 r.1) [
-        | inl a ↦ Holds-flat_map (λ l. l) ls r.0 x a r.2
-        | inr b ↦ elim b [ inl e ↦ (let P : List ℕ → Type 0 = λ w. Holds w x in let q = based x (subst P (sym e) r.2) in Holds-flat_map (λ l. l) ls q.0 x q.1 q.2) | inr f ↦ absurd f ]
+      elim (Includes-sides ls (bs ∷ []) r.0 r.1) [
+        | inl a ↦ Includes-flat_map (λ l. l) ls r.0 x a r.2
+        | inr b ↦ elim b [ inl e ↦ (let P : List ℕ → Type 0 = λ w. Includes w x in let q = based x (subst P (sym e) r.2) in Includes-flat_map (λ l. l) ls q.0 x q.1 q.2) | inr f ↦ absurd f ]
       ]
 
-  flat-from : (x : ℕ) → Holds (flat_map (λ l. l) ls) x → Holds (flat_map (λ l. l) (ls ++ bs ∷ [])) x
-  flat-from x h = let r = from_flat_map (λ l. l) ls x h in Holds-flat_map (λ l. l) (ls ++ bs ∷ []) r.0 x (Holds-left ls (bs ∷ []) r.0 r.1) r.2
+  flat-from : (x : ℕ) → Includes (flat_map (λ l. l) ls) x → Includes (flat_map (λ l. l) (ls ++ bs ∷ [])) x
+  flat-from x h = let r = from_flat_map (λ l. l) ls x h in Includes-flat_map (λ l. l) (ls ++ bs ∷ []) r.0 x (Includes-left ls (bs ∷ []) r.0 r.1) r.2
 
-  not_there : Holds (flat_map (λ l. l) ls) c → ⊥
+  not_there : Includes (flat_map (λ l. l) ls) c → ⊥
   not_there h = let r = from_flat_map (λ l. l) ls c h in apart r.0 r.1 r.2
 
   order-merge : (xs : List ℕ) → IsOrder c bs ls (c ∷ xs) → IsMerge (ls ++ bs ∷ []) xs
   order-merge xs o = record {
     distinct = o.distinct.1;
-    members_only = λ x h. flat-from x (elim (o.members_only x (inr h)) [ inl e ↦ absurd (o.distinct.0 (Holds-equal xs x c (sym e) h)) | inr k ↦ k ]);
+    members_only = λ x h. flat-from x (elim (o.members_only x (inr h)) [ inl e ↦ absurd (o.distinct.0 (Includes-equal xs x c (sym e) h)) | inr k ↦ k ]);
     keeps = λ l h. Subsequence-rest l xs c (kept l h) (all_apart l h);
   }
     where
-      kept : (l : List ℕ) → Holds (ls ++ bs ∷ []) l → Subsequence l (c ∷ xs)
-      kept l h = elim (Holds-sides ls (bs ∷ []) l h) [
+      kept : (l : List ℕ) → Includes (ls ++ bs ∷ []) l → Subsequence l (c ∷ xs)
+      kept l h = elim (Includes-sides ls (bs ∷ []) l h) [
         | inl a ↦ o.keeps l a
         | inr b ↦ elim b [ inl e ↦ (let P : List ℕ → Type 0 = λ w. Subsequence w (c ∷ xs) in subst P e o.keeps_bases) | inr f ↦ absurd f ]
       ]
@@ -51,30 +51,30 @@ module _ (c : ℕ) (bs : List ℕ) (ls : List (List ℕ)) (apart : (l : List ℕ
     distinct = (λ h. not_there (flat-to c (m.members_only c h)), m.distinct);
     members_only = only;
     all_members = all;
-    keeps_bases = Subsequence-more c bs xs (m.keeps bs (Holds-right ls (bs ∷ []) bs (inl refl)));
-    keeps = λ l h. Subsequence-more c l xs (m.keeps l (Holds-left ls (bs ∷ []) l h));
+    keeps_bases = Subsequence-more c bs xs (m.keeps bs (Includes-right ls (bs ∷ []) bs (inl refl)));
+    keeps = λ l h. Subsequence-more c l xs (m.keeps l (Includes-left ls (bs ∷ []) l h));
   }
     where
-      only : (x : ℕ) → Holds (c ∷ xs) x → Holds (members_of c ls) x
+      only : (x : ℕ) → Includes (c ∷ xs) x → Includes (members_of c ls) x
       only x (inl e) = inl e
       only x (inr h) = inr (flat-to x (m.members_only x h))
 
-      all : (x : ℕ) → Holds (members_of c ls) x → Holds (c ∷ xs) x
+      all : (x : ℕ) → Includes (members_of c ls) x → Includes (c ∷ xs) x
       all x (inl e) = inl e
-      all x (inr h) = let r = from_flat_map (λ l. l) ls x h in inr (Subsequence-holds r.0 xs x (m.keeps r.0 (Holds-left ls (bs ∷ []) r.0 r.1)) r.2)
+      all x (inr h) = let r = from_flat_map (λ l. l) ls x h in inr (Subsequence-holds r.0 xs x (m.keeps r.0 (Includes-left ls (bs ∷ []) r.0 r.1)) r.2)
 
   -- the bases, at the end, change no rank
-  rank-last : (ls : List (List ℕ)) (x : ℕ) → Holds (flat_map (λ l. l) ls) x → rank (ls ++ bs ∷ []) x ≡ rank ls x
+  rank-last : (ls : List (List ℕ)) (x : ℕ) → Includes (flat_map (λ l. l) ls) x → rank (ls ++ bs ∷ []) x ≡ rank ls x
   rank-last [] x h = absurd h
   rank-last (l ∷ ls) x h = elim (cases_Bool (has l x)) [
     | inl t ↦ rw t refl
-    | inr f ↦ elim (Holds-sides l (flat_map (λ l. l) ls) x h) [
+    | inr f ↦ elim (Includes-sides l (flat_map (λ l. l) ls) x h) [
       | inl a ↦ absurd (both_ways (has l x) f ((Decides-has l x).1 a))
       | inr b ↦ ap (λ r. cond (has l x) 0 (suc r)) (rank-last ls x b)
     ]
   ]
 
-  ranks-last : (xs : List ℕ) → ((x : ℕ) → Holds xs x → Holds (flat_map (λ l. l) ls) x) → ranks (ls ++ bs ∷ []) xs ≡ ranks ls xs
+  ranks-last : (xs : List ℕ) → ((x : ℕ) → Includes xs x → Includes (flat_map (λ l. l) ls) x) → ranks (ls ++ bs ∷ []) xs ≡ ranks ls xs
   ranks-last [] h = refl
   ranks-last (x ∷ xs) h = let a = rank-last ls x (h x (inl refl)) in let b = ranks-last xs (λ y k. h y (inr k)) in cc (a, b)
 

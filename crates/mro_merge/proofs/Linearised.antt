@@ -1,9 +1,9 @@
 -- What is merged is the least merge, and merges with the same ranks are the same.
 use Rattle.std.proofs.Common.{◌≡◌, ℕ, suc, Bool, true, false, cond, List, [], ◌∷◌, length, Option, Some, None, inl, inr, refl, sym, ap, subst, ◌∙◌, arith}
 use Rattle.std.proofs.lemmas.Bool.{both_ways, cases_Bool}
-use Rattle.class_model.specs.Order.{has, rank, ranks, is_lexicographic, Holds}
+use Rattle.class_model.specs.Order.{has, rank, ranks, is_lexicographic, Includes}
 use Rattle.class_model.specs.Class.{past_first}
-use Rattle.class_model.proofs.Held.{Holds-equal, Holds-sides}
+use Rattle.class_model.proofs.Held.{Includes-equal, Includes-sides}
 use Rattle.class_model.proofs.Tests.{Decides-has}
 use Rattle.class_model.proofs.Lexicographic.{other_way}
 use Rattle.mro_merge.specs.Merge.{members, IsMerge, IsLeastMerge, HasNoMerge, DifferByRanks}
@@ -51,22 +51,22 @@ head-of : (l : List ℕ) (x y : ℕ) → has (past_first l) x ≡ false → has 
 head-of [] x y f g a b = cc
 head-of (z ∷ l) x y f g a b = let p = (Decides-has (z ∷ l) x).0 a in let q = (Decides-has (z ∷ l) y).0 b in sym (first x f p) ∙ first y g q
   where
-    first : (w : ℕ) → has l w ≡ false → Holds (z ∷ l) w → z ≡ w
+    first : (w : ℕ) → has l w ≡ false → Includes (z ∷ l) w → z ≡ w
     first w n (inl e) = e
     first w n (inr h) = absurd (both_ways _ n ((Decides-has l w).1 h))
 
 -- of the free members each rank has one
-free-same : (ls : List (List ℕ)) (x y : ℕ) → Free x ls → Free y ls → Holds (members ls) x → rank ls x ≡ rank ls y → x ≡ y
+free-same : (ls : List (List ℕ)) (x y : ℕ) → Free x ls → Free y ls → Includes (members ls) x → rank ls x ≡ rank ls y → x ≡ y
 unfolding Free
 free-same [] x y f g h e = absurd h
 free-same (l ∷ ls) x y f g h e = go (has l x) refl (has l y) refl e (free-same ls x y (λ m i. f m (inr i)) (λ m i. g m (inr i)))
   where
-    go : (a : Bool) → has l x ≡ a → (b : Bool) → has l y ≡ b → cond a 0 (suc (rank ls x)) ≡ cond b 0 (suc (rank ls y)) → (Holds (members ls) x → rank ls x ≡ rank ls y → x ≡ y) → x ≡ y
+    go : (a : Bool) → has l x ≡ a → (b : Bool) → has l y ≡ b → cond a 0 (suc (rank ls x)) ≡ cond b 0 (suc (rank ls y)) → (Includes (members ls) x → rank ls x ≡ rank ls y → x ≡ y) → x ≡ y
     go true p true q k more = head-of l x y (f l (inl refl)) (g l (inl refl)) p q
     go true p false q k more = cc
     go false p true q k more = cc
     go false p false q k more =
-        elim (Holds-sides l (members ls) x h) [
+        elim (Includes-sides l (members ls) x h) [
           | inl a ↦ absurd (both_ways _ p ((Decides-has l x).1 a))
           | inr b ↦ more b cc
         ]
@@ -84,4 +84,4 @@ same_ranks ls (x ∷ xs) (y ∷ ys) m n e =
     alike : x ≡ y → ranks (struck x ls) xs ≡ ranks (struck x ls) ys
     alike i =
         let tails : ranks ls xs ≡ ranks ls ys = cc in
-        ranks-struck x ls xs m.distinct.0 ∙ tails ∙ sym (ranks-struck x ls ys (λ h. n.distinct.0 (Holds-equal ys x y i h)))
+        ranks-struck x ls xs m.distinct.0 ∙ tails ∙ sym (ranks-struck x ls ys (λ h. n.distinct.0 (Includes-equal ys x y i h)))

@@ -3,18 +3,18 @@ use Rattle.std.proofs.Common.{◌≡◌, ℕ, zero, suc, ◌<◌, ◌≤◌, Boo
 use Rattle.std.specs.Prelude.{option_map}
 use Rattle.std.specs.List.{flat_map}
 use Rattle.std.proofs.lemmas.Bool.{eq-eqb, ne_eqb, le-ltb, cases_eq, or_parts, or_from, false_from_ne_true, false≢true}
-use Rattle.class_model.specs.Order.{has, rank, ranks, is_lexicographic, without, Holds, Distinct, Subsequence}
+use Rattle.class_model.specs.Order.{has, rank, ranks, is_lexicographic, without, Includes, Distinct, Subsequence}
 use Rattle.class_model.specs.Class.{past_first}
 use Rattle.class_model.specs.Change.{stands_past}
 use Rattle.mro_merge.specs.Merge.{IsMerge}
 use Rattle.mro_merge.specs.Steps.{first_free, are_empty, struck, after, merge}
-use Rattle.class_model.proofs.Held.{Holds-equal, from_flat_map, Holds-map, Holds-right, Holds-sides, Holds-without, from_without, length-without, Subsequence-holds}
+use Rattle.class_model.proofs.Held.{Includes-equal, from_flat_map, Includes-map, Includes-right, Includes-sides, Includes-without, from_without, length-without, Subsequence-holds}
 use Rattle.class_model.proofs.Tests.{Decides-has}
 use Rattle.mro_merge.proofs.Struck.{without-none, without-head, Distinct-without, Subsequence-without, flat-struck, struck-back, ranks-struck}
 
 -- a member stands past no head
 unfoldable pub Free : ℕ → List (List ℕ) → Type 0
-Free x ls = (l : List ℕ) → Holds ls l → has (past_first l) x ≡ false
+Free x ls = (l : List ℕ) → Includes ls l → has (past_first l) x ≡ false
 
 free-from : (x : ℕ) (ls : List (List ℕ)) → stands_past x ls ≡ false → Free x ls
 unfolding Free
@@ -41,33 +41,33 @@ first-free ls y ys m l h = false_from_ne_true _ (λ e. go l (m.keeps l h) e)
 struck-merge : (x : ℕ) (ls : List (List ℕ)) (ys : List ℕ) → IsMerge ls ys → IsMerge (struck x ls) (without x ys)
 struck-merge x ls ys m = record {
   distinct = Distinct-without x ys m.distinct;
-  members_only = λ z h. let r = from_without x z ys h in let P : List ℕ → Type 0 = λ l. Holds l z in subst P (sym (flat-struck x ls)) (Holds-without x z (flat_map (λ l. l) ls) (m.members_only z r.0) r.1);
+  members_only = λ z h. let r = from_without x z ys h in let P : List ℕ → Type 0 = λ l. Includes l z in subst P (sym (flat-struck x ls)) (Includes-without x z (flat_map (λ l. l) ls) (m.members_only z r.0) r.1);
   keeps = λ l h. let r = struck-back x ls l h in let P : List ℕ → Type 0 = λ w. Subsequence w (without x ys) in subst P r.2 (Subsequence-without x r.0 ys (m.keeps r.0 r.1));
 }
 
 pub struck-rest : (y : ℕ) (ls : List (List ℕ)) (ys : List ℕ) → IsMerge ls (y ∷ ys) → IsMerge (struck y ls) ys
 struck-rest y ls ys m = let P : List ℕ → Type 0 = λ l. IsMerge (struck y ls) l in subst P (without-head y ys m.distinct.0) (struck-merge y ls (y ∷ ys) m)
 
-unstruck : (x : ℕ) (ls : List (List ℕ)) (z : ℕ) → Holds (flat_map (λ l. l) (struck x ls)) z → Holds (flat_map (λ l. l) ls) z × (z ≡ x → ⊥)
-unstruck x ls z h = from_without x z (flat_map (λ l. l) ls) (let P : List ℕ → Type 0 = λ l. Holds l z in subst P (flat-struck x ls) h)
+unstruck : (x : ℕ) (ls : List (List ℕ)) (z : ℕ) → Includes (flat_map (λ l. l) (struck x ls)) z → Includes (flat_map (λ l. l) ls) z × (z ≡ x → ⊥)
+unstruck x ls z h = from_without x z (flat_map (λ l. l) ls) (let P : List ℕ → Type 0 = λ l. Includes l z in subst P (flat-struck x ls) h)
 
 -- a free member can go first
-put-first : (x : ℕ) (ls : List (List ℕ)) (ys : List ℕ) → Free x ls → Holds (flat_map (λ l. l) ls) x → IsMerge (struck x ls) ys → IsMerge ls (x ∷ ys)
+put-first : (x : ℕ) (ls : List (List ℕ)) (ys : List ℕ) → Free x ls → Includes (flat_map (λ l. l) ls) x → IsMerge (struck x ls) ys → IsMerge ls (x ∷ ys)
 unfolding Free
 put-first x ls ys f h m = record {
   distinct = (λ k. (unstruck x ls x (m.members_only x k)).1 refl, m.distinct);
   members_only = only;
-  keeps = λ l k. keeps l (f l k) (m.keeps (without x l) (Holds-map (without x) ls l k));
+  keeps = λ l k. keeps l (f l k) (m.keeps (without x l) (Includes-map (without x) ls l k));
 }
   where
-    only : (z : ℕ) → Holds (x ∷ ys) z → Holds (flat_map (λ l. l) ls) z
-    only z (inl e) = Holds-equal (flat_map (λ l. l) ls) x z e h
+    only : (z : ℕ) → Includes (x ∷ ys) z → Includes (flat_map (λ l. l) ls) z
+    only z (inl e) = Includes-equal (flat_map (λ l. l) ls) x z e h
     only z (inr k) = (unstruck x ls z (m.members_only z k)).0
 
     keeps : (l : List ℕ) → has (past_first l) x ≡ false → Subsequence (without x l) ys → Subsequence l (x ∷ ys)
     keeps [] e s = tt
     keeps (z ∷ l) e s =
-        let none : Holds l x → ⊥ = λ k. false≢true (sym e ∙ (Decides-has l x).1 k) in
+        let none : Includes l x → ⊥ = λ k. false≢true (sym e ∙ (Decides-has l x).1 k) in
         elim (cases_eq z x) [
           | inl i ↦
               let P : List ℕ → Type 0 = λ w. Subsequence w ys in
@@ -86,17 +86,17 @@ rank-past z l ls x n e = ap (λ b. cond (b || has l x) 0 (suc (rank ls x))) (ne_
 not_free : (z x : ℕ) (all : List (List ℕ)) → stands_past z all ≡ true → Free x all → z ≡ x → ⊥
 not_free z x all e f i = false≢true (sym (free-to x all f) ∙ ap (λ w. stands_past w all) (sym i) ∙ e)
 
-pub first-some : (all ls : List (List ℕ)) (x : ℕ) → first_free all ls ≡ Some x → Free x all × Holds (flat_map (λ l. l) ls) x
+pub first-some : (all ls : List (List ℕ)) (x : ℕ) → first_free all ls ≡ Some x → Free x all × Includes (flat_map (λ l. l) ls) x
 first-some all [] x e = cc
 first-some all ([] ∷ ls) x e = first-some all ls x e
 first-some all ((z ∷ l) ∷ ls) x e = go (stands_past z all) refl e (first-some all ls x)
   where
-    go : (b : Bool) → stands_past z all ≡ b → cond b (first_free all ls) (Some z) ≡ Some x → (first_free all ls ≡ Some x → Free x all × Holds (flat_map (λ l. l) ls) x) → Free x all × Holds (flat_map (λ l. l) ((z ∷ l) ∷ ls)) x
+    go : (b : Bool) → stands_past z all ≡ b → cond b (first_free all ls) (Some z) ≡ Some x → (first_free all ls ≡ Some x → Free x all × Includes (flat_map (λ l. l) ls) x) → Free x all × Includes (flat_map (λ l. l) ((z ∷ l) ∷ ls)) x
     go false t e more = let i : z ≡ x = cc in (free-from x all (ap (λ w. stands_past w all) (sym i) ∙ t), inl i)
-    go true t e more = let r = more e in (r.0, inr (Holds-right l (flat_map (λ l. l) ls) x r.1))
+    go true t e more = let r = more e in (r.0, inr (Includes-right l (flat_map (λ l. l) ls) x r.1))
 
 -- the first free member has the least rank of all that are free
-first-least : (all ls : List (List ℕ)) (x y : ℕ) → ((l : List ℕ) → Holds ls l → Holds all l) → Free y all → first_free all ls ≡ Some x → (rank ls x < rank ls y) ⊎ (x ≡ y)
+first-least : (all ls : List (List ℕ)) (x y : ℕ) → ((l : List ℕ) → Includes ls l → Includes all l) → Free y all → first_free all ls ≡ Some x → (rank ls x < rank ls y) ⊎ (x ≡ y)
 unfolding Free
 first-least all [] x y within f e = cc
 first-least all ([] ∷ ls) x y within f e = elim (first-least all ls x y (λ l h. within l (inr h)) f e) [ inl a ↦ inl (omega arith) | inr b ↦ inr b ]
@@ -106,7 +106,7 @@ first-least all ((z ∷ l) ∷ ls) x y within f e =
     outside : (w : ℕ) → Free w all → has l w ≡ false
     outside w g = g (z ∷ l) (within (z ∷ l) (inl refl))
 
-    go : (b : Bool) → stands_past z all ≡ b → cond b (first_free all ls) (Some z) ≡ Some x → (first_free all ls ≡ Some x → (rank ls x < rank ls y) ⊎ (x ≡ y)) → (first_free all ls ≡ Some x → Free x all × Holds (flat_map (λ l. l) ls) x) → (rank ((z ∷ l) ∷ ls) x < rank ((z ∷ l) ∷ ls) y) ⊎ (x ≡ y)
+    go : (b : Bool) → stands_past z all ≡ b → cond b (first_free all ls) (Some z) ≡ Some x → (first_free all ls ≡ Some x → (rank ls x < rank ls y) ⊎ (x ≡ y)) → (first_free all ls ≡ Some x → Free x all × Includes (flat_map (λ l. l) ls) x) → (rank ((z ∷ l) ∷ ls) x < rank ((z ∷ l) ∷ ls) y) ⊎ (x ≡ y)
     go false t e more some =
         let i : z ≡ x = cc in
         elim (cases_eq z y) [ inl j ↦ inr (sym i ∙ j) | inr n ↦ inl (rw (rank-head z l ls x i, rank-past z l ls y n (outside y f)) (omega arith)) ]
@@ -116,19 +116,19 @@ first-least all ((z ∷ l) ∷ ls) x y within f e =
         let q = rank-past z l ls y (not_free z y all t f) (outside y f) in
         elim (more e) [ inl a ↦ inl (rw (p, q) (omega arith)) | inr b ↦ inr b ]
 
-stuck : (all ls : List (List ℕ)) (y : ℕ) → ((l : List ℕ) → Holds ls l → Holds all l) → Free y all → Holds (flat_map (λ l. l) ls) y → first_free all ls ≡ None → ⊥
+stuck : (all ls : List (List ℕ)) (y : ℕ) → ((l : List ℕ) → Includes ls l → Includes all l) → Free y all → Includes (flat_map (λ l. l) ls) y → first_free all ls ≡ None → ⊥
 unfolding Free
 stuck all [] y within f h e = h
 stuck all ([] ∷ ls) y within f h e = stuck all ls y (λ l k. within l (inr k)) f h e
 stuck all ((z ∷ l) ∷ ls) y within f h e = go (stands_past z all) refl e h (stuck all ls y (λ l k. within l (inr k)) f)
   where
-    go : (b : Bool) → stands_past z all ≡ b → cond b (first_free all ls) (Some z) ≡ None → Holds (flat_map (λ l. l) ((z ∷ l) ∷ ls)) y → (Holds (flat_map (λ l. l) ls) y → first_free all ls ≡ None → ⊥) → ⊥
+    go : (b : Bool) → stands_past z all ≡ b → cond b (first_free all ls) (Some z) ≡ None → Includes (flat_map (λ l. l) ((z ∷ l) ∷ ls)) y → (Includes (flat_map (λ l. l) ls) y → first_free all ls ≡ None → ⊥) → ⊥
     go false t e h more = cc
     go true t e (inl i) more = not_free z y all t f i
     go true t e (inr h) more =
-        elim (Holds-sides l (flat_map (λ l. l) ls) y h) [ inl a ↦ false≢true (sym (f (z ∷ l) (within (z ∷ l) (inl refl))) ∙ (Decides-has l y).1 a) | inr b ↦ more b e ]
+        elim (Includes-sides l (flat_map (λ l. l) ls) y h) [ inl a ↦ false≢true (sym (f (z ∷ l) (within (z ∷ l) (inl refl))) ∙ (Decides-has l y).1 a) | inr b ↦ more b e ]
 
-empty-each : (ls : List (List ℕ)) → are_empty ls ≡ true → (l : List ℕ) → Holds ls l → [] ≡ l
+empty-each : (ls : List (List ℕ)) → are_empty ls ≡ true → (l : List ℕ) → Includes ls l → [] ≡ l
 empty-each [] e l h = absurd h
 empty-each ([] ∷ ls) e l (inl i) = i
 empty-each ([] ∷ ls) e l (inr h) = empty-each ls e l h
@@ -139,7 +139,7 @@ empty-flat [] e = refl
 empty-flat ([] ∷ ls) e = empty-flat ls e
 empty-flat ((x ∷ m) ∷ ls) e = absurd (false≢true e)
 
-pub full-some : (ls : List (List ℕ)) → are_empty ls ≡ false → (x : ℕ) × Holds (flat_map (λ l. l) ls) x
+pub full-some : (ls : List (List ℕ)) → are_empty ls ≡ false → (x : ℕ) × Includes (flat_map (λ l. l) ls) x
 full-some [] e = absurd (false≢true (sym e))
 full-some ([] ∷ ls) e = full-some ls e
 full-some ((x ∷ m) ∷ ls) e = (x, inl refl)
@@ -154,7 +154,7 @@ merge-empty ls e = record {
 -- a merge of lists that are empty
 only-empty : (ls : List (List ℕ)) (ys : List ℕ) → are_empty ls ≡ true → IsMerge ls ys → [] ≡ ys
 only-empty ls [] e m = refl
-only-empty ls (y ∷ ys) e m = absurd (let P : List ℕ → Type 0 = λ l. Holds l y in subst P (sym (empty-flat ls e)) (m.members_only y (inl refl)))
+only-empty ls (y ∷ ys) e m = absurd (let P : List ℕ → Type 0 = λ l. Includes l y in subst P (sym (empty-flat ls e)) (m.members_only y (inl refl)))
 
 -- a merge of lists that are not all empty
 not-nil : (ls : List (List ℕ)) → are_empty ls ≡ false → IsMerge ls [] → ⊥
@@ -209,7 +209,7 @@ merge-best (suc n) ls xs (y ∷ ys) e m = go (are_empty ls) refl e (λ x zs. mer
     alike : (x : ℕ) (zs : List ℕ) → x ≡ y → Distinct (x ∷ zs) → (is_lexicographic (ranks (struck x ls) ys) (ranks (struck x ls) zs) ≡ false) ⊎ (zs ≡ ys) → (is_lexicographic (ranks ls (y ∷ ys)) (ranks ls (x ∷ zs)) ≡ false) ⊎ (x ∷ zs ≡ y ∷ ys)
     alike x zs i d (inr s) = inr cc
     alike x zs i d (inl f) =
-        let a = ranks-struck x ls ys (λ h. m.distinct.0 (Holds-equal ys x y i h)) in
+        let a = ranks-struck x ls ys (λ h. m.distinct.0 (Includes-equal ys x y i h)) in
         let b = ranks-struck x ls zs d.0 in
         let k : rank ls y ≡ rank ls x = ap (rank ls) (sym i) in
         let g : is_lexicographic (ranks ls ys) (ranks ls zs) ≡ false = sym (ap (λ v. is_lexicographic v (ranks (struck x ls) zs)) a ∙ ap (is_lexicographic (ranks ls ys)) b) ∙ f in
@@ -240,7 +240,7 @@ pub merge-none : (n : ℕ) (ls : List (List ℕ)) (ys : List ℕ) → length (fl
 unfolding merge
 merge-none zero ls ys few e m = go (are_empty ls) refl e
   where
-    none : (l : List ℕ) (x : ℕ) → length l ≤ 0 → Holds l x → ⊥
+    none : (l : List ℕ) (x : ℕ) → length l ≤ 0 → Includes l x → ⊥
     none [] x h k = k
     none (y ∷ l) x h k = omega arith
 
@@ -253,10 +253,10 @@ merge-none (suc n) ls ys few e m = go (are_empty ls) refl e (λ x. merge-none n 
     none_at [] t f m = not-nil ls t m
     none_at (y ∷ ys) t f m = stuck ls ls y (λ l h. h) (first-free ls y ys m) (m.members_only y (inl refl)) f
 
-    fewer : (x : ℕ) → Holds (flat_map (λ l. l) ls) x → length (flat_map (λ l. l) (struck x ls)) ≤ n
+    fewer : (x : ℕ) → Includes (flat_map (λ l. l) ls) x → length (flat_map (λ l. l) (struck x ls)) ≤ n
     fewer x h = let a = ap length (flat-struck x ls) in let b = length-without x (flat_map (λ l. l) ls) h in omega (arith, a, b)
 
-    last : (x : ℕ) → Holds (flat_map (λ l. l) ls) x → (r : Option (List ℕ)) → (length (flat_map (λ l. l) (struck x ls)) ≤ n → r ≡ None → IsMerge (struck x ls) (without x ys) → ⊥) → option_map (λ xs. x ∷ xs) r ≡ None → ⊥
+    last : (x : ℕ) → Includes (flat_map (λ l. l) ls) x → (r : Option (List ℕ)) → (length (flat_map (λ l. l) (struck x ls)) ≤ n → r ≡ None → IsMerge (struck x ls) (without x ys) → ⊥) → option_map (λ xs. x ∷ xs) r ≡ None → ⊥
     last x h None more e = more (fewer x h) refl (struck-merge x ls ys m)
     last x h (Some zs) more e = cc
 

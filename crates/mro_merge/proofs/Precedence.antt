@@ -1,21 +1,21 @@
 -- Where a base stands twice, or past the head of a later base's line, no class has an order.
 use Rattle.std.proofs.Common.{◌≡◌, ℕ, true, List, [], ◌∷◌, Option, Some, None, inl, inr, refl, sym, subst}
 use Rattle.std.proofs.lemmas.Bool.{or_cases}
-use Rattle.class_model.specs.Order.{has, least_order, Holds, Distinct, Subsequence, BeginsWith, IsOrder}
+use Rattle.class_model.specs.Order.{has, least_order, Includes, Distinct, Subsequence, BeginsWith, IsOrder}
 use Rattle.class_model.specs.Class.{past_first}
 use Rattle.class_model.specs.Change.{stands_past, breaks_precedence}
-use Rattle.class_model.proofs.Held.{Holds-equal, Subsequence-holds, Subsequence-skip}
+use Rattle.class_model.proofs.Held.{Includes-equal, Subsequence-holds, Subsequence-skip}
 use Rattle.class_model.proofs.Tests.{Decides-has}
 use Rattle.class_model.proofs.Arranged.{least_order-order}
 use Rattle.mro_merge.specs.Merge.{AreLinesOf, IsFirstRepeat, HasNoOrder}
 use Rattle.mro_merge.proofs.Repeats.{repeat-differs}
 
-one-of : (d : ℕ) (xs : List ℕ) → Holds xs d → Subsequence (d ∷ []) xs
+one-of : (d : ℕ) (xs : List ℕ) → Includes xs d → Subsequence (d ∷ []) xs
 one-of d [] h = absurd h
 one-of d (x ∷ xs) (inl e) = inl (sym e, tt)
 one-of d (x ∷ xs) (inr h) = inr (one-of d xs h)
 
-two-of : (b d : ℕ) (bs xs : List ℕ) → Subsequence (b ∷ bs) xs → Holds bs d → Subsequence (b ∷ d ∷ []) xs
+two-of : (b d : ℕ) (bs xs : List ℕ) → Subsequence (b ∷ bs) xs → Includes bs d → Subsequence (b ∷ d ∷ []) xs
 two-of b d bs [] s h = absurd s
 two-of b d bs (x ∷ xs) (inl p) h = inl (p.0, one-of d xs (Subsequence-holds bs xs d p.1 h))
 two-of b d bs (x ∷ xs) (inr s) h = inr (two-of b d bs xs s h)
@@ -23,9 +23,9 @@ two-of b d bs (x ∷ xs) (inr s) h = inr (two-of b d bs xs s h)
 -- two members come in one order alone
 crossed : (a b : ℕ) (xs : List ℕ) → Distinct xs → Subsequence (a ∷ b ∷ []) xs → Subsequence (b ∷ a ∷ []) xs → ⊥
 crossed a b [] d s t = s
-crossed a b (x ∷ xs) d (inl p) (inl q) = d.0 (Holds-equal xs a x p.0 (Subsequence-holds (a ∷ []) xs a q.1 (inl refl)))
-crossed a b (x ∷ xs) d (inl p) (inr t) = d.0 (Holds-equal xs a x p.0 (Subsequence-holds (b ∷ a ∷ []) xs a t (inr (inl refl))))
-crossed a b (x ∷ xs) d (inr s) (inl q) = d.0 (Holds-equal xs b x q.0 (Subsequence-holds (a ∷ b ∷ []) xs b s (inr (inl refl))))
+crossed a b (x ∷ xs) d (inl p) (inl q) = d.0 (Includes-equal xs a x p.0 (Subsequence-holds (a ∷ []) xs a q.1 (inl refl)))
+crossed a b (x ∷ xs) d (inl p) (inr t) = d.0 (Includes-equal xs a x p.0 (Subsequence-holds (b ∷ a ∷ []) xs a t (inr (inl refl))))
+crossed a b (x ∷ xs) d (inr s) (inl q) = d.0 (Includes-equal xs b x q.0 (Subsequence-holds (a ∷ b ∷ []) xs b s (inr (inl refl))))
 crossed a b (x ∷ xs) d (inr s) (inr t) = crossed a b xs d.1 s t
 
 module _ (xs : List ℕ) (distinct : Distinct xs) where
@@ -35,7 +35,7 @@ module _ (xs : List ℕ) (distinct : Distinct xs) where
       let P : ℕ → Type 0 = λ w. Subsequence (b ∷ w ∷ []) xs in
       crossed b z xs distinct (subst P (sym i) s) (two-of z b l xs t ((Decides-has l b).0 h))
 
-  past-later : (b : ℕ) (bs : List ℕ) (ls : List (List ℕ)) → AreLinesOf bs ls → stands_past b ls ≡ true → ((d : ℕ) → Holds bs d → Subsequence (b ∷ d ∷ []) xs) → ((l : List ℕ) → Holds ls l → Subsequence l xs) → ⊥
+  past-later : (b : ℕ) (bs : List ℕ) (ls : List (List ℕ)) → AreLinesOf bs ls → stands_past b ls ≡ true → ((d : ℕ) → Includes bs d → Subsequence (b ∷ d ∷ []) xs) → ((l : List ℕ) → Includes ls l → Subsequence l xs) → ⊥
   past-later b [] [] lines h s t = cc
   past-later b [] (l ∷ ls) lines h s t = lines
   past-later b (d ∷ bs) [] lines h s t = lines
@@ -44,7 +44,7 @@ module _ (xs : List ℕ) (distinct : Distinct xs) where
     | inr r ↦ past-later b bs ls lines.2 r (λ e k. s e (inr k)) (λ m k. t m (inr k))
   ]
 
-  broken : (bs : List ℕ) (ls : List (List ℕ)) → AreLinesOf bs ls → breaks_precedence bs ls ≡ true → Subsequence bs xs → ((l : List ℕ) → Holds ls l → Subsequence l xs) → ⊥
+  broken : (bs : List ℕ) (ls : List (List ℕ)) → AreLinesOf bs ls → breaks_precedence bs ls ≡ true → Subsequence bs xs → ((l : List ℕ) → Includes ls l → Subsequence l xs) → ⊥
   broken [] ls lines h s t = cc
   broken (b ∷ bs) [] lines h s t = lines
   broken (b ∷ bs) (l ∷ ls) lines h s t = elim (or_cases _ _ h) [
@@ -56,7 +56,7 @@ Subsequence-distinct : (l xs : List ℕ) → Subsequence l xs → Distinct xs �
 Subsequence-distinct [] xs s d = tt
 Subsequence-distinct (x ∷ l) [] s d = absurd s
 Subsequence-distinct (x ∷ l) (y ∷ xs) (inl p) d =
-    (λ h. d.0 (Holds-equal xs x y p.0 (Subsequence-holds l xs x p.1 h)), Subsequence-distinct l xs p.1 d.1)
+    (λ h. d.0 (Includes-equal xs x y p.0 (Subsequence-holds l xs x p.1 h)), Subsequence-distinct l xs p.1 d.1)
 Subsequence-distinct (x ∷ l) (y ∷ xs) (inr s) d = Subsequence-distinct (x ∷ l) xs s d.1
 
 none-of : (c : ℕ) (bs : List ℕ) (ls : List (List ℕ)) → ((xs : List ℕ) → IsOrder c bs ls xs → ⊥) → least_order c bs ls ≡ None

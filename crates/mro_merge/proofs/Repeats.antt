@@ -1,25 +1,25 @@
 -- The base that stands twice.
 use Rattle.std.proofs.Common.{◌≡◌, ℕ, Bool, true, false, cond, List, [], ◌∷◌, ◌++◌, Some, None, inl, inr, refl, sym, ap, subst, ◌∙◌, append_assoc, append-nil}
 use Rattle.std.proofs.lemmas.Bool.{both_ways, false_from_ne_true}
-use Rattle.class_model.specs.Order.{has, Holds, Distinct}
-use Rattle.class_model.proofs.Held.{Holds-right, Holds-sides}
+use Rattle.class_model.specs.Order.{has, Includes, Distinct}
+use Rattle.class_model.proofs.Held.{Includes-right, Includes-sides}
 use Rattle.class_model.proofs.Tests.{Decides-has}
 use Rattle.mro_merge.specs.Merge.{IsFirstRepeat}
 use Rattle.mro_merge.specs.Steps.{repeat_past}
 
-Distinct-middle : (seen : List ℕ) (y : ℕ) (more : List ℕ) → Distinct (seen ++ y ∷ more) → Holds seen y → ⊥
+Distinct-middle : (seen : List ℕ) (y : ℕ) (more : List ℕ) → Distinct (seen ++ y ∷ more) → Includes seen y → ⊥
 Distinct-middle [] y more d h = h
-Distinct-middle (z ∷ seen) y more d (inl e) = d.0 (Holds-right seen (y ∷ more) z (inl (sym e)))
+Distinct-middle (z ∷ seen) y more d (inl e) = d.0 (Includes-right seen (y ∷ more) z (inl (sym e)))
 Distinct-middle (z ∷ seen) y more d (inr h) = Distinct-middle seen y more d.1 h
 
-Distinct-push : (seen : List ℕ) (y : ℕ) → Distinct seen → (Holds seen y → ⊥) → Distinct (seen ++ y ∷ [])
+Distinct-push : (seen : List ℕ) (y : ℕ) → Distinct seen → (Includes seen y → ⊥) → Distinct (seen ++ y ∷ [])
 Distinct-push [] y d n = (λ h. h, tt)
 Distinct-push (z ∷ seen) y d n = (apart, Distinct-push seen y d.1 (λ h. n (inr h)))
   where
-    apart : Holds (seen ++ y ∷ []) z → ⊥
-    apart h = elim (Holds-sides seen (y ∷ []) z h) [ inl a ↦ d.0 a | inr b ↦ elim b [ inl e ↦ n (inl (sym e)) | inr f ↦ f ] ]
+    apart : Includes (seen ++ y ∷ []) z → ⊥
+    apart h = elim (Includes-sides seen (y ∷ []) z h) [ inl a ↦ d.0 a | inr b ↦ elim b [ inl e ↦ n (inl (sym e)) | inr f ↦ f ] ]
 
-fresh : (seen : List ℕ) (y : ℕ) → has seen y ≡ false → Holds seen y → ⊥
+fresh : (seen : List ℕ) (y : ℕ) → has seen y ≡ false → Includes seen y → ⊥
 fresh seen y f h = both_ways _ f ((Decides-has seen y).1 h)
 
 repeat-to : (seen xs : List ℕ) (x : ℕ) → Distinct seen → repeat_past seen xs ≡ Some x → IsFirstRepeat (seen ++ xs) x
@@ -35,13 +35,13 @@ repeat-to seen (y ∷ xs) x d e = go (has seen y) refl e (repeat-to (seen ++ y �
         let P : List ℕ → Type 0 = λ l. IsFirstRepeat l x in
         subst P (append_assoc seen (y ∷ []) xs) (more (Distinct-push seen y d (fresh seen y t)) k)
 
-repeat-found : (seen more after : List ℕ) (x : ℕ) → Distinct (seen ++ more) → Holds (seen ++ more) x → repeat_past seen (more ++ x ∷ after) ≡ Some x
+repeat-found : (seen more after : List ℕ) (x : ℕ) → Distinct (seen ++ more) → Includes (seen ++ more) x → repeat_past seen (more ++ x ∷ after) ≡ Some x
 repeat-found seen [] after x d h =
-    let P : List ℕ → Type 0 = λ l. Holds l x in
+    let P : List ℕ → Type 0 = λ l. Includes l x in
     ap (λ b. cond b (Some x) (repeat_past (seen ++ x ∷ []) after)) ((Decides-has seen x).1 (subst P (append-nil seen) h))
 repeat-found seen (y ∷ more) after x d h =
     let P : List ℕ → Type 0 = λ l. Distinct l in
-    let Q : List ℕ → Type 0 = λ l. Holds l x in
+    let Q : List ℕ → Type 0 = λ l. Includes l x in
     let along : seen ++ y ∷ more ≡ (seen ++ y ∷ []) ++ more = sym (append_assoc seen (y ∷ []) more) in
     ap (λ b. cond b (Some y) (repeat_past (seen ++ y ∷ []) (more ++ x ∷ after))) (false_from_ne_true _ (λ t. Distinct-middle seen y more d ((Decides-has seen y).0 t)))
     ∙ repeat-found (seen ++ y ∷ []) more after x (subst P along d) (subst Q along h)

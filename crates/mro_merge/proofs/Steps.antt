@@ -3,7 +3,7 @@ use Rattle.std.proofs.Common.{◌≡◌, ℕ, zero, suc, ◌<◌, ◌≤◌, tru
 use Rattle.std.specs.Prelude.{option_map}
 use Rattle.std.specs.List.{flat_map}
 use Rattle.std.proofs.lemmas.Bool.{both_ways}
-use Rattle.class_model.specs.Order.{ranks, least_order, Holds}
+use Rattle.class_model.specs.Order.{ranks, least_order, Includes}
 use Rattle.class_model.specs.Change.{stands_past}
 use Rattle.mro_merge.specs.Steps.{first_free, are_empty, struck, after, merge, merged}
 use Rattle.class_model.proofs.Held.{length-without}
@@ -59,6 +59,6 @@ merged-stuck ls e f = go (length (flat_map (λ l. l) ls))
     go (suc n) = ap (λ b. cond b (Some []) (after (λ x. merge n (struck x ls)) (first_free ls ls))) e ∙ ap (after (λ x. merge n (struck x ls))) f
 
 -- the least order, by the merge
-pub least_order-merged : (c : ℕ) (bs : List ℕ) (ls : List (List ℕ)) → ((l : List ℕ) → Holds ls l → Holds l c → ⊥) → ((b : ℕ) → Holds bs b → (l : List ℕ) × Holds ls l × Holds l b) → least_order c bs ls ≡ option_map (λ xs. c ∷ xs) (merged (ls ++ bs ∷ []))
+pub least_order-merged : (c : ℕ) (bs : List ℕ) (ls : List (List ℕ)) → ((l : List ℕ) → Includes ls l → Includes l c → ⊥) → ((b : ℕ) → Includes bs b → (l : List ℕ) × Includes ls l × Includes l b) → least_order c bs ls ≡ option_map (λ xs. c ∷ xs) (merged (ls ++ bs ∷ []))
 unfolding merged
 least_order-merged c bs ls apart based = least_order-merge c bs ls apart based (length (flat_map (λ l. l) (ls ++ bs ∷ []))) (omega arith)

@@ -3,18 +3,18 @@ use Rattle.std.proofs.Common.{◌≡◌, ℕ, Bool, true, false, cond, not, eqb,
 use Rattle.std.specs.List.{flat_map}
 use Rattle.std.proofs.lemmas.Bool.{eq-eqb, ne_eqb}
 use Rattle.std.proofs.lemmas.List.Elements.{filter-append}
-use Rattle.class_model.specs.Order.{has, rank, ranks, without, Holds, Distinct, Subsequence}
+use Rattle.class_model.specs.Order.{has, rank, ranks, without, Includes, Distinct, Subsequence}
 use Rattle.mro_merge.specs.Steps.{struck}
-use Rattle.class_model.proofs.Held.{Holds-without, from_without, Subsequence-more}
+use Rattle.class_model.proofs.Held.{Includes-without, from_without, Subsequence-more}
 use Rattle.class_model.proofs.Tests.{Decides-has}
 
 -- nothing to strike
-pub without-none : (x : ℕ) (l : List ℕ) → (Holds l x → ⊥) → without x l ≡ l
+pub without-none : (x : ℕ) (l : List ℕ) → (Includes l x → ⊥) → without x l ≡ l
 without-none x [] n = refl
 without-none x (y ∷ l) n =
     ap (λ b. cond (not b) (y ∷ without x l) (without x l)) (ne_eqb y x (λ e. n (inl e))) ∙ ap (λ r. y ∷ r) (without-none x l (λ h. n (inr h)))
 
-pub without-head : (x : ℕ) (l : List ℕ) → (Holds l x → ⊥) → without x (x ∷ l) ≡ l
+pub without-head : (x : ℕ) (l : List ℕ) → (Includes l x → ⊥) → without x (x ∷ l) ≡ l
 without-head x l n = ap (λ b. cond (not b) (x ∷ without x l) (without x l)) (eq-eqb x x refl) ∙ without-none x l n
 
 pub Distinct-without : (x : ℕ) (l : List ℕ) → Distinct l → Distinct (without x l)
@@ -44,7 +44,7 @@ pub flat-struck : (x : ℕ) (ls : List (List ℕ)) → flat_map (λ l. l) (struc
 flat-struck x [] = refl
 flat-struck x (l ∷ ls) = ap (λ r. without x l ++ r) (flat-struck x ls) ∙ sym (filter-append (λ y. not (eqb y x)) l (flat_map (λ l. l) ls))
 
-pub struck-back : (x : ℕ) (ls : List (List ℕ)) (m : List ℕ) → Holds (struck x ls) m → (l : List ℕ) × Holds ls l × (without x l ≡ m)
+pub struck-back : (x : ℕ) (ls : List (List ℕ)) (m : List ℕ) → Includes (struck x ls) m → (l : List ℕ) × Includes ls l × (without x l ≡ m)
 struck-back x [] m h = absurd h
 struck-back x (l ∷ ls) m (inl e) = (l, inl refl, e)
 struck-back x (l ∷ ls) m (inr h) = let r = struck-back x ls m h in (r.0, inr r.1, r.2)
@@ -56,14 +56,14 @@ same_tests false false f g = refl
 
 has-without : (x z : ℕ) (l : List ℕ) → (z ≡ x → ⊥) → has (without x l) z ≡ has l z
 has-without x z l n =
-    same_tests _ _ (λ e. (Decides-has l z).1 (from_without x z l ((Decides-has (without x l) z).0 e)).0) (λ e. (Decides-has (without x l) z).1 (Holds-without x z l ((Decides-has l z).0 e) n))
+    same_tests _ _ (λ e. (Decides-has l z).1 (from_without x z l ((Decides-has (without x l) z).0 e)).0) (λ e. (Decides-has (without x l) z).1 (Includes-without x z l ((Decides-has l z).0 e) n))
 
 rank-struck : (x z : ℕ) (ls : List (List ℕ)) → (z ≡ x → ⊥) → rank (struck x ls) z ≡ rank ls z
 rank-struck x z [] n = refl
 rank-struck x z (l ∷ ls) n = cc (has-without x z l n, rank-struck x z ls n)
 
 -- the ranks of the others stay
-pub ranks-struck : (x : ℕ) (ls : List (List ℕ)) (zs : List ℕ) → (Holds zs x → ⊥) → ranks (struck x ls) zs ≡ ranks ls zs
+pub ranks-struck : (x : ℕ) (ls : List (List ℕ)) (zs : List ℕ) → (Includes zs x → ⊥) → ranks (struck x ls) zs ≡ ranks ls zs
 ranks-struck x ls [] n = refl
 ranks-struck x ls (z ∷ zs) n =
     let a = rank-struck x z ls (λ e. n (inl e)) in

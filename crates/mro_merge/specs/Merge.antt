@@ -1,7 +1,7 @@
 -- What a merge of linearisations is.
 use Rattle.std.specs.Prelude.{◌≡◌, ℕ, false, List, [], ◌∷◌, ◌++◌, Some, None, IsTrue}
 use Rattle.std.specs.List.{flat_map}
-use Rattle.class_model.specs.Order.{Holds, Distinct, Subsequence, BeginsWith, unique, ranks, is_lexicographic}
+use Rattle.class_model.specs.Order.{Includes, Distinct, Subsequence, BeginsWith, unique, ranks, is_lexicographic}
 use Rattle.class_model.specs.Order.{least_order, IsOrder, IsLeastOrder}
 use Rattle.class_model.specs.Change.{breaks_precedence}
 
@@ -21,8 +21,8 @@ with_heads ls = ls ++ unique (heads ls) ∷ []
 -- no repeats, nothing but the lists' members, and each list in its order (so that it holds them all)
 pub record IsMerge (ls : List (List ℕ)) (xs : List ℕ) : Type 0 where
   pub distinct : Distinct xs
-  pub members_only : (x : ℕ) → Holds xs x → Holds (members ls) x
-  pub keeps : (l : List ℕ) → Holds ls l → Subsequence l xs
+  pub members_only : (x : ℕ) → Includes xs x → Includes (members ls) x
+  pub keeps : (l : List ℕ) → Includes ls l → Subsequence l xs
 
 -- of all merges, it has the least list of ranks
 pub record IsLeastMerge (ls : List (List ℕ)) (xs : List ℕ) : Type 0 where
@@ -51,7 +51,7 @@ AreLinesOf (b ∷ bs) (l ∷ ls) = BeginsWith b l × Distinct l × AreLinesOf bs
 
 -- it is in none of the lists
 abbrev pub IsApart : ℕ → List (List ℕ) → Type 0
-IsApart c ls = (l : List ℕ) → Holds ls l → Holds l c → ⊥
+IsApart c ls = (l : List ℕ) → Includes ls l → Includes l c → ⊥
 
 -- it stands before its place, up to which nothing else stands twice
 pub record IsFirstRepeat (xs : List ℕ) (x : ℕ) : Type 0 where
@@ -59,7 +59,7 @@ pub record IsFirstRepeat (xs : List ℕ) (x : ℕ) : Type 0 where
   pub after : List ℕ
   pub split : xs ≡ before ++ x ∷ after
   pub distinct : Distinct before
-  pub again : Holds before x
+  pub again : Includes before x
 
 -- a head stands past the head of a later list
 abbrev pub AreOutOfOrder : List (List ℕ) → Type 0

@@ -11,7 +11,7 @@ use Rattle.py_node.specs.declared.built_in.BuiltIn.TheVariants.{TypeType}
 use Rattle.py_node.specs.BuiltIns.{all_built_ins}
 use Rattle.py_node.specs.Attributes.{with_value}
 use Rattle.py_node.specs.Tree.{Text}
-use Rattle.class_model.specs.Order.{Holds}
+use Rattle.class_model.specs.Order.{Includes}
 use Rattle.class_model.specs.Class.{Class, Classes, is_class, lin}
 use Rattle.class_model.specs.Numbers.{limit}
 use Rattle.class_model.specs.Change.{with_class, with_changed, with_bases, without_key}
@@ -102,12 +102,12 @@ bases-kept w c bs a s =
 
 -- a new class
 
-held-all : {A : Type 0} (P : A → Type 0) (xs : List A) → All P xs → (x : A) → Holds xs x → P x
+held-all : {A : Type 0} (P : A → Type 0) (xs : List A) → All P xs → (x : A) → Includes xs x → P x
 held-all P [] h x k = absurd k
 held-all P (y ∷ xs) h x (inl e) = subst P e (All-head P y xs h)
 held-all P (y ∷ xs) h x (inr k) = held-all P xs (All-tail P y xs h) x k
 
-some-held : (bs : List ℕ) → is_empty bs ≡ false → (b : ℕ) × Holds bs b
+some-held : (bs : List ℕ) → is_empty bs ≡ false → (b : ℕ) × Includes bs b
 some-held [] e = cc
 some-held (b ∷ bs) e = (b, inl refl)
 
@@ -135,7 +135,7 @@ module _ (w : PlainWorld) (meta : ℕ) (k : Class Text) (a : CanMakeClass w meta
   fresh : limit w.classes ≤ k.number
   fresh = let l = limit-within w.classes (length w.nodes) numbered in let n = a.number in omega arith
 
-  bases : (b : ℕ) → Holds k.bases b → is_class w.classes b ≡ true
+  bases : (b : ℕ) → Includes k.bases b → is_class w.classes b ≡ true
   bases = held-all (λ b. is_class w.classes b ≡ true) k.bases a.bases
 
   -- a node stands for its base, and so its number is not 0

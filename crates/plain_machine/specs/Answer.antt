@@ -2,8 +2,8 @@
 use Rattle.std.specs.Prelude.{ℕ, zero, suc, List, [], ◌∷◌, ◌++◌, nat_lt, cond, length, Ok, Err}
 use Rattle.py_node.specs.declared.raised.Cause.TheVariants.{DepthLimit}
 use Rattle.py_node.specs.Tree.{Tree}
-use Rattle.py_node.specs.Replies.{PlainReply, ToldValue, ToldRaise, ToldBudget}
-use Rattle.py_node.specs.Replies.{Told as Answering}
+use Rattle.py_node.specs.Replies.{PlainReply, GivesValue, GivesRaise, GivesBudget}
+use Rattle.py_node.specs.Replies.{PlainReplyAnswer as Answering}
 use Rattle.plain_machine.specs.Plain.{PlainWorld, DoEval, PlainTask, ToEval, AsValue, Ended, Answered, Told, Said, Asks, Ends, Saying}
 use Rattle.plain_machine.specs.World.{at_depth, without_calls}
 use Rattle.plain_machine.specs.Row.{fault, none}
@@ -64,10 +64,10 @@ pub record Run : Type 0 where
 
 -- how a command is answered, with the text of its value in the world at its end. One that is answered no object answers None
 abbrev pub answering : PlainWorld → Ending → Answering
-answering w (Over (Ok (AsValue r))) = ToldValue r (show w r)
-answering w (Over (Ok other)) = ToldValue none (show w none)
-answering w (Over (Err x)) = ToldRaise x
-answering w NoUnits = ToldBudget
+answering w (Over (Ok (AsValue r))) = GivesValue r (show w r)
+answering w (Over (Ok other)) = GivesValue none (show w none)
+answering w (Over (Err x)) = GivesRaise x
+answering w NoUnits = GivesBudget
 
 abbrev pub replied : (PlainWorld → Run) → Outcome → Run
 replied go (Out w e left) =

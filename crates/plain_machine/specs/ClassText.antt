@@ -10,7 +10,7 @@ use Rattle.class_model.specs.Class.{class_at as class_numbered, Classes, lin}
 use Rattle.class_model.specs.Numbers.{numbers_of}
 use Rattle.class_model.specs.Slot.{Keys, is_heap_at, entry}
 use Rattle.class_model.specs.BuiltIn.{natives_of}
-use Rattle.reply_text.specs.Classes.{class_lines}
+use Rattle.plain_machine.specs.ClassLines.{class_lines}
 use Rattle.plain_machine.specs.Plain.{PlainWorld}
 use Rattle.plain_machine.specs.World.{text_keys, or_empty}
 

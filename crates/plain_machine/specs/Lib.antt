@@ -15,3 +15,6 @@ pub mod Native
 pub mod Sound
 pub mod Dicts
 pub mod Takes
+pub mod Escapes
+pub mod Lines
+pub mod ClassLines

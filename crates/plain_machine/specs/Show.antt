@@ -4,8 +4,8 @@ use Rattle.std.specs.Fmt.{signed_decimal}
 use Rattle.py_node.specs.declared.refs.PyObjectRef.{PyObjectRef}
 use Rattle.py_node.specs.BuiltIns.{fixed_none, fixed_not_implemented, fixed_false, fixed_true}
 use Rattle.py_node.specs.Tree.{Text}
-use Rattle.reply_text.specs.Escapes.{escaped, quoted}
-use Rattle.reply_text.specs.Lines.{joined}
+use Rattle.plain_machine.specs.Escapes.{escaped, quoted}
+use Rattle.plain_machine.specs.Lines.{joined}
 use Rattle.class_model.specs.Class.{class_at as class_numbered}
 use Rattle.plain_machine.specs.Plain.{Datum, AClass, ANumber, AText, ATuple, AList, ADict, Node, PlainWorld}
 use Rattle.plain_machine.specs.World.{node_at}

@@ -48,8 +48,8 @@ EndsSo (Asks w learnt task) s new = ⊥
 EndsSo (Ends w r) s new = (ended_of s ≡ r) × (new ≡ w)
 
 -- a row is said to end, and ends so, however the numbers are read
-abbrev pub Closes : (Reading → PlainWorld → Said) → World → World → Result Answer Fault → Type 0
-Closes said old new r = (t : Reading) → Reads t new → Reads t old × EndsSo (said t (plain t old)) r (plain t new)
+abbrev pub EndsAs : (Reading → PlainWorld → Said) → World → World → Result Answer Fault → Type 0
+EndsAs said old new r = (t : Reading) → Reads t new → Reads t old × EndsSo (said t (plain t old)) r (plain t new)
 
 -- a class by its number
 abbrev pub number : Option PyTypeRef → Option ℕ

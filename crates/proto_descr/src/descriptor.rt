@@ -12,7 +12,7 @@ ghost use Rattle.plain_machine.specs.World.{datum_at};
 ghost use Rattle.py_node.specs.declared.refs.PyObjectRef.{PyObjectRef as Object};
 ghost use Rattle.py_node.specs.declared.task.DescriptorTask.TheVariants as descriptor;
 ghost use Rattle.proto_descr.specs.Say.{descr_get_by, function_get, is_object_none, class_of_option, or_none, is_none_type, object_get, class_get, static_get, native_get};
-ghost use Rattle.proto_descr.specs.Rows.{Begins, Starts, Closes, number, described, native_of, bound_as, of_descriptor_kept};
+ghost use Rattle.proto_descr.specs.Rows.{Begins, Starts, EndsAs, number, described, native_of, bound_as, of_descriptor_kept};
 
 use crate::DescriptorKept;
 use bitflags::Flags;
@@ -123,7 +123,7 @@ fn function_get(
     class: Option<PyTypeRef>,
 ) -> Result<Ended, OutOfMemory>
     requires { AllHold world.old (IsNode m ∷ of_option of_node_ref o) }
-    ensures goes { IfOk result (λ r. Closes (λ t w. function_get w m o (number class)) world.old world.new r) }
+    ensures goes { IfOk result (λ r. EndsAs (λ t w. function_get w m o (number class)) world.old world.new r) }
     ensures grows { Grows world.old world.new }
     ensures safe { IfOk result (λ r. AllHold world.new (of_ended r)) }
 {
@@ -185,7 +185,7 @@ fn native_get(
     requires native { AllHold world.old (of_option native_of native) }
     requires task { AllHold world.old (of_descriptor_task (descriptor.DescrGet m o class)) }
     ensures goes { IfOk result (λ r.
-        Closes (λ t w. native_get w (described t native) m o class) world.old world.new r) }
+        EndsAs (λ t w. native_get w (described t native) m o class) world.old world.new r) }
     ensures grows { Grows world.old world.new }
     ensures safe { IfOk result (λ r. AllHold world.new (of_ended r)) }
 {
@@ -216,7 +216,7 @@ fn object_get(
     requires native { AllHold world.old (native_of native) }
     requires task { AllHold world.old (IsNode m ∷ of_option of_node_ref o) }
     ensures goes { IfOk result (λ r.
-        Closes (λ t w. object_get w m (bound_as t w native) o (number class)) world.old world.new r) }
+        EndsAs (λ t w. object_get w m (bound_as t w native) o (number class)) world.old world.new r) }
     ensures grows { Grows world.old world.new }
     ensures safe { IfOk result (λ r. AllHold world.new (of_ended r)) }
 {
@@ -238,7 +238,7 @@ fn class_get(
 ) -> Result<Ended, OutOfMemory>
     requires native { AllHold world.old (native_of native) }
     requires task { AllHold world.old (of_option of_node_ref o ++ of_option of_node_ref class) }
-    ensures goes { IfOk result (λ r. Closes (λ t w. class_get w (bound_as t w native) o class) world.old world.new r) }
+    ensures goes { IfOk result (λ r. EndsAs (λ t w. class_get w (bound_as t w native) o class) world.old world.new r) }
     ensures grows { Grows world.old world.new }
     ensures safe { IfOk result (λ r. AllHold world.new (of_ended r)) }
 {
@@ -280,7 +280,7 @@ fn bound_native(
 ) -> Result<Ended, OutOfMemory>
     requires native { AllHold world.old (native_of native) }
     requires target { Holds world.old (IsNode target) }
-    ensures goes { IfOk result (λ r. Closes (λ t w. bound_as t w native target) world.old world.new r) }
+    ensures goes { IfOk result (λ r. EndsAs (λ t w. bound_as t w native target) world.old world.new r) }
     ensures grows { Grows world.old world.new }
     ensures safe { IfOk result (λ r. AllHold world.new (of_ended r)) }
 {

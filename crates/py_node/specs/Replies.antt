@@ -14,23 +14,23 @@ pub record Started : Type 0 where
   pub args : List Text
 
 -- how a command ended
-pub data Told : Type 0 where
-  ToldValue : PyObjectRef → Text → Told
-  ToldRaise : Fault → Told
-  ToldBudget : Told
+pub data PlainReplyAnswer : Type 0 where
+  GivesValue : PyObjectRef → Text → PlainReplyAnswer
+  GivesRaise : Fault → PlainReplyAnswer
+  GivesBudget : PlainReplyAnswer
 
 pub record PlainReply : Type 0 where
-  pub answer : Told
+  pub answer : PlainReplyAnswer
   pub calls : List Started
 
 abbrev pub started_of : BodyCall → Started
 started_of c = record { name = string_bytes c.name; args = map (λ s. string_bytes s) c.args.items }
 
-abbrev pub told_of : ReplyAnswer → Told
-told_of (Value r s) = ToldValue r (string_bytes s)
-told_of (Raised x) = ToldRaise x
-told_of Budget = ToldBudget
+abbrev pub reply_answer_of : ReplyAnswer → PlainReplyAnswer
+reply_answer_of (Value r s) = GivesValue r (string_bytes s)
+reply_answer_of (Raised x) = GivesRaise x
+reply_answer_of Budget = GivesBudget
 
 -- the reply that one of the code stands for
 abbrev pub reply_of : Reply → PlainReply
-reply_of r = record { answer = told_of r.answer; calls = map started_of r.calls.items }
+reply_of r = record { answer = reply_answer_of r.answer; calls = map started_of r.calls.items }

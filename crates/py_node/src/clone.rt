@@ -2,7 +2,7 @@
 
 ghost use Rattle.std.specs.Prelude.{◌≡◌, map, string_bytes, IfOk};
 ghost use Rattle.py_node.specs.Tree.{literal_of, texts_of, tree_of, part_of, pair_of};
-ghost use Rattle.py_node.specs.Replies.{reply_of, started_of, told_of};
+ghost use Rattle.py_node.specs.Replies.{reply_of, started_of, reply_answer_of};
 
 use crate::expr::{Command, Constant, Expr};
 use crate::memory::OutOfMemory;
@@ -156,7 +156,7 @@ impl BodyCall {
 impl ReplyAnswer {
     /// The same answer, unless memory runs out.
     pub fn try_clone(&self, alloc: Global) -> Result<ReplyAnswer, OutOfMemory>
-        ensures { IfOk result (λ a. told_of a ≡ told_of self.now) }
+        ensures { IfOk result (λ a. reply_answer_of a ≡ reply_answer_of self.now) }
     {
         match self {
             ReplyAnswer::Value(value, text) => {

@@ -7,7 +7,7 @@ use Rattle.std.proofs.lemmas.Bool.Decides.{nat_tests}
 use Rattle.std.proofs.lemmas.List.Concat.{flat_map-append}
 use Rattle.std.proofs.lemmas.Str.{IsUtf8-append, IsUtf8-nil, IsUtf8-encode, encode_ascii, inside_one}
 use lib.Utf8.{scalar, scalars, encode, encodes, low_scalar}
-use Rattle.reply_text.specs.Escapes.{escaped, escaped_byte, hexadecimal, mark, quoted}
+use Rattle.plain_machine.specs.Escapes.{escaped, escaped_byte, hexadecimal, mark, quoted}
 
 -- a byte below 128 before a text
 utf8_cons : (b : ℕ) (bs : List ℕ) → b < 128 → IsUtf8 bs → IsUtf8 (b ∷ bs)

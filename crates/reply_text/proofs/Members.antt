@@ -4,9 +4,9 @@ use Rattle.std.specs.Prelude.{codes}
 use Rattle.std.proofs.lemmas.Grind.{common_steps}
 use Rattle.std.proofs.lemmas.List.{map-append, map_more, length-map}
 use Rattle.py_node.specs.Tree.{Text}
-use Rattle.reply_text.specs.Escapes.{escaped}
-use Rattle.reply_text.specs.Lines.{joined}
-use Rattle.reply_text.specs.Classes.{class_member}
+use Rattle.plain_machine.specs.Escapes.{escaped}
+use Rattle.plain_machine.specs.Lines.{joined}
+use Rattle.plain_machine.specs.ClassLines.{class_member}
 
 pub joined_push : (between : Text) (texts : List Text) (text : Text) → joined between (texts ++ text ∷ []) ≡ joined between texts ++ (cond (eqb (length texts) 0) [] between ++ text)
 joined_push between [] text = append-nil text

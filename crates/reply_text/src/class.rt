@@ -2,9 +2,9 @@
 
 ghost use Rattle.std.specs.Prelude.{◌≡◌, ◌++◌, map, codes, OnOk};
 ghost use Rattle.std.specs.List.{flat_map};
-ghost use Rattle.reply_text.specs.Escapes.{escaped};
-ghost use Rattle.reply_text.specs.Lines.{joined, end_of_line};
-ghost use Rattle.reply_text.specs.Classes.{class_head, class_member, slots_head, slot_word, class_lines};
+ghost use Rattle.plain_machine.specs.Escapes.{escaped};
+ghost use Rattle.plain_machine.specs.Lines.{joined, end_of_line};
+ghost use Rattle.plain_machine.specs.ClassLines.{class_head, class_member, slots_head, slot_word, class_lines};
 
 use crate::escape::push_escaped;
 use py_node::OutOfMemory;

@@ -3,7 +3,7 @@
 ghost use Rattle.std.specs.Prelude.{◌≡◌, ◌++◌, ◌<◌, OnOk, IfOk, string_bytes};
 ghost use Rattle.std.specs.Char.{digit_char};
 ghost use Rattle.std.specs.Str.{IsUtf8};
-ghost use Rattle.reply_text.specs.Escapes.{escaped, escaped_byte, quoted};
+ghost use Rattle.plain_machine.specs.Escapes.{escaped, escaped_byte, quoted};
 
 use py_node::OutOfMemory;
 use std::alloc::Global;
@@ -57,7 +57,7 @@ fn string_of(bytes: Vec<u8>) -> String
     }
 }
 
-#[tactic(auto, unfolding(crate::specs::Escapes::escaped_byte))]
+#[tactic(auto, unfolding(plain_machine::specs::Escapes::escaped_byte))]
 fn push_escaped_byte(out: &mut Vec<u8>, byte: u8) -> Result<(), OutOfMemory>
     ensures { OnOk result (out.new.items ≡ out.old.items ++ escaped_byte byte) }
 {

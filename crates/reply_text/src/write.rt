@@ -1,8 +1,8 @@
 //! The lines of replies, as they are written.
 
 ghost use Rattle.std.specs.Prelude.{◌≡◌, ◌++◌, map, codes, OnOk, IfOk, string_bytes};
-ghost use Rattle.py_node.specs.Replies.{reply_of, told_of, started_of};
-ghost use Rattle.reply_text.specs.Lines.{joined, call_line, answer_line, reply_lines, replies_text};
+ghost use Rattle.py_node.specs.Replies.{reply_of, reply_answer_of, started_of};
+ghost use Rattle.plain_machine.specs.Lines.{joined, call_line, answer_line, reply_lines, replies_text};
 
 use crate::escape::push_escaped;
 use py_node::{BodyCall, OutOfMemory, Reply, ReplyAnswer};
@@ -57,7 +57,7 @@ fn push_joined(out: &mut Vec<u8>, texts: &[String]) -> Result<(), OutOfMemory>
 
 // The line of an answer.
 fn push_answer(out: &mut Vec<u8>, answer: &ReplyAnswer) -> Result<(), OutOfMemory>
-    ensures { OnOk result (out.new.items ≡ out.old.items ++ answer_line (told_of answer.now)) }
+    ensures { OnOk result (out.new.items ≡ out.old.items ++ answer_line (reply_answer_of answer.now)) }
 {
     match answer {
         ReplyAnswer::Value(_, text) => {

@@ -1,7 +1,7 @@
 -- What the program writes: the replies of the plain machine to the script that the input spells, and the classes that the script made.
 use Rattle.std.specs.Prelude.{◌≡◌, ℕ, ◌++◌, List, Ok}
 use Rattle.py_node.specs.Tree.{Text, Tree}
-use Rattle.reply_text.specs.Lines.{replies_text}
+use Rattle.plain_machine.specs.Lines.{replies_text}
 use Rattle.script_text.specs.Script.{script_of}
 use Rattle.plain_machine.specs.Answer.{Run, plain_run}
 use Rattle.plain_machine.specs.ClassText.{classes_text}

@@ -3,7 +3,7 @@ use Rattle.std.proofs.Common.{◌≡◌, ℕ, List, sym, ap, ◌∙◌}
 use Rattle.py_node.specs.declared.task.EvalTask.TheVariants as eval
 use Rattle.py_node.specs.declared.task.Task.TheVariants as task
 use Rattle.py_node.specs.Tree.{Tree}
-use Rattle.py_node.specs.Replies.{Told, Started}
+use Rattle.py_node.specs.Replies.{PlainReplyAnswer, Started}
 use Rattle.plain_machine.specs.Plain.{PlainWorld, DoEval, ToEval}
 use Rattle.plain_machine.specs.Answer.{Run, Out, answer, answering, replied}
 use Rattle.plain_machine.specs.World.{without_calls}
@@ -15,7 +15,7 @@ use Rattle.vm_eval.specs.Stack.{Answers, ending_of}
 use Rattle.vm_eval.specs.Runs.{Replied, before}
 
 -- a command's expression is stored, driven to its end, shown, and its starts are told
-pub command-replied : (command : Tree) (number units : ℕ) (old mid last new : World) (end : End) (told : Told) (calls : List Started)
+pub command-replied : (command : Tree) (number units : ℕ) (old mid last new : World) (end : End) (told : PlainReplyAnswer) (calls : List Started)
     → ((t : Reading) → Reads t mid → t.tree number ≡ command) → ((t : Reading) → plain t mid ≡ plain t old) → ((t : Reading) → Reads t mid → Reads t old)
     → Answers (task.Eval (eval.Eval number)) mid units last end
     → ((t : Reading) → told ≡ answering (plain t last) (ending_of end))

@@ -2,7 +2,7 @@
 
 ghost use Rattle.std.specs.Prelude.{◌≡◌, [], IfErr, ◌∷◌, ◌++◌, IfOk, OnOk};
 ghost use Rattle.py_node.specs.Tree.{tree_of};
-ghost use Rattle.py_node.specs.Replies.{reply_of, told_of, ToldValue};
+ghost use Rattle.py_node.specs.Replies.{reply_of, reply_answer_of, GivesValue};
 ghost use Rattle.plain_machine.specs.Show.{show as show_of};
 ghost use Rattle.plain_machine.specs.Answer.{answering};
 ghost use Rattle.class_world.specs.Reading.{Reading, plain};
@@ -67,7 +67,7 @@ fn reply(
 // How a command is answered, with the text of its value.
 fn answering(world: &World, end: End) -> Result<ReplyAnswer, OutOfMemory>
     requires { AllHold world.now (of_end end) }
-    ensures { IfOk result (λ answer. (t : Reading) → told_of answer ≡ answering (plain t world.now) (ending_of end)) }
+    ensures { IfOk result (λ answer. (t : Reading) → reply_answer_of answer ≡ answering (plain t world.now) (ending_of end)) }
 {
     match end {
         End::NoUnits => Ok(ReplyAnswer::Budget),
@@ -80,8 +80,8 @@ fn answering(world: &World, end: End) -> Result<ReplyAnswer, OutOfMemory>
 // A value, with its text.
 fn shown(world: &World, node: PyObjectRef) -> Result<ReplyAnswer, OutOfMemory>
     requires { Holds world.now (IsNode node) }
-    ensures { IfOk result (λ answer. (t : Reading) → told_of answer ≡
-        ToldValue node (show_of (plain t world.now) node)) }
+    ensures { IfOk result (λ answer. (t : Reading) → reply_answer_of answer ≡
+        GivesValue node (show_of (plain t world.now) node)) }
 {
     let text = show(world, node)?;
     Ok(ReplyAnswer::Value(node, text))

@@ -4,7 +4,7 @@ use Rattle.class_model.specs.Class.{Classes}
 use Rattle.class_model.specs.Numbers.{is_ascending}
 use Rattle.py_node.specs.declared.refs.PyStrInterned.{PyStrInterned}
 use Rattle.class_table.specs.Keys.{numbers}
-use Rattle.class_table.specs.Kept.{Kept, plain}
+use Rattle.class_table.specs.Stored.{StoredClass, classes_of}
 use Rattle.class_table.specs.Made.{noted}
 use Rattle.class_table.specs.Refused.{AreThere}
 use Rattle.class_model.specs.Class.{is_class}
@@ -19,7 +19,7 @@ note-requires t c =
     let parts = first-others c.args.bases.now l in
     let b = (get_or c.args.bases.now 0 (record { 0 = 0 })).0 in
     let mid = plain-mid b c.args.number.0 c.args.classes.now c.note_in.new.classes c.in_ok-note_in-in-len1-up.ensures.ok in
-    let there = subst (AreThere (plain c.args.classes.now)) parts c.requires.there in
+    let there = subst (AreThere (classes_of c.args.classes.now)) parts c.requires.there in
     let once = subst Distinct parts c.requires.distinct in
     (omega (arith, few, c.decreases), (ap is_ascending mid ∙ c.requires.ascending, (subst (λ u. AreThere u (numbers (take (length c.args.bases.now - 1) (drop 1 c.args.bases.now)))) (sym mid) there.1, once.1)))
 
@@ -27,14 +27,14 @@ pub forget_in-requires-clause-ascending : goal.forget_in-requires-clause-ascendi
 forget_in-requires-clause-ascending t c =
     let b = (get_or c.args.bases.now 0 (record { 0 = 0 })).0 in
     let mid = plain-mid b c.args.number.0 c.args.classes.now c.note_in.new.classes c.in_ok-note_in-in-len1-up.ensures.ok in
-    ap (λ (ys : List Kept). is_ascending (plain ys)) c.in-Err.ensures.err ∙ ap is_ascending mid ∙ c.requires.ascending
+    ap (λ (ys : List StoredClass). is_ascending (classes_of ys)) c.in-Err.ensures.err ∙ ap is_ascending mid ∙ c.requires.ascending
 
 pub forget_in-requires-clause-there : goal.forget_in-requires-clause-there
 forget_in-requires-clause-there t c =
     let b = (get_or c.args.bases.now 0 (record { 0 = 0 })).0 in
     let mid = plain-mid b c.args.number.0 c.args.classes.now c.note_in.new.classes c.in_ok-note_in-in-len1-up.ensures.ok in
-    let there = subst (AreThere (plain c.args.classes.now)) (first-others c.args.bases.now c.in-len1-up.len_at_least) c.requires.there in
-    ap (λ (ys : List Kept). is_class (plain ys) b) c.in-Err.ensures.err ∙ ap (λ (u : Classes PyStrInterned). is_class u b) mid ∙ there.0
+    let there = subst (AreThere (classes_of c.args.classes.now)) (first-others c.args.bases.now c.in-len1-up.len_at_least) c.requires.there in
+    ap (λ (ys : List StoredClass). is_class (classes_of ys) b) c.in-Err.ensures.err ∙ ap (λ (u : Classes PyStrInterned). is_class u b) mid ∙ there.0
 
 pub returns-in-empty-clause-ok : goal.returns-in-empty-clause-ok
 returns-in-empty-clause-ok t c =

@@ -1,7 +1,7 @@
 use Rattle.std.proofs.Common.{◌≡◌, ◌++◌, length, take, drop, arith}
 use Rattle.std.proofs.lemmas.List.{take_at}
 use Rattle.class_model.specs.Change.{with_class}
-use Rattle.class_table.specs.Kept.{plain}
+use Rattle.class_table.specs.Stored.{classes_of}
 use Rattle.class_table.specs.Coherent.{IsCoherent}
 use Rattle.class_table.specs.New.{class_of_new}
 use Rattle.class_table.proofs.Pushed.{bases-there, bases-once, step-lines, step-inside, step-full, step-done}
@@ -31,7 +31,7 @@ settle-requires-clause-full c =
     let size : c.len-at.result ≡ length c.args.classes.now.items = let h = c.len-at.ensures in omega (arith, h) in
     step-full c.args.classes.now.items c.requires.coherent (class_of_new c.args.new) c.requires.fresh c.requires.below c.args.best c.requires.best c.in-Ok.stored c.len-at.result c.deref.result.now c.attach.new.classes.items c.deref_mut.result.now size c.deref.ensures.value c.in-Ok.ensures.fresh c.in-Ok-attach.ensures.ok c.deref_mut.ensures.value
 
-both : (c : After-classes-1) → IsCoherent (take c.attach.new.classes.len (c.settle.new.classes ++ drop (length c.settle.new.classes) c.attach.new.classes.items)) × (plain (take c.attach.new.classes.len (c.settle.new.classes ++ drop (length c.settle.new.classes) c.attach.new.classes.items)) ≡ with_class (plain c.args.classes.now.items) (class_of_new c.args.new))
+both : (c : After-classes-1) → IsCoherent (take c.attach.new.classes.len (c.settle.new.classes ++ drop (length c.settle.new.classes) c.attach.new.classes.items)) × (classes_of (take c.attach.new.classes.len (c.settle.new.classes ++ drop (length c.settle.new.classes) c.attach.new.classes.items)) ≡ with_class (classes_of c.args.classes.now.items) (class_of_new c.args.new))
 both c =
     let same : length c.settle.new.classes ≡ c.attach.new.classes.len = let a = c.settle.auto.classes in let b = c.deref_mut.ensures.len in omega (arith, a, b) in
     let size : c.len-at.result ≡ length c.args.classes.now.items = let h = c.len-at.ensures in omega (arith, h) in

@@ -3,14 +3,14 @@ use Rattle.std.specs.Prelude.{nat_lt}
 use Rattle.class_model.specs.Layout.{built_ins, is_empty}
 use Rattle.py_node.specs.declared.refs.PyStrInterned.{PyStrInterned}
 use Rattle.class_table.specs.Keys.{numbers, number_of}
-use Rattle.class_table.specs.Kept.{plain}
+use Rattle.class_table.specs.Stored.{classes_of}
 use Rattle.class_table.specs.New.{class_of_new}
 use Rattle.class_table.proofs.Pushed.{there-of, best-there, line-given, base-given, solid-given}
 use Rattle.class_table.proofs.add.with_line.Goals as goal
 
 pub inherited-requires-clause-there : goal.inherited-requires-clause-there
 inherited-requires-clause-there c =
-    let t = plain c.args.classes.now in
+    let t = classes_of c.args.classes.now in
     let bs = numbers c.args.new.bases.items in
     best-there t bs c.args.best (there-of t c.args.new.number.0 bs c.requires.below) c.requires.best
 

@@ -1,7 +1,7 @@
 use Rattle.std.proofs.Common.{◌∷◌, sym, ap, ◌∙◌}
 use Rattle.class_model.specs.Chain.{chain_from}
 use Rattle.class_model.proofs.Chain.{chain-step}
-use Rattle.class_table.specs.Kept.{plain}
+use Rattle.class_table.specs.Stored.{classes_of}
 use Rattle.class_table.proofs.AsKept.{base-kept}
 use Rattle.class_table.proofs.Chains.{base-there}
 use Rattle.class_table.proofs.chain.base_of.Goals as goal
@@ -9,10 +9,10 @@ use Rattle.class_table.proofs.chain.base_of.Goals as goal
 pub returns-clause-there : goal.returns-clause-there
 returns-clause-there c =
     let kept = base-kept c.args.classes.now c.requires.coherent c.args.class.0 c.stored_at.result.now c.stored_at.ensures.here in
-    base-there (plain c.args.classes.now) c.requires.coherent.sound c.args.class.0 c.base.result (kept ∙ sym c.base.ensures)
+    base-there (classes_of c.args.classes.now) c.requires.coherent.sound c.args.class.0 c.base.result (kept ∙ sym c.base.ensures)
 
 pub returns-clause-chain : goal.returns-clause-chain
 returns-clause-chain c =
     let kept = base-kept c.args.classes.now c.requires.coherent c.args.class.0 c.stored_at.result.now c.stored_at.ensures.here in
-    chain-step (plain c.args.classes.now) c.requires.coherent.sound c.args.class.0 c.requires.there
-    ∙ ap (λ b. c.args.class.0 ∷ chain_from (plain c.args.classes.now) b) (kept ∙ sym c.base.ensures)
+    chain-step (classes_of c.args.classes.now) c.requires.coherent.sound c.args.class.0 c.requires.there
+    ∙ ap (λ b. c.args.class.0 ∷ chain_from (classes_of c.args.classes.now) b) (kept ∙ sym c.base.ensures)

@@ -1,6 +1,6 @@
 use Rattle.class_model.proofs.Chain.{chain-whole}
-use Rattle.class_table.specs.Kept.{plain}
+use Rattle.class_table.specs.Stored.{classes_of}
 use Rattle.class_table.proofs.chain.chain.Goals as goal
 
 pub returns-clause-whole : goal.returns-clause-whole
-returns-clause-whole c = chain-whole (plain c.args.classes.now) c.requires.coherent.sound c.args.class.0 c.requires.there
+returns-clause-whole c = chain-whole (classes_of c.args.classes.now) c.requires.coherent.sound c.args.class.0 c.requires.there

@@ -6,7 +6,7 @@ use Rattle.class_model.specs.Class.{first_along}
 use Rattle.class_model.specs.Slot.{entry, given_entry}
 use Rattle.class_model.specs.BuiltIn.{natives_of}
 use Rattle.class_table.specs.Keys.{table_keys}
-use Rattle.class_table.specs.Kept.{Kept, class_of, plain}
+use Rattle.class_table.specs.Stored.{StoredClass, class_of, classes_of}
 use Rattle.class_table.proofs.Along.{entry-inherited, entry-given}
 use Rattle.class_table.proofs.Found.{place-class}
 use Rattle.class_table.proofs.entries.entry.Goals as goal
@@ -18,9 +18,9 @@ returns-then-is_inherited c = λ d.
     let k = c.index-classes-place.result in
     let there : slice_get kept i ≡ Some k = slice_get-get_or kept i k c.requires.inside ∙ ap Some (sym c.index-classes-place.is) in
     c.given_along.ensures
-    ∙ ap (λ (line : List ℕ). first_along (given_entry table_keys natives_of (plain kept) c.args.slot) line) c.mro.ensures
-    ∙ sym (entry-inherited (plain kept) k.number (class_of k) k.mro (place-class kept c.requires.lines.ascending i k there) (c.requires.lines.mro i k there) c.args.slot (sym c.is_inherited.ensures ∙ c.if-is_inherited.true))
-    ∙ ap (λ (z : Kept). entry table_keys natives_of (plain kept) z.number c.args.slot) (c.index-classes-place.is ∙ get_or_default kept i k d c.requires.inside)
+    ∙ ap (λ (line : List ℕ). first_along (given_entry table_keys natives_of (classes_of kept) c.args.slot) line) c.mro.ensures
+    ∙ sym (entry-inherited (classes_of kept) k.number (class_of k) k.mro (place-class kept c.requires.lines.ascending i k there) (c.requires.lines.mro i k there) c.args.slot (sym c.is_inherited.ensures ∙ c.if-is_inherited.true))
+    ∙ ap (λ (z : StoredClass). entry table_keys natives_of (classes_of kept) z.number c.args.slot) (c.index-classes-place.is ∙ get_or_default kept i k d c.requires.inside)
 
 pub returns-else-is_inherited : goal.returns-else-is_inherited
 returns-else-is_inherited c = λ d.
@@ -29,6 +29,6 @@ returns-else-is_inherited c = λ d.
     let k = c.index-classes-place.result in
     let there : slice_get kept i ≡ Some k = slice_get-get_or kept i k c.requires.inside ∙ ap Some (sym c.index-classes-place.is) in
     c.given_entry.ensures
-    ∙ ap (given_entry table_keys natives_of (plain kept) c.args.slot) c.number.ensures
-    ∙ sym (entry-given (plain kept) k.number (class_of k) k.mro (place-class kept c.requires.lines.ascending i k there) (c.requires.lines.mro i k there) c.args.slot (sym c.is_inherited.ensures ∙ c.if-is_inherited.false))
-    ∙ ap (λ (z : Kept). entry table_keys natives_of (plain kept) z.number c.args.slot) (c.index-classes-place.is ∙ get_or_default kept i k d c.requires.inside)
+    ∙ ap (given_entry table_keys natives_of (classes_of kept) c.args.slot) c.number.ensures
+    ∙ sym (entry-given (classes_of kept) k.number (class_of k) k.mro (place-class kept c.requires.lines.ascending i k there) (c.requires.lines.mro i k there) c.args.slot (sym c.is_inherited.ensures ∙ c.if-is_inherited.false))
+    ∙ ap (λ (z : StoredClass). entry table_keys natives_of (classes_of kept) z.number c.args.slot) (c.index-classes-place.is ∙ get_or_default kept i k d c.requires.inside)

@@ -2,8 +2,8 @@ use Rattle.std.proofs.Common.{◌≡◌, drop}
 use Rattle.class_model.specs.Class.{along}
 use Rattle.class_model.specs.Slot.{is_name_of, wrapped}
 use Rattle.class_table.specs.Keys.{numbers, table_keys}
-use Rattle.class_table.specs.Kept.{plain}
+use Rattle.class_table.specs.Stored.{classes_of}
 use Rattle.class_table.proofs.entries.wrapper_along.Given as goal
 
 abbrev pub invariant-loop-place : goal.invariant-loop-place
-invariant-loop-place l = wrapped l.slot (along (is_name_of table_keys l.slot) (plain l.classes) (numbers (drop l.place l.line))) ≡ wrapped l.slot (along (is_name_of table_keys l.slot) (plain l.classes) (numbers l.line))
+invariant-loop-place l = wrapped l.slot (along (is_name_of table_keys l.slot) (classes_of l.classes) (numbers (drop l.place l.line))) ≡ wrapped l.slot (along (is_name_of table_keys l.slot) (classes_of l.classes) (numbers l.line))

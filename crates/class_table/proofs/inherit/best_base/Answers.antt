@@ -1,20 +1,20 @@
 use Rattle.class_table.specs.Keys.{numbers}
-use Rattle.class_table.specs.Kept.{plain}
+use Rattle.class_table.specs.Stored.{classes_of}
 use Rattle.class_table.proofs.Bests.{told-err, told-none, told-some}
 use Rattle.class_table.proofs.inherit.best_base.Goals as goal
 
 pub returns-in-Err-clause-refused : goal.returns-in-Err-clause-refused
 returns-in-Err-clause-refused c =
-    told-err (plain c.args.classes.now) c.requires.coherent.sound c.in-Err.cause (numbers c.args.bases.now) c.requires.there c.in-Err.ensures
+    told-err (classes_of c.args.classes.now) c.requires.coherent.sound c.in-Err.cause (numbers c.args.bases.now) c.requires.there c.in-Err.ensures
 
 pub returns-in-Ok-None-clause-refused : goal.returns-in-Ok-None-clause-refused
 returns-in-Ok-None-clause-refused c =
-    told-none (plain c.args.classes.now) c.requires.coherent.sound (numbers c.args.bases.now) c.requires.there (rw c.in-Ok-None.field-0-is at c.in-Ok-None.ensures)
+    told-none (classes_of c.args.classes.now) c.requires.coherent.sound (numbers c.args.bases.now) c.requires.there (rw c.in-Ok-None.field-0-is at c.in-Ok-None.ensures)
 
 pub returns-in-Ok-Some-clause-best : goal.returns-in-Ok-Some-clause-best
 returns-in-Ok-Some-clause-best c =
-    (told-some (plain c.args.classes.now) c.requires.coherent.sound c.in-Ok-Some.best (numbers c.args.bases.now) c.requires.there (rw c.in-Ok-Some.field-0-is at c.in-Ok-Some.ensures)).0
+    (told-some (classes_of c.args.classes.now) c.requires.coherent.sound c.in-Ok-Some.best (numbers c.args.bases.now) c.requires.there (rw c.in-Ok-Some.field-0-is at c.in-Ok-Some.ensures)).0
 
 pub returns-in-Ok-Some-clause-refused : goal.returns-in-Ok-Some-clause-refused
 returns-in-Ok-Some-clause-refused c =
-    (told-some (plain c.args.classes.now) c.requires.coherent.sound c.in-Ok-Some.best (numbers c.args.bases.now) c.requires.there (rw c.in-Ok-Some.field-0-is at c.in-Ok-Some.ensures)).1
+    (told-some (classes_of c.args.classes.now) c.requires.coherent.sound c.in-Ok-Some.best (numbers c.args.bases.now) c.requires.there (rw c.in-Ok-Some.field-0-is at c.in-Ok-Some.ensures)).1

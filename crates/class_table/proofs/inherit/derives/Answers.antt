@@ -1,7 +1,7 @@
 use Rattle.std.proofs.Common.{sym}
-use Rattle.class_table.specs.Kept.{plain}
+use Rattle.class_table.specs.Stored.{classes_of}
 use Rattle.class_table.proofs.Bests.{none-derives}
 use Rattle.class_table.proofs.inherit.derives.Goals as goal
 
 pub returns-in-None : goal.returns-in-None
-returns-in-None c = sym (none-derives (plain c.args.classes.now) c.args.class.0 c.args.other.0 (sym c.in-None.ensures.class))
+returns-in-None c = sym (none-derives (classes_of c.args.classes.now) c.args.class.0 c.args.other.0 (sym c.in-None.ensures.class))

@@ -2,8 +2,8 @@ use Rattle.std.proofs.Common.{◌≡◌, Some, map, take}
 use Rattle.class_model.specs.Class.{lin}
 use Rattle.mro_merge.specs.Lists.{rows}
 use Rattle.class_table.specs.Keys.{numbers}
-use Rattle.class_table.specs.Kept.{plain}
+use Rattle.class_table.specs.Stored.{classes_of}
 use Rattle.class_table.proofs.inherit.lines.Given as goal
 
 abbrev pub invariant-loop-base : goal.invariant-loop-base
-invariant-loop-base l = map Some (rows l.lines.items) ≡ map (lin (plain l.classes)) (numbers (take l.base-index l.bases))
+invariant-loop-base l = map Some (rows l.lines.items) ≡ map (lin (classes_of l.classes)) (numbers (take l.base-index l.bases))

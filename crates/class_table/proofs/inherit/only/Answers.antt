@@ -1,8 +1,8 @@
-use Rattle.class_table.specs.Kept.{plain}
+use Rattle.class_table.specs.Stored.{classes_of}
 use Rattle.class_table.proofs.Bests.{found}
 use Rattle.class_table.proofs.Heaps.{only-best}
 use Rattle.class_table.proofs.inherit.only.Goals as goal
 
 pub returns-in-len1-up : goal.returns-in-len1-up
 returns-in-len1-up c =
-    only-best (plain c.args.classes.now) (found (plain c.args.classes.now) c.requires.coherent.sound) c.args.bases.now c.requires.one c.requires.there c.in-len1-up.len_at_least
+    only-best (classes_of c.args.classes.now) (found (classes_of c.args.classes.now) c.requires.coherent.sound) c.args.bases.now c.requires.one c.requires.there c.in-len1-up.len_at_least

@@ -2,7 +2,7 @@ use Rattle.std.proofs.Common.{◌≡◌, Some, sym, ap, ◌∙◌}
 use Rattle.std.specs.Prelude.{slice_get}
 use Rattle.std.proofs.lemmas.Option.{slice_get-get_or}
 use Rattle.class_model.specs.Class.{class_at}
-use Rattle.class_table.specs.Kept.{plain}
+use Rattle.class_table.specs.Stored.{classes_of}
 use Rattle.class_table.proofs.Found.{place-class}
 use Rattle.class_table.proofs.place.find_near.Goals as goal
 
@@ -10,4 +10,4 @@ pub returns-then-number-class-clause-class : goal.returns-then-number-class-clau
 returns-then-number-class-clause-class c =
     let k = c.index-classes-near.result in
     let there : slice_get c.args.classes.now c.args.near ≡ Some k = slice_get-get_or c.args.classes.now c.args.near k c.if-near-classes.true ∙ ap Some (sym c.index-classes-near.is) in
-    sym (ap (class_at (plain c.args.classes.now)) (sym (sym c.number.ensures ∙ c.if-number-class.true)) ∙ place-class c.args.classes.now c.requires c.args.near k there)
+    sym (ap (class_at (classes_of c.args.classes.now)) (sym (sym c.number.ensures ∙ c.if-number-class.true)) ∙ place-class c.args.classes.now c.requires c.args.near k there)

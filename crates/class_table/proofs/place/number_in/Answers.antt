@@ -1,6 +1,6 @@
 use Rattle.std.proofs.Common.{Some, sym, ap, ◌∙◌}
 use Rattle.class_model.specs.Class.{is_class}
-use Rattle.class_table.specs.Kept.{plain}
+use Rattle.class_table.specs.Stored.{classes_of}
 use Rattle.class_table.proofs.Found.{place-number}
 use Rattle.class_table.proofs.place.number_in.Goals as goal
 
@@ -10,4 +10,4 @@ returns-clause-number c =
 
 pub returns-clause-there : goal.returns-clause-there
 returns-clause-there c =
-    ap (is_class (plain c.args.classes.now)) c.number.ensures ∙ (place-number c.args.classes.now c.requires.ascending c.args.place c.index-classes-place.result c.requires.inside c.index-classes-place.is).1
+    ap (is_class (classes_of c.args.classes.now)) c.number.ensures ∙ (place-number c.args.classes.now c.requires.ascending c.args.place c.index-classes-place.result c.requires.inside c.index-classes-place.is).1

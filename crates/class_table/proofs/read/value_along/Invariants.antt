@@ -2,8 +2,8 @@ use Rattle.std.proofs.Common.{◌≡◌, drop}
 use Rattle.py_node.specs.Attributes.{is_same_name}
 use Rattle.class_model.specs.Class.{along}
 use Rattle.class_table.specs.Keys.{numbers}
-use Rattle.class_table.specs.Kept.{plain}
+use Rattle.class_table.specs.Stored.{classes_of}
 use Rattle.class_table.proofs.read.value_along.Given as goal
 
 abbrev pub invariant-loop-place : goal.invariant-loop-place
-invariant-loop-place l = along (λ k. is_same_name k l.name) (plain l.classes) (numbers (drop l.place l.line)) ≡ along (λ k. is_same_name k l.name) (plain l.classes) (numbers l.line)
+invariant-loop-place l = along (λ k. is_same_name k l.name) (classes_of l.classes) (numbers (drop l.place l.line)) ≡ along (λ k. is_same_name k l.name) (classes_of l.classes) (numbers l.line)

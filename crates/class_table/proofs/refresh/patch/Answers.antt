@@ -1,6 +1,6 @@
 use Rattle.std.proofs.Common.{◌≡◌, ◌+◌, List, get_or, set, sym, subst, ◌∙◌}
 use Rattle.std.proofs.lemmas.List.{get_or_default}
-use Rattle.class_table.specs.Kept.{Kept, plain}
+use Rattle.class_table.specs.Stored.{StoredClass, classes_of}
 use Rattle.class_table.specs.Coherent.{HasLines}
 use Rattle.class_table.proofs.Found.{element}
 use Rattle.class_table.proofs.Refreshed.{part, part-start, part-end, part-lines, part-then, part-else}
@@ -19,8 +19,8 @@ loop-place-preserved c =
     let at = c.args.at in
     let i = c.loop-place.place in
     let s = c.at-slot.result in
-    let same : (d : Kept) → get_or kept at d ≡ get_or kept at (get_or kept at d) = λ d. get_or_default kept at d (get_or kept at d) c.requires.inside in
-    let is : (d : Kept) → c.if-is_name_of.classes ≡ set kept at (part (plain kept) (i + 1) (get_or kept at d)) = λ d.
+    let same : (d : StoredClass) → get_or kept at d ≡ get_or kept at (get_or kept at d) = λ d. get_or_default kept at d (get_or kept at d) c.requires.inside in
+    let is : (d : StoredClass) → c.if-is_name_of.classes ≡ set kept at (part (classes_of kept) (i + 1) (get_or kept at d)) = λ d.
     elim c.if-is_name_of.branch [
       | then-is_name_of w ↦
           part-then kept at (get_or kept at d) c.requires.inside (same d) i s c.loop-place.classes c.if-is_name_of.classes c.at-slot.ensures (c.requires.near d).count (c.loop-place.invariant.is d) (w.classes-is ∙ w.patch_slot.ensures (get_or kept at d))
@@ -28,7 +28,7 @@ loop-place-preserved c =
           w.classes-is ∙ c.loop-place.invariant.is d ∙ part-else kept at (get_or kept at d) c.requires.inside (same d) i s c.args.name c.at-slot.ensures (c.requires.near d) (sym c.is_name_of.ensures ∙ w.if-is_name_of.false)
     ] in
     record {
-      lines = let P : List Kept → Type 0 = λ ys. HasLines ys in
+      lines = let P : List StoredClass → Type 0 = λ ys. HasLines ys in
           subst P (sym (is (element kept at c.requires.inside))) (part-lines kept at (get_or kept at (element kept at c.requires.inside)) c.requires.inside (same (element kept at c.requires.inside)) (i + 1) c.requires.lines);
       is = is;
     }

@@ -1,5 +1,5 @@
 use Rattle.std.proofs.Common.{◌≡◌, get_or, set}
-use Rattle.class_table.specs.Kept.{Kept, plain}
+use Rattle.class_table.specs.Stored.{StoredClass, classes_of}
 use Rattle.class_table.specs.Coherent.{HasLines}
 use Rattle.class_table.proofs.Refreshed.{part}
 use Rattle.class_table.proofs.refresh.patch.Given as goal
@@ -7,5 +7,5 @@ use Rattle.class_table.proofs.refresh.patch.Given as goal
 abbrev pub invariant-loop-place : goal.invariant-loop-place
 invariant-loop-place l = record {
   lines : HasLines l.classes;
-  is : (d : Kept) → l.classes ≡ set l.fn.classes l.at (part (plain l.fn.classes) l.place (get_or l.fn.classes l.at d));
+  is : (d : StoredClass) → l.classes ≡ set l.fn.classes l.at (part (classes_of l.fn.classes) l.place (get_or l.fn.classes l.at d));
 }

@@ -3,7 +3,7 @@ use Rattle.std.proofs.lemmas.Bool.{lt-ltb, le-ltb}
 use Rattle.std.proofs.lemmas.Option.{slice_get_within}
 use Rattle.std.proofs.lemmas.List.{get_or_default}
 use Rattle.class_model.specs.Order.{has}
-use Rattle.class_table.specs.Kept.{Kept, plain}
+use Rattle.class_table.specs.Stored.{StoredClass, classes_of}
 use Rattle.class_table.specs.Coherent.{HasLines}
 use Rattle.class_table.specs.Patch.{refreshed_one, settled, IsNear}
 use Rattle.class_table.proofs.Refreshed.{plain-set, lines-set, refreshed-then, refreshed-else, near-now}
@@ -11,7 +11,7 @@ use Rattle.class_table.proofs.refresh.patch_all.Goals as goal
 use Rattle.class_table.proofs.refresh.patch_all.Goals.{then-derives, else-derives}
 
 pub loop-place-init : goal.loop-place-init
-loop-place-init c = record { lines = c.requires.lines; same = refl; at = λ i k e. e ∙ sym (ap (λ b. Some (cond b (refreshed_one (plain c.args.classes.now) c.args.class.0 k) k)) (le-ltb i 0 (omega arith))) }
+loop-place-init c = record { lines = c.requires.lines; same = refl; at = λ i k e. e ∙ sym (ap (λ b. Some (cond b (refreshed_one (classes_of c.args.classes.now) c.args.class.0 k) k)) (le-ltb i 0 (omega arith))) }
 
 pub loop-place-preserved : goal.loop-place-preserved
 loop-place-preserved c =
@@ -23,19 +23,19 @@ loop-place-preserved c =
     let inside : n < length cur = omega arith in
     elim c.if-derives.branch [
       | then-derives w ↦
-          let is : c.if-derives.classes ≡ set cur n (settled (plain cur) x) = w.classes-is ∙ w.patch.ensures x ∙ ap (λ (z : Kept). set cur n (settled (plain cur) z)) (sym held) in
-          let P : List Kept → Type 0 = λ ys. HasLines ys in
+          let is : c.if-derives.classes ≡ set cur n (settled (classes_of cur) x) = w.classes-is ∙ w.patch.ensures x ∙ ap (λ (z : StoredClass). set cur n (settled (classes_of cur) z)) (sym held) in
+          let P : List StoredClass → Type 0 = λ ys. HasLines ys in
           record {
-            lines = subst P (sym is) (lines-set cur n x (settled (plain cur) x) c.loop-place.invariant.lines inside held refl refl);
-            same = ap plain is ∙ plain-set cur n x (settled (plain cur) x) inside held refl ∙ c.loop-place.invariant.same;
-            at = refreshed-then c.args.class.0 n orig cur c.if-derives.classes c.loop-place.invariant.same c.loop-place.invariant.at x inside held (ap (λ (z : Kept). has z.mro c.args.class.0) held ∙ sym c.derives.ensures ∙ w.if-derives.true) is;
+            lines = subst P (sym is) (lines-set cur n x (settled (classes_of cur) x) c.loop-place.invariant.lines inside held refl refl);
+            same = ap classes_of is ∙ plain-set cur n x (settled (classes_of cur) x) inside held refl ∙ c.loop-place.invariant.same;
+            at = refreshed-then c.args.class.0 n orig cur c.if-derives.classes c.loop-place.invariant.same c.loop-place.invariant.at x inside held (ap (λ (z : StoredClass). has z.mro c.args.class.0) held ∙ sym c.derives.ensures ∙ w.if-derives.true) is;
           }
       | else-derives w ↦
-          let P : List Kept → Type 0 = λ ys. HasLines ys in
+          let P : List StoredClass → Type 0 = λ ys. HasLines ys in
           record {
             lines = subst P (sym w.classes-is) c.loop-place.invariant.lines;
-            same = ap plain w.classes-is ∙ c.loop-place.invariant.same;
-            at = refreshed-else c.args.class.0 n orig cur c.if-derives.classes c.loop-place.invariant.same c.loop-place.invariant.at x held (ap (λ (z : Kept). has z.mro c.args.class.0) held ∙ sym c.derives.ensures ∙ w.if-derives.false) w.classes-is;
+            same = ap classes_of w.classes-is ∙ c.loop-place.invariant.same;
+            at = refreshed-else c.args.class.0 n orig cur c.if-derives.classes c.loop-place.invariant.same c.loop-place.invariant.at x held (ap (λ (z : StoredClass). has z.mro c.args.class.0) held ∙ sym c.derives.ensures ∙ w.if-derives.false) w.classes-is;
           }
     ]
 
@@ -50,8 +50,8 @@ patch-requires c =
       lines = c.loop-place.invariant.lines;
       inside = inside;
       near = λ d.
-          let P : Kept → Type 0 = λ z. IsNear (plain cur) c.args.name z in
-          subst P (held ∙ get_or_default cur n x d inside) (near-now c.args.class.0 n c.args.classes.now cur cur c.loop-place.invariant.same c.loop-place.invariant.at c.args.name x c.requires.near c.loop-place.auto.classes (omega arith) held (ap (λ (z : Kept). has z.mro c.args.class.0) held ∙ sym c.derives.ensures ∙ c.if-derives.true));
+          let P : StoredClass → Type 0 = λ z. IsNear (classes_of cur) c.args.name z in
+          subst P (held ∙ get_or_default cur n x d inside) (near-now c.args.class.0 n c.args.classes.now cur cur c.loop-place.invariant.same c.loop-place.invariant.at c.args.name x c.requires.near c.loop-place.auto.classes (omega arith) held (ap (λ (z : StoredClass). has z.mro c.args.class.0) held ∙ sym c.derives.ensures ∙ c.if-derives.true));
     }
 
 pub returns : goal.returns
@@ -60,5 +60,5 @@ returns c = record {
   at = λ i k e.
       let l = slice_get_within c.args.classes.now i k e in
       let b : i < c.loop-place.place = omega arith in
-      c.loop-place.invariant.at i k e ∙ ap (λ b. Some (cond b (refreshed_one (plain c.args.classes.now) c.args.class.0 k) k)) (lt-ltb i c.loop-place.place b);
+      c.loop-place.invariant.at i k e ∙ ap (λ b. Some (cond b (refreshed_one (classes_of c.args.classes.now) c.args.class.0 k) k)) (lt-ltb i c.loop-place.place b);
 }

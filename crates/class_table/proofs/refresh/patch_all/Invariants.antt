@@ -1,6 +1,6 @@
 use Rattle.std.proofs.Common.{◌≡◌, ℕ, cond, ltb, Some}
 use Rattle.std.specs.Prelude.{slice_get}
-use Rattle.class_table.specs.Kept.{Kept, plain}
+use Rattle.class_table.specs.Stored.{StoredClass, classes_of}
 use Rattle.class_table.specs.Coherent.{HasLines}
 use Rattle.class_table.specs.Patch.{refreshed_one}
 use Rattle.class_table.proofs.refresh.patch_all.Given as goal
@@ -8,6 +8,6 @@ use Rattle.class_table.proofs.refresh.patch_all.Given as goal
 abbrev pub invariant-loop-place : goal.invariant-loop-place
 invariant-loop-place l = record {
   lines : HasLines l.classes;
-  same : plain l.classes ≡ plain l.fn.classes;
-  at : (i : ℕ) (k : Kept) → slice_get l.fn.classes i ≡ Some k → slice_get l.classes i ≡ Some (cond (ltb i l.place) (refreshed_one (plain l.fn.classes) l.class.0 k) k);
+  same : classes_of l.classes ≡ classes_of l.fn.classes;
+  at : (i : ℕ) (k : StoredClass) → slice_get l.fn.classes i ≡ Some k → slice_get l.classes i ≡ Some (cond (ltb i l.place) (refreshed_one (classes_of l.fn.classes) l.class.0 k) k);
 }

@@ -1,6 +1,6 @@
 use Rattle.std.proofs.Common.{◌≡◌, ◌+◌, List, get_or, set, sym, subst, ◌∙◌}
 use Rattle.std.proofs.lemmas.List.{get_or_default}
-use Rattle.class_table.specs.Kept.{Kept, plain}
+use Rattle.class_table.specs.Stored.{StoredClass, classes_of}
 use Rattle.class_table.specs.Coherent.{HasLines}
 use Rattle.class_table.proofs.Found.{element}
 use Rattle.class_table.proofs.Refreshed.{part, part-start, part-end, part-lines, part-then}
@@ -18,10 +18,10 @@ loop-place-preserved c =
     let at = c.args.at in
     let i = c.loop-place.place in
     let e = element kept at c.requires.inside in
-    let same : (d : Kept) → get_or kept at d ≡ get_or kept at (get_or kept at d) = λ d. get_or_default kept at d (get_or kept at d) c.requires.inside in
-    let is : (d : Kept) → c.patch_slot.new.classes ≡ set kept at (part (plain kept) (i + 1) (get_or kept at d)) = λ d.
+    let same : (d : StoredClass) → get_or kept at d ≡ get_or kept at (get_or kept at d) = λ d. get_or_default kept at d (get_or kept at d) c.requires.inside in
+    let is : (d : StoredClass) → c.patch_slot.new.classes ≡ set kept at (part (classes_of kept) (i + 1) (get_or kept at d)) = λ d.
     part-then kept at (get_or kept at d) c.requires.inside (same d) i c.at.result c.loop-place.classes c.patch_slot.new.classes c.at.ensures (c.requires.full d) (c.loop-place.invariant.is d) (c.patch_slot.ensures (get_or kept at d)) in
-    let P : List Kept → Type 0 = λ ys. HasLines ys in
+    let P : List StoredClass → Type 0 = λ ys. HasLines ys in
     record {
       lines = subst P (sym (is e)) (part-lines kept at (get_or kept at e) c.requires.inside (same e) (i + 1) c.requires.lines);
       is = is;

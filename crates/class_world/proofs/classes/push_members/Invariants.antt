@@ -1,7 +1,7 @@
 use Rattle.std.proofs.Common.{◌≡◌, ◌++◌, take, map, eqb}
 use Rattle.std.specs.Prelude.{codes}
-use Rattle.reply_text.specs.Escapes.{escaped}
-use Rattle.reply_text.specs.Lines.{joined}
+use Rattle.plain_machine.specs.Escapes.{escaped}
+use Rattle.plain_machine.specs.Lines.{joined}
 use Rattle.plain_machine.specs.ClassText.{name_at}
 use Rattle.class_world.proofs.classes.push_members.Given as goal
 

@@ -1,6 +1,6 @@
 use Rattle.std.proofs.Common.{◌≡◌, ◌++◌, map, take}
 use Rattle.std.specs.List.{flat_map}
-use Rattle.reply_text.specs.Classes.{slot_word}
+use Rattle.plain_machine.specs.ClassLines.{slot_word}
 use Rattle.class_table.specs.Keys.{table_keys}
 use Rattle.plain_machine.specs.ClassText.{own_words}
 use Rattle.class_world.proofs.classes.push_own_slots.Given as goal

@@ -3,7 +3,7 @@ use Rattle.class_world.proofs.Stored.{ok-map}
 use Rattle.class_world.proofs.Growth.{grows-itself}
 use Rattle.plain_machine.specs.Dicts.{entries_from}
 use Rattle.eval_forms.specs.declared.EvalKept.TheVariants.{Key}
-use Rattle.eval_forms.specs.Rows.{Closes, GoesOn}
+use Rattle.eval_forms.specs.Rows.{EndsRow, GoesOn}
 use Rattle.eval_forms.specs.Say.{make_dict}
 use Rattle.eval_forms.proofs.DictForm.{key-asked, dict-made, part-holds, has-pair}
 use Rattle.eval_forms.proofs.dict_form.next_key.Goals as goal
@@ -33,4 +33,4 @@ returns-in-None-clause-goes c =
     let es = c.args.found in
     let e = rw (c.len.ensures, c.args.found.ok.0) at c.pair.ensures in
     let goes = rw c.deref.ensures.value at c.make_dict.ensures.goes in
-    ok-map (λ step. Closes (λ t u. make_dict u (entries_from u es.items)) w new step) (λ step. GoesOn (Key c.args.e es) w new step) c.make_dict.result (λ step k. dict-made w new c.args.e c.form.result.now es step c.form.ensures.stored (sym e ∙ c.in-None.is) c.requires.fits c.requires.found.1.1.0 k) goes
+    ok-map (λ step. EndsRow (λ t u. make_dict u (entries_from u es.items)) w new step) (λ step. GoesOn (Key c.args.e es) w new step) c.make_dict.result (λ step k. dict-made w new c.args.e c.form.result.now es step c.form.ensures.stored (sym e ∙ c.in-None.is) c.requires.fits c.requires.found.1.1.0 k) goes

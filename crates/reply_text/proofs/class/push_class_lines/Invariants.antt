@@ -1,6 +1,6 @@
 use Rattle.std.proofs.Common.{◌≡◌, ◌++◌, take, map}
 use Rattle.std.specs.List.{flat_map}
-use Rattle.reply_text.specs.Classes.{slot_word}
+use Rattle.plain_machine.specs.ClassLines.{slot_word}
 use Rattle.reply_text.proofs.class.push_class_lines.Given as goal
 
 abbrev pub invariant-loop-slot : goal.invariant-loop-slot

@@ -1,7 +1,7 @@
 use Rattle.std.proofs.Common.{◌≡◌, ◌++◌, take, map, eqb}
 use Rattle.std.specs.Prelude.{codes}
-use Rattle.reply_text.specs.Escapes.{escaped}
-use Rattle.reply_text.specs.Lines.{joined}
+use Rattle.plain_machine.specs.Escapes.{escaped}
+use Rattle.plain_machine.specs.Lines.{joined}
 use Rattle.reply_text.proofs.class.push_class_members.Given as goal
 
 abbrev pub invariant-loop-name : goal.invariant-loop-name

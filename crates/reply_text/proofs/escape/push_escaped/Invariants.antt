@@ -1,5 +1,5 @@
 use Rattle.std.proofs.Common.{◌≡◌, ◌++◌, take}
-use Rattle.reply_text.specs.Escapes.{escaped}
+use Rattle.plain_machine.specs.Escapes.{escaped}
 use Rattle.reply_text.proofs.escape.push_escaped.Given as goal
 
 abbrev pub invariant-loop-byte : goal.invariant-loop-byte

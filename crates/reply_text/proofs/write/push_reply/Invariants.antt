@@ -1,7 +1,7 @@
 use Rattle.std.proofs.Common.{◌≡◌, ◌++◌, take, map}
 use Rattle.std.specs.List.{flat_map}
 use Rattle.py_node.specs.Replies.{started_of}
-use Rattle.reply_text.specs.Lines.{call_line}
+use Rattle.plain_machine.specs.Lines.{call_line}
 use Rattle.reply_text.proofs.write.push_reply.Given as goal
 
 abbrev pub invariant-loop-call : goal.invariant-loop-call

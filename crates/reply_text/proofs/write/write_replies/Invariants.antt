@@ -1,6 +1,6 @@
 use Rattle.std.proofs.Common.{◌≡◌, take, map}
 use Rattle.py_node.specs.Replies.{reply_of}
-use Rattle.reply_text.specs.Lines.{replies_text}
+use Rattle.plain_machine.specs.Lines.{replies_text}
 use Rattle.reply_text.proofs.write.write_replies.Given as goal
 
 abbrev pub invariant-loop-reply : goal.invariant-loop-reply

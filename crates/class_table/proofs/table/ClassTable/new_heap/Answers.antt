@@ -1,6 +1,6 @@
 use Rattle.std.proofs.Common.{subst}
 use Rattle.class_table.specs.Keys.{numbers}
-use Rattle.class_table.specs.Kept.{plain}
+use Rattle.class_table.specs.Stored.{classes_of}
 use Rattle.class_table.specs.Causes.{AreTold}
 use Rattle.class_table.proofs.InWords.{told}
 use Rattle.class_table.proofs.table.ClassTable.new_heap.Goals as goal
@@ -8,29 +8,29 @@ use Rattle.class_table.proofs.table.ClassTable.new_heap.Goals as goal
 pub returns-clause-empty : goal.returns-clause-empty
 returns-clause-empty c =
     let bs = numbers c.args.bases.items in
-    (subst (λ u. AreTold u bs c.add_heap.result) c.self.view_is (told (plain c.self.inside.classes.items) bs c.add_heap.result c.add_heap.ensures.early c.add_heap.ensures.refused)).empty
+    (subst (λ u. AreTold u bs c.add_heap.result) c.self.view_is (told (classes_of c.self.inside.classes.items) bs c.add_heap.result c.add_heap.ensures.early c.add_heap.ensures.refused)).empty
 
 pub returns-clause-base : goal.returns-clause-base
 returns-clause-base c =
     let bs = numbers c.args.bases.items in
-    (subst (λ u. AreTold u bs c.add_heap.result) c.self.view_is (told (plain c.self.inside.classes.items) bs c.add_heap.result c.add_heap.ensures.early c.add_heap.ensures.refused)).base
+    (subst (λ u. AreTold u bs c.add_heap.result) c.self.view_is (told (classes_of c.self.inside.classes.items) bs c.add_heap.result c.add_heap.ensures.early c.add_heap.ensures.refused)).base
 
 pub returns-clause-layout : goal.returns-clause-layout
 returns-clause-layout c =
     let bs = numbers c.args.bases.items in
-    (subst (λ u. AreTold u bs c.add_heap.result) c.self.view_is (told (plain c.self.inside.classes.items) bs c.add_heap.result c.add_heap.ensures.early c.add_heap.ensures.refused)).layout
+    (subst (λ u. AreTold u bs c.add_heap.result) c.self.view_is (told (classes_of c.self.inside.classes.items) bs c.add_heap.result c.add_heap.ensures.early c.add_heap.ensures.refused)).layout
 
 pub returns-clause-duplicate : goal.returns-clause-duplicate
 returns-clause-duplicate c =
     let bs = numbers c.args.bases.items in
-    (subst (λ u. AreTold u bs c.add_heap.result) c.self.view_is (told (plain c.self.inside.classes.items) bs c.add_heap.result c.add_heap.ensures.early c.add_heap.ensures.refused)).duplicate
+    (subst (λ u. AreTold u bs c.add_heap.result) c.self.view_is (told (classes_of c.self.inside.classes.items) bs c.add_heap.result c.add_heap.ensures.early c.add_heap.ensures.refused)).duplicate
 
 pub returns-clause-precedence : goal.returns-clause-precedence
 returns-clause-precedence c =
     let bs = numbers c.args.bases.items in
-    (subst (λ u. AreTold u bs c.add_heap.result) c.self.view_is (told (plain c.self.inside.classes.items) bs c.add_heap.result c.add_heap.ensures.early c.add_heap.ensures.refused)).precedence
+    (subst (λ u. AreTold u bs c.add_heap.result) c.self.view_is (told (classes_of c.self.inside.classes.items) bs c.add_heap.result c.add_heap.ensures.early c.add_heap.ensures.refused)).precedence
 
 pub returns-clause-conflict : goal.returns-clause-conflict
 returns-clause-conflict c =
     let bs = numbers c.args.bases.items in
-    (subst (λ u. AreTold u bs c.add_heap.result) c.self.view_is (told (plain c.self.inside.classes.items) bs c.add_heap.result c.add_heap.ensures.early c.add_heap.ensures.refused)).conflict
+    (subst (λ u. AreTold u bs c.add_heap.result) c.self.view_is (told (classes_of c.self.inside.classes.items) bs c.add_heap.result c.add_heap.ensures.early c.add_heap.ensures.refused)).conflict

@@ -6,7 +6,7 @@ use Rattle.py_node.specs.declared.entry.SlotEntry.{SlotEntry}
 use Rattle.py_node.specs.Tree.{Text}
 use Rattle.class_model.specs.Class.{Class, Classes}
 
-pub record Kept : Type 0 where
+pub record StoredClass : Type 0 where
   pub name : Text
   pub number : ℕ
   pub bases : List ℕ
@@ -20,18 +20,18 @@ pub record Kept : Type 0 where
   pub subclasses : List ℕ
 
 -- the class itself, without what follows from it
-abbrev pub class_of : Kept → Class PyStrInterned
+abbrev pub class_of : StoredClass → Class PyStrInterned
 class_of k = record { name = k.name; number = k.number; bases = k.bases; attrs = k.attrs; members = k.members; flags = k.flags }
 
-abbrev pub plain : List Kept → Classes PyStrInterned
-plain kept = map class_of kept
+abbrev pub classes_of : List StoredClass → Classes PyStrInterned
+classes_of kept = map class_of kept
 
 -- the number of the class at a place
-abbrev pub number_at : List Kept → ℕ → Option ℕ
+abbrev pub number_at : List StoredClass → ℕ → Option ℕ
 number_at kept i = option_map (λ k. k.number) (slice_get kept i)
 
 -- what is kept of a class, by its number
-pub record IsHere (kept : List Kept) (c : ℕ) (k : Kept) : Type 0 where
+pub record IsHere (kept : List StoredClass) (c : ℕ) (k : StoredClass) : Type 0 where
   pub place : ℕ
   pub at : slice_get kept place ≡ Some k
   pub number : k.number ≡ c

@@ -2,8 +2,8 @@
 use Rattle.std.specs.Prelude.{Bool, List, [], ◌++◌, map, codes, if◌then◌else◌}
 use Rattle.std.specs.List.{flat_map}
 use Rattle.py_node.specs.Tree.{Text}
-use Rattle.reply_text.specs.Escapes.{escaped}
-use Rattle.reply_text.specs.Lines.{joined, end_of_line}
+use Rattle.plain_machine.specs.Escapes.{escaped}
+use Rattle.plain_machine.specs.Lines.{joined, end_of_line}
 
 abbrev pub class_head : Text → Text
 class_head name = codes "class " ++ escaped name ++ codes ": "

@@ -3,8 +3,8 @@ use Rattle.std.specs.Prelude.{List, [], ◌∷◌, ◌++◌, codes}
 use Rattle.std.specs.List.{flat_map}
 use Rattle.py_node.specs.Tree.{Text}
 use Rattle.py_node.specs.Faults.{kind_word, cause_word}
-use Rattle.py_node.specs.Replies.{PlainReply, Started, Told, ToldValue, ToldRaise, ToldBudget}
-use Rattle.reply_text.specs.Escapes.{escaped}
+use Rattle.py_node.specs.Replies.{PlainReply, Started, PlainReplyAnswer, GivesValue, GivesRaise, GivesBudget}
+use Rattle.plain_machine.specs.Escapes.{escaped}
 
 -- an end of line
 abbrev pub end_of_line : Text
@@ -21,10 +21,10 @@ call_line call =
     codes "call " ++ escaped call.name ++ codes "(" ++ joined (codes ", ") call.args ++ codes ")" ++ end_of_line
 
 -- how a command ended
-abbrev pub answer_line : Told → Text
-answer_line (ToldValue object text) = codes "= " ++ text ++ end_of_line
-answer_line (ToldRaise fault) = codes "! " ++ kind_word fault.kind ++ codes " " ++ cause_word fault.cause ++ end_of_line
-answer_line ToldBudget = codes "? Budget" ++ end_of_line
+abbrev pub answer_line : PlainReplyAnswer → Text
+answer_line (GivesValue object text) = codes "= " ++ text ++ end_of_line
+answer_line (GivesRaise fault) = codes "! " ++ kind_word fault.kind ++ codes " " ++ cause_word fault.cause ++ end_of_line
+answer_line GivesBudget = codes "? Budget" ++ end_of_line
 
 -- the bodies that a command started, in order, and how it ended
 abbrev pub reply_lines : PlainReply → Text

@@ -1,3 +1,0 @@
-pub mod Escapes
-pub mod Lines
-pub mod Classes
