@@ -59,7 +59,8 @@ pub(crate) fn made(
     new_class(world, plan, kw)
 }
 
-// Makes a class and tells of it, unless the world refuses it: its bases have no order, or its qualified name is no text.
+// Makes a class and tells of it, unless the world refuses it: its bases have no order, or its qualified name is
+// no text.
 #[tactic(auto, unfolding(crate::specs::Say::class_job_say, crate::specs::Say::made_unless))]
 fn new_class(world: &mut World, plan: Plan, kw: Keywords) -> Result<Step<ClassKept>, OutOfMemory>
     requires meta { Holds world.old (IsClass plan.meta.0) }
