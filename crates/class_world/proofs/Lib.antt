@@ -22,6 +22,7 @@ pub mod SoundWorld
 pub mod NewNodes
 pub mod DictEntries
 pub mod DictChanges
+pub mod PayloadChanges
 pub mod DictReads
 pub mod KeyEntries
 pub mod Items

@@ -1,5 +1,6 @@
 -- What the contracts of rows say, of any group of rows.
-use Rattle.std.specs.Prelude.{◌≡◌, ◌++◌, List, Result}
+use Rattle.std.specs.Prelude.{◌≡◌, ◌++◌, List, Result, IfOk}
+use Rattle.py_node.specs.declared.memory.OutOfMemory.{OutOfMemory}
 use Rattle.py_node.specs.declared.raised.Raised.{Raised as Fault}
 use Rattle.py_node.specs.declared.task.Answer.{Answer}
 use Rattle.py_node.specs.declared.task.Step.{Step}
@@ -8,7 +9,9 @@ use Rattle.plain_machine.specs.Plain.{PlainWorld, Told, Said, Asks, Ends, Saying
 use Rattle.plain_machine.specs.Rows.{Pending, Alike, fresh, given}
 use Rattle.class_world.specs.declared.world.World.{World}
 use Rattle.class_world.specs.Reading.{Reading, Reads, plain, task_of, ended_of}
-use Rattle.class_world.specs.Sound.{Claim}
+use Rattle.class_world.specs.Held.{Held}
+use Rattle.class_world.specs.Sound.{Claim, AllHold, Grows}
+use Rattle.class_world.specs.Claims.{of_ended}
 
 -- the code's step is what the row at this point says. What it keeps stands for a row that goes on alike
 abbrev pub Steps : {J K : Type 0} → Saying J → (K → Pending J) → Reading → J → Told → Said → Step K → World → Type 0
@@ -54,3 +57,11 @@ Continues g kept r said = Follows g.say g.stands (λ t. given (g.stands t kept) 
 -- any row of the group ends as is said
 abbrev pub Closes : {T J K : Type 0} → Group T J K → (Reading → PlainWorld → Said) → World → World → Step K → Type 0
 Closes {T} {J} {K} g said old new step = (p : Reading → Pending J) → Follows g.say g.stands p said old new step
+
+-- a native that asks no task ends so, however the numbers are read
+abbrev pub EndsAs : (Reading → PlainWorld → Said) → World → World → Result Answer Fault → Type 0
+EndsAs said old new r = (t : Reading) → Reads t new → Reads t old × (said t (plain t old) ≡ Ends (plain t new) (ended_of r))
+
+-- what held of numbers holds still, and so does all that its answer says
+abbrev pub LeavesEnd : Held → Held → Result (Result Answer Fault) OutOfMemory → Type 0
+LeavesEnd old new result = Grows old new × IfOk result (λ r. AllHold new (of_ended r))

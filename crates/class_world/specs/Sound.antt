@@ -70,6 +70,18 @@ home_of (payload.Super s) = built_in.Super
 home_of (payload.Iterator i) = built_in.Iterator
 home_of (payload.Slice s) = built_in.Slice
 
+-- whether the contents of these tell something for ever: the key or the class that the object is, or its parameters
+abbrev pub is_lasting : BuiltIn → Bool
+is_lasting built_in.Int = true
+is_lasting built_in.Str = true
+is_lasting built_in.TypeType = true
+is_lasting built_in.Function = true
+is_lasting b = false
+
+-- a node with other contents
+abbrev pub with_payload : Node → Payload → Node
+with_payload n p = record n { payload = p }
+
 abbrev pub home_at : List Node → ℕ → Option BuiltIn
 home_at ns n = option_map (λ x. home_of x.payload) (slice_get ns n)
 

@@ -6,9 +6,10 @@ use Rattle.py_node.specs.declared.payload.Payload.{Payload}
 use Rattle.py_node.specs.declared.payload.Payload.TheVariants.{Object, Class, Number}
 use Rattle.py_node.specs.declared.refs.PyTypeRef.{PyTypeRef}
 use Rattle.py_node.specs.BuiltIns.{place_of, all_built_ins}
+use Rattle.plain_machine.specs.Known.{the_type, the_none_type, the_not_implemented_type, the_bool}
 
 abbrev pub type_ref : PyTypeRef
-type_ref = record { 0 = 1 }
+type_ref = record { 0 = the_type }
 
 -- an object that has no dict
 abbrev pub plain_node : PyTypeRef → Payload → Node
@@ -19,7 +20,8 @@ class_node b = plain_node type_ref (Class (record { 0 = place_of b }))
 
 -- None, NotImplemented, False and True
 abbrev pub fixed_nodes : List Node
-fixed_nodes = plain_node (record { 0 = 2 }) Object ∷ plain_node (record { 0 = 3 }) Object ∷ plain_node (record { 0 = 5 }) (Number (pos 0)) ∷ plain_node (record { 0 = 5 }) (Number (pos 1)) ∷ []
+fixed_nodes =
+    plain_node (record { 0 = the_none_type }) Object ∷ plain_node (record { 0 = the_not_implemented_type }) Object ∷ plain_node (record { 0 = the_bool }) (Number (pos 0)) ∷ plain_node (record { 0 = the_bool }) (Number (pos 1)) ∷ []
 
 abbrev pub start_nodes : List Node
 start_nodes = map class_node all_built_ins ++ fixed_nodes

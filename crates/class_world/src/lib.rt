@@ -14,6 +14,7 @@ mod nodes;
 mod numbers;
 pub mod objects;
 mod of_classes;
+pub mod payloads;
 pub mod scope;
 pub mod show;
 mod start;

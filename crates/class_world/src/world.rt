@@ -6,6 +6,7 @@ ghost use Rattle.py_node.specs.Known.{known_texts, known_text};
 ghost use Rattle.plain_machine.specs.Start.{bare, start};
 ghost use Rattle.plain_machine.specs.World.{with_node, next_node, has_dict, at_depth, without_calls, class_at, datum_at, number_of, variable, with_binding, with_scope, without_scope};
 ghost use Rattle.plain_machine.specs.Known.{the_dict};
+ghost use Rattle.plain_machine.specs.Row.{truth};
 ghost use Rattle.plain_machine.specs.Sound.{holds_as, IsSound};
 ghost use Rattle.py_node.specs.declared.built_in.BuiltIn.{BuiltIn};
 ghost use Rattle.py_node.specs.declared.built_in.BuiltIn.TheVariants.{Dict, TypeType};
@@ -166,6 +167,14 @@ impl World {
     {
         let _nodes = &self.nodes;
         object.node()
+    }
+
+    /// True or False, as an object.
+    pub fn truth(&self, value: bool) -> PyObjectRef
+        ensures object { result ≡ truth value }
+        ensures node { Holds self.now (IsNode result) }
+    {
+        self.fixed(if value { Fixed::True } else { Fixed::False })
     }
 
     /// A built-in class.

@@ -4,13 +4,12 @@ ghost use Rattle.std.specs.Prelude.{◌≡◌};
 ghost use Rattle.class_world.specs.Sound.{AllHold, Holds, IsNode, AreNodes};
 ghost use Rattle.class_world.specs.Claims.{of_step};
 ghost use Rattle.plain_machine.specs.Args.{two_of};
-ghost use Rattle.plain_machine.specs.Row.{truth};
 ghost use Rattle.eval_forms.specs.Say.{one_of, add_of, callable_of, is_of, op_say, type_of};
 ghost use Rattle.eval_forms.specs.Rows.{Takes, of_eval_kept};
 
 use crate::{EvalKept, not_yet, one_of};
 use class_world::args::two_of;
-use class_world::{Fixed, World};
+use class_world::World;
 use py_node::{
     Answer, Cause, ObjectWord, OperatorTask, PyNumberBinaryOp, PyObjectRef, SlotId, Step, Task,
     Word,
@@ -50,7 +49,7 @@ fn is_step(world: &World, values: &[PyObjectRef]) -> Step<EvalKept>
 {
     match two_of(values) {
         None => Step::raise(Cause::ArgCount),
-        Some((a, b)) => Step::End(Ok(Answer::Value(truth(world, a.0 == b.0)))),
+        Some((a, b)) => Step::End(Ok(Answer::Value(world.truth(a.0 == b.0)))),
     }
 }
 
@@ -76,15 +75,7 @@ fn callable_step(world: &World, values: &[PyObjectRef]) -> Step<EvalKept>
         None => Step::raise(Cause::ArgCount),
         Some(object) => {
             let callable = world.slot(object, SlotId::Call).is_some();
-            Step::End(Ok(Answer::Value(truth(world, callable))))
+            Step::End(Ok(Answer::Value(world.truth(callable))))
         }
     }
-}
-
-// True or False, as an object.
-fn truth(world: &World, value: bool) -> PyObjectRef
-    ensures truth { result ≡ truth value }
-    ensures node { Holds world.now (IsNode result) }
-{
-    world.fixed(if value { Fixed::True } else { Fixed::False })
 }

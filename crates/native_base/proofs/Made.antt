@@ -9,7 +9,7 @@ use Rattle.plain_machine.specs.World.{with_node, next_node}
 use Rattle.plain_machine.specs.Row.{value}
 use Rattle.class_world.specs.declared.world.World.{World}
 use Rattle.class_world.specs.Reading.{Reading, Reads, plain}
-use Rattle.native_base.specs.Rows.{EndsAs}
+use Rattle.class_world.specs.Rows.{EndsAs}
 use Rattle.native_base.specs.Say.{int_made}
 
 -- what is said of a new object is so where it was made

@@ -1,19 +1,14 @@
 -- What natives take that ask no task, and what they give.
-use Rattle.std.specs.Prelude.{◌^◌, ℤ, Bool, cond, eqb, ◌||◌, List, [], ◌∷◌, Option, Some, None, Result, Ok, Err, length, nat_lt}
+use Rattle.std.specs.Prelude.{ℕ, ℤ, cond, List, [], ◌∷◌, Option, Some, None, Result, Ok, Err, length, nat_le}
 use Rattle.py_node.specs.declared.refs.PyObjectRef.{PyObjectRef}
 use Rattle.py_node.specs.declared.raised.Raised.{Raised as Fault}
 use Rattle.py_node.specs.declared.raised.Cause.TheVariants.{ArgCount, SelfType, IntRange, TooLong}
 use Rattle.py_node.specs.Tree.{Text}
 use Rattle.plain_machine.specs.Plain.{Datum, ANumber, AText, PlainWorld, Bindings, Said, Ends}
-use Rattle.plain_machine.specs.World.{ref, datum_at, number_of, with_node, next_node}
+use Rattle.plain_machine.specs.World.{datum_at, number_of, with_node, next_node}
 use Rattle.plain_machine.specs.Known.{the_int, the_str}
-use Rattle.plain_machine.specs.Row.{value, fault}
+use Rattle.plain_machine.specs.Row.{value, not_implemented, fits, most_items, fault}
 use Rattle.plain_machine.specs.Takes.{with_one, with_two}
-use Rattle.proto_ops.specs.Say.{fits, not_implemented}
-
--- the object of a truth value
-abbrev pub truth : Bool → PyObjectRef
-truth b = ref (cond b 26 25)
 
 -- a number, which has at most 128 bits with its sign
 abbrev pub in_range : ℤ → Result ℤ Fault
@@ -21,17 +16,21 @@ in_range z = cond (fits z) (Ok z) (fault IntRange)
 
 -- a text has at most so many bytes
 abbrev pub in_length : Text → Result Text Fault
-in_length x = cond (nat_lt (2 ^ 24) (length x)) (fault TooLong) (Ok x)
+in_length x = cond (nat_le (length x) most_items) (Ok x) (fault TooLong)
+
+-- ends with a new object of a class
+abbrev pub object_made : PlainWorld → ℕ → Datum → Said
+object_made w c d = Ends (with_node w c d) (value (next_node w c))
 
 -- ends with a new whole number, or with a fault
 abbrev pub int_made : PlainWorld → Result ℤ Fault → Said
 int_made w (Err x) = Ends w (Err x)
-int_made w (Ok z) = Ends (with_node w the_int (ANumber z)) (value (next_node w the_int))
+int_made w (Ok z) = object_made w the_int (ANumber z)
 
 -- ends with a new text, or with a fault
 abbrev pub text_made : PlainWorld → Result Text Fault → Said
 text_made w (Err x) = Ends w (Err x)
-text_made w (Ok x) = Ends (with_node w the_str (AText x)) (value (next_node w the_str))
+text_made w (Ok x) = object_made w the_str (AText x)
 
 -- the number that an object must hold
 abbrev pub number_in : PlainWorld → Option ℤ → (ℤ → Said) → Said

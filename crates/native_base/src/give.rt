@@ -1,12 +1,33 @@
-//! What a native gives: a new number, a new text, or a truth value.
+//! What a native gives: a new object, a new number, or a new text.
 
-ghost use Rattle.std.specs.Prelude.{◌≡◌, Ok, IfOk, string_bytes};
-ghost use Rattle.class_world.specs.Sound.{Holds, IsNode};
-ghost use Rattle.native_base.specs.Rows.{EndsAs, LeavesEnd};
-ghost use Rattle.native_base.specs.Say.{truth, int_made, text_made};
+ghost use Rattle.std.specs.Prelude.{◌≡◌, Ok, None, IfOk, string_bytes};
+ghost use Rattle.py_node.specs.BuiltIns.{place_of};
+ghost use Rattle.plain_machine.specs.Sound.{holds_as};
+ghost use Rattle.class_world.specs.Reading.{datum};
+ghost use Rattle.class_world.specs.Sound.{AllHold, class_in, home_of, of_payload};
+ghost use Rattle.class_world.specs.Rows.{EndsAs, LeavesEnd};
+ghost use Rattle.native_base.specs.Say.{int_made, text_made, object_made};
 
-use class_world::{Fixed, World};
-use py_node::{Answer, BuiltIn, OutOfMemory, Payload, PyObjectRef, Raised};
+use class_world::World;
+use py_node::{Answer, BuiltIn, OutOfMemory, Payload, Raised};
+
+/// Ends with a new object of a built-in class.
+pub fn new_object(
+    world: &mut World,
+    class: BuiltIn,
+    payload: Payload,
+) -> Result<Result<Answer, Raised>, OutOfMemory>
+    requires of { holds_as class ≡ home_of payload }
+    requires holds { AllHold world.old (of_payload payload) }
+    requires other { class_in payload ≡ None }
+    ensures ends { IfOk result (λ r.
+        EndsAs (λ t u. object_made u (place_of class) (datum t payload)) world.old world.new r) }
+    ensures safe { LeavesEnd world.old world.new result }
+{
+    let class = world.built_in(class);
+    let node = world.make_node(class, payload)?;
+    Ok(Ok(Answer::Value(node)))
+}
 
 /// Ends with a new whole number, or with a fault.
 pub fn new_int(
@@ -43,16 +64,4 @@ pub fn new_word(world: &mut World, word: &str) -> Result<Result<Answer, Raised>,
 {
     let text = String::from_str(world.alloc(), word)?;
     new_text(world, text)
-}
-
-/// The object of a truth value.
-pub fn truth(world: &World, holds: bool) -> PyObjectRef
-    ensures object { result ≡ truth holds }
-    ensures node { Holds world.now (IsNode result) }
-{
-    if holds {
-        world.fixed(Fixed::True)
-    } else {
-        world.fixed(Fixed::False)
-    }
 }

@@ -16,20 +16,20 @@ use Rattle.py_node.specs.declared.entry.FixedNative.{FixedNative}
 use Rattle.py_node.specs.declared.entry.FixedNative.TheVariants as fixed
 use Rattle.py_node.specs.declared.entry.NumberNative.{NumberNative}
 use Rattle.py_node.specs.declared.entry.NumberNative.TheVariants as number
+use Rattle.py_node.specs.BuiltIns.{fixed_none, fixed_not_implemented, fixed_false, fixed_true}
 use Rattle.py_node.specs.Tree.{Text}
 use Rattle.plain_machine.specs.Plain.{ANumber, ATuple, PlainWorld, Bindings, Said, Ends}
 use Rattle.plain_machine.specs.World.{class_at, datum_at, number_of, with_node, next_node}
 use Rattle.plain_machine.specs.Known.{the_int, the_tuple}
-use Rattle.plain_machine.specs.Row.{value, fault, not_yet}
+use Rattle.plain_machine.specs.Row.{value, truth, not_implemented, fault, not_yet}
 use Rattle.plain_machine.specs.Takes.{with_one, with_two, with_three}
-use Rattle.proto_ops.specs.Say.{not_implemented}
-use Rattle.native_base.specs.Say.{truth, int_made, text_made, numbers_of, with_lone_number, with_number_and, with_numbers}
+use Rattle.native_base.specs.Say.{int_made, text_made, numbers_of, with_lone_number, with_number_and, with_numbers}
 use Rattle.native_numbers.specs.Numbers.{is_zero, number_hash, negated, absolute, inverted, difference, product, quotient, remainder, power, right_shifted}
 
 -- the natives of None and NotImplemented, which are for these two
 
 abbrev pub is_fixed : PyObjectRef → Bool
-is_fixed o = eqb o.0 23 || eqb o.0 24
+is_fixed o = eqb o.0 fixed_none || eqb o.0 fixed_not_implemented
 
 abbrev pub fixed_first : PlainWorld → List PyObjectRef → Said → Said
 fixed_first w [] go = Ends w (fault ArgCount)
@@ -77,7 +77,7 @@ number_say w n args kw = with_lone_number w args kw (number_by w n)
 
 -- a power may have a third operand. The native is for None alone there
 abbrev pub unless_third : PlainWorld → PyObjectRef → Said → Said
-unless_third w c go = cond (eqb c.0 23) go (Ends w (value not_implemented))
+unless_third w c go = cond (eqb c.0 fixed_none) go (Ends w (value not_implemented))
 
 abbrev pub with_powers : PlainWorld → List PyObjectRef → Bindings → (ℤ → ℤ → Said) → Said
 with_powers w args kw go =
@@ -144,7 +144,7 @@ bits_by bits.RightBooleanOr x y = Ok (int_bit_or w128 y x)
 
 -- the truth value that an object is
 abbrev pub truth_of : PyObjectRef → Option Bool
-truth_of o = if o.0 == 25 then Some false else if o.0 == 26 then Some true else None
+truth_of o = if o.0 == fixed_false then Some false else if o.0 == fixed_true then Some true else None
 
 -- whether just one of two holds
 abbrev pub just_one : Bool → Bool → Bool

@@ -5,7 +5,7 @@ ghost use Rattle.plain_machine.specs.Plain.{Said, Ends};
 ghost use Rattle.class_world.specs.Claims.{of_ended};
 ghost use Rattle.class_world.specs.Reading.{Reading, bindings, ended_of, plain};
 ghost use Rattle.class_world.specs.Sound.{AllHold, AreNodes, Holds, IsNode};
-ghost use Rattle.native_base.specs.Rows.{EndsAs, LeavesEnd};
+ghost use Rattle.class_world.specs.Rows.{EndsAs, LeavesEnd};
 ghost use Rattle.native_numbers.specs.Say.{arithmetic_by, arithmetic_say, with_operands, with_powers, divided, pair_made};
 
 use crate::reckon::{difference, floor_remainder, power, product, quotient, remainder};
@@ -79,7 +79,7 @@ fn powers(
         Ok((a, b, c)) => match numbers_of(world, a, b) {
             Err(answer) => Err(answer),
             Ok((x, y)) => {
-                if c.0 == 23 {
+                if c.0 == Fixed::None.node().0 {
                     Ok((x, y))
                 } else {
                     Err(Ok(Answer::Value(world.fixed(Fixed::NotImplemented))))

@@ -3,13 +3,13 @@
 ghost use Rattle.std.specs.Prelude.{◌≡◌, IfOk};
 ghost use Rattle.class_world.specs.Reading.{Reading, bindings};
 ghost use Rattle.class_world.specs.Sound.{AreNodes, Holds, IsNode};
-ghost use Rattle.native_base.specs.Rows.{EndsAs, LeavesEnd};
+ghost use Rattle.class_world.specs.Rows.{EndsAs, LeavesEnd};
 ghost use Rattle.native_numbers.specs.Say.{bits_by, bits_of, bits_say, truth_by, truth_of};
 
 use crate::reckon::right_shifted;
-use class_world::World;
+use class_world::{Fixed, World};
 use class_world::takes::two;
-use native_base::give::{new_int, truth};
+use native_base::give::new_int;
 use native_base::take::numbers_of;
 use py_node::{Answer, BitNative, Cause, OutOfMemory, PyObjectRef, PyStrInterned, Raised};
 
@@ -44,7 +44,7 @@ fn bits_of(
     ensures safe { LeavesEnd world.old world.new result }
 {
     match truth_by(native, truth_of(a), truth_of(b)) {
-        Some(holds) => Ok(Ok(Answer::Value(truth(world, holds)))),
+        Some(holds) => Ok(Ok(Answer::Value(world.truth(holds)))),
         None => match numbers_of(world, a, b) {
             Err(answer) => Ok(answer),
             Ok((x, y)) => new_int(world, bits_by(native, x, y)),
@@ -56,10 +56,12 @@ fn bits_of(
 fn truth_of(object: PyObjectRef) -> Option<bool>
     ensures { result ≡ truth_of object }
 {
-    match object.0 {
-        25 => Some(false),
-        26 => Some(true),
-        _ => None,
+    if object.0 == Fixed::False.node().0 {
+        Some(false)
+    } else if object.0 == Fixed::True.node().0 {
+        Some(true)
+    } else {
+        None
     }
 }
 

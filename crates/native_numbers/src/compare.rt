@@ -4,11 +4,10 @@ ghost use Rattle.std.specs.Prelude.{◌≡◌, IfOk};
 ghost use Rattle.class_world.specs.Reading.{Reading, bindings};
 ghost use Rattle.class_world.specs.Claims.{of_ended};
 ghost use Rattle.class_world.specs.Sound.{AllHold, AreNodes, Holds};
-ghost use Rattle.native_base.specs.Rows.{EndsAs, LeavesEnd};
+ghost use Rattle.class_world.specs.Rows.{EndsAs, LeavesEnd};
 ghost use Rattle.native_numbers.specs.Say.{compare_say, order_by};
 
 use class_world::{Fixed, World};
-use native_base::give::truth;
 use native_base::take::number_and;
 use py_node::{Answer, Cause, CompareNative, PyObjectRef, PyStrInterned, Raised};
 
@@ -28,7 +27,7 @@ pub fn compare_native(
     }
     let (x, other) = number_and(world, args, kw)?;
     match world.number(other) {
-        Some(y) => Ok(Answer::Value(truth(world, order_by(native, x, y)))),
+        Some(y) => Ok(Answer::Value(world.truth(order_by(native, x, y)))),
         None => Ok(Answer::Value(world.fixed(Fixed::NotImplemented))),
     }
 }

@@ -4,12 +4,12 @@ ghost use Rattle.std.specs.Prelude.{◌≡◌, IfOk, Err, IfSome, IfNone};
 ghost use Rattle.plain_machine.specs.Plain.{PlainWorld, Said, Ends};
 ghost use Rattle.class_world.specs.Reading.{Reading, bindings};
 ghost use Rattle.class_world.specs.Sound.{AreNodes, Holds};
-ghost use Rattle.native_base.specs.Rows.{EndsAs, LeavesEnd};
+ghost use Rattle.class_world.specs.Rows.{EndsAs, LeavesEnd};
 ghost use Rattle.native_numbers.specs.Say.{fixed_first, fixed_say, is_fixed, with_fixed};
 
-use class_world::World;
+use class_world::{Fixed, World};
 use class_world::takes::one;
-use native_base::give::{new_word, truth};
+use native_base::give::new_word;
 use py_node::{Answer, Cause, FixedNative, OutOfMemory, PyObjectRef, PyStrInterned, Raised};
 
 /// A native of None or NotImplemented.
@@ -28,7 +28,7 @@ pub fn fixed_native(
     }
     match native {
         FixedNative::NoneRepr => new_word(world, "None"),
-        FixedNative::NoneBoolean => Ok(Ok(Answer::Value(truth(world, false)))),
+        FixedNative::NoneBoolean => Ok(Ok(Answer::Value(world.truth(false)))),
         FixedNative::NotImplementedRepr => new_word(world, "NotImplemented"),
     }
 }
@@ -71,5 +71,5 @@ fn other_kind(args: &[PyObjectRef]) -> Option<Raised>
 fn is_fixed(object: PyObjectRef) -> bool
     ensures { result ≡ is_fixed object }
 {
-    object.0 == 23 || object.0 == 24
+    object.0 == Fixed::None.node().0 || object.0 == Fixed::NotImplemented.node().0
 }

@@ -4,12 +4,12 @@ ghost use Rattle.std.specs.Prelude.{◌≡◌, IfOk};
 ghost use Rattle.class_world.specs.Reading.{Reading, bindings, plain};
 ghost use Rattle.class_world.specs.Sound.{AreNodes, Holds, IsNode};
 ghost use Rattle.plain_machine.specs.World.{class_at};
-ghost use Rattle.native_base.specs.Rows.{EndsAs, LeavesEnd};
+ghost use Rattle.class_world.specs.Rows.{EndsAs, LeavesEnd};
 ghost use Rattle.native_numbers.specs.Say.{number_by, number_say, as_int, is_int};
 
 use crate::reckon::{absolute, inverted, negated, number_hash};
 use class_world::World;
-use native_base::give::{new_int, new_text, new_word, truth};
+use native_base::give::{new_int, new_text, new_word};
 use native_base::take::lone_number;
 use py_node::{Answer, BuiltIn, NumberNative, OutOfMemory, PyObjectRef, PyStrInterned, Raised};
 
@@ -52,7 +52,7 @@ fn number_by(
         NumberNative::Positive => as_int(world, o, z),
         NumberNative::Absolute => new_int(world, absolute(z)),
         NumberNative::Invert => new_int(world, Ok(inverted(z))),
-        NumberNative::Boolean => Ok(Ok(Answer::Value(truth(world, z != 0)))),
+        NumberNative::Boolean => Ok(Ok(Answer::Value(world.truth(z != 0)))),
         NumberNative::Int => as_int(world, o, z),
         NumberNative::Index => as_int(world, o, z),
         NumberNative::Truncate => as_int(world, o, z),

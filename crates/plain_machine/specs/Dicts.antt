@@ -7,7 +7,7 @@ use Rattle.py_node.specs.Tree.{Text}
 use Rattle.plain_machine.specs.Plain.{Datum, AText, ADict, PlainWorld}
 use Rattle.plain_machine.specs.Known.{the_str}
 use Rattle.plain_machine.specs.World.{is_text, node_at, datum_at, with_node, next_node}
-use Rattle.plain_machine.specs.Objects.{with_datum_in}
+use Rattle.plain_machine.specs.Objects.{with_datum}
 use Rattle.plain_machine.specs.Sound.{Key, NumberKey, TextKey, key_at}
 
 abbrev pub Entries : Type 0
@@ -49,7 +49,7 @@ without_value_for test (e ∷ es) = cond (test e.0) es (e ∷ without_value_for 
 
 -- a dict with other entries
 abbrev pub with_entries : PlainWorld → PyObjectRef → Entries → PlainWorld
-with_entries w d es = record w { nodes = with_datum_in (λ m. ADict es) w.nodes d.0 }
+with_entries w d es = with_datum w d (ADict es)
 
 -- a dict with a value for a text: in its place, or else last, with a new text as its key
 abbrev pub set_under : PlainWorld → PyObjectRef → Text → PyObjectRef → Option PyObjectRef → PlainWorld

@@ -1,5 +1,5 @@
 -- What rows read of objects and classes.
-use Rattle.std.specs.Prelude.{ℕ, Bool, true, false, ◌&&◌, ◌==◌, nat_lt, List, [], ◌∷◌, Option, Some, None, option_map, option_and_then}
+use Rattle.std.specs.Prelude.{ℕ, ◌^◌, Bool, true, false, ◌&&◌, ◌==◌, nat_lt, List, [], ◌∷◌, Option, Some, None, option_map, option_and_then}
 use Rattle.std.specs.Int.RustNames.{bit_and}
 use Rattle.py_node.specs.declared.refs.PyObjectRef.{PyObjectRef}
 use Rattle.py_node.specs.BuiltIns.{method_descriptor}
@@ -51,12 +51,19 @@ class_has_flag w flag (Some c) = or_false (option_map (λ k. has_flag flag k) (c
 abbrev pub method_has : ℕ → ℕ → Bool
 method_has flag flags = bit_and flags flag == flag
 
--- how a native as a method is bound: to the object (2 ^ 9), or to the class (2 ^ 4)
+-- the flags of natives as methods: of the objects, and of the class
+abbrev pub object_method : ℕ
+object_method = 2 ^ 9
+
+abbrev pub class_method : ℕ
+class_method = 2 ^ 4
+
+-- how a native as a method is bound: to the object, or to the class
 abbrev pub for_objects : ℕ → Bool
-for_objects = method_has 512
+for_objects = method_has object_method
 
 abbrev pub for_classes : ℕ → Bool
-for_classes = method_has 16
+for_classes = method_has class_method
 
 -- a native that is a method of objects, where it is a native at all
 abbrev pub is_for_objects : Option Datum → Bool
@@ -75,6 +82,10 @@ nearest_built_in t c = option_and_then (first_with (λ d. nat_lt d built_ins)) (
 
 abbrev pub with_datum_in : (Datum → Datum) → List Node → ℕ → List Node
 with_datum_in f ns n = with_node_changed (λ m. record m { datum = f m.datum }) ns n
+
+-- an object with other contents
+abbrev pub with_datum : PlainWorld → PyObjectRef → Datum → PlainWorld
+with_datum w r d = record w { nodes = with_datum_in (λ m. d) w.nodes r.0 }
 
 abbrev pub or_class : Option ℕ → ℕ → Option ℕ
 or_class None c = Some c

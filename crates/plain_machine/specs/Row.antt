@@ -1,5 +1,5 @@
 -- The words that rows are written in.
-use Rattle.std.specs.Prelude.{ℕ, ◌^◌, Bool, true, false, cond, nat_le, length, List, [], ◌∷◌, Option, Some, None, Result, Ok, Err}
+use Rattle.std.specs.Prelude.{ℕ, ◌^◌, ℤ, pos, negsuc, Bool, true, false, cond, eqb, nat_le, nat_lt, length, List, [], ◌∷◌, Option, Some, None, Result, Ok, Err}
 use Rattle.py_node.specs.declared.refs.PyObjectRef.{PyObjectRef}
 use Rattle.py_node.specs.declared.raised.Raised.{Raised as Fault}
 use Rattle.py_node.specs.declared.raised.Kind.{Kind}
@@ -7,7 +7,7 @@ use Rattle.py_node.specs.declared.raised.Kind.TheVariants.{AttributeError}
 use Rattle.py_node.specs.declared.raised.Cause.{Cause}
 use Rattle.py_node.specs.declared.raised.Cause.TheVariants.{NotYet, TooLong}
 use Rattle.py_node.specs.declared.entry.SlotEntry.{SlotEntry}
-use Rattle.py_node.specs.BuiltIns.{fixed_none}
+use Rattle.py_node.specs.BuiltIns.{fixed_none, fixed_not_implemented, fixed_false, fixed_true}
 use Rattle.py_node.specs.Tree.{Tree}
 use Rattle.py_node.specs.Faults.{raised}
 use Rattle.plain_machine.specs.Plain.{Datum, Bindings, PlainWorld, DoEval, PlainTask, ToEval, AsValue, AsDone, Ended, Fact, Answered, Made, Read, ReadObjects, ReadNames, Chose, Told, Said, Asks, Ends}
@@ -90,7 +90,19 @@ limited w xs go = cond (nat_le (length xs) most_items) go (end w (fault TooLong)
 
 -- True or False, as an object
 abbrev pub truth : Bool → PyObjectRef
-truth b = cond b (ref 26) (ref 25)
+truth b = cond b (ref fixed_true) (ref fixed_false)
+
+-- NotImplemented, as an object: what an operator or a comparison gives that is not for its operands
+abbrev pub not_implemented : PyObjectRef
+not_implemented = ref fixed_not_implemented
+
+abbrev pub is_not_implemented : PyObjectRef → Bool
+is_not_implemented r = eqb r.0 fixed_not_implemented
+
+-- a number has at most 128 bits, with its sign
+abbrev pub fits : ℤ → Bool
+fits (pos n) = nat_lt n (2 ^ 127)
+fits (negsuc n) = nat_lt n (2 ^ 127)
 
 -- keeps a fact in mind
 abbrev pub noting : Fact → Said → Said

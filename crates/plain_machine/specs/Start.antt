@@ -15,6 +15,7 @@ use Rattle.class_model.specs.Start.{built_in_classes}
 use Rattle.plain_machine.specs.Known.{the_type, the_none_type, the_not_implemented_type, the_bool}
 use Rattle.plain_machine.specs.Plain.{Datum, AnObject, AClass, ANumber, ANativeFunction, AMethodDescriptor, AGetSet, no_members, Node, PlainWorld}
 use Rattle.plain_machine.specs.World.{ref, with_node, next_node, with_own_attr}
+use Rattle.plain_machine.specs.Objects.{object_method, class_method}
 
 abbrev pub simple_node : ℕ → Datum → Node
 simple_node c d = record { class = c; dict = None; members = no_members; datum = d }
@@ -41,11 +42,11 @@ attr_class (Part d) = built_in.GetSetDescriptor
 attr_class (SettablePart d) = built_in.GetSetDescriptor
 attr_class NoHash = built_in.NoneType
 
--- what this object is, for a class and a name. A method of the objects has the flag 2 ^ 9, and one of the class 2 ^ 4
+-- what this object is, for a class and a name
 abbrev pub attr_datum : BuiltIn → Text → Attr → Datum
 attr_datum b x New = ANativeFunction x NewWrapper (Some (ref (place_of b))) None
-attr_datum b x (Method n) = AMethodDescriptor (place_of b) x n 512 None
-attr_datum b x (ClassMethod n) = AMethodDescriptor (place_of b) x n 16 None
+attr_datum b x (Method n) = AMethodDescriptor (place_of b) x n object_method None
+attr_datum b x (ClassMethod n) = AMethodDescriptor (place_of b) x n class_method None
 attr_datum b x (ReadOnly p) = AGetSet (place_of b) x (Some (Getter p)) None
 attr_datum b x (Settable p) = AGetSet (place_of b) x (Some (Getter p)) (Some (Setter p))
 attr_datum b x (Part d) = AGetSet (place_of b) x (Some (GetterOf b d)) None

@@ -11,7 +11,7 @@ use Rattle.class_world.specs.Rows.{Steps}
 use Rattle.py_node.specs.declared.task.Step.TheVariants.{End}
 use Rattle.py_node.specs.declared.entry.IntNative.TheVariants as int
 use Rattle.std.specs.Prelude.{ℤ}
-use Rattle.proto_ops.specs.Say.{operator_say, is_not_implemented, joined, sum_say, int_or_fault, total}
+use Rattle.proto_ops.specs.Say.{operator_say, joined, sum_say, int_or_fault, total}
 use Rattle.py_node.specs.declared.entry.SlotId.TheVariants.{SeqItem}
 use Rattle.proto_ops.specs.Rows.{operator_stands, Sums}
 

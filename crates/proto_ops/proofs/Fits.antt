@@ -6,7 +6,8 @@ use Rattle.std.specs.Int.RustNames.{FitsSigned}
 use Rattle.std.proofs.lemmas.Bool.{lt-ltb}
 use Rattle.std.proofs.lemmas.Int.{ints}
 use Rattle.std.proofs.Math.Facts.{sfits_lit}
-use Rattle.proto_ops.specs.Say.{fits, total}
+use Rattle.plain_machine.specs.Row.{fits}
+use Rattle.proto_ops.specs.Say.{total}
 
 pub fits-true : (z : ℤ) → FitsSigned w128 z → fits z ≡ true
 fits-true (pos n) h = let l : n < 2 ^ 127 = omega (arith, ints) in lt-ltb n (2 ^ 127) l

@@ -1,5 +1,5 @@
 -- What the rows of operators say.
-use Rattle.std.specs.Prelude.{◌^◌, ℤ, pos, negsuc, ◌+ℤ◌, Bool, cond, eqb, List, [], ◌∷◌, Option, Some, None, nat_lt}
+use Rattle.std.specs.Prelude.{ℤ, ◌+ℤ◌, Bool, cond, List, [], ◌∷◌, Option, Some, None}
 use Rattle.py_node.specs.declared.refs.PyObjectRef.{PyObjectRef}
 use Rattle.py_node.specs.declared.raised.Cause.TheVariants.{UnsupportedOperand, IntRange, ArgCount, UnexpectedKeyword}
 use Rattle.py_node.specs.declared.entry.SlotId.{SlotId}
@@ -17,14 +17,7 @@ use Rattle.plain_machine.specs.World.{ref, class_at, datum_at, number_of, slot_a
 use Rattle.plain_machine.specs.Args.{two_of}
 use Rattle.plain_machine.specs.Known.{the_int}
 use Rattle.plain_machine.specs.Native.{native_task}
-use Rattle.plain_machine.specs.Row.{Row, start, ask, pass, end, value, fault, not_yet, on_value, make, read_once}
-
--- NotImplemented: the operator is not for these operands
-abbrev pub not_implemented : PyObjectRef
-not_implemented = ref 24
-
-abbrev pub is_not_implemented : PyObjectRef → Bool
-is_not_implemented r = eqb r.0 24
+use Rattle.plain_machine.specs.Row.{Row, start, ask, pass, end, value, not_implemented, is_not_implemented, fits, fault, not_yet, on_value, make, read_once}
 
 -- the candidates are read once, and entered in turn, until one gives another answer than NotImplemented
 abbrev pub in_turn : PlainWorld → PyObjectRef → PyObjectRef → List SlotEntry → Row
@@ -67,11 +60,6 @@ abbrev pub add_say : PlainWorld → PyObjectRef → PyObjectRef → Row
 add_say w a b =
     ask w (ToOperator (DoBinOp1 op.Add a b)) (λ r. on_value w r (λ x.
     cond (is_not_implemented x) (start (joined w (slot_at w a SeqItem) a b) (end w)) (end w (value x))))
-
--- whether a whole number has at most 128 bits with its sign
-abbrev pub fits : ℤ → Bool
-fits (pos n) = nat_lt n (2 ^ 127)
-fits (negsuc n) = nat_lt n (2 ^ 127)
 
 -- the sum of two numbers, where it fits
 abbrev pub total : ℤ → ℤ → Option ℤ

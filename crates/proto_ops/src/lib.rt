@@ -5,7 +5,8 @@ ghost use Rattle.std.specs.Prelude.{◌≡◌, [], ◌∷◌, IfOk};
 ghost use Rattle.class_world.specs.Sound.{AllHold, Holds, IsNode, AreNodes};
 ghost use Rattle.class_world.specs.Claims.{of_operator_task, of_ended, of_step, Leaves};
 ghost use Rattle.py_node.specs.declared.task.OperatorTask.TheVariants as operator;
-ghost use Rattle.proto_ops.specs.Say.{total, in_order, is_not_implemented};
+ghost use Rattle.plain_machine.specs.Row.{is_not_implemented};
+ghost use Rattle.proto_ops.specs.Say.{total, in_order};
 ghost use Rattle.plain_machine.specs.Args.{two_of};
 ghost use Rattle.proto_ops.specs.Rows.{Begins, Resumes, Sums, of_operator_kept};
 
@@ -74,7 +75,7 @@ pub fn resume(
 fn is_not_implemented(object: PyObjectRef) -> bool
     ensures { result ≡ is_not_implemented object }
 {
-    object.0 == 24
+    object.0 == Fixed::NotImplemented.node().0
 }
 
 // A sum that no candidate gave: sequences are joined, and nothing else.

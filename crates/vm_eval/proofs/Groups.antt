@@ -23,7 +23,7 @@ use Rattle.class_make.specs.Say.{class_job_say}
 use Rattle.class_make.specs.Rows.{class_stands}
 use Rattle.proto_ops.specs.Say.{operator_say}
 use Rattle.proto_ops.specs.Rows.{operator_stands}
-use Rattle.native_base.specs.Rows.{EndsAs}
+use Rattle.class_world.specs.Rows.{EndsAs}
 use Rattle.vm_eval.specs.declared.stack.Kept.{Kept}
 use Rattle.vm_eval.specs.declared.stack.Kept.TheVariants.{ForEval, ForAttribute, ForDescriptor, ForCall, ForClass, ForOperator}
 use Rattle.vm_eval.specs.Say.{say, stands, among, step_among, Begins, Resumes}

@@ -4,7 +4,7 @@ ghost use Rattle.std.specs.Prelude.{◌≡◌, IfOk};
 ghost use Rattle.class_world.specs.Claims.{of_args, LeavesOpen};
 ghost use Rattle.class_world.specs.Reading.{Reading, bindings};
 ghost use Rattle.class_world.specs.Sound.{AllHold, AreNodes, Holds};
-ghost use Rattle.native_base.specs.Rows.{EndsAs, LeavesEnd};
+ghost use Rattle.class_world.specs.Rows.{EndsAs, LeavesEnd};
 ghost use Rattle.py_node.specs.declared.task.Task.TheVariants as task;
 ghost use Rattle.vm_eval.specs.Say.{Begins, native_by, of_kept, bodies_in};
 

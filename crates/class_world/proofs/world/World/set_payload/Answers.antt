@@ -1,0 +1,27 @@
+use Rattle.class_world.specs.contracts.world.World.{the_view}
+use Rattle.class_world.specs.Sound.{of_payload}
+use Rattle.class_world.proofs.Claims.{opened}
+use Rattle.class_world.proofs.Growth.{grows-seen}
+use Rattle.class_world.proofs.PayloadChanges.{there, payload-grows, payload-sound, payload-read}
+use Rattle.class_world.proofs.world.World.set_payload.Goals as goal
+
+pub invariant_of-self : goal.invariant_of-self
+invariant_of-self c =
+    let w = the_view c.self.inside in
+    let n = c.index_mut.result.now in
+    let i = there w c.args.self.now c.args.node n c.args.payload c.self.view_is c.requires.node c.requires.holding c.index_mut.ensures.value in
+    rw c.set_payload.ensures (payload-sound w c.args.self.now c.args.node n c.args.payload c.index_mut.ensures.value c.requires.kind i (opened w c.args.self.now (of_payload c.args.payload) c.self.view_is c.requires.payload) c.self.invariant)
+
+pub returns-clause-set : goal.returns-clause-set
+returns-clause-set c = λ t.
+    let w = the_view c.self.inside in
+    let n = c.index_mut.result.now in
+    let i = there w c.args.self.now c.args.node n c.args.payload c.self.view_is c.requires.node c.requires.holding c.index_mut.ensures.value in
+    rw c.set_payload.ensures (payload-read w c.args.self.now c.args.node n c.args.payload c.self.view_is i.below c.index_mut.ensures.value t)
+
+pub returns-clause-grows : goal.returns-clause-grows
+returns-clause-grows c =
+    let w = the_view c.self.inside in
+    let n = c.index_mut.result.now in
+    let i = there w c.args.self.now c.args.node n c.args.payload c.self.view_is c.requires.node c.requires.holding c.index_mut.ensures.value in
+    grows-seen w _ _ c.self.view_is (rw c.set_payload.ensures (payload-grows w c.args.self.now c.args.node n c.args.payload c.index_mut.ensures.value c.requires.kind i.home))
