@@ -8,8 +8,8 @@ ghost use Rattle.eval_forms.specs.Say.{one_of, add_of, callable_of, is_of, op_sa
 ghost use Rattle.eval_forms.specs.Rows.{Takes, of_eval_kept};
 
 use crate::{EvalKept, not_yet, one_of};
-use class_world::args::two_of;
 use class_world::World;
+use class_world::args::two_of;
 use py_node::{
     Answer, Cause, ObjectWord, OperatorTask, PyNumberBinaryOp, PyObjectRef, SlotId, Step, Task,
     Word,
