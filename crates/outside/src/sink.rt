@@ -29,5 +29,6 @@ pub trait Sink {
         ensures kept { OnErr result (taken self.new ≡ taken self.old) }
         ensures failed { OnErr result (Rose (faults self.old) (faults self.new)) }
         ensures later { faults self.old ≤ faults self.new }
-        ensures sure { 0 < length piece.now → length piece.now ≤ sure self.old → IsOkAnd result (λ n. sure self.old ≤ sure self.new + n) };
+        ensures sure { 0 < length piece.now → length piece.now ≤ sure self.old →
+            IsOkAnd result (λ n. sure self.old ≤ sure self.new + n) };
 }

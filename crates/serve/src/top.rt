@@ -55,25 +55,26 @@ pub fn serve<S: Source, K: Sink>(
     // What was taken before a fault is a front of the text.
     ensures front { result ≡ Status.WriteFault → (units : ℕ) × (units_in (map string_bytes words.now) ≡ Some units)
         × ForSome (S.left source.old) (λ bytes. (length bytes ≤ 2 ^ 24) × (text : List ℕ) × IsTextOf bytes units text
-        × ForSome (K.taken sink.old) (λ old. (n : ℕ) × (n < length text) × (K.taken sink.new ≡ Some (old ++ take n text)))) }
+        × ForSome (K.taken sink.old) (λ old. (n : ℕ) × (n < length text) ×
+        (K.taken sink.new ≡ Some (old ++ take n text)))) }
     // With any other end nothing is written.
     ensures nothing { (result ≡ Status.Done → ⊥) → (result ≡ Status.WriteFault → ⊥) → K.taken sink.new ≡
         K.taken sink.old }
     // Words that are known, bytes that spell a script and are few enough, and no failure: then all is
     // written, or memory could not be had.
     ensures complete { (units : ℕ) → units_in (map string_bytes words.now) ≡ Some units
-        → ForSome (S.left source.old) (λ bytes. (commands : List Tree) → script_of bytes ≡ Ok commands → length bytes ≤ 2 ^ 24
-        → (Rose (S.faults source.old) (S.faults source.new) → ⊥) → (Rose (K.faults sink.old) (K.faults sink.new) → ⊥)
+        → ForSome (S.left source.old) (λ bytes. (commands : List Tree) → script_of bytes ≡ Ok commands
+        → length bytes ≤ 2 ^ 24 → (Rose (S.faults source.old) (S.faults source.new) → ⊥) → (Rose (K.faults sink.old) (K.faults sink.new) → ⊥)
         → IsDoneOrPoor result) }
     // The same known before the call: a source that never fails, and a sink that is sure of the whole text.
     ensures ahead { (units : ℕ) → units_in (map string_bytes words.now) ≡ Some units
-        → ForSome (S.left source.old) (λ bytes. (commands : List Tree) → script_of bytes ≡ Ok commands → length bytes ≤ 2 ^ 24
-        → S.quiet source.old → length (run_text commands units) ≤ K.sure sink.old → IsDoneOrPoor result) }
+        → ForSome (S.left source.old) (λ bytes. (commands : List Tree) → script_of bytes ≡ Ok commands
+        → length bytes ≤ 2 ^ 24 → S.quiet source.old → length (run_text commands units) ≤ K.sure sink.old → IsDoneOrPoor result) }
     // A source that never fails, a text that the sink is sure of, and counts that never fall.
     ensures quiet { S.quiet source.old → result ≡ Status.ReadFault → ⊥ }
     ensures sure { (units : ℕ) → units_in (map string_bytes words.now) ≡ Some units
-        → ForSome (S.left source.old) (λ bytes. (text : List ℕ) → IsTextOf bytes units text → length text ≤ K.sure sink.old
-        → result ≡ Status.WriteFault → ⊥) }
+        → ForSome (S.left source.old) (λ bytes. (text : List ℕ) → IsTextOf bytes units text
+        → length text ≤ K.sure sink.old → result ≡ Status.WriteFault → ⊥) }
     ensures later { S.faults source.old ≤ S.faults source.new }
     ensures later_sink { K.faults sink.old ≤ K.faults sink.new }
 {
@@ -98,7 +99,8 @@ fn answer<K: Sink>(alloc: Global, bytes: &[u8], units: u64, sink: &mut K) -> Sta
     ensures too_large { result ≡ Status.TooLarge → ⊥ }
     ensures write_fault { result ≡ Status.WriteFault → Rose (K.faults sink.old) (K.faults sink.new) }
     ensures front { result ≡ Status.WriteFault → (text : List ℕ) × IsTextOf bytes.now units text
-        × ForSome (K.taken sink.old) (λ old. (n : ℕ) × (n < length text) × (K.taken sink.new ≡ Some (old ++ take n text))) }
+        × ForSome (K.taken sink.old) (λ old. (n : ℕ) × (n < length text) ×
+        (K.taken sink.new ≡ Some (old ++ take n text))) }
     ensures nothing { (result ≡ Status.Done → ⊥) → (result ≡ Status.WriteFault → ⊥) → K.taken sink.new ≡
         K.taken sink.old }
     ensures complete { (commands : List Tree) → script_of bytes.now ≡ Ok commands

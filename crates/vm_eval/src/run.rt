@@ -67,7 +67,8 @@ fn reply(
 // How a command is answered, with the text of its value.
 fn answering(world: &World, end: End) -> Result<ReplyAnswer, OutOfMemory>
     requires { AllHold world.now (of_end end) }
-    ensures { IfOk result (λ answer. (t : Reading) → reply_answer_of answer ≡ answering (plain t world.now) (ending_of end)) }
+    ensures { IfOk result (λ answer. (t : Reading) →
+        reply_answer_of answer ≡ answering (plain t world.now) (ending_of end)) }
 {
     match end {
         End::NoUnits => Ok(ReplyAnswer::Budget),
