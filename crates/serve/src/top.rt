@@ -64,12 +64,14 @@ pub fn serve<S: Source, K: Sink>(
     // written, or memory could not be had.
     ensures complete { (units : ℕ) → units_in (map string_bytes words.now) ≡ Some units
         → ForSome (S.left source.old) (λ bytes. (commands : List Tree) → script_of bytes ≡ Ok commands
-        → length bytes ≤ 2 ^ 24 → (Rose (S.faults source.old) (S.faults source.new) → ⊥) → (Rose (K.faults sink.old) (K.faults sink.new) → ⊥)
+        → length bytes ≤ 2 ^ 24
+        → (Rose (S.faults source.old) (S.faults source.new) → ⊥) → (Rose (K.faults sink.old) (K.faults sink.new) → ⊥)
         → IsDoneOrPoor result) }
     // The same known before the call: a source that never fails, and a sink that is sure of the whole text.
     ensures ahead { (units : ℕ) → units_in (map string_bytes words.now) ≡ Some units
         → ForSome (S.left source.old) (λ bytes. (commands : List Tree) → script_of bytes ≡ Ok commands
-        → length bytes ≤ 2 ^ 24 → S.quiet source.old → length (run_text commands units) ≤ K.sure sink.old → IsDoneOrPoor result) }
+        → length bytes ≤ 2 ^ 24
+        → S.quiet source.old → length (run_text commands units) ≤ K.sure sink.old → IsDoneOrPoor result) }
     // A source that never fails, a text that the sink is sure of, and counts that never fall.
     ensures quiet { S.quiet source.old → result ≡ Status.ReadFault → ⊥ }
     ensures sure { (units : ℕ) → units_in (map string_bytes words.now) ≡ Some units
