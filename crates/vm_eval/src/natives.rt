@@ -11,6 +11,7 @@ ghost use Rattle.vm_eval.specs.Say.{Begins, native_by, of_kept, bodies_in};
 use crate::stack::Kept;
 use class_world::World;
 use native_numbers::{arithmetic_native, bits_native, compare_native, fixed_native, number_native};
+use native_texts::{compare_text, text_native};
 use py_node::task::{Args, Keywords};
 use py_node::{
     Answer, BuiltIn, Cause, NativeEntry, OutOfMemory, PyObjectRef, PyStrInterned, Raised, Step,
@@ -48,7 +49,9 @@ fn native(
         NativeEntry::OfNumber(native) => number_native(world, native, args, kw),
         NativeEntry::OfArithmetic(native) => arithmetic_native(world, native, args, kw),
         NativeEntry::OfBits(native) => bits_native(world, native, args, kw),
+        NativeEntry::OfStr(native) => text_native(world, native, args, kw),
         NativeEntry::Compare(BuiltIn::Int, native) => Ok(compare_native(world, native, args, kw)),
+        NativeEntry::Compare(BuiltIn::Str, native) => Ok(compare_text(world, native, args, kw)),
         _ => Ok(Err(Raised::new(Cause::NotYet))),
     }
 }
