@@ -16,7 +16,7 @@ ghost use Rattle.native_containers.specs.declared.take.Kind.TheVariants as kind;
 
 use crate::entries::{copy_entries, keys_of, values_of, with_entry};
 use crate::init::{init, update_from};
-use crate::keys::{place_in, value_under};
+use crate::keys::{place_like, value_under};
 use crate::made::{change_dict, ends_none, new_list};
 use crate::pairs::new_pairs;
 use crate::take::{
@@ -133,7 +133,7 @@ fn put(
     if let Some(raised) = key_refusal(world, key) {
         return Ok(Err(raised));
     }
-    let entries = with_entry(world, dict, key, value)?;
+    let entries = with_entry(world, entries(world, dict), key, value)?;
     match change_dict(world, dict, entries) {
         Err(raised) => Ok(Err(raised)),
         Ok(()) => Ok(ends_none(world)),
@@ -170,12 +170,13 @@ fn take_key(
         world.old world.new r) }
     ensures safe { LeavesEnd world.old world.new result }
 {
-    match place_in(world, dict, key) {
+    let all = entries(world, dict);
+    match place_like(world, all, key) {
         None => Ok(Err(Raised::new(Cause::MissingKey))),
         Some(place) => {
-            let mut entries = copy_entries(world, dict)?;
-            entries.remove(place);
-            world.set_payload(dict, Payload::Dict(entries));
+            let mut rest = copy_entries(world.alloc(), all)?;
+            rest.remove(place);
+            world.set_payload(dict, Payload::Dict(rest));
             Ok(ends_none(world))
         }
     }
@@ -223,7 +224,7 @@ fn iterate_keys(world: &mut World, dict: PyObjectRef) -> Result<Result<Answer, R
         world.old world.new r) }
     ensures safe { LeavesEnd world.old world.new result }
 {
-    let keys = keys_of(world, dict)?;
+    let keys = keys_of(world.alloc(), entries(world, dict))?;
     let list = world.make_node(world.built_in(BuiltIn::List), Payload::List(keys))?;
     new_iterator(world, list)
 }
@@ -243,7 +244,7 @@ fn keys(
     match lone(world, Kind::Dict, args, kw) {
         Err(raised) => Ok(Err(raised)),
         Ok(dict) => {
-            let keys = keys_of(world, dict)?;
+            let keys = keys_of(world.alloc(), entries(world, dict))?;
             new_list(world, keys)
         }
     }
@@ -264,7 +265,7 @@ fn values(
     match lone(world, Kind::Dict, args, kw) {
         Err(raised) => Ok(Err(raised)),
         Ok(dict) => {
-            let values = values_of(world, dict)?;
+            let values = values_of(world.alloc(), entries(world, dict))?;
             new_list(world, values)
         }
     }

@@ -4,92 +4,81 @@ ghost use Rattle.std.specs.Prelude.{◌≡◌, [], ◌∷◌, fold, IfOk};
 ghost use Rattle.plain_machine.specs.Dicts.{with_entry};
 ghost use Rattle.class_world.specs.Keyed.{of_entries};
 ghost use Rattle.class_world.specs.Reading.{Reading, plain};
-ghost use Rattle.class_world.specs.Sound.{AllHold, AreNodes, CanBeKeys, Holds, IsNode};
+ghost use Rattle.class_world.specs.Sound.{AllHold, CanBeKeys, Holds, IsNode};
 ghost use Rattle.native_containers.specs.Say.{keys_of, values_of};
-ghost use Rattle.native_containers.specs.Take.{entries_at};
 
-use crate::take::entries;
 use class_world::World;
 use py_node::task::Args;
 use py_node::{OutOfMemory, PyObjectRef};
+use std::alloc::Global;
 
 /// Keys with their values.
 pub(crate) type Entries = Vec<(PyObjectRef, PyObjectRef)>;
 
-/// The keys of a dict, in order.
-pub(crate) fn keys_of(world: &World, dict: PyObjectRef) -> Result<Args, OutOfMemory>
-    requires { Holds world.now (IsNode dict) }
-    ensures keys { IfOk result (λ rs. (t : Reading) → keys_of (entries_at (plain t world.now) dict) ≡ rs.items) }
-    ensures holds { IfOk result (λ rs. Holds world.now (AreNodes rs.items)) }
+/// The keys, in order.
+pub(crate) fn keys_of(
+    alloc: Global,
+    entries: &[(PyObjectRef, PyObjectRef)],
+) -> Result<Args, OutOfMemory>
+    ensures { IfOk result (λ rs. rs.items ≡ keys_of entries.now) }
 {
-    Ok(
-        entries(world, dict)
-            .iter()
-            .map(|entry| entry.0)
-            .collect(world.alloc())?,
-    )
+    Ok(entries.iter().map(|entry| entry.0).collect(alloc)?)
 }
 
-/// The values of a dict, in the order of the keys.
-pub(crate) fn values_of(world: &World, dict: PyObjectRef) -> Result<Args, OutOfMemory>
-    requires { Holds world.now (IsNode dict) }
-    ensures values { IfOk result (λ rs. (t : Reading) →
-        values_of (entries_at (plain t world.now) dict) ≡ rs.items) }
-    ensures holds { IfOk result (λ rs. Holds world.now (AreNodes rs.items)) }
+/// The values, in the order of the keys.
+pub(crate) fn values_of(
+    alloc: Global,
+    entries: &[(PyObjectRef, PyObjectRef)],
+) -> Result<Args, OutOfMemory>
+    ensures { IfOk result (λ rs. rs.items ≡ values_of entries.now) }
 {
-    Ok(
-        entries(world, dict)
-            .iter()
-            .map(|entry| entry.1)
-            .collect(world.alloc())?,
-    )
+    Ok(entries.iter().map(|entry| entry.1).collect(alloc)?)
 }
 
 /// The same entries again.
-pub(crate) fn copy_entries(world: &World, dict: PyObjectRef) -> Result<Entries, OutOfMemory>
-    requires { Holds world.now (IsNode dict) }
-    ensures same { IfOk result (λ v. (t : Reading) → entries_at (plain t world.now) dict ≡ v.items) }
-    ensures holds { IfOk result (λ v. AllHold world.now (of_entries v.items)) }
+pub(crate) fn copy_entries(
+    alloc: Global,
+    entries: &[(PyObjectRef, PyObjectRef)],
+) -> Result<Entries, OutOfMemory>
+    ensures { IfOk result (λ v. v.items ≡ entries.now) }
 {
-    let mut copy = Vec::new(world.alloc());
-    copy.extend_from_slice(entries(world, dict))?;
+    let mut copy = Vec::new(alloc);
+    copy.extend_from_slice(entries)?;
     Ok(copy)
 }
 
-/// The entries of a dict with a value under a key.
+/// Entries with a value under a key.
 pub(crate) fn with_entry(
     world: &World,
-    dict: PyObjectRef,
+    entries: &[(PyObjectRef, PyObjectRef)],
     key: PyObjectRef,
     value: PyObjectRef,
 ) -> Result<Entries, OutOfMemory>
-    requires dict { Holds world.now (IsNode dict) }
+    requires entries { AllHold world.now (of_entries entries.now) }
     requires key { Holds world.now (IsNode key) }
     requires can { Holds world.now (CanBeKeys (key ∷ [])) }
     requires value { Holds world.now (IsNode value) }
     ensures entries { IfOk result (λ v. (t : Reading) →
-        with_entry (plain t world.now) (entries_at (plain t world.now) dict) (key, value) ≡ v.items) }
+        v.items ≡ with_entry (plain t world.now) entries.now (key, value)) }
     ensures holds { IfOk result (λ v. AllHold world.now (of_entries v.items)) }
 {
-    let copy = copy_entries(world, dict)?;
+    let copy = copy_entries(world.alloc(), entries)?;
     world.with_entry(copy, key, value)
 }
 
-/// The entries of a dict with those of another one.
-pub(crate) fn with_entries_of(
+/// Entries with others, one after another.
+pub(crate) fn with_entries(
     world: &World,
-    dict: PyObjectRef,
-    other: PyObjectRef,
+    entries: &[(PyObjectRef, PyObjectRef)],
+    more: &[(PyObjectRef, PyObjectRef)],
 ) -> Result<Entries, OutOfMemory>
-    requires dict { Holds world.now (IsNode dict) }
-    requires other { Holds world.now (IsNode other) }
+    requires entries { AllHold world.now (of_entries entries.now) }
+    requires more { AllHold world.now (of_entries more.now) }
     ensures entries { IfOk result (λ v. (t : Reading) →
-        fold (with_entry (plain t world.now)) (entries_at (plain t world.now) dict)
-        (entries_at (plain t world.now) other) ≡ v.items) }
+        v.items ≡ fold (with_entry (plain t world.now)) entries.now more.now) }
     ensures holds { IfOk result (λ v. AllHold world.now (of_entries v.items)) }
 {
-    let mut all = copy_entries(world, dict)?;
-    let more = entries(world, other);
+    let mut all = copy_entries(world.alloc(), entries)?;
     for entry in more {
         all = world.with_entry(all, entry.0, entry.1)?;
     }

@@ -11,7 +11,7 @@ ghost use Rattle.native_containers.specs.Say.{dict_filled, dict_updated, has_pla
 ghost use Rattle.native_containers.specs.Take.{with_own};
 ghost use Rattle.native_containers.specs.declared.take.Kind.TheVariants as kind;
 
-use crate::entries::with_entries_of;
+use crate::entries::with_entries;
 use crate::made::{change_dict, ends_none};
 use crate::take::{Kind, entries, kind_refusal, own};
 use class_world::World;
@@ -79,7 +79,7 @@ pub(crate) fn update_from(
     if let Some(raised) = kind_refusal(world, Kind::Dict, other) {
         return Ok(Err(raised));
     }
-    let entries = with_entries_of(world, dict, other)?;
+    let entries = with_entries(world, entries(world, dict), entries(world, other))?;
     Ok(change_dict(world, dict, entries))
 }
 

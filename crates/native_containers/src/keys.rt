@@ -1,12 +1,12 @@
 //! The keys of dicts: where a key stands, and the value under it.
 
-ghost use Rattle.std.specs.Prelude.{◌≡◌, position, IfSome, Some};
+ghost use Rattle.std.specs.Prelude.{◌≡◌, ◌<◌, length, position, IfSome, Some};
 ghost use Rattle.plain_machine.specs.Dicts.{is_like, is_one_key};
 ghost use Rattle.plain_machine.specs.Sound.{NumberKey, TextKey};
+ghost use Rattle.class_world.specs.Keyed.{of_entries};
 ghost use Rattle.class_world.specs.Reading.{Reading, plain};
-ghost use Rattle.class_world.specs.Sound.{Holds, IsNode, key_in};
+ghost use Rattle.class_world.specs.Sound.{AllHold, Holds, IsNode, key_in};
 ghost use Rattle.native_containers.specs.Say.{value_under};
-ghost use Rattle.native_containers.specs.Take.{entries_at};
 
 use crate::take::entries;
 use class_world::World;
@@ -19,20 +19,25 @@ pub(crate) fn value_under(world: &World, dict: PyObjectRef, key: PyObjectRef) ->
     ensures value { (t : Reading) → value_under (plain t world.now) dict key ≡ result }
     ensures node { IfSome result (λ v. Holds world.now (IsNode v)) }
 {
-    match place_in(world, dict, key) {
+    let entries = entries(world, dict);
+    match place_like(world, entries, key) {
         None => None,
-        Some(place) => Some(entries(world, dict)[place].1),
+        Some(place) => Some(entries[place].1),
     }
 }
 
-/// The place of the first key of a dict that is the same.
-pub(crate) fn place_in(world: &World, dict: PyObjectRef, key: PyObjectRef) -> Option<usize>
-    requires dict { Holds world.now (IsNode dict) }
+/// The place of the first key that is the same.
+pub(crate) fn place_like(
+    world: &World,
+    entries: &[(PyObjectRef, PyObjectRef)],
+    key: PyObjectRef,
+) -> Option<usize>
+    requires entries { AllHold world.now (of_entries entries.now) }
     requires key { Holds world.now (IsNode key) }
-    ensures { (t : Reading) →
-        result ≡ position (λ e. is_like (plain t world.now) key e.0) (entries_at (plain t world.now) dict) }
+    ensures first { (t : Reading) →
+        result ≡ position (λ e. is_like (plain t world.now) key e.0) entries.now }
+    ensures below { IfSome result (λ n. n < length entries.now) }
 {
-    let entries = entries(world, dict);
     for (place, entry) in entries.iter().enumerate() {
         if is_like(world, key, entry.0) {
             return Some(place);

@@ -9,8 +9,8 @@ ghost use Rattle.native_containers.specs.Take.{items_at, with_own_and};
 ghost use Rattle.native_containers.specs.declared.take.Kind.TheVariants as kind;
 
 use crate::made::{change_list, new_list};
-use crate::sequence::{items_with, iter, joined, length};
-use crate::take::{Kind, own_and};
+use crate::sequence::{in_one, iter, joined, length};
+use crate::take::{Kind, items, own_and};
 use class_world::World;
 use py_node::{Answer, Cause, ListNative, OutOfMemory, PyObjectRef, PyStrInterned, Raised};
 
@@ -67,7 +67,7 @@ fn append(
     match own_and(world, Kind::List, args, kw) {
         Err(raised) => Ok(Err(raised)),
         Ok((list, last)) => {
-            let items = items_with(world, list, last)?;
+            let items = in_one(world.alloc(), items(world, list), &[last])?;
             Ok(change_list(world, list, items))
         }
     }

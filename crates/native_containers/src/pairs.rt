@@ -12,6 +12,7 @@ ghost use Rattle.native_containers.specs.Take.{entries_at};
 
 use crate::entries::copy_entries;
 use crate::made::new_list;
+use crate::take::entries;
 use class_world::World;
 use class_world::args::both;
 use py_node::{Answer, BuiltIn, OutOfMemory, Payload, PyObjectRef, Raised};
@@ -25,7 +26,7 @@ pub(crate) fn new_pairs(
     ensures ends { IfOk result (λ r. EndsAs (λ t u. pairs_made u [] (entries_at u dict)) world.old world.new r) }
     ensures safe { LeavesEnd world.old world.new result }
 {
-    let entries = copy_entries(world, dict)?;
+    let entries = copy_entries(world.alloc(), entries(world, dict))?;
     let mut pairs = Vec::new(world.alloc());
     for entry in &entries {
         let pair = new_pair(world, entry.0, entry.1)?;

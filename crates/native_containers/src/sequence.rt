@@ -1,13 +1,13 @@
 //! What tuples and lists do alike.
 
-ghost use Rattle.std.specs.Prelude.{◌≡◌, ◌++◌, ◌∷◌, [], Err, IfErr, IfOk, List};
+ghost use Rattle.std.specs.Prelude.{◌≡◌, ◌++◌, Err, IfErr, IfOk, List};
 ghost use Rattle.plain_machine.specs.Plain.{Said, Ends};
 ghost use Rattle.py_node.specs.declared.refs.PyObjectRef.{PyObjectRef as Object};
 ghost use Rattle.class_world.specs.Reading.{Reading, bindings, plain};
-ghost use Rattle.class_world.specs.Sound.{AreNodes, Holds, IsNode};
+ghost use Rattle.class_world.specs.Sound.{AreNodes, Holds};
 ghost use Rattle.class_world.specs.Rows.{EndsAs, LeavesEnd};
 ghost use Rattle.native_base.specs.Say.{iterator_made};
-ghost use Rattle.native_containers.specs.Say.{counted, with_joined, with_like};
+ghost use Rattle.native_containers.specs.Say.{counted, with_joined};
 ghost use Rattle.native_containers.specs.Take.{items_at, with_lone};
 
 use crate::take::{Kind, is_of, items, lone, own_and};
@@ -16,6 +16,7 @@ use class_world::limits::is_within_limit;
 use native_base::give::{new_int, new_iterator};
 use py_node::task::Args;
 use py_node::{Answer, Cause, OutOfMemory, PyObjectRef, PyStrInterned, Raised};
+use std::alloc::Global;
 
 /// How many items a tuple or a list has.
 pub(crate) fn length(
@@ -77,7 +78,7 @@ pub(crate) fn joined(
     if !is_of(world, kind, second) {
         return Ok(Err(Raised::new(Cause::ConcatType)));
     }
-    let all = items_of_both(world, first, second)?;
+    let all = in_one(world.alloc(), items(world, first), items(world, second))?;
     if is_within_limit(all.len()) {
         Ok(Ok(all))
     } else {
@@ -85,38 +86,16 @@ pub(crate) fn joined(
     }
 }
 
-// The items of two objects, those of the second after those of the first.
-fn items_of_both(
-    world: &World,
-    first: PyObjectRef,
-    second: PyObjectRef,
+/// Items with others after them.
+pub(crate) fn in_one(
+    alloc: Global,
+    items: &[PyObjectRef],
+    more: &[PyObjectRef],
 ) -> Result<Args, OutOfMemory>
-    requires first { Holds world.now (IsNode first) }
-    requires second { Holds world.now (IsNode second) }
-    ensures items { IfOk result (λ rs. (t : Reading) →
-        items_at (plain t world.now) first ++ items_at (plain t world.now) second ≡ rs.items) }
-    ensures holds { IfOk result (λ rs. Holds world.now (AreNodes rs.items)) }
+    ensures { IfOk result (λ rs. rs.items ≡ items.now ++ more.now) }
 {
-    let mut all = Vec::new(world.alloc());
-    all.extend_from_slice(items(world, first))?;
-    all.extend_from_slice(items(world, second))?;
-    Ok(all)
-}
-
-/// The items of an object with one more at the end.
-pub(crate) fn items_with(
-    world: &World,
-    object: PyObjectRef,
-    last: PyObjectRef,
-) -> Result<Args, OutOfMemory>
-    requires object { Holds world.now (IsNode object) }
-    requires last { Holds world.now (IsNode last) }
-    ensures items { IfOk result (λ rs. (t : Reading) →
-        items_at (plain t world.now) object ++ last ∷ [] ≡ rs.items) }
-    ensures holds { IfOk result (λ rs. Holds world.now (AreNodes rs.items)) }
-{
-    let mut all = Vec::new(world.alloc());
-    all.extend_from_slice(items(world, object))?;
-    all.push(last)?;
+    let mut all = Vec::new(alloc);
+    all.extend_from_slice(items)?;
+    all.extend_from_slice(more)?;
     Ok(all)
 }
