@@ -1,2 +1,4 @@
 pub mod Payloads
 pub mod Loops
+pub mod Ends
+pub mod Under

@@ -1,5 +1,5 @@
 -- What objects hold that are of no kind, and entries and nodes one by one.
-use Rattle.std.proofs.Common.{◌≡◌, ℕ, ◌+◌, ◌<◌, List, [], ◌∷◌, ◌++◌, length, map, get_or, take, fold, Some, refl, sym, ap, ◌∙◌, arith}
+use Rattle.std.proofs.Common.{◌≡◌, ℕ, ◌+◌, ◌<◌, ◌≤◌, List, [], ◌∷◌, ◌++◌, length, map, get_or, take, take_all, fold, Some, refl, sym, ap, ◌∙◌, arith}
 use Rattle.std.proofs.lemmas.List.Elements.{All-append}
 use Rattle.std.proofs.lemmas.List.Sums.{fold_more}
 use Rattle.py_node.specs.declared.refs.PyObjectRef.{PyObjectRef}
@@ -73,3 +73,6 @@ keys-can w es h = (h.0, (h.1.0, ((λ i d l. h.1.1.0.known i (get_or (map (λ e. 
 -- one entry more, where there were some already
 pub entry-more : (w : PlainWorld) (first es new ps : Entries) (i : ℕ) (d : PyObjectRef × PyObjectRef) → i < length ps → fold (with_entry w) first (take i ps) ≡ es → new ≡ with_entry w es ((get_or ps i d).0, (get_or ps i d).1) → fold (with_entry w) first (take (i + 1) ps) ≡ new
 entry-more w first es new ps i d l h k = fold_more (with_entry w) first ps i d l ∙ ap (λ es. with_entry w es (get_or ps i d)) h ∙ sym k
+
+pub entries-all : (w : PlainWorld) (first es ps : Entries) (i : ℕ) → length ps ≤ i → fold (with_entry w) first (take i ps) ≡ es → es ≡ fold (with_entry w) first ps
+entries-all w first es ps i l h = sym h ∙ ap (fold (with_entry w) first) (take_all i ps l)
