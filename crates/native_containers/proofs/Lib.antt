@@ -2,3 +2,4 @@ pub mod Payloads
 pub mod Loops
 pub mod Ends
 pub mod Under
+pub mod Changed
