@@ -1,0 +1,10 @@
+//! Definitions of native methods: what they are as objects, and how the objects are made.
+#![tactic(auto, using(class_world::proofs::Items::item_holds))]
+
+pub mod build;
+pub mod def;
+pub mod payloads;
+pub mod signature;
+
+pub use def::PyMethodDef;
+pub use signature::get_text_signature_from_internal_doc;
