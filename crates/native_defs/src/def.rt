@@ -25,7 +25,7 @@ impl PyMethodDef {
         flags: PyMethodFlags,
         doc: Option<&str>,
     ) -> Result<PyMethodDef, OutOfMemory>
-        ensures { IfOk result (λ d. definition_of d ≡ definition name.now func flags.0 (option_copied doc)) }
+        ensures { IfOk result (λ d. definition_of d ≡ definition name.now func flags.0 (option_copied doc.entry)) }
     {
         let name = String::from_str(alloc, name)?;
         let doc = match doc {
@@ -48,7 +48,7 @@ impl PyMethodDef {
         flags: PyMethodFlags,
         doc: Option<&str>,
     ) -> Result<PyMethodDef, OutOfMemory>
-        ensures { IfOk result (λ d. definition_of d ≡ definition name.now func flags.0 (option_copied doc)) }
+        ensures { IfOk result (λ d. definition_of d ≡ definition name.now func flags.0 (option_copied doc.entry)) }
     {
         PyMethodDef::new_const(alloc, name, func, flags, doc)
     }
