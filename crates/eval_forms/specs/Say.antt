@@ -1,9 +1,6 @@
 -- What the rows of expressions say.
-use Rattle.std.specs.Prelude.{ℕ, Bool, cond, eqb, if◌then◌else◌, bytes_eq, codes, List, [], ◌∷◌, ◌++◌, Option, Some, None, Ok, is_some, true, false, find, option_map, length, take, drop, slice_get}
-use Rattle.py_node.specs.declared.built_in.BuiltIn.{BuiltIn}
+use Rattle.std.specs.Prelude.{ℕ, Bool, cond, eqb, if◌then◌else◌, bytes_eq, codes, List, [], ◌∷◌, ◌++◌, Option, Some, None, Ok, is_some, true, false, length, take, drop, slice_get}
 use Rattle.py_node.specs.declared.refs.PyObjectRef.{PyObjectRef}
-use Rattle.py_node.specs.BuiltIns.{place_of}
-use Rattle.eval_forms.specs.declared.names.TheConstants.{NAMED_CLASSES}
 use Rattle.py_node.specs.declared.raised.Cause.TheVariants.{ArgCount, KeyType, NotYet, Unbound}
 use Rattle.py_node.specs.declared.expr.Word.{Word}
 use Rattle.py_node.specs.declared.expr.Word.TheVariants as word
@@ -18,7 +15,7 @@ use Rattle.plain_machine.specs.Known.{the_type, the_int, the_str, the_tuple, the
 use Rattle.plain_machine.specs.Dicts.{entries_from}
 use Rattle.plain_machine.specs.Objects.{class_object, type_object}
 use Rattle.plain_machine.specs.Sound.{key_at}
-use Rattle.plain_machine.specs.Row.{Row, start, ask, pass, end, value, none, fault, on_value, on_done, make, limited, truth, not_implemented, evaluate}
+use Rattle.plain_machine.specs.Row.{Row, start, ask, pass, end, value, none, fault, on_value, on_done, make, limited, truth, evaluate}
 
 -- a constant is a fixed object, or a new one
 abbrev pub const_say : PlainWorld → Literal → Row
@@ -28,21 +25,23 @@ const_say w LTrue = end w (value (truth true))
 const_say w (LInt z) = make w the_int (ANumber z)
 const_say w (LText x) = make w the_str (AText x)
 
--- the built-in class that a text names
-unfoldable pub class_named : Text → Option BuiltIn
-class_named x = option_map (λ r. r.1) (find (λ r. bytes_eq r.0.now x) NAMED_CLASSES)
-
--- NotImplemented by its name
-abbrev pub not_implemented_named : Text → Option PyObjectRef
-not_implemented_named x = if bytes_eq x (codes "NotImplemented") then Some not_implemented else None
-
-abbrev pub or_named : Option BuiltIn → Option PyObjectRef → Option PyObjectRef
-or_named None other = other
-or_named (Some b) other = Some (ref (place_of b))
-
--- what every body can name: a class, or NotImplemented
-abbrev pub built_in_named : Text → Option PyObjectRef
-built_in_named x = or_named (class_named x) (not_implemented_named x)
+-- the names that every body can read, with the nodes of what they name
+unfoldable pub built_in_named : Text → Option PyObjectRef
+built_in_named x =
+    if bytes_eq x (codes "object") then Some (ref 0)
+    else (if bytes_eq x (codes "type") then Some (ref 1)
+    else (if bytes_eq x (codes "int") then Some (ref 4)
+    else (if bytes_eq x (codes "bool") then Some (ref 5)
+    else (if bytes_eq x (codes "str") then Some (ref 6)
+    else (if bytes_eq x (codes "tuple") then Some (ref 7)
+    else (if bytes_eq x (codes "list") then Some (ref 8)
+    else (if bytes_eq x (codes "dict") then Some (ref 9)
+    else (if bytes_eq x (codes "property") then Some (ref 17)
+    else (if bytes_eq x (codes "classmethod") then Some (ref 18)
+    else (if bytes_eq x (codes "staticmethod") then Some (ref 19)
+    else (if bytes_eq x (codes "super") then Some (ref 20)
+    else (if bytes_eq x (codes "NotImplemented") then Some (ref 24)
+    else None))))))))))))
 
 -- what a name names, or a fault where it names nothing
 abbrev pub named_say : PlainWorld → Option PyObjectRef → Row

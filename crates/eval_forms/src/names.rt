@@ -1,31 +1,15 @@
 //! What a name names: a variable, or a built-in object.
 
-ghost use Rattle.std.specs.Prelude.{◌≡◌, IfSome};
+ghost use Rattle.std.specs.Prelude.{◌≡◌, ◌≤◌, IfSome};
 ghost use Rattle.class_world.specs.Sound.{AllHold, Holds, IsName, IsNode};
 ghost use Rattle.class_world.specs.Claims.{of_step};
 ghost use Rattle.class_world.specs.Reading.{Reading, Reads};
-ghost use Rattle.eval_forms.specs.Say.{built_in_named, class_named, name_say, not_implemented_named};
+ghost use Rattle.eval_forms.specs.Say.{built_in_named, name_say};
 ghost use Rattle.eval_forms.specs.Rows.{EndsRow, of_eval_kept};
 
 use crate::EvalKept;
 use class_world::{Fixed, World};
-use py_node::{Answer, BuiltIn, Cause, PyObjectRef, PyStrInterned, Step};
-
-/// The classes that every body can name, under their names.
-pub const NAMED_CLASSES: [(&str, BuiltIn); 12] = [
-    ("object", BuiltIn::Object),
-    ("type", BuiltIn::TypeType),
-    ("int", BuiltIn::Int),
-    ("bool", BuiltIn::Bool),
-    ("str", BuiltIn::Str),
-    ("tuple", BuiltIn::Tuple),
-    ("list", BuiltIn::List),
-    ("dict", BuiltIn::Dict),
-    ("property", BuiltIn::Property),
-    ("classmethod", BuiltIn::ClassMethod),
-    ("staticmethod", BuiltIn::StaticMethod),
-    ("super", BuiltIn::Super),
-];
+use py_node::{Answer, Cause, PyObjectRef, PyStrInterned, Step};
 
 // A name is that of a variable, or else of a built-in object.
 pub(crate) fn name_step(world: &World, name: PyStrInterned) -> Step<EvalKept>
@@ -42,35 +26,50 @@ pub(crate) fn name_step(world: &World, name: PyStrInterned) -> Step<EvalKept>
     }
 }
 
-// The built-in object of a name: a class, or NotImplemented.
+// The built-in object of a name.
 fn built_in_at(world: &World, name: PyStrInterned) -> Option<PyObjectRef>
     requires { Holds world.now (IsName name) }
     ensures named { (t : Reading) → Reads t world.now → built_in_named (t.text name.0) ≡ result }
     ensures node { IfSome result (λ r. Holds world.now (IsNode r)) }
 {
-    let text = world.names().text(name);
-    match class_named(text) {
-        Some(class) => Some(world.built_in_node(class)),
-        None => not_implemented_named(world, text),
-    }
+    // Every world has the nodes up to this one.
+    let _last = world.fixed(Fixed::True);
+    built_in_named(world.names().text(name))
 }
 
-// NotImplemented, where a text names it.
-fn not_implemented_named(world: &World, text: &str) -> Option<PyObjectRef>
-    ensures named { result ≡ not_implemented_named text.now }
-    ensures node { IfSome result (λ r. Holds world.now (IsNode r)) }
+// The built-in object that a text names.
+#[tactic(auto, unfolding(crate::specs::Say::built_in_named))]
+fn built_in_named(text: &str) -> Option<PyObjectRef>
+    ensures named { result ≡ built_in_named text.now }
+    ensures fixed { IfSome result (λ r. r.0 ≤ 26) }
 {
-    if text == "NotImplemented" {
-        Some(world.fixed(Fixed::NotImplemented))
+    if text == "object" {
+        Some(PyObjectRef(0))
+    } else if text == "type" {
+        Some(PyObjectRef(1))
+    } else if text == "int" {
+        Some(PyObjectRef(4))
+    } else if text == "bool" {
+        Some(PyObjectRef(5))
+    } else if text == "str" {
+        Some(PyObjectRef(6))
+    } else if text == "tuple" {
+        Some(PyObjectRef(7))
+    } else if text == "list" {
+        Some(PyObjectRef(8))
+    } else if text == "dict" {
+        Some(PyObjectRef(9))
+    } else if text == "property" {
+        Some(PyObjectRef(17))
+    } else if text == "classmethod" {
+        Some(PyObjectRef(18))
+    } else if text == "staticmethod" {
+        Some(PyObjectRef(19))
+    } else if text == "super" {
+        Some(PyObjectRef(20))
+    } else if text == "NotImplemented" {
+        Some(PyObjectRef(24))
     } else {
         None
     }
-}
-
-// The built-in class that a text names.
-fn class_named(text: &str) -> Option<BuiltIn>
-    ensures { result ≡ class_named text.now }
-{
-    let row = NAMED_CLASSES.iter().find(|row| row.0 == text)?;
-    Some(row.1)
 }
