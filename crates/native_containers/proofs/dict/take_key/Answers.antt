@@ -17,9 +17,10 @@ returns-in-None-clause-ends c = λ t q.
 
 pub returns-in_ok-rest-in-Some-clause-ends : goal.returns-in_ok-rest-in-Some-clause-ends
 returns-in_ok-rest-in-Some-clause-ends c = λ t q.
-    let w = plain t c.args.world.now in
-    (c.set_payload.ensures.reads t q,
-    taken w c.args.dict c.args.key c.entries-all.result.now c.in-Some.place (c.args.key, c.args.key) (c.entries-all.ensures.same t) (c.in-Some.ensures.first t)
-    ∙ ap (λ es. ends_none (with_entries w c.args.dict es)) (rw (c.remove.ensures.items, c.in_ok-rest-in-Some.ensures) refl)
-    ∙ ap ends_none (sym (c.set_payload.ensures.set t))
-    ∙ (c.ends_none.ensures.ends t q).1)
+    let w = plain t c.args.world.now in (
+      c.set_payload.ensures.reads t q,
+      taken w c.args.dict c.args.key c.entries-all.result.now c.in-Some.place (c.args.key, c.args.key) (c.entries-all.ensures.same t) (c.in-Some.ensures.first t)
+          ∙ ap (λ es. ends_none (with_entries w c.args.dict es)) (rw (c.remove.ensures.items, c.in_ok-rest-in-Some.ensures) refl)
+          ∙ ap ends_none (sym (c.set_payload.ensures.set t))
+          ∙ (c.ends_none.ensures.ends t q).1,
+    )

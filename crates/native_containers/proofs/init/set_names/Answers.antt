@@ -1,8 +1,7 @@
-use Rattle.std.proofs.Common.{refl, sym, ap, ◌∙◌}
-use Rattle.class_world.specs.Reading.{plain}
+use Rattle.std.proofs.Common.{refl}
 use Rattle.class_world.proofs.Claims.{all-grow}
-use Rattle.class_world.proofs.Growth.{grows-itself, grows-on}
-use Rattle.native_containers.proofs.Loops.{keyword-holds, name-more, no-room, names-all}
+use Rattle.class_world.proofs.Growth.{grows-itself}
+use Rattle.native_containers.proofs.Loops.{keyword-holds}
 use Rattle.native_containers.proofs.init.set_names.Goals as goal
 
 pub loop-keyword-init : goal.loop-keyword-init
