@@ -1,14 +1,13 @@
 -- What is said where a list or a dict changes, by what its new contents are.
-use Rattle.std.proofs.Common.{◌≡◌, Bool, true, false, cond, [], ◌∷◌, ◌++◌, List, length, fold, Err, sym, ap, ◌∙◌}
+use Rattle.std.proofs.Common.{◌≡◌, true, false, cond, List, length, fold, sym, ap, ◌∙◌}
 use Rattle.std.specs.Prelude.{nat_le}
 use Rattle.py_node.specs.declared.refs.PyObjectRef.{PyObjectRef}
 use Rattle.py_node.specs.declared.raised.Cause.TheVariants.{TooLong}
-use Rattle.plain_machine.specs.Dicts.{Entries, with_entry, with_entries}
-use Rattle.plain_machine.specs.Objects.{with_datum}
-use Rattle.plain_machine.specs.Plain.{AList, PlainWorld, Said, Ends}
+use Rattle.plain_machine.specs.Dicts.{Entries, with_entry}
+use Rattle.plain_machine.specs.Plain.{PlainWorld, Said, Ends}
 use Rattle.plain_machine.specs.Row.{most_items, fault}
 use Rattle.native_containers.specs.declared.take.Kind.TheVariants as kind
-use Rattle.native_containers.specs.Say.{ends_none, unless_long, list_changed, dict_changed, dict_updated}
+use Rattle.native_containers.specs.Say.{unless_long, dict_changed, dict_updated}
 use Rattle.native_containers.specs.Take.{entries_at, with_key, with_kind}
 
 -- a container is not too long, or it is

@@ -1,5 +1,5 @@
 -- How natives end, by what was called before.
-use Rattle.std.proofs.Common.{◌≡◌, Ok, Err, refl, sym, ap, ◌∙◌}
+use Rattle.std.proofs.Common.{◌≡◌, Err, ◌∙◌}
 use Rattle.std.specs.Prelude.{Result, IfOk}
 use Rattle.py_node.specs.declared.memory.OutOfMemory.{OutOfMemory}
 use Rattle.py_node.specs.declared.raised.Raised.{Raised as Fault}
@@ -9,7 +9,6 @@ use Rattle.class_world.specs.declared.world.World.{World}
 use Rattle.class_world.specs.Reading.{Reading, Reads, plain}
 use Rattle.class_world.specs.Rows.{EndsAs}
 use Rattle.class_world.proofs.Stored.{ok-map}
-use Rattle.native_containers.specs.Say.{ends_none}
 
 abbrev Saying : Type 0
 Saying = Reading → PlainWorld → Said

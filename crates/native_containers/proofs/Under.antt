@@ -1,5 +1,5 @@
 -- What stands under a key of a dict, by the key's place.
-use Rattle.std.proofs.Common.{◌≡◌, ℕ, ◌<◌, length, get_or, Option, Some, None, sym, ap, ◌∙◌, arith}
+use Rattle.std.proofs.Common.{◌≡◌, ℕ, get_or, Option, Some, None, ap, ◌∙◌, arith}
 use Rattle.std.specs.Prelude.{position, option_map}
 use Rattle.std.specs.List.{remove}
 use Rattle.py_node.specs.declared.refs.PyObjectRef.{PyObjectRef}
@@ -8,7 +8,7 @@ use Rattle.py_node.specs.Attributes.{value_of}
 use Rattle.plain_machine.specs.Dicts.{Entries, is_like, with_entries, without_value_for}
 use Rattle.plain_machine.specs.Plain.{PlainWorld, Ends}
 use Rattle.plain_machine.specs.Row.{fault}
-use Rattle.class_world.proofs.DictEntries.{IsFirstFrom, first-key, no-key, get-below}
+use Rattle.class_world.proofs.DictEntries.{first-key, no-key, get-below}
 use Rattle.native_containers.specs.Say.{ends_none, key_taken, value_under}
 use Rattle.native_containers.specs.Take.{entries_at}
 

@@ -1,5 +1,5 @@
 -- What the natives of tuples, lists, dicts and iterators say that ask no task.
-use Rattle.std.specs.Prelude.{ℕ, pos, Bool, cond, ◌||◌, nat_le, nat_lt, is_some, length, map, fold, List, [], ◌∷◌, ◌++◌, Option, Some, None, Ok}
+use Rattle.std.specs.Prelude.{pos, Bool, cond, ◌||◌, nat_le, nat_lt, is_some, length, map, fold, List, [], ◌∷◌, ◌++◌, Option, Some, None, Ok}
 use Rattle.py_node.specs.declared.refs.PyObjectRef.{PyObjectRef}
 use Rattle.py_node.specs.declared.raised.Cause.TheVariants.{ArgCount, ConcatType, MissingKey, TooLong}
 use Rattle.py_node.specs.declared.entry.TupleNative.{TupleNative}
