@@ -4,7 +4,7 @@ use Rattle.py_node.specs.declared.refs.PyObjectRef.{PyObjectRef}
 use Rattle.py_node.specs.declared.task.Answer.TheVariants.{Value}
 use Rattle.plain_machine.specs.Plain.{PlainWorld, Told, DoAdd, DoInt, ANumber, Answered, Ends}
 use Rattle.plain_machine.specs.World.{datum_at, number_of, with_node, next_node, slot_at}
-use Rattle.plain_machine.specs.Row.{value, start, end}
+use Rattle.plain_machine.specs.Row.{value, start, end, is_not_implemented}
 use Rattle.class_world.specs.declared.world.World.{World}
 use Rattle.class_world.specs.Reading.{Reading, Reads, plain}
 use Rattle.class_world.specs.Rows.{Steps}
