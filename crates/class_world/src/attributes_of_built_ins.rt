@@ -10,7 +10,8 @@ ghost use Rattle.py_node.specs.declared.built_in.BuiltIn.TheVariants as built_in
 ghost use Rattle.plain_machine.specs.Sound.{holds_as};
 ghost use Rattle.class_world.specs.Sound.{IsName, IsNode, Holds, AllHold, Grows, home_of, class_in, of_payload};
 
-use crate::world::{Fixed, World};
+use crate::built_ins::Fixed;
+use crate::world::World;
 use py_node::attr::Attr::{
     self, ClassMethod, Method, New, NoHash, Part, ReadOnly, Settable, SettablePart,
 };

@@ -12,7 +12,7 @@ ghost use Rattle.proto_call.specs.Rows.{Begins, Starts, OpensNone, LeavesNone};
 use crate::CallKept;
 use crate::asked::{bound, special};
 use class_world::World;
-use class_world::args::native_task;
+use class_world::natives::native_task;
 use py_node::task::{Args, Keywords};
 use py_node::{
     CallTask, CallableNative, Cause, Known, NativeEntry, OutOfMemory, Payload, PyObjectRef,

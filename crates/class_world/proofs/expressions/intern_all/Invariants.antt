@@ -2,7 +2,7 @@ use Rattle.std.proofs.Common.{◌≡◌, take, map}
 use Rattle.py_node.specs.Tree.{texts_of}
 use Rattle.class_world.specs.Reading.{Reading, Reads, plain}
 use Rattle.class_world.specs.Sound.{AreNames, Holds, Grows}
-use Rattle.class_world.proofs.store.intern_all.Given as goal
+use Rattle.class_world.proofs.expressions.intern_all.Given as goal
 
 abbrev pub invariant-loop-text : goal.invariant-loop-text
 invariant-loop-text l = record {

@@ -3,7 +3,7 @@ use Rattle.std.specs.List.{flat_map}
 use Rattle.plain_machine.specs.ClassLines.{slot_word}
 use Rattle.class_table.specs.Keys.{table_keys}
 use Rattle.plain_machine.specs.ClassText.{own_words}
-use Rattle.class_world.proofs.classes.push_own_slots.Given as goal
+use Rattle.class_world.proofs.class_lines.push_own_slots.Given as goal
 
 abbrev pub invariant-loop-row : goal.invariant-loop-row
 invariant-loop-row l =

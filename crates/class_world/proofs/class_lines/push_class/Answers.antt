@@ -1,7 +1,7 @@
 use Rattle.class_table.specs.Keys.{table_keys, numbers}
 use Rattle.class_model.proofs.Rule.{lin-classes}
 use Rattle.class_world.proofs.ClassText.{class-written}
-use Rattle.class_world.proofs.classes.push_class.Goals as goal
+use Rattle.class_world.proofs.class_lines.push_class.Goals as goal
 
 pub push_names-requires : goal.push_names-requires
 push_names-requires c = λ x h. lin-classes c.args.classes.now c.args.class.0 (numbers c.mro.result.now) x c.mro.ensures.line h

@@ -6,7 +6,7 @@ use Rattle.class_world.specs.Sound.{IsName, AreNames, IsExpression, AreExpressio
 use Rattle.py_node.specs.declared.refs.PyStrInterned.{PyStrInterned}
 use Rattle.class_world.proofs.Growth.{grows-itself, grows-on}
 use Rattle.class_world.proofs.Stored.{no-names, no-expressions, expressions-push, entry-names-push, entry-expressions-push, keys-push, values-push, map-next, ok-map, class_tree, call_tree}
-use Rattle.class_world.proofs.store.+store.Goals as goal
+use Rattle.class_world.proofs.expressions.+store.Goals as goal
 
 pub add_exprs-loop-expr-init : goal.add_exprs-loop-expr-init
 add_exprs-loop-expr-init t c = record {

@@ -3,7 +3,7 @@ use Rattle.std.specs.Prelude.{codes}
 use Rattle.plain_machine.specs.Escapes.{escaped}
 use Rattle.plain_machine.specs.Lines.{joined}
 use Rattle.plain_machine.specs.ClassText.{name_at}
-use Rattle.class_world.proofs.classes.push_members.Given as goal
+use Rattle.class_world.proofs.class_lines.push_members.Given as goal
 
 abbrev pub invariant-loop-class : goal.invariant-loop-class
 invariant-loop-class l = record {

@@ -2,7 +2,7 @@ use Rattle.std.proofs.Common.{refl, ◌∙◌, string_bytes}
 use Rattle.class_world.specs.Sound.{AreNames}
 use Rattle.class_world.proofs.Growth.{grows-itself, grows-on}
 use Rattle.class_world.proofs.Stored.{no-names, names-push, map-next}
-use Rattle.class_world.proofs.store.intern_all.Goals as goal
+use Rattle.class_world.proofs.expressions.intern_all.Goals as goal
 
 pub loop-text-init : goal.loop-text-init
 loop-text-init c = record {

@@ -1,12 +1,40 @@
-//! Expressions of scripts, put into the world's store: names are interned, and parts go in first.
+//! The store of expressions: names are interned, and the parts of an expression go in first.
 
-ghost use Rattle.std.specs.Prelude.{◌≡◌, map, IfOk, string_bytes};
+ghost use Rattle.std.specs.Prelude.{◌≡◌, map, IfOk, string_bytes, Some, OnErr, slice_get};
 ghost use Rattle.py_node.specs.Tree.{tree_of, part_of, pair_of, texts_of};
-ghost use Rattle.class_world.specs.Reading.{Reading, Reads, plain};
-ghost use Rattle.class_world.specs.Sound.{IsExpression, AreExpressions, AreNames, Holds, Grows};
+ghost use Rattle.class_world.specs.Reading.{Reading, Reads, plain, form_tree};
+ghost use Rattle.class_world.specs.Sound.{IsExpression, AreExpressions, AreNames, Holds, Grows, AllHold, of_form};
 
 use crate::world::World;
 use py_node::{Expr, Form, OutOfMemory, PyStrInterned};
+
+#[tactic(auto, unfolding(crate::specs::Reading::plain))]
+impl World {
+    /// The expression of a number.
+    pub fn form(&self, number: u64) -> &Form
+        requires { Holds self.now (IsExpression number) }
+        ensures stored { slice_get self.now.forms number ≡ Some result.now }
+        ensures reads { (t : Reading) → Reads t self.now → t.tree number ≡ form_tree t.text t.tree result.now }
+        ensures holds { AllHold self.now (of_form result.now) }
+    {
+        &self.forms[number as usize]
+    }
+
+    // One more expression, of names and expressions that are there.
+    pub(crate) fn add_form(&mut self, form: Form) -> Result<u64, OutOfMemory>
+        requires { AllHold self.old (of_form form) }
+        ensures added { IfOk result (λ n. (t : Reading) → Reads t self.new → t.tree n ≡ form_tree t.text t.tree form) }
+        ensures err { OnErr result (self.new ≡ self.old) }
+        ensures same { (t : Reading) → plain t self.new ≡ plain t self.old }
+        ensures reads { (t : Reading) → Reads t self.new → Reads t self.old }
+        ensures grows { Grows self.old self.new }
+        ensures holds { IfOk result (λ n. Holds self.new (IsExpression n)) }
+    {
+        let number = self.forms.len();
+        self.forms.push(form)?;
+        Ok(number as u64)
+    }
+}
 
 /// Puts an expression into the store, and answers its number there.
 #[cycle(store)]

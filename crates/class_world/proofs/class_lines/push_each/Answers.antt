@@ -5,7 +5,7 @@ use Rattle.class_table.specs.Keys.{table_keys}
 use Rattle.reply_text.proofs.Members.{written_more}
 use Rattle.plain_machine.specs.ClassText.{heap_text}
 use Rattle.class_world.proofs.ClassText.{text-next, all-taken}
-use Rattle.class_world.proofs.classes.push_each.Goals as goal
+use Rattle.class_world.proofs.class_lines.push_each.Goals as goal
 
 pub loop-place-preserved : goal.loop-place-preserved
 loop-place-preserved c =

@@ -6,7 +6,7 @@ use Rattle.class_table.proofs.Along.{held-at}
 use Rattle.plain_machine.specs.World.{or_empty}
 use Rattle.plain_machine.specs.ClassText.{name_at}
 use Rattle.class_world.proofs.ClassText.{names-end}
-use Rattle.class_world.proofs.classes.push_members.Goals as goal
+use Rattle.class_world.proofs.class_lines.push_members.Goals as goal
 
 abbrev first : PyTypeRef
 first = record { 0 = 0 }

@@ -2,7 +2,7 @@ use Rattle.std.proofs.Common.{◌≡◌, take, map}
 use Rattle.py_node.specs.Tree.{tree_of, part_of, pair_of}
 use Rattle.class_world.specs.Reading.{Reading, Reads, plain}
 use Rattle.class_world.specs.Sound.{AreNames, AreExpressions, Holds, Grows}
-use Rattle.class_world.proofs.store.+store.Given as goal
+use Rattle.class_world.proofs.expressions.+store.Given as goal
 
 abbrev pub invariant-add_exprs-loop-expr : goal.invariant-add_exprs-loop-expr
 invariant-add_exprs-loop-expr l = record {
