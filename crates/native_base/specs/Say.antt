@@ -1,10 +1,12 @@
 -- What natives take that ask no task, and what they give.
 use Rattle.std.specs.Prelude.{ℕ, ℤ, cond, List, [], ◌∷◌, Option, Some, None, Result, Ok, Err, length, nat_le}
 use Rattle.py_node.specs.declared.refs.PyObjectRef.{PyObjectRef}
+use Rattle.py_node.specs.declared.built_in.BuiltIn.TheVariants.{Iterator}
 use Rattle.py_node.specs.declared.raised.Raised.{Raised as Fault}
 use Rattle.py_node.specs.declared.raised.Cause.TheVariants.{ArgCount, SelfType, IntRange, TooLong}
+use Rattle.py_node.specs.BuiltIns.{place_of}
 use Rattle.py_node.specs.Tree.{Text}
-use Rattle.plain_machine.specs.Plain.{Datum, ANumber, AText, PlainWorld, Bindings, Said, Ends}
+use Rattle.plain_machine.specs.Plain.{Datum, ANumber, AText, AnIterator, PlainWorld, Bindings, Said, Ends}
 use Rattle.plain_machine.specs.World.{datum_at, number_of, with_node, next_node}
 use Rattle.plain_machine.specs.Known.{the_int, the_str}
 use Rattle.plain_machine.specs.Row.{value, not_implemented, fits, most_items, fault}
@@ -31,6 +33,10 @@ int_made w (Ok z) = object_made w the_int (ANumber z)
 abbrev pub text_made : PlainWorld → Result Text Fault → Said
 text_made w (Err x) = Ends w (Err x)
 text_made w (Ok x) = object_made w the_str (AText x)
+
+-- ends with a new iterator over an object, whose first item is the next
+abbrev pub iterator_made : PlainWorld → PyObjectRef → Said
+iterator_made w o = object_made w (place_of Iterator) (AnIterator (record { object = o; place = Some 0 }))
 
 -- the number that an object must hold
 abbrev pub number_in : PlainWorld → Option ℤ → (ℤ → Said) → Said

@@ -4,12 +4,12 @@ ghost use Rattle.std.specs.Prelude.{◌≡◌, Ok, None, IfOk, string_bytes};
 ghost use Rattle.py_node.specs.BuiltIns.{place_of};
 ghost use Rattle.plain_machine.specs.Sound.{holds_as};
 ghost use Rattle.class_world.specs.Reading.{datum};
-ghost use Rattle.class_world.specs.Sound.{AllHold, class_in, home_of, of_payload};
+ghost use Rattle.class_world.specs.Sound.{AllHold, Holds, IsNode, class_in, home_of, of_payload};
 ghost use Rattle.class_world.specs.Rows.{EndsAs, LeavesEnd};
-ghost use Rattle.native_base.specs.Say.{int_made, text_made, object_made};
+ghost use Rattle.native_base.specs.Say.{int_made, iterator_made, text_made, object_made};
 
 use class_world::World;
-use py_node::{Answer, BuiltIn, OutOfMemory, Payload, Raised};
+use py_node::{Answer, BuiltIn, OutOfMemory, Payload, PyObjectRef, Raised, SequenceIterator};
 
 /// Ends with a new object of a built-in class.
 pub fn new_object(
@@ -64,4 +64,20 @@ pub fn new_word(world: &mut World, word: &str) -> Result<Result<Answer, Raised>,
 {
     let text = String::from_str(world.alloc(), word)?;
     new_text(world, text)
+}
+
+/// Ends with a new iterator over an object, whose first item is the next.
+pub fn new_iterator(
+    world: &mut World,
+    object: PyObjectRef,
+) -> Result<Result<Answer, Raised>, OutOfMemory>
+    requires { Holds world.old (IsNode object) }
+    ensures ends { IfOk result (λ r. EndsAs (λ t u. iterator_made u object) world.old world.new r) }
+    ensures safe { LeavesEnd world.old world.new result }
+{
+    let iterator = SequenceIterator {
+        object,
+        place: Some(0),
+    };
+    new_object(world, BuiltIn::Iterator, Payload::Iterator(iterator))
 }

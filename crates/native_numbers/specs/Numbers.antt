@@ -58,6 +58,11 @@ abbrev pub right_shifted : ℤ → ℤ → Result ℤ Fault
 right_shifted x (pos n) = Ok (int_shr x (min n 127))
 right_shifted x (negsuc n) = fault NegativeShift
 
+-- to the left by some places. By 128 places any number but 0 is past the range, and so it is by more
+abbrev pub left_shifted : ℤ → ℤ → Result ℤ Fault
+left_shifted x (pos n) = in_range (x *ℤ pos (2 ^ min n 128))
+left_shifted x (negsuc n) = fault NegativeShift
+
 -- the code's steps
 
 abbrev pub in_range_of : Option ℤ → Result ℤ Fault

@@ -24,7 +24,7 @@ use Rattle.plain_machine.specs.Known.{the_int, the_tuple}
 use Rattle.plain_machine.specs.Row.{value, truth, not_implemented, fault, not_yet}
 use Rattle.plain_machine.specs.Takes.{with_one, with_two, with_three}
 use Rattle.native_base.specs.Say.{int_made, text_made, numbers_of, with_lone_number, with_number_and, with_numbers}
-use Rattle.native_numbers.specs.Numbers.{is_zero, number_hash, negated, absolute, inverted, difference, product, quotient, remainder, power, right_shifted}
+use Rattle.native_numbers.specs.Numbers.{is_zero, number_hash, negated, absolute, inverted, difference, product, quotient, remainder, power, right_shifted, left_shifted}
 
 -- the natives of None and NotImplemented, which are for these two
 
@@ -122,11 +122,11 @@ arithmetic_by w arithmetic.RightFloorDivide x y = int_made w (quotient y x)
 abbrev pub arithmetic_say : PlainWorld → ArithmeticNative → List PyObjectRef → Bindings → Said
 arithmetic_say w n args kw = with_operands w n args kw (arithmetic_by w n)
 
--- natives on bits, as the numbers have them in 128 places, those below zero as the complement of two. Shifts to the left are not there yet
+-- natives on bits, as the numbers have them in 128 places, those below zero as the complement of two
 
 abbrev pub bits_by : BitNative → ℤ → ℤ → Result ℤ Fault
-bits_by bits.Lshift x y = not_yet
-bits_by bits.RightLshift x y = not_yet
+bits_by bits.Lshift x y = left_shifted x y
+bits_by bits.RightLshift x y = left_shifted y x
 bits_by bits.Rshift x y = right_shifted x y
 bits_by bits.RightRshift x y = right_shifted y x
 bits_by bits.And x y = Ok (int_bit_and w128 x y)

@@ -6,12 +6,12 @@ ghost use Rattle.class_world.specs.Sound.{AreNodes, Holds, IsNode};
 ghost use Rattle.class_world.specs.Rows.{EndsAs, LeavesEnd};
 ghost use Rattle.native_numbers.specs.Say.{bits_by, bits_of, bits_say, truth_by, truth_of};
 
-use crate::reckon::right_shifted;
+use crate::reckon::{left_shifted, right_shifted};
 use class_world::{Fixed, World};
 use class_world::takes::two;
 use native_base::give::new_int;
 use native_base::take::numbers_of;
-use py_node::{Answer, BitNative, Cause, OutOfMemory, PyObjectRef, PyStrInterned, Raised};
+use py_node::{Answer, BitNative, OutOfMemory, PyObjectRef, PyStrInterned, Raised};
 
 /// A native on the bits of two numbers, or on two truth values.
 pub fn bits_native(
@@ -85,7 +85,8 @@ fn bits_by(native: BitNative, x: i128, y: i128) -> Result<i128, Raised>
     ensures { result ≡ bits_by native x y }
 {
     match native {
-        BitNative::Lshift | BitNative::RightLshift => Err(Raised::new(Cause::NotYet)),
+        BitNative::Lshift => left_shifted(x, y),
+        BitNative::RightLshift => left_shifted(y, x),
         BitNative::Rshift => right_shifted(x, y),
         BitNative::RightRshift => right_shifted(y, x),
         BitNative::And | BitNative::BooleanAnd => Ok(x & y),

@@ -1,8 +1,8 @@
 //! What natives reckon with whole numbers.
 
-ghost use Rattle.std.specs.Prelude.{◌≡◌, ◌<◌, ◌≤◌, ◌^◌, ◌≤ℤ◌, ◌<ℤ◌, neg_ℤ, unsigned_abs, pos, SomeIff, FitsSigned};
+ghost use Rattle.std.specs.Prelude.{◌≡◌, ◌<◌, ◌≤◌, ◌^◌, ◌*ℤ◌, ◌≤ℤ◌, ◌<ℤ◌, neg_ℤ, unsigned_abs, pos, SomeIff, FitsSigned};
 ghost use Rattle.std.specs.Int.{IsNonZero, int_rem_euclid, w128};
-ghost use Rattle.native_numbers.specs.Numbers.{in_range_of, number_hash, negated, absolute, inverted, difference, product, floor_quotient, floor_remainder, quotient, remainder, counted, power, right_shifted};
+ghost use Rattle.native_numbers.specs.Numbers.{in_range_of, number_hash, negated, absolute, inverted, difference, product, floor_quotient, floor_remainder, quotient, remainder, counted, power, right_shifted, left_shifted};
 
 use py_node::{Cause, Raised};
 
@@ -102,6 +102,33 @@ pub fn right_shifted(x: i128, y: i128) -> Result<i128, Raised>
     }
     let places = if y < 127 { y as u32 } else { 127 };
     Ok(x >> places)
+}
+
+/// The first number to the left by as many places as the second says.
+pub fn left_shifted(x: i128, y: i128) -> Result<i128, Raised>
+    ensures { result ≡ left_shifted x y }
+{
+    if y < 0 {
+        return Err(Raised::new(Cause::NegativeShift));
+    }
+    let places = if y < 128 { y as u32 } else { 128 };
+    in_range(shifted(x, places))
+}
+
+// A number to the left by at most 128 places, where it is in range.
+fn shifted(x: i128, places: u32) -> Option<i128>
+    requires { places ≤ 128 }
+    ensures { SomeIff result (FitsSigned w128 (x *ℤ pos (2 ^ places))) (x *ℤ pos (2 ^ places)) }
+{
+    if places < 127 {
+        x.checked_mul(2i128.pow(places))
+    } else if x == 0 {
+        Some(0)
+    } else if x == -1 && places == 127 {
+        Some(i128::MIN)
+    } else {
+        None
+    }
 }
 
 // A number that came out in range, or else the fault that it did not.
