@@ -3,7 +3,7 @@ use Rattle.std.specs.Prelude.{ℕ, cond, List, [], Result}
 use Rattle.py_node.specs.declared.refs.PyObjectRef.{PyObjectRef}
 use Rattle.py_node.specs.declared.built_in.BuiltIn.TheVariants.{Int, Str}
 use Rattle.py_node.specs.declared.entry.NativeEntry.{NativeEntry}
-use Rattle.py_node.specs.declared.entry.NativeEntry.TheVariants.{OfFixed, OfNumber, OfArithmetic, OfBits, OfStr, Compare, NewWrapper}
+use Rattle.py_node.specs.declared.entry.NativeEntry.TheVariants.{OfFixed, OfNumber, OfArithmetic, OfBits, OfStr, Compare, NewWrapper, OfTuple, OfList, OfDict, OfIterator}
 use Rattle.py_node.specs.declared.raised.Raised.{Raised as Fault}
 use Rattle.py_node.specs.declared.task.Answer.{Answer}
 use Rattle.py_node.specs.declared.task.Task.{Task}
@@ -29,6 +29,7 @@ use Rattle.class_make.specs.Say.{class_job_say}
 use Rattle.class_make.specs.Rows.{class_stands, of_class_kept}
 use Rattle.proto_ops.specs.Say.{operator_say}
 use Rattle.proto_ops.specs.Rows.{operator_stands, of_operator_kept}
+use Rattle.native_containers.specs.Say.{tuple_say, list_say, dict_say, iterator_say}
 use Rattle.native_numbers.specs.Say.{fixed_say, number_say, arithmetic_say, bits_say, compare_say}
 use Rattle.native_calls.specs.Say.{asks, asking_say}
 use Rattle.native_texts.specs.Say.{text_say, compare_text_say}
@@ -42,6 +43,10 @@ native_by w (OfNumber n) args kw = number_say w n args kw
 native_by w (OfArithmetic n) args kw = arithmetic_say w n args kw
 native_by w (OfBits n) args kw = bits_say w n args kw
 native_by w (OfStr n) args kw = text_say w n args kw
+native_by w (OfTuple n) args kw = tuple_say w n args kw
+native_by w (OfList n) args kw = list_say w n args kw
+native_by w (OfDict n) args kw = dict_say w n args kw
+native_by w (OfIterator n) args kw = iterator_say w n args kw
 native_by w (Compare Int n) args kw = compare_say w n args kw
 native_by w (Compare Str n) args kw = compare_text_say w n args kw
 native_by w _ args kw = Ends w not_yet

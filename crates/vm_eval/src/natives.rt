@@ -3,7 +3,7 @@
 ghost use Rattle.std.specs.Prelude.{◌≡◌, IfOk};
 ghost use Rattle.class_world.specs.Claims.{of_args, of_ended, of_step, left_open, LeavesOpen};
 ghost use Rattle.class_world.specs.Reading.{Reading, bindings};
-ghost use Rattle.class_world.specs.Sound.{AllHold, AreNodes, Holds};
+ghost use Rattle.class_world.specs.Sound.{AllHold};
 ghost use Rattle.class_world.specs.Rows.{EndsAs, LeavesEnd};
 ghost use Rattle.native_calls.specs.Asks.{nothing_held};
 ghost use Rattle.py_node.specs.declared.task.Task.TheVariants as task;
@@ -12,6 +12,8 @@ ghost use Rattle.vm_eval.specs.Say.{Begins, Resumes, asked_among, native_by, of_
 use crate::stack::Kept;
 use class_world::{Fixed, World};
 use native_calls::{asking_native, asks};
+use class_world::World;
+use native_containers::{dict_native, iterator_native, list_native, tuple_native};
 use native_numbers::{arithmetic_native, bits_native, compare_native, fixed_native, number_native};
 use native_texts::{compare_text, text_native};
 use py_node::task::{Args, Keywords};
@@ -71,7 +73,7 @@ fn native(
     args: &[PyObjectRef],
     kw: &[(PyStrInterned, PyObjectRef)],
 ) -> Result<Result<Answer, Raised>, OutOfMemory>
-    requires { Holds world.old (AreNodes args.now) }
+    requires { AllHold world.old (of_args args.now kw.now) }
     ensures ends { IfOk result (λ r. EndsAs (λ t u. native_by u entry args.now (bindings t kw.now))
         world.old world.new r) }
     ensures safe { LeavesEnd world.old world.new result }
@@ -84,6 +86,10 @@ fn native(
         NativeEntry::OfStr(native) => text_native(world, native, args, kw),
         NativeEntry::Compare(BuiltIn::Int, native) => Ok(compare_native(world, native, args, kw)),
         NativeEntry::Compare(BuiltIn::Str, native) => Ok(compare_text(world, native, args, kw)),
+        NativeEntry::OfTuple(native) => tuple_native(world, native, args, kw),
+        NativeEntry::OfList(native) => list_native(world, native, args, kw),
+        NativeEntry::OfDict(native) => dict_native(world, native, args, kw),
+        NativeEntry::OfIterator(native) => Ok(iterator_native(world, native, args, kw)),
         _ => Ok(Err(Raised::new(Cause::NotYet))),
     }
 }

@@ -1,0 +1,5 @@
+pub mod Payloads
+pub mod Loops
+pub mod Ends
+pub mod Under
+pub mod Changed

@@ -1,0 +1,330 @@
+//! The natives of dicts.
+
+ghost use Rattle.std.specs.Prelude.{◌≡◌, is_some, None, IfOk};
+ghost use Rattle.py_node.specs.declared.built_in.BuiltIn.TheVariants.{Dict};
+ghost use Rattle.py_node.specs.declared.raised.Cause.TheVariants.{MissingKey};
+ghost use Rattle.plain_machine.specs.Dicts.{with_entry};
+ghost use Rattle.plain_machine.specs.Plain.{Ends};
+ghost use Rattle.plain_machine.specs.Row.{fault, truth, value};
+ghost use Rattle.class_world.specs.Claims.{of_args, of_ended};
+ghost use Rattle.class_world.specs.Reading.{Reading, bindings};
+ghost use Rattle.class_world.specs.Sound.{AllHold, AreNodes, Holding, Holds, IsNode};
+ghost use Rattle.class_world.specs.Rows.{EndsAs, LeavesEnd};
+ghost use Rattle.native_containers.specs.Say.{counted, dict_changed, dict_say, dict_updated, ends_none, given_or, key_taken, keys_of, list_iterated, list_made, pairs_made, value_under, values_of};
+ghost use Rattle.native_containers.specs.Take.{entries_at, with_default, with_dict_and_key, with_key, with_lone, with_own, with_own_and, with_own_and_two};
+ghost use Rattle.native_containers.specs.declared.take.Kind.TheVariants as kind;
+
+use crate::entries::{copy_entries, keys_of, values_of, with_entry};
+use crate::init::{init, update_from};
+use crate::keys::{place_like, value_under};
+use crate::made::{change_dict, ends_none, new_list};
+use crate::pairs::new_pairs;
+use crate::take::{
+    Kind, dict_and_key, entries, key_refusal, lone, own, own_and, own_and_two, with_default,
+};
+use class_world::World;
+use native_base::give::{new_int, new_iterator};
+use py_node::{
+    Answer, BuiltIn, Cause, DictNative, OutOfMemory, Payload, PyObjectRef, PyStrInterned, Raised,
+};
+
+/// A native of dicts.
+pub fn dict_native(
+    world: &mut World,
+    native: DictNative,
+    args: &[PyObjectRef],
+    kw: &[(PyStrInterned, PyObjectRef)],
+) -> Result<Result<Answer, Raised>, OutOfMemory>
+    requires { AllHold world.old (of_args args.now kw.now) }
+    ensures ends { IfOk result (λ r. EndsAs (λ t u. dict_say u native args.now (bindings t kw.now))
+        world.old world.new r) }
+    ensures safe { LeavesEnd world.old world.new result }
+{
+    match native {
+        DictNative::Init => init(world, args, kw),
+        DictNative::Repr => Ok(Err(Raised::new(Cause::NotYet))),
+        DictNative::Length => length(world, args, kw),
+        DictNative::GetItem => Ok(get_item(world, args, kw)),
+        DictNative::SetItem => set_item(world, args, kw),
+        DictNative::DelItem => del_item(world, args, kw),
+        DictNative::Contains => Ok(contains(world, args, kw)),
+        DictNative::Iter => iter(world, args, kw),
+        DictNative::Keys => keys(world, args, kw),
+        DictNative::Values => values(world, args, kw),
+        DictNative::Items => items(world, args, kw),
+        DictNative::Get => Ok(get(world, args, kw)),
+        DictNative::Update => update(world, args, kw),
+    }
+}
+
+// How many keys there are.
+fn length(
+    world: &mut World,
+    args: &[PyObjectRef],
+    kw: &[(PyStrInterned, PyObjectRef)],
+) -> Result<Result<Answer, Raised>, OutOfMemory>
+    requires { Holds world.old (AreNodes args.now) }
+    ensures ends { IfOk result (λ r. EndsAs (λ t u.
+        with_lone kind.Dict u args.now (bindings t kw.now) (λ d. counted u (entries_at u d)))
+        world.old world.new r) }
+    ensures safe { LeavesEnd world.old world.new result }
+{
+    match lone(world, Kind::Dict, args, kw) {
+        Err(raised) => Ok(Err(raised)),
+        Ok(dict) => {
+            let count = entries(world, dict).len();
+            new_int(world, Ok(count as i128))
+        }
+    }
+}
+
+// The value under a key, which must be there.
+fn get_item(
+    world: &World,
+    args: &[PyObjectRef],
+    kw: &[(PyStrInterned, PyObjectRef)],
+) -> Result<Answer, Raised>
+    requires { Holds world.now (AreNodes args.now) }
+    ensures ends { EndsAs (λ t u. with_dict_and_key u args.now (bindings t kw.now)
+        (λ d k. given_or u (value_under u d k) (fault MissingKey))) world.now world.now result }
+    ensures holds { AllHold world.now (of_ended result) }
+{
+    let (dict, key) = dict_and_key(world, args, kw)?;
+    match value_under(world, dict, key) {
+        Some(value) => Ok(Answer::Value(value)),
+        None => Err(Raised::new(Cause::MissingKey)),
+    }
+}
+
+// Sets the value under a key.
+fn set_item(
+    world: &mut World,
+    args: &[PyObjectRef],
+    kw: &[(PyStrInterned, PyObjectRef)],
+) -> Result<Result<Answer, Raised>, OutOfMemory>
+    requires { Holds world.old (AreNodes args.now) }
+    ensures ends { IfOk result (λ r. EndsAs (λ t u. with_own_and_two kind.Dict u args.now (bindings t kw.now)
+        (λ d k v. with_key u k (dict_changed u d (with_entry u (entries_at u d) (k, v)) ends_none)))
+        world.old world.new r) }
+    ensures safe { LeavesEnd world.old world.new result }
+{
+    match own_and_two(world, Kind::Dict, args, kw) {
+        Err(raised) => Ok(Err(raised)),
+        Ok((dict, key, value)) => put(world, dict, key, value),
+    }
+}
+
+// Sets the value under what must be a key.
+fn put(
+    world: &mut World,
+    dict: PyObjectRef,
+    key: PyObjectRef,
+    value: PyObjectRef,
+) -> Result<Result<Answer, Raised>, OutOfMemory>
+    requires dict { Holds world.old (IsNode dict) }
+    requires holding { Holds world.old (Holding dict Dict) }
+    requires key { Holds world.old (IsNode key) }
+    requires value { Holds world.old (IsNode value) }
+    ensures ends { IfOk result (λ r. EndsAs (λ t u.
+        with_key u key (dict_changed u dict (with_entry u (entries_at u dict) (key, value)) ends_none))
+        world.old world.new r) }
+    ensures safe { LeavesEnd world.old world.new result }
+{
+    if let Some(raised) = key_refusal(world, key) {
+        return Ok(Err(raised));
+    }
+    let entries = with_entry(world, entries(world, dict), key, value)?;
+    match change_dict(world, dict, entries) {
+        Err(raised) => Ok(Err(raised)),
+        Ok(()) => Ok(ends_none(world)),
+    }
+}
+
+// Takes a key out, which must be there.
+fn del_item(
+    world: &mut World,
+    args: &[PyObjectRef],
+    kw: &[(PyStrInterned, PyObjectRef)],
+) -> Result<Result<Answer, Raised>, OutOfMemory>
+    requires { Holds world.old (AreNodes args.now) }
+    ensures ends { IfOk result (λ r. EndsAs (λ t u. with_dict_and_key u args.now (bindings t kw.now)
+        (λ d k. key_taken u d k (value_under u d k))) world.old world.new r) }
+    ensures safe { LeavesEnd world.old world.new result }
+{
+    match dict_and_key(world, args, kw) {
+        Err(raised) => Ok(Err(raised)),
+        Ok((dict, key)) => take_key(world, dict, key),
+    }
+}
+
+// Takes a key out of a dict, with its value.
+fn take_key(
+    world: &mut World,
+    dict: PyObjectRef,
+    key: PyObjectRef,
+) -> Result<Result<Answer, Raised>, OutOfMemory>
+    requires dict { Holds world.old (IsNode dict) }
+    requires holding { Holds world.old (Holding dict Dict) }
+    requires key { Holds world.old (IsNode key) }
+    ensures ends { IfOk result (λ r. EndsAs (λ t u. key_taken u dict key (value_under u dict key))
+        world.old world.new r) }
+    ensures safe { LeavesEnd world.old world.new result }
+{
+    let all = entries(world, dict);
+    match place_like(world, all, key) {
+        None => Ok(Err(Raised::new(Cause::MissingKey))),
+        Some(place) => {
+            let mut rest = copy_entries(world.alloc(), all)?;
+            rest.remove(place);
+            world.set_payload(dict, Payload::Dict(rest));
+            Ok(ends_none(world))
+        }
+    }
+}
+
+// Whether a key is there.
+fn contains(
+    world: &World,
+    args: &[PyObjectRef],
+    kw: &[(PyStrInterned, PyObjectRef)],
+) -> Result<Answer, Raised>
+    requires { Holds world.now (AreNodes args.now) }
+    ensures ends { EndsAs (λ t u. with_dict_and_key u args.now (bindings t kw.now)
+        (λ d k. Ends u (value (truth (is_some (value_under u d k)))))) world.now world.now result }
+    ensures holds { AllHold world.now (of_ended result) }
+{
+    let (dict, key) = dict_and_key(world, args, kw)?;
+    let is_there = value_under(world, dict, key).is_some();
+    Ok(Answer::Value(world.truth(is_there)))
+}
+
+// A new iterator over a new list of the keys.
+fn iter(
+    world: &mut World,
+    args: &[PyObjectRef],
+    kw: &[(PyStrInterned, PyObjectRef)],
+) -> Result<Result<Answer, Raised>, OutOfMemory>
+    requires { Holds world.old (AreNodes args.now) }
+    ensures ends { IfOk result (λ r. EndsAs (λ t u.
+        with_lone kind.Dict u args.now (bindings t kw.now) (λ d. list_iterated u (keys_of (entries_at u d))))
+        world.old world.new r) }
+    ensures safe { LeavesEnd world.old world.new result }
+{
+    match lone(world, Kind::Dict, args, kw) {
+        Err(raised) => Ok(Err(raised)),
+        Ok(dict) => iterate_keys(world, dict),
+    }
+}
+
+// A new iterator over a new list of a dict's keys.
+#[tactic(auto, unfolding(py_node::specs::BuiltIns::place_of))]
+fn iterate_keys(world: &mut World, dict: PyObjectRef) -> Result<Result<Answer, Raised>, OutOfMemory>
+    requires { Holds world.old (IsNode dict) }
+    ensures ends { IfOk result (λ r. EndsAs (λ t u. list_iterated u (keys_of (entries_at u dict)))
+        world.old world.new r) }
+    ensures safe { LeavesEnd world.old world.new result }
+{
+    let keys = keys_of(world.alloc(), entries(world, dict))?;
+    let list = world.make_node(world.built_in(BuiltIn::List), Payload::List(keys))?;
+    new_iterator(world, list)
+}
+
+// A new list of the keys.
+fn keys(
+    world: &mut World,
+    args: &[PyObjectRef],
+    kw: &[(PyStrInterned, PyObjectRef)],
+) -> Result<Result<Answer, Raised>, OutOfMemory>
+    requires { Holds world.old (AreNodes args.now) }
+    ensures ends { IfOk result (λ r. EndsAs (λ t u.
+        with_lone kind.Dict u args.now (bindings t kw.now) (λ d. list_made u (keys_of (entries_at u d))))
+        world.old world.new r) }
+    ensures safe { LeavesEnd world.old world.new result }
+{
+    match lone(world, Kind::Dict, args, kw) {
+        Err(raised) => Ok(Err(raised)),
+        Ok(dict) => {
+            let keys = keys_of(world.alloc(), entries(world, dict))?;
+            new_list(world, keys)
+        }
+    }
+}
+
+// A new list of the values.
+fn values(
+    world: &mut World,
+    args: &[PyObjectRef],
+    kw: &[(PyStrInterned, PyObjectRef)],
+) -> Result<Result<Answer, Raised>, OutOfMemory>
+    requires { Holds world.old (AreNodes args.now) }
+    ensures ends { IfOk result (λ r. EndsAs (λ t u.
+        with_lone kind.Dict u args.now (bindings t kw.now) (λ d. list_made u (values_of (entries_at u d))))
+        world.old world.new r) }
+    ensures safe { LeavesEnd world.old world.new result }
+{
+    match lone(world, Kind::Dict, args, kw) {
+        Err(raised) => Ok(Err(raised)),
+        Ok(dict) => {
+            let values = values_of(world.alloc(), entries(world, dict))?;
+            new_list(world, values)
+        }
+    }
+}
+
+// A new list of new tuples, each of a key with its value.
+fn items(
+    world: &mut World,
+    args: &[PyObjectRef],
+    kw: &[(PyStrInterned, PyObjectRef)],
+) -> Result<Result<Answer, Raised>, OutOfMemory>
+    requires { Holds world.old (AreNodes args.now) }
+    ensures ends { IfOk result (λ r. EndsAs (λ t u.
+        with_lone kind.Dict u args.now (bindings t kw.now) (λ d. pairs_made u [] (entries_at u d)))
+        world.old world.new r) }
+    ensures safe { LeavesEnd world.old world.new result }
+{
+    match lone(world, Kind::Dict, args, kw) {
+        Err(raised) => Ok(Err(raised)),
+        Ok(dict) => new_pairs(world, dict),
+    }
+}
+
+// The value under a key, or else what is given for that, or None.
+fn get(
+    world: &World,
+    args: &[PyObjectRef],
+    kw: &[(PyStrInterned, PyObjectRef)],
+) -> Result<Answer, Raised>
+    requires { Holds world.now (AreNodes args.now) }
+    ensures ends { EndsAs (λ t u. with_own kind.Dict u args.now (λ d. with_default u args.now (bindings t kw.now)
+        (λ k v. with_key u k (given_or u (value_under u d k) (value v))))) world.now world.now result }
+    ensures holds { AllHold world.now (of_ended result) }
+{
+    let dict = own(world, Kind::Dict, args)?;
+    let (key, other) = with_default(world, args, kw)?;
+    if let Some(raised) = key_refusal(world, key) {
+        return Err(raised);
+    }
+    let value = value_under(world, dict, key);
+    Ok(Answer::Value(value.unwrap_or(other)))
+}
+
+// Sets each key of another dict, with its value there.
+fn update(
+    world: &mut World,
+    args: &[PyObjectRef],
+    kw: &[(PyStrInterned, PyObjectRef)],
+) -> Result<Result<Answer, Raised>, OutOfMemory>
+    requires { Holds world.old (AreNodes args.now) }
+    ensures ends { IfOk result (λ r. EndsAs (λ t u. with_own_and kind.Dict u args.now (bindings t kw.now)
+        (λ d o. dict_updated u d o ends_none)) world.old world.new r) }
+    ensures safe { LeavesEnd world.old world.new result }
+{
+    match own_and(world, Kind::Dict, args, kw) {
+        Err(raised) => Ok(Err(raised)),
+        Ok((dict, other)) => match update_from(world, dict, other)? {
+            Err(raised) => Ok(Err(raised)),
+            Ok(()) => Ok(ends_none(world)),
+        },
+    }
+}

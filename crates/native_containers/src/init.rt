@@ -1,0 +1,114 @@
+//! Dicts that get the entries of other dicts, and keywords.
+
+ghost use Rattle.std.specs.Prelude.{◌≡◌, Err, IfErr, IfOk};
+ghost use Rattle.py_node.specs.declared.built_in.BuiltIn.TheVariants.{Dict};
+ghost use Rattle.plain_machine.specs.Plain.{PlainWorld, Said, Ends};
+ghost use Rattle.class_world.specs.Claims.{of_args};
+ghost use Rattle.class_world.specs.Reading.{Reading, Reads, bindings, plain};
+ghost use Rattle.class_world.specs.Sound.{AllHold, Grows, Holding, Holds, IsName, IsNode, of_binding, of_each};
+ghost use Rattle.class_world.specs.Rows.{EndsAs, LeavesEnd};
+ghost use Rattle.native_containers.specs.Say.{dict_filled, dict_updated, has_place, names_set};
+ghost use Rattle.native_containers.specs.Take.{with_own};
+ghost use Rattle.native_containers.specs.declared.take.Kind.TheVariants as kind;
+
+use crate::entries::with_entries;
+use crate::made::{change_dict, ends_none};
+use crate::take::{Kind, entries, kind_refusal, own};
+use class_world::World;
+use class_world::limits::MOST_ITEMS;
+use py_node::{Answer, Cause, OutOfMemory, PyObjectRef, PyStrInterned, Raised};
+
+/// Sets the entries of another dict, if there is one, and then keywords, in a dict.
+pub(crate) fn init(
+    world: &mut World,
+    args: &[PyObjectRef],
+    kw: &[(PyStrInterned, PyObjectRef)],
+) -> Result<Result<Answer, Raised>, OutOfMemory>
+    requires { AllHold world.old (of_args args.now kw.now) }
+    ensures ends { IfOk result (λ r. EndsAs (λ t u.
+        with_own kind.Dict u args.now (λ d. dict_filled u d args.now (bindings t kw.now)))
+        world.old world.new r) }
+    ensures safe { LeavesEnd world.old world.new result }
+{
+    match own(world, Kind::Dict, args) {
+        Err(raised) => Ok(Err(raised)),
+        Ok(dict) => fill(world, dict, args, kw),
+    }
+}
+
+// Sets what the arguments after a dict and the keywords say.
+fn fill(
+    world: &mut World,
+    dict: PyObjectRef,
+    args: &[PyObjectRef],
+    kw: &[(PyStrInterned, PyObjectRef)],
+) -> Result<Result<Answer, Raised>, OutOfMemory>
+    requires dict { Holds world.old (IsNode dict) }
+    requires holding { Holds world.old (Holding dict Dict) }
+    requires args { AllHold world.old (of_args args.now kw.now) }
+    ensures ends { IfOk result (λ r. EndsAs (λ t u. dict_filled u dict args.now (bindings t kw.now))
+        world.old world.new r) }
+    ensures safe { LeavesEnd world.old world.new result }
+{
+    match args {
+        [_] => set_names(world, dict, kw),
+        [_, other] => match update_from(world, dict, *other)? {
+            Err(raised) => Ok(Err(raised)),
+            Ok(()) => set_names(world, dict, kw),
+        },
+        _ => Ok(Err(Raised::new(Cause::ArgCount))),
+    }
+}
+
+/// Sets each key of another dict, with its value there, in a dict.
+pub(crate) fn update_from(
+    world: &mut World,
+    dict: PyObjectRef,
+    other: PyObjectRef,
+) -> Result<Result<(), Raised>, OutOfMemory>
+    requires dict { Holds world.old (IsNode dict) }
+    requires holding { Holds world.old (Holding dict Dict) }
+    requires other { Holds world.old (IsNode other) }
+    ensures updated { IfOk result (λ r. IfOk r (λ u. (t : Reading) (go : PlainWorld → Said) →
+        dict_updated (plain t world.old) dict other go ≡ go (plain t world.new))) }
+    ensures refused { IfOk result (λ r. IfErr r (λ x. (t : Reading) (go : PlainWorld → Said) →
+        dict_updated (plain t world.old) dict other go ≡ Ends (plain t world.new) (Err x))) }
+    ensures reads { (t : Reading) → Reads t world.new → Reads t world.old }
+    ensures grows { Grows world.old world.new }
+{
+    if let Some(raised) = kind_refusal(world, Kind::Dict, other) {
+        return Ok(Err(raised));
+    }
+    let entries = with_entries(world, entries(world, dict), entries(world, other))?;
+    Ok(change_dict(world, dict, entries))
+}
+
+// Sets each keyword in a dict, as far as there is room.
+fn set_names(
+    world: &mut World,
+    dict: PyObjectRef,
+    kw: &[(PyStrInterned, PyObjectRef)],
+) -> Result<Result<Answer, Raised>, OutOfMemory>
+    requires dict { Holds world.old (IsNode dict) }
+    requires holding { Holds world.old (Holding dict Dict) }
+    requires kw { AllHold world.old (of_each of_binding kw.now) }
+    ensures ends { IfOk result (λ r. EndsAs (λ t u. names_set u dict (bindings t kw.now)) world.old world.new r) }
+    ensures safe { LeavesEnd world.old world.new result }
+{
+    for keyword in kw {
+        if !has_place(world, dict, keyword.0) {
+            return Ok(Err(Raised::new(Cause::TooLong)));
+        }
+        world.set_value_in(dict, keyword.0, keyword.1)?;
+    }
+    Ok(ends_none(world))
+}
+
+// Whether a dict has a name as a key, or room for it.
+fn has_place(world: &World, dict: PyObjectRef, name: PyStrInterned) -> bool
+    requires dict { Holds world.now (IsNode dict) }
+    requires name { Holds world.now (IsName name) }
+    ensures { (t : Reading) → Reads t world.now → has_place (plain t world.now) dict (t.text name.0) ≡ result }
+{
+    world.value_in(dict, name).is_some() || entries(world, dict).len() < MOST_ITEMS
+}

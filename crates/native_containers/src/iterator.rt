@@ -1,0 +1,32 @@
+//! The natives of iterators.
+
+ghost use Rattle.std.specs.Prelude.{◌≡◌};
+ghost use Rattle.class_world.specs.Claims.{of_ended};
+ghost use Rattle.class_world.specs.Reading.{Reading, bindings};
+ghost use Rattle.class_world.specs.Sound.{AllHold, AreNodes, Holds};
+ghost use Rattle.class_world.specs.Rows.{EndsAs};
+ghost use Rattle.native_containers.specs.Say.{iterator_say};
+
+use crate::take::{Kind, lone};
+use class_world::World;
+use py_node::{Answer, Cause, IteratorNative, PyObjectRef, PyStrInterned, Raised};
+
+/// A native of iterators.
+pub fn iterator_native(
+    world: &World,
+    native: IteratorNative,
+    args: &[PyObjectRef],
+    kw: &[(PyStrInterned, PyObjectRef)],
+) -> Result<Answer, Raised>
+    requires { Holds world.now (AreNodes args.now) }
+    ensures ends { EndsAs (λ t u. iterator_say u native args.now (bindings t kw.now)) world.now world.now result }
+    ensures holds { AllHold world.now (of_ended result) }
+{
+    match native {
+        IteratorNative::Iter => {
+            let iterator = lone(world, Kind::Iterator, args, kw)?;
+            Ok(Answer::Value(iterator))
+        }
+        IteratorNative::Next => Err(Raised::new(Cause::NotYet)),
+    }
+}

@@ -1,0 +1,19 @@
+//! The natives of tuples, lists, dicts and iterators that ask no task.
+#![tactic(auto, using(class_world::proofs::Items::item_holds))]
+
+mod dict;
+mod entries;
+mod init;
+mod iterator;
+mod keys;
+mod list;
+mod made;
+mod pairs;
+mod sequence;
+mod take;
+mod tuple;
+
+pub use dict::dict_native;
+pub use iterator::iterator_native;
+pub use list::list_native;
+pub use tuple::tuple_native;

@@ -1,0 +1,101 @@
+//! What tuples and lists do alike.
+
+ghost use Rattle.std.specs.Prelude.{◌≡◌, ◌++◌, Err, IfErr, IfOk, List};
+ghost use Rattle.plain_machine.specs.Plain.{Said, Ends};
+ghost use Rattle.py_node.specs.declared.refs.PyObjectRef.{PyObjectRef as Object};
+ghost use Rattle.class_world.specs.Reading.{Reading, bindings, plain};
+ghost use Rattle.class_world.specs.Sound.{AreNodes, Holds};
+ghost use Rattle.class_world.specs.Rows.{EndsAs, LeavesEnd};
+ghost use Rattle.native_base.specs.Say.{iterator_made};
+ghost use Rattle.native_containers.specs.Say.{counted, with_joined};
+ghost use Rattle.native_containers.specs.Take.{items_at, with_lone};
+
+use crate::take::{Kind, is_of, items, lone, own_and};
+use class_world::World;
+use class_world::limits::is_within_limit;
+use native_base::give::{new_int, new_iterator};
+use py_node::task::Args;
+use py_node::{Answer, Cause, OutOfMemory, PyObjectRef, PyStrInterned, Raised};
+use std::alloc::Global;
+
+/// How many items a tuple or a list has.
+pub(crate) fn length(
+    world: &mut World,
+    kind: Kind,
+    args: &[PyObjectRef],
+    kw: &[(PyStrInterned, PyObjectRef)],
+) -> Result<Result<Answer, Raised>, OutOfMemory>
+    requires { Holds world.old (AreNodes args.now) }
+    ensures ends { IfOk result (λ r. EndsAs (λ t u.
+        with_lone kind u args.now (bindings t kw.now) (λ o. counted u (items_at u o))) world.old world.new r) }
+    ensures safe { LeavesEnd world.old world.new result }
+{
+    match lone(world, kind, args, kw) {
+        Err(raised) => Ok(Err(raised)),
+        Ok(object) => {
+            let count = items(world, object).len();
+            new_int(world, Ok(count as i128))
+        }
+    }
+}
+
+/// A new iterator over a tuple or a list.
+pub(crate) fn iter(
+    world: &mut World,
+    kind: Kind,
+    args: &[PyObjectRef],
+    kw: &[(PyStrInterned, PyObjectRef)],
+) -> Result<Result<Answer, Raised>, OutOfMemory>
+    requires { Holds world.old (AreNodes args.now) }
+    ensures ends { IfOk result (λ r. EndsAs (λ t u.
+        with_lone kind u args.now (bindings t kw.now) (iterator_made u)) world.old world.new r) }
+    ensures safe { LeavesEnd world.old world.new result }
+{
+    match lone(world, kind, args, kw) {
+        Err(raised) => Ok(Err(raised)),
+        Ok(object) => new_iterator(world, object),
+    }
+}
+
+/// The items of two objects of a kind after one another, or why there are none.
+pub(crate) fn joined(
+    world: &World,
+    kind: Kind,
+    args: &[PyObjectRef],
+    kw: &[(PyStrInterned, PyObjectRef)],
+) -> Result<Result<Args, Raised>, OutOfMemory>
+    requires { Holds world.now (AreNodes args.now) }
+    ensures given { IfOk result (λ r. IfOk r (λ rs. (t : Reading) (go : List Object → Said) →
+        with_joined kind (plain t world.now) args.now (bindings t kw.now) go ≡ go rs.items)) }
+    ensures refused { IfOk result (λ r. IfErr r (λ x. (t : Reading) (go : List Object → Said) →
+        with_joined kind (plain t world.now) args.now (bindings t kw.now) go ≡ Ends (plain t world.now) (Err x))) }
+    ensures holds { IfOk result (λ r. IfOk r (λ rs. Holds world.now (AreNodes rs.items))) }
+{
+    let (first, second) = match own_and(world, kind, args, kw) {
+        Err(raised) => return Ok(Err(raised)),
+        Ok(pair) => pair,
+    };
+    if !is_of(world, kind, second) {
+        return Ok(Err(Raised::new(Cause::ConcatType)));
+    }
+    let all = in_one(world.alloc(), items(world, first), items(world, second))?;
+    if is_within_limit(all.len()) {
+        Ok(Ok(all))
+    } else {
+        Ok(Err(Raised::new(Cause::TooLong)))
+    }
+}
+
+/// Items with others after them.
+pub(crate) fn in_one(
+    alloc: Global,
+    items: &[PyObjectRef],
+    more: &[PyObjectRef],
+) -> Result<Args, OutOfMemory>
+    ensures { IfOk result (λ rs. rs.items ≡ items.now ++ more.now) }
+{
+    let mut all = Vec::new(alloc);
+    all.extend_from_slice(items)?;
+    all.extend_from_slice(more)?;
+    Ok(all)
+}

@@ -1,0 +1,51 @@
+//! The natives of tuples.
+
+ghost use Rattle.std.specs.Prelude.{◌≡◌, IfOk};
+ghost use Rattle.class_world.specs.Reading.{Reading, bindings};
+ghost use Rattle.class_world.specs.Sound.{AreNodes, Holds};
+ghost use Rattle.class_world.specs.Rows.{EndsAs, LeavesEnd};
+ghost use Rattle.native_containers.specs.Say.{tuple_made, tuple_say, with_joined};
+ghost use Rattle.native_containers.specs.declared.take.Kind.TheVariants as kind;
+
+use crate::made::new_tuple;
+use crate::sequence::{iter, joined, length};
+use crate::take::Kind;
+use class_world::World;
+use py_node::{Answer, Cause, OutOfMemory, PyObjectRef, PyStrInterned, Raised, TupleNative};
+
+/// A native of tuples.
+pub fn tuple_native(
+    world: &mut World,
+    native: TupleNative,
+    args: &[PyObjectRef],
+    kw: &[(PyStrInterned, PyObjectRef)],
+) -> Result<Result<Answer, Raised>, OutOfMemory>
+    requires { Holds world.old (AreNodes args.now) }
+    ensures ends { IfOk result (λ r. EndsAs (λ t u. tuple_say u native args.now (bindings t kw.now))
+        world.old world.new r) }
+    ensures safe { LeavesEnd world.old world.new result }
+{
+    match native {
+        TupleNative::Length => length(world, Kind::Tuple, args, kw),
+        TupleNative::Iter => iter(world, Kind::Tuple, args, kw),
+        TupleNative::Add => add(world, args, kw),
+        _ => Ok(Err(Raised::new(Cause::NotYet))),
+    }
+}
+
+// Two tuples after one another, as a new one.
+fn add(
+    world: &mut World,
+    args: &[PyObjectRef],
+    kw: &[(PyStrInterned, PyObjectRef)],
+) -> Result<Result<Answer, Raised>, OutOfMemory>
+    requires { Holds world.old (AreNodes args.now) }
+    ensures ends { IfOk result (λ r. EndsAs (λ t u.
+        with_joined kind.Tuple u args.now (bindings t kw.now) (tuple_made u)) world.old world.new r) }
+    ensures safe { LeavesEnd world.old world.new result }
+{
+    match joined(world, Kind::Tuple, args, kw)? {
+        Err(raised) => Ok(Err(raised)),
+        Ok(items) => new_tuple(world, items),
+    }
+}
