@@ -3,7 +3,7 @@ use Rattle.std.specs.Prelude.{ℕ, List, Result}
 use Rattle.py_node.specs.declared.refs.PyObjectRef.{PyObjectRef}
 use Rattle.py_node.specs.declared.built_in.BuiltIn.TheVariants.{Int}
 use Rattle.py_node.specs.declared.entry.NativeEntry.{NativeEntry}
-use Rattle.py_node.specs.declared.entry.NativeEntry.TheVariants.{OfFixed, OfNumber, OfArithmetic, OfBits, Compare}
+use Rattle.py_node.specs.declared.entry.NativeEntry.TheVariants.{OfFixed, OfNumber, OfArithmetic, OfBits, OfCallable, OfDescriptor, OfProperty, OfWrapper, OfSuper, Compare, NewOf}
 use Rattle.py_node.specs.declared.raised.Raised.{Raised as Fault}
 use Rattle.py_node.specs.declared.task.Answer.{Answer}
 use Rattle.py_node.specs.declared.task.Task.{Task}
@@ -29,6 +29,8 @@ use Rattle.class_make.specs.Rows.{class_stands, of_class_kept}
 use Rattle.proto_ops.specs.Say.{operator_say}
 use Rattle.proto_ops.specs.Rows.{operator_stands, of_operator_kept}
 use Rattle.native_numbers.specs.Say.{fixed_say, number_say, arithmetic_say, bits_say, compare_say}
+use Rattle.native_objects.specs.Descriptors.{callable_say, descriptor_native_say, property_say, wrapper_say, super_say}
+use Rattle.native_objects.specs.Makers.{maker_say}
 use Rattle.vm_eval.specs.declared.stack.Kept.{Kept}
 use Rattle.vm_eval.specs.declared.stack.Kept.TheVariants.{ForEval, ForAttribute, ForDescriptor, ForCall, ForClass, ForOperator}
 
@@ -39,6 +41,12 @@ native_by w (OfNumber n) args kw = number_say w n args kw
 native_by w (OfArithmetic n) args kw = arithmetic_say w n args kw
 native_by w (OfBits n) args kw = bits_say w n args kw
 native_by w (Compare Int n) args kw = compare_say w n args kw
+native_by w (OfCallable n) args kw = callable_say w n args kw
+native_by w (OfDescriptor n) args kw = descriptor_native_say w n args kw
+native_by w (OfProperty n) args kw = property_say w n args kw
+native_by w (OfWrapper n) args kw = wrapper_say w n args kw
+native_by w (OfSuper n) args kw = super_say w n args kw
+native_by w (NewOf b) args kw = maker_say w b args
 native_by w _ args kw = Ends w not_yet
 
 abbrev pub native_say : PlainWorld → NativeEntry → List PyObjectRef → Bindings → Row

@@ -3,7 +3,7 @@
 ghost use Rattle.std.specs.Prelude.{◌≡◌, IfOk};
 ghost use Rattle.class_world.specs.Claims.{of_args, LeavesOpen};
 ghost use Rattle.class_world.specs.Reading.{Reading, bindings};
-ghost use Rattle.class_world.specs.Sound.{AllHold, AreNodes, Holds};
+ghost use Rattle.class_world.specs.Sound.{AllHold, AreNodes, Holds, of_binding, of_each};
 ghost use Rattle.class_world.specs.Rows.{EndsAs, LeavesEnd};
 ghost use Rattle.py_node.specs.declared.task.Task.TheVariants as task;
 ghost use Rattle.vm_eval.specs.Say.{Begins, native_by, of_kept, bodies_in};
@@ -11,6 +11,9 @@ ghost use Rattle.vm_eval.specs.Say.{Begins, native_by, of_kept, bodies_in};
 use crate::stack::Kept;
 use class_world::World;
 use native_numbers::{arithmetic_native, bits_native, compare_native, fixed_native, number_native};
+use native_objects::{
+    callable_native, descriptor_native, maker_native, property_native, super_native, wrapper_native,
+};
 use py_node::task::{Args, Keywords};
 use py_node::{
     Answer, BuiltIn, Cause, NativeEntry, OutOfMemory, PyObjectRef, PyStrInterned, Raised, Step,
@@ -38,7 +41,8 @@ fn native(
     args: &[PyObjectRef],
     kw: &[(PyStrInterned, PyObjectRef)],
 ) -> Result<Result<Answer, Raised>, OutOfMemory>
-    requires { Holds world.old (AreNodes args.now) }
+    requires args { Holds world.old (AreNodes args.now) }
+    requires kw { AllHold world.old (of_each of_binding kw.now) }
     ensures ends { IfOk result (λ r. EndsAs (λ t u. native_by u entry args.now (bindings t kw.now))
         world.old world.new r) }
     ensures safe { LeavesEnd world.old world.new result }
@@ -49,6 +53,12 @@ fn native(
         NativeEntry::OfArithmetic(native) => arithmetic_native(world, native, args, kw),
         NativeEntry::OfBits(native) => bits_native(world, native, args, kw),
         NativeEntry::Compare(BuiltIn::Int, native) => Ok(compare_native(world, native, args, kw)),
+        NativeEntry::OfCallable(native) => callable_native(world, native, args, kw),
+        NativeEntry::OfDescriptor(native) => descriptor_native(world, native, args, kw),
+        NativeEntry::OfProperty(native) => property_native(world, native, args, kw),
+        NativeEntry::OfWrapper(native) => wrapper_native(world, native, args, kw),
+        NativeEntry::OfSuper(native) => super_native(world, native, args, kw),
+        NativeEntry::NewOf(class) => maker_native(world, class, args),
         _ => Ok(Err(Raised::new(Cause::NotYet))),
     }
 }
