@@ -1,17 +1,15 @@
 -- The natives of `object` and of `type` that ask no task.
-use Rattle.std.specs.Prelude.{ℕ, pos, true, cond, eqb, length, nat_le, List, [], ◌∷◌, ◌++◌, map, Option, Some, None, Ok}
+use Rattle.std.specs.Prelude.{ℕ, pos, true, cond, eqb, length, nat_le, List, [], ◌∷◌, map, Option, Some, None, Ok}
 use Rattle.py_node.specs.declared.refs.PyObjectRef.{PyObjectRef}
 use Rattle.py_node.specs.declared.raised.Cause.TheVariants.{ArgCount}
 use Rattle.py_node.specs.declared.entry.ObjectNative.{ObjectNative}
 use Rattle.py_node.specs.declared.entry.ObjectNative.TheVariants as object
 use Rattle.py_node.specs.declared.entry.TypeNative.{TypeNative}
 use Rattle.py_node.specs.declared.entry.TypeNative.TheVariants as type
-use Rattle.py_node.specs.Tree.{Text}
 use Rattle.class_model.specs.Class.{is_sub, lin, subclasses}
-use Rattle.class_model.specs.Collect.{all_attributes}
-use Rattle.plain_machine.specs.Plain.{AList, ADict, AText, PlainWorld, Bindings, Said, Ends}
-use Rattle.plain_machine.specs.World.{class_at, datum_at, is_text, ref, with_node, next_node}
-use Rattle.plain_machine.specs.Known.{the_str, the_list, the_dict}
+use Rattle.plain_machine.specs.Plain.{AList, ADict, PlainWorld, Bindings, Said, Ends}
+use Rattle.plain_machine.specs.World.{class_at, datum_at, ref}
+use Rattle.plain_machine.specs.Known.{the_list, the_dict}
 use Rattle.plain_machine.specs.Objects.{class_number, is_instance}
 use Rattle.plain_machine.specs.Row.{value, truth, not_implemented, fault, not_yet}
 use Rattle.plain_machine.specs.Takes.{with_one, with_two}
@@ -64,22 +62,6 @@ object_native_say w _ args kw = Ends w not_yet
 
 -- the natives of `type`
 
--- new texts, one after another, after some objects
-abbrev pub texts_after : List PyObjectRef → PlainWorld → List Text → PlainWorld × List PyObjectRef
-texts_after rs w [] = (w, rs)
-texts_after rs w (x ∷ xs) = texts_after (rs ++ next_node w the_str ∷ []) (with_node w the_str (AText x)) xs
-
-abbrev pub list_after : PlainWorld × List PyObjectRef → Said
-list_after p = object_made p.0 the_list (AList p.1)
-
--- a new list of new texts
-abbrev pub names_made : PlainWorld → List Text → Said
-names_made w xs = list_after (texts_after [] w xs)
-
-abbrev pub names_of : Option (List (Text × PyObjectRef)) → List Text
-names_of None = []
-names_of (Some attrs) = map (λ a. a.0) attrs
-
 abbrev pub or_nothing : Option (List ℕ) → List ℕ
 or_nothing None = []
 or_nothing (Some cs) = cs
@@ -104,10 +86,6 @@ abbrev pub subclass_check : PlainWorld → List PyObjectRef → Bindings → Sai
 subclass_check w args kw =
     with_class_and w args kw (λ c o. needed w (class_number (datum_at w o)) (λ d. Ends w (value (truth (is_sub w.classes d c)))))
 
--- the names that the class and those along its linearisation have
-abbrev pub type_dir : PlainWorld → List PyObjectRef → Bindings → Said
-type_dir w args kw = with_lone_class w args kw (λ c. names_made w (names_of (all_attributes is_text w.classes c)))
-
 abbrev pub type_subclasses : PlainWorld → List PyObjectRef → Bindings → Said
 type_subclasses w args kw = with_lone_class w args kw (λ c. classes_made w (subclasses w.classes c))
 
@@ -124,7 +102,6 @@ abbrev pub type_native_say : PlainWorld → TypeNative → List PyObjectRef → 
 type_native_say w type.Repr args kw = type_repr w args kw
 type_native_say w type.InstanceCheck args kw = instance_check w args kw
 type_native_say w type.SubclassCheck args kw = subclass_check w args kw
-type_native_say w type.Dir args kw = type_dir w args kw
 type_native_say w type.Subclasses args kw = type_subclasses w args kw
 type_native_say w type.Mro args kw = type_mro w args kw
 type_native_say w type.Prepare args kw = type_prepare w args

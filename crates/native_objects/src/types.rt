@@ -5,9 +5,9 @@ ghost use Rattle.class_world.specs.Claims.{of_ended};
 ghost use Rattle.class_world.specs.Reading.{Reading, bindings};
 ghost use Rattle.class_world.specs.Rows.{EndsAs, LeavesEnd};
 ghost use Rattle.class_world.specs.Sound.{AllHold, AreNodes, Holds};
-ghost use Rattle.native_objects.specs.Objects.{type_native_say, type_repr, instance_check, subclass_check, type_dir, type_subclasses, type_mro, type_prepare, type_subclass_hook};
+ghost use Rattle.native_objects.specs.Objects.{type_native_say, type_repr, instance_check, subclass_check, type_subclasses, type_mro, type_prepare, type_subclass_hook};
 
-use crate::lists::{class_nodes, names_list};
+use crate::lists::class_nodes;
 use crate::names::{class_text, limited_text};
 use crate::take::{class_and, lone_class, own_class};
 use class_world::{Fixed, World};
@@ -32,7 +32,6 @@ pub fn type_native(
         TypeNative::Repr => type_repr(world, args, kw),
         TypeNative::InstanceCheck => Ok(instance_check(world, args, kw)),
         TypeNative::SubclassCheck => Ok(subclass_check(world, args, kw)),
-        TypeNative::Dir => type_dir(world, args, kw),
         TypeNative::Subclasses => type_subclasses(world, args, kw),
         TypeNative::Mro => type_mro(world, args, kw),
         TypeNative::Prepare => type_prepare(world, args),
@@ -88,25 +87,6 @@ fn subclass_check(
     match world.class_number(other) {
         None => Err(Raised::new(Cause::SelfType)),
         Some(other) => Ok(Answer::Value(world.truth(world.is_sub(other, class)))),
-    }
-}
-
-// The names that a class and those along its linearisation have.
-fn type_dir(
-    world: &mut World,
-    args: &[PyObjectRef],
-    kw: &[(PyStrInterned, PyObjectRef)],
-) -> Result<Result<Answer, Raised>, OutOfMemory>
-    requires { Holds world.old (AreNodes args.now) }
-    ensures ends { IfOk result (λ r. EndsAs (λ t u. type_dir u args.now (bindings t kw.now)) world.old world.new r) }
-    ensures safe { LeavesEnd world.old world.new result }
-{
-    match lone_class(world, args, kw) {
-        Err(raised) => Ok(Err(raised)),
-        Ok(class) => {
-            let attrs = world.classes().get_attributes(class)?;
-            names_list(world, &attrs)
-        }
     }
 }
 
