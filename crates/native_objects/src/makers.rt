@@ -65,10 +65,7 @@ fn heir(world: &World, built_in: BuiltIn, args: &[PyObjectRef]) -> Result<PyType
 }
 
 // A new list, which is empty.
-fn new_list(
-    world: &mut World,
-    args: &[PyObjectRef],
-) -> Result<Result<Answer, Raised>, OutOfMemory>
+fn new_list(world: &mut World, args: &[PyObjectRef]) -> Result<Result<Answer, Raised>, OutOfMemory>
     requires { Holds world.old (AreNodes args.now) }
     ensures ends { IfOk result (λ r. EndsAs (λ t u. maker_say u BuiltIn.List args.now) world.old world.new r) }
     ensures safe { LeavesEnd world.old world.new result }
@@ -84,10 +81,7 @@ fn new_list(
 }
 
 // A new dict, which is empty.
-fn new_dict(
-    world: &mut World,
-    args: &[PyObjectRef],
-) -> Result<Result<Answer, Raised>, OutOfMemory>
+fn new_dict(world: &mut World, args: &[PyObjectRef]) -> Result<Result<Answer, Raised>, OutOfMemory>
     requires { Holds world.old (AreNodes args.now) }
     ensures ends { IfOk result (λ r. EndsAs (λ t u. maker_say u BuiltIn.Dict args.now) world.old world.new r) }
     ensures safe { LeavesEnd world.old world.new result }
@@ -128,10 +122,7 @@ fn new_property(
 }
 
 // A new `super`, which looks past `object` and is bound to nothing.
-fn new_super(
-    world: &mut World,
-    args: &[PyObjectRef],
-) -> Result<Result<Answer, Raised>, OutOfMemory>
+fn new_super(world: &mut World, args: &[PyObjectRef]) -> Result<Result<Answer, Raised>, OutOfMemory>
     requires { Holds world.old (AreNodes args.now) }
     ensures ends { IfOk result (λ r. EndsAs (λ t u. maker_say u BuiltIn.Super args.now) world.old world.new r) }
     ensures safe { LeavesEnd world.old world.new result }

@@ -1,10 +1,12 @@
 //! The natives of `property`.
 
 ghost use Rattle.std.specs.Prelude.{◌≡◌, IfOk, Some};
+ghost use Rattle.plain_machine.specs.World.{class_at};
+ghost use Rattle.py_node.specs.declared.built_in.BuiltIn.TheVariants.{Property};
 ghost use Rattle.class_world.specs.Claims.{of_ended};
 ghost use Rattle.class_world.specs.Reading.{Reading, Reads, bindings, plain, spelled};
 ghost use Rattle.class_world.specs.Rows.{EndsAs, LeavesEnd};
-ghost use Rattle.class_world.specs.Sound.{AllHold, AreNodes, Grows, IsName, IsNode, Holds, of_binding, of_each, of_node_ref, of_option};
+ghost use Rattle.class_world.specs.Sound.{AllHold, AreNodes, Grows, Holding, IsClass, IsName, IsNode, IsOf, Holds, of_binding, of_each, of_node_ref, of_option};
 ghost use Rattle.native_objects.specs.Descriptors.{bare, may_name, or_old, placed, property_init, property_say, property_set_name, unless_given, unless_none, property_part, part_set, with_part, with_parts, without_none};
 ghost use Rattle.native_objects.specs.Properties.{of_property};
 
@@ -12,8 +14,8 @@ use crate::take::own_property;
 use class_world::takes::{three, two};
 use class_world::{Fixed, World};
 use py_node::{
-    Answer, Cause, OutOfMemory, Payload, PropertyNative, PyObjectRef, PyProperty,
-    PyStrInterned, Raised,
+    Answer, Cause, OutOfMemory, Payload, PropertyNative, PyObjectRef, PyProperty, PyStrInterned,
+    PyTypeRef, Raised,
 };
 
 /// A native of `property`.
@@ -111,11 +113,41 @@ fn with_part(
     ensures holds { AllHold world.now (of_option of_property result) }
 {
     match world.names().text(name) {
-        "fget" => unless_given(parts.fget, PyProperty { fget: Some(value), ..parts }),
-        "fset" => unless_given(parts.fset, PyProperty { fset: Some(value), ..parts }),
-        "fdel" => unless_given(parts.fdel, PyProperty { fdel: Some(value), ..parts }),
-        "doc" => unless_given(parts.doc, PyProperty { doc: Some(value), ..parts }),
-        "name" => unless_given(parts.name, PyProperty { name: Some(value), ..parts }),
+        "fget" => unless_given(
+            parts.fget,
+            PyProperty {
+                fget: Some(value),
+                ..parts
+            },
+        ),
+        "fset" => unless_given(
+            parts.fset,
+            PyProperty {
+                fset: Some(value),
+                ..parts
+            },
+        ),
+        "fdel" => unless_given(
+            parts.fdel,
+            PyProperty {
+                fdel: Some(value),
+                ..parts
+            },
+        ),
+        "doc" => unless_given(
+            parts.doc,
+            PyProperty {
+                doc: Some(value),
+                ..parts
+            },
+        ),
+        "name" => unless_given(
+            parts.name,
+            PyProperty {
+                name: Some(value),
+                ..parts
+            },
+        ),
         _ => None,
     }
 }
@@ -210,11 +242,25 @@ fn property_part(
         Err(raised) => Ok(Err(raised)),
         Ok((_, part)) => {
             let parts = with_other(native, bare(parts), part);
-            let class = world.class_of(object);
+            let class = class_of_property(world, object);
             let node = world.make_node(class, Payload::Property(parts))?;
             Ok(Ok(Answer::Value(node)))
         }
     }
+}
+
+// The class of a property, whose objects are properties.
+fn class_of_property(world: &World, object: PyObjectRef) -> PyTypeRef
+    requires node { Holds world.now (IsNode object) }
+    requires holding { Holds world.now (Holding object Property) }
+    ensures reads { (t : Reading) → class_at (plain t world.now) object ≡ Some result.0 }
+    ensures class { Holds world.now (IsClass result.0) }
+    ensures of { Holds world.now (IsOf result.0 Property) }
+{
+    world.sound();
+    world.readable();
+    let _payload = world.payload(object);
+    world.class_of(object)
 }
 
 // The parts without doc and name.
@@ -233,9 +279,18 @@ fn with_other(native: PropertyNative, parts: PyProperty, part: PyObjectRef) -> P
     ensures { result ≡ part_set native parts part }
 {
     match native {
-        PropertyNative::Getter => PyProperty { fget: or_old(part, parts.fget), ..parts },
-        PropertyNative::Setter => PyProperty { fset: or_old(part, parts.fset), ..parts },
-        PropertyNative::Deleter => PyProperty { fdel: or_old(part, parts.fdel), ..parts },
+        PropertyNative::Getter => PyProperty {
+            fget: or_old(part, parts.fget),
+            ..parts
+        },
+        PropertyNative::Setter => PyProperty {
+            fset: or_old(part, parts.fset),
+            ..parts
+        },
+        PropertyNative::Deleter => PyProperty {
+            fdel: or_old(part, parts.fdel),
+            ..parts
+        },
         _ => parts,
     }
 }

@@ -71,7 +71,10 @@ pub(crate) fn class_and(
 }
 
 /// The native as a method that the first argument is, with its class and its name, or why it is refused.
-pub(crate) fn own_method(world: &World, args: &[PyObjectRef]) -> Result<(PyObjectRef, (PyTypeRef, PyStrInterned)), Raised>
+pub(crate) fn own_method(
+    world: &World,
+    args: &[PyObjectRef],
+) -> Result<(PyObjectRef, (PyTypeRef, PyStrInterned)), Raised>
     requires { Holds world.now (AreNodes args.now) }
     ensures given { IfOk result (λ p. (t : Reading) (go : Object → ℕ × Text → Said) →
         with_own method_in (plain t world.now) args.now go ≡ go p.0 (p.1.0.0, spelled t p.1.1)) }
@@ -90,7 +93,10 @@ pub(crate) fn own_method(world: &World, args: &[PyObjectRef]) -> Result<(PyObjec
 }
 
 /// The member that the first argument is, with its class and its name, or why it is refused.
-pub(crate) fn own_member(world: &World, args: &[PyObjectRef]) -> Result<(PyObjectRef, (PyTypeRef, PyStrInterned)), Raised>
+pub(crate) fn own_member(
+    world: &World,
+    args: &[PyObjectRef],
+) -> Result<(PyObjectRef, (PyTypeRef, PyStrInterned)), Raised>
     requires { Holds world.now (AreNodes args.now) }
     ensures given { IfOk result (λ p. (t : Reading) (go : Object → ℕ × Text → Said) →
         with_own member_in (plain t world.now) args.now go ≡ go p.0 (p.1.0.0, spelled t p.1.1)) }
@@ -109,7 +115,10 @@ pub(crate) fn own_member(world: &World, args: &[PyObjectRef]) -> Result<(PyObjec
 }
 
 /// The class past which the first argument looks, and what it is bound to, or why it is refused.
-pub(crate) fn own_super(world: &World, args: &[PyObjectRef]) -> Result<(PyObjectRef, PySuper), Raised>
+pub(crate) fn own_super(
+    world: &World,
+    args: &[PyObjectRef],
+) -> Result<(PyObjectRef, PySuper), Raised>
     requires { Holds world.now (AreNodes args.now) }
     ensures given { IfOk result (λ p. (t : Reading) (go : Object → ℕ × Option (Object × ℕ) → Said) →
         with_own super_in (plain t world.now) args.now go ≡ go p.0 (p.1.typ.0, option_map (λ b. (b.0, b.1.0)) p.1.obj)) }
@@ -127,7 +136,10 @@ pub(crate) fn own_super(world: &World, args: &[PyObjectRef]) -> Result<(PyObject
 }
 
 /// The parts of the property that the first argument is, or why it is refused.
-pub(crate) fn own_property(world: &World, args: &[PyObjectRef]) -> Result<(PyObjectRef, PyProperty), Raised>
+pub(crate) fn own_property(
+    world: &World,
+    args: &[PyObjectRef],
+) -> Result<(PyObjectRef, PyProperty), Raised>
     requires { Holds world.now (AreNodes args.now) }
     ensures given { IfOk result (λ p. (t : Reading) (go : Object → Parts → Said) →
         with_own property_in (plain t world.now) args.now go ≡ go p.0 p.1) }
@@ -147,7 +159,10 @@ pub(crate) fn own_property(world: &World, args: &[PyObjectRef]) -> Result<(PyObj
 }
 
 /// The static method that the first argument is, with what it wraps, or why it is refused.
-pub(crate) fn own_static(world: &World, args: &[PyObjectRef]) -> Result<(PyObjectRef, PyObjectRef), Raised>
+pub(crate) fn own_static(
+    world: &World,
+    args: &[PyObjectRef],
+) -> Result<(PyObjectRef, PyObjectRef), Raised>
     requires { Holds world.now (AreNodes args.now) }
     ensures given { IfOk result (λ p. (t : Reading) (go : Object → Object → Said) →
         with_own static_in (plain t world.now) args.now go ≡ go p.0 p.1) }
