@@ -76,13 +76,13 @@ pub(crate) fn class_text(world: &World, class: PyTypeRef) -> Result<String, OutO
 // The module and the name within it, or else the name alone.
 fn in_module(
     alloc: Global,
-    module: Option<String>,
+    within: Option<String>,
     qualname: &str,
     name: &str,
 ) -> Result<String, OutOfMemory>
-    ensures { IfOk result (λ s. string_bytes s ≡ in_module (option_map string_bytes module) qualname.now name.now) }
+    ensures { IfOk result (λ s. string_bytes s ≡ in_module (option_map string_bytes within) qualname.now name.now) }
 {
-    match module {
+    match within {
         None => Ok(String::from_str(alloc, name)?),
         Some(module) => {
             if module.as_str() == "builtins" {
