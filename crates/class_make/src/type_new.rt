@@ -98,18 +98,19 @@ fn type_call(world: &mut World, args: Args, kw: Keywords) -> Result<Step<ClassKe
         [class, rest @ ..] => {
             let class = world.class_number(*class);
             let rest = copy_args(alloc, rest)?;
-            let step = called_with(class, rest, kw);
+            let step = called_with(world, class, rest, kw);
             Ok(step)
         }
     }
 }
 
 // The same, with what the first argument stands for.
-fn called_with(class: Option<PyTypeRef>, args: Args, kw: Keywords) -> Step<ClassKept>
-    ensures goes { (w : World) → Types (λ t u.
-        called_with u (option_map (λ c. c.0) class) args.items (bindings t kw.items)) w w result }
-    ensures safe { (w : World) → AllHold w (of_option of_class_ref class) →
-        AllHold w (of_args args.items kw.items) → AllHold w (of_step of_class_kept result) }
+fn called_with(world: &World, class: Option<PyTypeRef>, args: Args, kw: Keywords) -> Step<ClassKept>
+    requires class { AllHold world.now (of_option of_class_ref class) }
+    requires rest { AllHold world.now (of_args args.items kw.items) }
+    ensures goes { Types (λ t u.
+        called_with u (option_map (λ c. c.0) class) args.items (bindings t kw.items)) world.now world.now result }
+    ensures safe { AllHold world.now (of_step of_class_kept result) }
 {
     match class {
         None => Step::raise(Cause::SelfType),

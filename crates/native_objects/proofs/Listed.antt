@@ -29,11 +29,11 @@ module _ {K : Type 0} where
   first : (k : Class K) (t : Classes K) (d : ℕ) → k.number ≡ d → is_class (k ∷ t) d ≡ true
   first k t d e = ap (λ b. is_some (cond b (Some k) (class_at t d))) (eq-eqb k.number d e)
 
+  more : (k : Class K) (ks : Classes K) (c d : ℕ) (b : Bool) → (Includes (subclasses ks c) d → is_class ks d ≡ true) → Includes (cond b (k.number ∷ subclasses ks c) (subclasses ks c)) d → is_class (k ∷ ks) d ≡ true
+  more k ks c d true rest (inl e) = first k ks d e
+  more k ks c d true rest (inr i) = later k ks d (rest i)
+  more k ks c d false rest i = later k ks d (rest i)
+
   pub subclass-there : (t : Classes K) (c d : ℕ) → Includes (subclasses t c) d → is_class t d ≡ true
   subclass-there [] c d h = absurd h
-  subclass-there (k ∷ ks) c d h = by (has k.bases c) h
-    where
-      by : (b : Bool) → Includes (cond b (k.number ∷ subclasses ks c) (subclasses ks c)) d → is_class (k ∷ ks) d ≡ true
-      by true (inl e) = first k ks d e
-      by true (inr i) = later k ks d (subclass-there ks c d i)
-      by false i = later k ks d (subclass-there ks c d i)
+  subclass-there (k ∷ ks) c d h = more k ks c d (has k.bases c) (subclass-there ks c d) h
