@@ -1,5 +1,5 @@
 -- The natives of descriptors and of `super` that ask no task.
-use Rattle.std.specs.Prelude.{ℕ, Bool, true, false, cond, eqb, length, nat_le, slice_get, List, [], ◌∷◌, ◌++◌, codes, Option, Some, None, Ok}
+use Rattle.std.specs.Prelude.{ℕ, Bool, true, false, cond, eqb, length, nat_le, slice_get, List, [], ◌∷◌, ◌++◌, codes, Option, Some, None, option_map}
 use Rattle.py_node.specs.declared.refs.PyObjectRef.{PyObjectRef}
 use Rattle.py_node.specs.declared.payload.PyProperty.{PyProperty}
 use Rattle.py_node.specs.declared.raised.Cause.TheVariants.{ArgCount, SelfType, UnexpectedKeyword}
@@ -26,16 +26,19 @@ use Rattle.native_objects.specs.Takes.{with_own, method_in, member_in, property_
 
 -- texts of what a class has
 
-abbrev pub of_objects : PlainWorld → Text → ℕ × Text → Text
-of_objects w front m = front ++ m.1 ++ codes "' of '" ++ name_at w.classes m.0 ++ codes "' objects>"
+abbrev pub method_text : PlainWorld → ℕ × Text → Text
+method_text w m = codes "<method '" ++ (m.1 ++ (codes "' of '" ++ (name_at w.classes m.0 ++ codes "' objects>")))
+
+abbrev pub member_text : PlainWorld → ℕ × Text → Text
+member_text w m = codes "<member '" ++ (m.1 ++ (codes "' of '" ++ (name_at w.classes m.0 ++ codes "' objects>")))
 
 abbrev pub method_repr : PlainWorld → List PyObjectRef → Bindings → Said
 method_repr w args kw =
-    with_own method_in w args (λ o m. with_one w args kw (λ a. text_made w (in_length (of_objects w (codes "<method '") m))))
+    with_own method_in w args (λ o m. with_one w args kw (λ a. text_made w (in_length (method_text w m))))
 
 abbrev pub member_repr : PlainWorld → List PyObjectRef → Bindings → Said
 member_repr w args kw =
-    with_own member_in w args (λ o m. with_one w args kw (λ a. text_made w (in_length (of_objects w (codes "<member '") m))))
+    with_own member_in w args (λ o m. with_one w args kw (λ a. text_made w (in_length (member_text w m))))
 
 abbrev pub callable_say : PlainWorld → CallableNative → List PyObjectRef → Bindings → Said
 callable_say w callable.ReprMethodDescriptor args kw = method_repr w args kw
@@ -47,13 +50,13 @@ descriptor_native_say w _ args kw = Ends w not_yet
 
 -- `super`
 
--- what it is bound to, by the class where it starts
-abbrev pub bound_text : PlainWorld → Option (PyObjectRef × ℕ) → Text
-bound_text w None = codes "NULL"
-bound_text w (Some b) = codes "<" ++ name_at w.classes b.1 ++ codes " object>"
+-- the class past which it looks, and what it is bound to, by the class where it starts
+abbrev pub bound_text : Text → Option Text → Text
+bound_text past None = codes "<super: <class '" ++ past ++ codes "'>, NULL>"
+bound_text past (Some start) = codes "<super: <class '" ++ (past ++ (codes "'>, <" ++ (start ++ codes " object>>")))
 
 abbrev pub super_text : PlainWorld → ℕ × Option (PyObjectRef × ℕ) → Text
-super_text w s = codes "<super: <class '" ++ name_at w.classes s.0 ++ codes "'>, " ++ bound_text w s.1 ++ codes ">"
+super_text w s = bound_text (name_at w.classes s.0) (option_map (λ b. name_at w.classes b.1) s.1)
 
 abbrev pub super_repr : PlainWorld → List PyObjectRef → Bindings → Said
 super_repr w args kw =

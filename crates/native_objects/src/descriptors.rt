@@ -5,7 +5,7 @@ ghost use Rattle.class_world.specs.Claims.{of_ended};
 ghost use Rattle.class_world.specs.Reading.{Reading, Reads, bindings, plain, spelled};
 ghost use Rattle.class_world.specs.Rows.{EndsAs, LeavesEnd};
 ghost use Rattle.class_world.specs.Sound.{AllHold, AreNodes, Grows, IsClass, IsName, Holds, of_option, of_start};
-ghost use Rattle.native_objects.specs.Descriptors.{callable_say, descriptor_native_say, super_say, wrapper_say, method_repr, member_repr, of_objects, super_repr, super_text, static_init};
+ghost use Rattle.native_objects.specs.Descriptors.{callable_say, descriptor_native_say, super_say, wrapper_say, method_repr, member_repr, method_text, member_text, bound_text, super_repr, super_text, static_init};
 
 use crate::names::limited_text;
 use crate::take::{own_member, own_method, own_static, own_super};
@@ -15,6 +15,7 @@ use py_node::{
     Answer, CallableNative, Cause, DescriptorNative, OutOfMemory, Payload, PyObjectRef,
     PyStrInterned, PySuper, PyTypeRef, Raised, SuperNative, WrapperNative,
 };
+use std::alloc::Global;
 
 /// A native of what is called or bound.
 pub fn callable_native(
@@ -105,7 +106,7 @@ fn method_repr(
     if let Err(raised) = one(args, kw) {
         return Ok(Err(raised));
     }
-    let text = of_objects(world, "<method '", class, name)?;
+    let text = method_text(world, class, name)?;
     limited_text(world, text)
 }
 
@@ -126,26 +127,34 @@ fn member_repr(
     if let Err(raised) = one(args, kw) {
         return Ok(Err(raised));
     }
-    let text = of_objects(world, "<member '", class, name)?;
+    let text = member_text(world, class, name)?;
     limited_text(world, text)
 }
 
-// The text of what the objects of a class have under a name.
-fn of_objects(
-    world: &World,
-    front: &str,
-    class: PyTypeRef,
-    name: PyStrInterned,
-) -> Result<String, OutOfMemory>
+// The same for a native of this class and this name.
+fn method_text(world: &World, class: PyTypeRef, name: PyStrInterned) -> Result<String, OutOfMemory>
     requires class { Holds world.now (IsClass class.0) }
     requires name { Holds world.now (IsName name) }
     ensures { IfOk result (λ s. (t : Reading) → Reads t world.now →
-        string_bytes s ≡ of_objects (plain t world.now) front.now (class.0, spelled t name)) }
+        string_bytes s ≡ method_text (plain t world.now) (class.0, spelled t name)) }
 {
     let alloc = world.alloc();
     let name = world.spelling(name)?;
     let class = world.class_name(class);
-    Ok(format!(in alloc; "{front}{name}' of '{class}' objects>")?)
+    Ok(format!(in alloc; "<method '{name}' of '{class}' objects>")?)
+}
+
+// The same for a member of this class and this name.
+fn member_text(world: &World, class: PyTypeRef, name: PyStrInterned) -> Result<String, OutOfMemory>
+    requires class { Holds world.now (IsClass class.0) }
+    requires name { Holds world.now (IsName name) }
+    ensures { IfOk result (λ s. (t : Reading) → Reads t world.now →
+        string_bytes s ≡ member_text (plain t world.now) (class.0, spelled t name)) }
+{
+    let alloc = world.alloc();
+    let name = world.spelling(name)?;
+    let class = world.class_name(class);
+    Ok(format!(in alloc; "<member '{name}' of '{class}' objects>")?)
 }
 
 // The text of a `super`: the class past which it looks, and the class where it starts.
@@ -177,12 +186,20 @@ fn super_text(world: &World, own: PySuper) -> Result<String, OutOfMemory>
 {
     let alloc = world.alloc();
     let past = world.class_name(own.typ);
-    match own.obj {
+    let start = match own.obj {
+        None => None,
+        Some((_, start)) => Some(world.class_name(start)),
+    };
+    bound_text(alloc, past, start)
+}
+
+// The same for the names of the class past which it looks and of that where it starts.
+fn bound_text(alloc: Global, past: &str, start: Option<&str>) -> Result<String, OutOfMemory>
+    ensures { IfOk result (λ s. string_bytes s ≡ bound_text past.now (option_map (λ x. x.now) start.entry)) }
+{
+    match start {
         None => Ok(format!(in alloc; "<super: <class '{past}'>, NULL>")?),
-        Some((_, start)) => {
-            let start = world.class_name(start);
-            Ok(format!(in alloc; "<super: <class '{past}'>, <{start} object>>")?)
-        }
+        Some(start) => Ok(format!(in alloc; "<super: <class '{past}'>, <{start} object>>")?),
     }
 }
 

@@ -1,13 +1,13 @@
 //! What classes are called, and the texts of objects that name a class.
 
-ghost use Rattle.std.specs.Prelude.{◌≡◌, Err, IfErr, IfOk, IfSome, Ok, Some, option_map, string_bytes};
+ghost use Rattle.std.specs.Prelude.{◌≡◌, ◌++◌, codes, Err, IfErr, IfOk, IfSome, Ok, Some, option_map, string_bytes};
 ghost use Rattle.py_node.specs.Known.{known_text};
-ghost use Rattle.plain_machine.specs.World.{datum_at};
+ghost use Rattle.plain_machine.specs.World.{datum_at, is_text};
 ghost use Rattle.class_world.specs.Reading.{Reading, Reads, plain};
 ghost use Rattle.class_world.specs.Rows.{EndsAs, LeavesEnd};
 ghost use Rattle.class_world.specs.Sound.{AllHold, IsClass, IsNode, Holds, of_node_ref, of_option};
 ghost use Rattle.native_base.specs.Say.{in_length, text_made};
-ghost use Rattle.native_objects.specs.Names.{class_text, given, in_module, is_getset, module_of, object_text, qualname, text_of, text_or};
+ghost use Rattle.native_objects.specs.Names.{builtins, class_text, given, in_module, is_getset, module_of, object_text, qualname, text_of, text_or};
 
 use class_world::World;
 use class_world::limits::is_within_limit;
@@ -83,15 +83,23 @@ fn in_module(
     ensures { IfOk result (λ s. string_bytes s ≡ in_module (option_map string_bytes within) qualname.now name.now) }
 {
     match within {
-        None => Ok(String::from_str(alloc, name)?),
-        Some(module) => {
-            if module.as_str() == "builtins" {
-                Ok(String::from_str(alloc, name)?)
-            } else {
-                Ok(format!(in alloc; "{module}.{qualname}")?)
-            }
-        }
+        Some(module) if !is_builtins(&module) => dotted(alloc, &module, qualname),
+        _ => Ok(String::from_str(alloc, name)?),
     }
+}
+
+// Whether a module is that of the built-in classes, which is not named.
+fn is_builtins(home: &str) -> bool
+    ensures { result ≡ is_text home.now builtins }
+{
+    home == "builtins"
+}
+
+// A name within a module.
+fn dotted(alloc: Global, home: &str, name: &str) -> Result<String, OutOfMemory>
+    ensures { IfOk result (λ s. string_bytes s ≡ home.now ++ codes "." ++ name.now) }
+{
+    Ok(format!(in alloc; "{home}.{name}")?)
 }
 
 // The name of a class within its module, where it is a text.
