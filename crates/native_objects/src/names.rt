@@ -1,6 +1,6 @@
 //! What classes are called, and the texts of objects that name a class.
 
-ghost use Rattle.std.specs.Prelude.{◌≡◌, ◌++◌, codes, Err, IfErr, IfOk, IfSome, Ok, Some, option_map, string_bytes};
+ghost use Rattle.std.specs.Prelude.{◌≡◌, ◌++◌, codes, Err, IfErr, IfOk, IfSome, option_map, string_bytes};
 ghost use Rattle.py_node.specs.Known.{known_text};
 ghost use Rattle.plain_machine.specs.World.{datum_at, is_text};
 ghost use Rattle.class_world.specs.Reading.{Reading, Reads, plain};

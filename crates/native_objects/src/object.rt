@@ -1,8 +1,8 @@
 //! The natives of `object`.
 
-ghost use Rattle.std.specs.Prelude.{◌≡◌, IfOk};
+ghost use Rattle.std.specs.Prelude.{IfOk};
 ghost use Rattle.class_world.specs.Claims.{of_ended};
-ghost use Rattle.class_world.specs.Reading.{Reading, bindings};
+ghost use Rattle.class_world.specs.Reading.{bindings};
 ghost use Rattle.class_world.specs.Rows.{EndsAs, LeavesEnd};
 ghost use Rattle.class_world.specs.Sound.{AllHold, AreNodes, Holds};
 ghost use Rattle.native_objects.specs.Objects.{object_native_say, object_repr, object_hash, object_eq, says_nothing, object_subclass_hook};

@@ -1,8 +1,8 @@
 //! The natives of `type`.
 
-ghost use Rattle.std.specs.Prelude.{◌≡◌, IfOk};
+ghost use Rattle.std.specs.Prelude.{IfOk};
 ghost use Rattle.class_world.specs.Claims.{of_ended};
-ghost use Rattle.class_world.specs.Reading.{Reading, bindings};
+ghost use Rattle.class_world.specs.Reading.{bindings};
 ghost use Rattle.class_world.specs.Rows.{EndsAs, LeavesEnd};
 ghost use Rattle.class_world.specs.Sound.{AllHold, AreNodes, Holds};
 ghost use Rattle.native_objects.specs.Objects.{type_native_say, type_repr, instance_check, subclass_check, type_subclasses, type_mro, type_prepare, type_subclass_hook};
