@@ -1,18 +1,12 @@
 -- The objects that stand for classes.
 use Rattle.std.proofs.Common.{◌≡◌, ℕ, zero, suc, ◌≤◌, true, false, cond, eqb, Bool, List, [], ◌∷◌, ◌++◌, length, map, take, inl, inr, refl, ap, arith}
-use Rattle.std.specs.Prelude.{Some, slice_get, is_some}
+use Rattle.std.specs.Prelude.{Some, is_some}
 use Rattle.std.proofs.lemmas.Bool.{eq-eqb}
 use Rattle.py_node.specs.declared.refs.PyTypeRef.{PyTypeRef}
 use Rattle.class_model.specs.Class.{Class, Classes, class_at, is_class, subclasses}
 use Rattle.class_model.specs.Order.{has, Includes}
 use Rattle.class_table.specs.Keys.{numbers}
 use Rattle.plain_machine.specs.World.{ref}
-
--- one more
-pub nodes-next : (cs : List PyTypeRef) (i : ℕ) (c : PyTypeRef) → slice_get cs i ≡ Some c → map (λ c. ref c.0) (take (suc i) cs) ≡ map (λ c. ref c.0) (take i cs) ++ ref c.0 ∷ []
-nodes-next [] i c e = cc
-nodes-next (d ∷ cs) zero c e = let same : d ≡ c = cc in ap (λ k. ref k.0 ∷ []) same
-nodes-next (d ∷ cs) (suc i) c e = ap (λ rs. ref d.0 ∷ rs) (nodes-next cs i c e)
 
 -- all
 pub nodes-end : (cs : List PyTypeRef) (i : ℕ) → length cs ≤ i → map (λ c. ref c.0) (take i cs) ≡ map ref (numbers cs)

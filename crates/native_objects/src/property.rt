@@ -93,8 +93,8 @@ fn with_parts(
     ensures holds { AllHold world.now (of_option of_property result) }
 {
     let mut parts = parts;
-    for (name, value) in kw {
-        parts = with_part(world, parts, *name, *value)?;
+    for pair in kw {
+        parts = with_part(world, parts, pair.0, pair.1)?;
     }
     Some(parts)
 }
