@@ -3,7 +3,7 @@ use Rattle.std.specs.Prelude.{ℕ, cond, List, [], Result}
 use Rattle.py_node.specs.declared.refs.PyObjectRef.{PyObjectRef}
 use Rattle.py_node.specs.declared.built_in.BuiltIn.TheVariants.{Int, Str}
 use Rattle.py_node.specs.declared.entry.NativeEntry.{NativeEntry}
-use Rattle.py_node.specs.declared.entry.NativeEntry.TheVariants.{OfFixed, OfNumber, OfArithmetic, OfBits, OfStr, Compare, NewWrapper, OfTuple, OfList, OfDict, OfIterator}
+use Rattle.py_node.specs.declared.entry.NativeEntry.TheVariants.{OfFixed, OfNumber, OfArithmetic, OfBits, OfStr, Compare, NewWrapper, OfTuple, OfList, OfDict, OfIterator, OfCallable, OfDescriptor, OfProperty, OfWrapper, OfSuper, NewOf}
 use Rattle.py_node.specs.declared.raised.Raised.{Raised as Fault}
 use Rattle.py_node.specs.declared.task.Answer.{Answer}
 use Rattle.py_node.specs.declared.task.Task.{Task}
@@ -33,6 +33,8 @@ use Rattle.native_containers.specs.Say.{tuple_say, list_say, dict_say, iterator_
 use Rattle.native_numbers.specs.Say.{fixed_say, number_say, arithmetic_say, bits_say, compare_say}
 use Rattle.native_calls.specs.Say.{asks, asking_say}
 use Rattle.native_texts.specs.Say.{text_say, compare_text_say}
+use Rattle.native_objects.specs.Descriptors.{callable_say, descriptor_native_say, property_say, wrapper_say, super_say}
+use Rattle.native_objects.specs.Makers.{maker_say}
 use Rattle.vm_eval.specs.declared.stack.Kept.{Kept}
 use Rattle.vm_eval.specs.declared.stack.Kept.TheVariants.{ForEval, ForAttribute, ForDescriptor, ForCall, ForClass, ForOperator, ForNative}
 
@@ -49,6 +51,12 @@ native_by w (OfDict n) args kw = dict_say w n args kw
 native_by w (OfIterator n) args kw = iterator_say w n args kw
 native_by w (Compare Int n) args kw = compare_say w n args kw
 native_by w (Compare Str n) args kw = compare_text_say w n args kw
+native_by w (OfCallable n) args kw = callable_say w n args kw
+native_by w (OfDescriptor n) args kw = descriptor_native_say w n args kw
+native_by w (OfProperty n) args kw = property_say w n args kw
+native_by w (OfWrapper n) args kw = wrapper_say w n args kw
+native_by w (OfSuper n) args kw = super_say w n args kw
+native_by w (NewOf b) args kw = maker_say w b args
 native_by w _ args kw = Ends w not_yet
 
 -- what it says that may ask one task

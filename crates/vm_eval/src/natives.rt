@@ -12,10 +12,12 @@ ghost use Rattle.vm_eval.specs.Say.{Begins, Resumes, asked_among, native_by, of_
 use crate::stack::Kept;
 use class_world::{Fixed, World};
 use native_calls::{asking_native, asks};
-use class_world::World;
 use native_containers::{dict_native, iterator_native, list_native, tuple_native};
 use native_numbers::{arithmetic_native, bits_native, compare_native, fixed_native, number_native};
 use native_texts::{compare_text, text_native};
+use native_objects::{
+    callable_native, descriptor_native, maker_native, property_native, super_native, wrapper_native,
+};
 use py_node::task::{Args, Keywords};
 use py_node::{
     Answer, BuiltIn, Cause, NativeEntry, OutOfMemory, PyObjectRef, PyStrInterned, Raised, Step,
@@ -90,6 +92,12 @@ fn native(
         NativeEntry::OfList(native) => list_native(world, native, args, kw),
         NativeEntry::OfDict(native) => dict_native(world, native, args, kw),
         NativeEntry::OfIterator(native) => Ok(iterator_native(world, native, args, kw)),
+        NativeEntry::OfCallable(native) => callable_native(world, native, args, kw),
+        NativeEntry::OfDescriptor(native) => descriptor_native(world, native, args, kw),
+        NativeEntry::OfProperty(native) => property_native(world, native, args, kw),
+        NativeEntry::OfWrapper(native) => wrapper_native(world, native, args, kw),
+        NativeEntry::OfSuper(native) => super_native(world, native, args, kw),
+        NativeEntry::NewOf(class) => maker_native(world, class, args),
         _ => Ok(Err(Raised::new(Cause::NotYet))),
     }
 }

@@ -1,0 +1,4 @@
+pub mod Ended
+pub mod Listed
+pub mod Held
+pub mod Parts
