@@ -1,0 +1,53 @@
+-- The signature that a native's text for readers begins with.
+use Rattle.std.specs.Prelude.{◌≡◌, ℕ, suc, ◌+◌, ◌<◌, ◌≤◌, ◌⊎◌, List, ◌++◌, slice_index_or, length, take, drop, codes}
+use Rattle.py_node.specs.Tree.{Text}
+
+-- a text stands in another one at a place
+abbrev pub StandsAt : Text → Text → ℕ → Type 0
+StandsAt x text i = (rest : Text) × (drop i text ≡ x ++ rest)
+
+-- the dot that parts names
+abbrev pub dot : ℕ
+dot = 46
+
+abbrev pub opening : Text
+opening = codes "("
+
+-- what ends a signature, beginning with the bracket that closes it
+abbrev pub ending : Text
+ending = codes ")\n--\n\n"
+
+-- the part of a name after its last dot, or all of it
+pub record IsLastPart (name part : Text) : Type 0 where
+  pub start : ℕ
+  pub text : part ≡ drop start name
+  -- it begins where the name does, or past a dot
+  pub past : (start ≡ 0) ⊎ ((i : ℕ) × (start ≡ suc i) × (i < length name) × (slice_index_or name i 0 ≡ dot))
+  -- and has no dot
+  pub last : (i : ℕ) → start ≤ i → i < length name → slice_index_or name i 0 ≡ dot → ⊥
+
+-- a text begins with a name and then an opening bracket; the answer is all from that bracket to the first closing one with which the end of a signature begins
+pub record IsSignature (name doc answer : Text) : Type 0 where
+  pub rest : Text
+  pub begins : doc ≡ name ++ rest
+  pub opens : StandsAt opening rest 0
+  pub close : ℕ
+  pub ends : StandsAt ending rest close
+  pub first : (i : ℕ) → i < close → StandsAt ending rest i → ⊥
+  pub text_of : answer ≡ take (close + 1) rest
+
+-- where a text begins so, there is no end of a signature past the name
+abbrev pub HasNoSignature : Text → Text → Type 0
+HasNoSignature name text =
+    (rest : Text) → text ≡ name ++ rest → StandsAt opening rest 0 → (i : ℕ) → i ≤ length rest → StandsAt ending rest i → ⊥
+
+-- the same by a name with dots, of which the last part counts
+pub record IsSignatureOf (name text answer : Text) : Type 0 where
+  pub part : Text
+  pub last : IsLastPart name part
+  pub is : IsSignature part text answer
+
+pub record HasNoSignatureOf (name text : Text) : Type 0 where
+  pub part : Text
+  pub last : IsLastPart name part
+  pub none : HasNoSignature part text

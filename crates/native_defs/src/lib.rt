@@ -1,0 +1,12 @@
+//! Definitions of native methods: what they are as objects, and how the objects are made.
+#![tactic(auto, using(class_world::proofs::Items::item_holds))]
+
+pub mod build;
+pub mod def;
+pub mod extend;
+pub mod payloads;
+pub mod signature;
+
+pub use def::PyMethodDef;
+pub use extend::extend_methods;
+pub use signature::get_text_signature_from_internal_doc;

@@ -1,0 +1,40 @@
+//! The signature that a native's text for readers begins with.
+
+ghost use Rattle.std.specs.Prelude.{◌≡◌, IfSome, IfNone};
+ghost use Rattle.native_defs.specs.Signature.{IsLastPart, IsSignature, HasNoSignature, IsSignatureOf, HasNoSignatureOf, opening, StandsAt};
+
+// What ends a signature, beginning with the bracket that closes it.
+const ENDING: &str = ")\n--\n\n";
+
+/// The signature of a native of that name, if its text for readers begins with one: the part of the name after its last
+/// dot must begin the text, and what follows it, from an opening bracket to the first closing one that ends a line of
+/// its own, is the signature.
+pub fn get_text_signature_from_internal_doc<'a>(name: &str, doc: &'a str) -> Option<&'a str>
+    ensures found { IfSome result (λ x. IsSignatureOf name.now doc.now x.now) }
+    ensures none { IfNone result (HasNoSignatureOf name.now doc.now) }
+{
+    signature(last_part(name), doc)
+}
+
+// The part of a name after its last dot.
+fn last_part(name: &str) -> &str
+    ensures { IsLastPart name.now result.now }
+{
+    match name.rsplit_once('.') {
+        None => name,
+        Some((_, part)) => part,
+    }
+}
+
+// The signature that follows a name at the head of a text.
+fn signature<'a>(name: &str, doc: &'a str) -> Option<&'a str>
+    ensures found { IfSome result (λ x. IsSignature name.now doc.now x.now) }
+    ensures none { IfNone result (HasNoSignature name.now doc.now) }
+{
+    let rest = doc.strip_prefix(name)?;
+    if !rest.starts_with("(") {
+        return None;
+    }
+    let close = rest.find(ENDING)?;
+    Some(&rest[..close + 1])
+}
