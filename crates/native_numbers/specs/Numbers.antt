@@ -58,10 +58,12 @@ abbrev pub right_shifted : ℤ → ℤ → Result ℤ Fault
 right_shifted x (pos n) = Ok (int_shr x (min n 127))
 right_shifted x (negsuc n) = fault NegativeShift
 
--- to the left by some places. By 128 places any number but 0 is past the range, and so it is by more
+-- places to the left as far as they count. By 128 any number but 0 is past the range, and so it is by more
+abbrev pub left_places : ℕ → ℕ
+left_places n = cond (nat_lt n 128) n 128
+
 abbrev pub left_shifted : ℤ → ℤ → Result ℤ Fault
-left_shifted x (pos n) = in_range (x *ℤ pos (2 ^ min n 128))
-left_shifted x (negsuc n) = fault NegativeShift
+left_shifted x y = cond (int_lt y (pos 0)) (fault NegativeShift) (in_range (x *ℤ pos (2 ^ left_places (unsigned_abs y))))
 
 -- the code's steps
 

@@ -7,8 +7,8 @@ ghost use Rattle.class_world.specs.Rows.{EndsAs, LeavesEnd};
 ghost use Rattle.native_numbers.specs.Say.{bits_by, bits_of, bits_say, truth_by, truth_of};
 
 use crate::reckon::{left_shifted, right_shifted};
-use class_world::{Fixed, World};
 use class_world::takes::two;
+use class_world::{Fixed, World};
 use native_base::give::new_int;
 use native_base::take::numbers_of;
 use py_node::{Answer, BitNative, OutOfMemory, PyObjectRef, PyStrInterned, Raised};

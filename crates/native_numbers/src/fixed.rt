@@ -7,8 +7,8 @@ ghost use Rattle.class_world.specs.Sound.{AreNodes, Holds};
 ghost use Rattle.class_world.specs.Rows.{EndsAs, LeavesEnd};
 ghost use Rattle.native_numbers.specs.Say.{fixed_first, fixed_say, is_fixed, with_fixed};
 
-use class_world::{Fixed, World};
 use class_world::takes::one;
+use class_world::{Fixed, World};
 use native_base::give::new_word;
 use py_node::{Answer, Cause, FixedNative, OutOfMemory, PyObjectRef, PyStrInterned, Raised};
 

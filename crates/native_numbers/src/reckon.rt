@@ -2,7 +2,7 @@
 
 ghost use Rattle.std.specs.Prelude.{◌≡◌, ◌<◌, ◌≤◌, ◌^◌, ◌*ℤ◌, ◌≤ℤ◌, ◌<ℤ◌, neg_ℤ, unsigned_abs, pos, SomeIff, FitsSigned};
 ghost use Rattle.std.specs.Int.{IsNonZero, int_rem_euclid, w128};
-ghost use Rattle.native_numbers.specs.Numbers.{in_range_of, number_hash, negated, absolute, inverted, difference, product, floor_quotient, floor_remainder, quotient, remainder, counted, power, right_shifted, left_shifted};
+ghost use Rattle.native_numbers.specs.Numbers.{in_range_of, number_hash, negated, absolute, inverted, difference, product, floor_quotient, floor_remainder, quotient, remainder, counted, power, right_shifted, left_places, left_shifted};
 
 use py_node::{Cause, Raised};
 
@@ -109,10 +109,18 @@ pub fn left_shifted(x: i128, y: i128) -> Result<i128, Raised>
     ensures { result ≡ left_shifted x y }
 {
     if y < 0 {
-        return Err(Raised::new(Cause::NegativeShift));
+        Err(Raised::new(Cause::NegativeShift))
+    } else {
+        in_range(shifted(x, left_places(y)))
     }
-    let places = if y < 128 { y as u32 } else { 128 };
-    in_range(shifted(x, places))
+}
+
+// As many places to the left as count.
+fn left_places(count: i128) -> u32
+    requires { pos 0 ≤ℤ count }
+    ensures { result ≡ left_places (unsigned_abs count) }
+{
+    if count < 128 { count as u32 } else { 128 }
 }
 
 // A number to the left by at most 128 places, where it is in range.

@@ -1,6 +1,7 @@
 -- What the natives of texts say that ask no task.
 use Rattle.std.specs.Prelude.{ℕ, Bool, false, cond, eqb, List, [], ◌∷◌, ◌++◌, Option, Some, None, Ok}
-use Rattle.std.specs.Ordering.{Ordering, nat_cmp, is_eq, is_ne, is_lt, is_le, is_ge, is_gt}
+use Rattle.std.specs.declared.cmp.Ordering.{Ordering}
+use Rattle.std.specs.Ordering.{nat_cmp, is_eq, is_ne, is_lt, is_le, is_ge, is_gt}
 use Rattle.std.specs.Cmp.Lexicographic.{slice_cmp}
 use Rattle.std.specs.Str.{str_to_ascii_uppercase}
 use Rattle.py_node.specs.declared.refs.PyObjectRef.{PyObjectRef}

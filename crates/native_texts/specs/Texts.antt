@@ -1,6 +1,6 @@
 -- What natives make of texts.
-use Rattle.std.specs.Prelude.{ℕ, ℤ, pos, ◌*◌, ◌%◌, ◌^◌, Bool, cond, eqb, ◌==◌, ◌||◌, if◌then◌else◌, length, fold, List, [], ◌∷◌, ◌++◌}
-use Rattle.std.specs.Int.{w64, bit_xor, cast_signed}
+use Rattle.std.specs.Prelude.{ℕ, ℤ, pos, bit_xor, ◌*◌, ◌%◌, ◌^◌, Bool, cond, eqb, ◌==◌, ◌||◌, if◌then◌else◌, length, fold, List, [], ◌∷◌, ◌++◌}
+use Rattle.std.specs.Int.{w64, cast_signed}
 use Rattle.std.specs.List.{flat_map, starts_with}
 use Rattle.std.specs.Str.{chars}
 use Rattle.py_node.specs.Tree.{Text}

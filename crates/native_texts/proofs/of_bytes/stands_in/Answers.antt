@@ -4,4 +4,4 @@ use Rattle.native_texts.proofs.of_bytes.stands_in.Goals as goal
 
 pub returns : goal.returns
 returns c =
-    inside c.contains.result c.args.needle.now c.args.text.now (contains_text c.contains.result c.args.needle.now c.args.text.now c.contains.ensures.cases)
+    inside c.contains.result c.args.part.now c.args.text.now (contains_text c.contains.result c.args.part.now c.args.text.now c.contains.ensures.cases)
