@@ -1,6 +1,6 @@
 //! The natives of dicts.
 
-ghost use Rattle.std.specs.Prelude.{◌≡◌, is_some, None, IfOk};
+ghost use Rattle.std.specs.Prelude.{◌≡◌, [], is_some, IfOk};
 ghost use Rattle.py_node.specs.declared.built_in.BuiltIn.TheVariants.{Dict};
 ghost use Rattle.py_node.specs.declared.raised.Cause.TheVariants.{MissingKey};
 ghost use Rattle.plain_machine.specs.Dicts.{with_entry};

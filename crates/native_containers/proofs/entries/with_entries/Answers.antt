@@ -18,8 +18,8 @@ with_entry-requires-clause-value c = (pair-holds c.args.world.now c.args.more.no
 
 pub loop-entry-preserved : goal.loop-entry-preserved
 loop-entry-preserved c = record {
-  entries = λ t. entry-more (plain t c.args.world.now) c.args.entries.now c.loop-entry.all.items c.in_ok-all-in-loop-entry.all.items c.args.more.now c.loop-entry.entry-index _ c.loop-entry-test.true (c.loop-entry.invariant.entries t) (c.in_ok-all-in-loop-entry.ensures.entries t);
-  holds = c.in_ok-all-in-loop-entry.ensures.holds;
+  entries = λ t. entry-more (plain t c.args.world.now) c.args.entries.now c.loop-entry.all.items c.in_ok-all-2.all.items c.args.more.now c.loop-entry.entry-index _ c.loop-entry-test.true (c.loop-entry.invariant.entries t) (c.in_ok-all-2.ensures.entries t);
+  holds = c.in_ok-all-2.ensures.holds;
 }
 
 pub returns-clause-entries : goal.returns-clause-entries
