@@ -1,5 +1,5 @@
 -- The objects that stand for classes.
-use Rattle.std.proofs.Common.{◌≡◌, ℕ, zero, suc, ◌≤◌, true, false, cond, eqb, Bool, List, [], ◌∷◌, ◌++◌, length, map, take, inl, inr, refl, ap, arith}
+use Rattle.std.proofs.Common.{◌≡◌, ℕ, zero, suc, ◌+◌, ◌<◌, ◌≤◌, true, false, cond, eqb, Bool, List, [], ◌∷◌, ◌++◌, length, get_or, map, take, inl, inr, refl, ap, arith}
 use Rattle.std.specs.Prelude.{Some, is_some}
 use Rattle.std.proofs.lemmas.Bool.{eq-eqb}
 use Rattle.py_node.specs.declared.refs.PyTypeRef.{PyTypeRef}
@@ -31,3 +31,14 @@ module _ {K : Type 0} where
   pub subclass-there : (t : Classes K) (c d : ℕ) → Includes (subclasses t c) d → is_class t d ≡ true
   subclass-there [] c d h = absurd h
   subclass-there (k ∷ ks) c d h = more k ks c d (has k.bases c) (subclass-there ks c d) h
+
+-- one more
+pub nodes-next : (cs : List PyTypeRef) (i : ℕ) (d : PyTypeRef) → i < length cs → map (λ c. ref c.0) (take i cs) ++ ref (get_or cs i d).0 ∷ [] ≡ map (λ c. ref c.0) (take (i + 1) cs)
+nodes-next [] i d l = absurd (omega arith)
+nodes-next (c ∷ cs) zero d l = refl
+nodes-next (c ∷ cs) (suc i) d l = ap (λ rs. ref c.0 ∷ rs) (nodes-next cs i d (omega arith))
+
+pub class-among : (cs : List PyTypeRef) (i : ℕ) (d : PyTypeRef) → i < length cs → Includes (numbers cs) (get_or cs i d).0
+class-among [] i d l = absurd (omega arith)
+class-among (c ∷ cs) zero d l = inl refl
+class-among (c ∷ cs) (suc i) d l = inr (class-among cs i d (omega arith))
