@@ -33,7 +33,7 @@ module _ {K : Type 0} where
   subclass-there (k ∷ ks) c d h = more k ks c d (has k.bases c) (subclass-there ks c d) h
 
 -- one more
-pub nodes-next : (cs : List PyTypeRef) (i : ℕ) (d : PyTypeRef) → i < length cs → map (λ c. ref c.0) (take i cs) ++ ref (get_or cs i d).0 ∷ [] ≡ map (λ c. ref c.0) (take (i + 1) cs)
+pub nodes-next : (cs : List PyTypeRef) (i : ℕ) (d : PyTypeRef) → i < length cs → map (λ c. ref c.0) (take i cs) ++ ref (get_or cs i d).0 ∷ [] ≡ map (λ c. ref c.0) (take (suc i) cs)
 nodes-next [] i d l = absurd (omega arith)
 nodes-next (c ∷ cs) zero d l = refl
 nodes-next (c ∷ cs) (suc i) d l = ap (λ rs. ref c.0 ∷ rs) (nodes-next cs i d (omega arith))

@@ -14,7 +14,7 @@ abbrev Bound : Type 0
 Bound = List (PyStrInterned × PyObjectRef)
 
 -- one keyword more
-pub parts-next : (t : Reading) (p : PyProperty) (kw : Bound) (i : ℕ) (d : PyStrInterned × PyObjectRef) → i < length kw → with_parts (Some p) (bindings t (drop i kw)) ≡ with_parts (with_part p (spelled t (get_or kw i d).0) (get_or kw i d).1) (bindings t (drop (i + 1) kw))
+pub parts-next : (t : Reading) (p : PyProperty) (kw : Bound) (i : ℕ) (d : PyStrInterned × PyObjectRef) → i < length kw → with_parts (Some p) (bindings t (drop i kw)) ≡ with_parts (with_part p (spelled t (get_or kw i d).0) (get_or kw i d).1) (bindings t (drop (suc i) kw))
 parts-next t p [] i d l = absurd (omega arith)
 parts-next t p (k ∷ kw) zero d l = refl
 parts-next t p (k ∷ kw) (suc i) d l = parts-next t p kw i d (omega arith)

@@ -14,7 +14,7 @@ pub loop-class-preserved : goal.loop-class-preserved
 loop-class-preserved c =
     let l = c.loop-class in
     let r = c.class_node.result in
-    rw (add-one, c.in_ok-push.ensures.ok) (record {
+    rw (add-one, c.push.ensures.items) (record {
       items = ap (λ rs. rs ++ r ∷ []) l.invariant.items ∙ rw c.class_node.ensures.reads (nodes-next c.args.classes.now l.class-index (record { 0 = 0 }) c.loop-class-test.true);
       holds = more-nodes c.args.world.now l.nodes.items r l.invariant.holds c.class_node.ensures.node;
     })
