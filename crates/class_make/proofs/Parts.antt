@@ -11,7 +11,10 @@ use Rattle.py_node.specs.declared.raised.Cause.{Cause}
 use Rattle.py_node.specs.declared.raised.Cause.TheVariants.{NullInName, TypeArgs}
 use Rattle.py_node.specs.declared.known.Known.TheVariants.{MroEntries}
 use Rattle.py_node.specs.Known.{known_text}
+use Rattle.py_node.specs.declared.raised.Raised.{Raised as Fault}
+use Rattle.py_node.specs.declared.task.Answer.{Answer}
 use Rattle.py_node.specs.declared.task.Step.{Step}
+use Rattle.py_node.specs.declared.task.Step.TheVariants.{End}
 use Rattle.py_node.specs.Tree.{Text}
 use Rattle.class_model.specs.BuiltIn.{natives_of}
 use Rattle.class_model.specs.Slot.{entry}
@@ -25,11 +28,11 @@ use Rattle.plain_machine.specs.World.{datum_at, text_keys}
 use Rattle.class_world.specs.Held.{Held}
 use Rattle.class_world.specs.declared.world.World.{World}
 use Rattle.class_world.specs.Reading.{Reading, bindings, plain}
-use Rattle.class_world.specs.Rows.{Steps, Goes}
+use Rattle.class_world.specs.Rows.{EndsAs, Steps, Goes}
 use Rattle.class_world.specs.Sound.{IsNode, AreNodes, Holds}
 use Rattle.class_world.proofs.Claims.{node-in}
 use Rattle.class_make.specs.declared.ClassKept.{ClassKept}
-use Rattle.class_make.specs.Say.{Entries, class_job_say, by_bases, by_classes, by_one, by_parts, by_winner, classes_of, dict_of, from_three, has_null, namespace, on_bases, on_layout, one_of, text_of, three_of, tuple_of, type_by, type_new, type_new_of, with_namespace, winner}
+use Rattle.class_make.specs.Say.{Entries, class_job_say, by_bases, by_classes, by_one, by_parts, by_winner, called_with, classes_of, dict_of, from_three, has_null, namespace, on_bases, on_layout, one_of, text_of, three_of, tuple_of, type_by, type_call, type_new, type_new_of, with_namespace, winner}
 use Rattle.class_make.specs.Rows.{Bound, Makes, Types, class_stands}
 
 -- the bases: allowed together, or not
@@ -135,3 +138,14 @@ pub types-from : (said other : Reading → PlainWorld → Said) (old new : World
 types-from said other old new step e h = λ n args kw t q.
     let k = h n args kw t q in
     (k.0, subst (λ s. Steps class_job_say (class_stands t) t (DoType n args (bindings t kw)) [] s step new) (e t) k.1)
+
+-- a native of `type` that asks no task
+pub ends-types : (F : Reading → PlainWorld → Said) (old new : World) (r : Result Answer Fault) → EndsAs F old new r → Types F old new (End r)
+ends-types F old new r h = λ n args kw t q.
+    let k = h t q in
+    (k.0, subst (λ s. Steps class_job_say (class_stands t) t (DoType n args (bindings t kw)) [] s (End r) new) (sym k.1) (refl, refl))
+
+-- a call by name
+pub call-goes : (u : PlainWorld) (args rest : List PyObjectRef) (kw : Bindings) (d : PyObjectRef) (o : Option ℕ) → 1 ≤ length args → class_number (datum_at u (get_or args 0 d)) ≡ o → rest ≡ drop 1 args → called_with u o rest kw ≡ type_call u args kw
+call-goes u [] rest kw d o l e f = absurd (omega arith)
+call-goes u (c ∷ args) rest kw d o l e f = λ i. called_with u (sym e i) (f i) kw

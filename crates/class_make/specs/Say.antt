@@ -19,11 +19,12 @@ use Rattle.class_model.specs.Slot.{entry}
 use Rattle.class_model.specs.BuiltIn.{natives_of}
 use Rattle.class_table.specs.Refused.{refused_layout, refused_order}
 use Rattle.class_world.specs.NewHeap.{qualified, refused_name}
-use Rattle.plain_machine.specs.Plain.{Datum, AText, ATuple, ADict, AClassMethod, AGetSet, PlainWorld, Bindings, ClassJob, DoMakeClass, DoType, DoBind, DoCall, DoGetAttr, DoTypeGet, DoTypeSet, DoNew, ToAttribute, ToCall, ToClass, Answered, Chose, Made, Ended, Said, Asks, Ends}
+use Rattle.plain_machine.specs.Plain.{Datum, AText, ATuple, ADict, AClassMethod, AGetSet, PlainWorld, Bindings, ClassJob, DoMakeClass, DoType, DoBind, DoCall, DoGetAttr, DoTypeCall, DoTypeGet, DoTypeSet, DoNew, ToAttribute, ToCall, ToClass, Answered, Chose, Made, Ended, Said, Asks, Ends}
 use Rattle.plain_machine.specs.World.{ref, is_text, datum_at, class_at, text_keys, with_node, next_node, with_new_class}
 use Rattle.plain_machine.specs.Objects.{type_object, class_number, special_at, nearest_built_in, with_definers}
 use Rattle.plain_machine.specs.Known.{the_object, the_type, the_str, the_function, the_getset, the_class_method}
 use Rattle.plain_machine.specs.Takes.{with_two, with_three, with_text, native_end}
+use Rattle.native_objects.specs.Objects.{type_native_say}
 use Rattle.plain_machine.specs.Row.{Row, start, build, pass, end, value, fault, not_yet, none, is_attribute_error, on_value, on_done}
 
 -- the entries of a dict
@@ -268,11 +269,27 @@ abbrev pub type_set_attr : PlainWorld → List PyObjectRef → Bindings → Said
 type_set_attr w args kw =
     with_self w args (λ c. with_three w args kw (λ o n v. with_text w n (λ x. pass w (ToAttribute (DoTypeSet c x (Some v))))))
 
+abbrev pub type_del_attr : PlainWorld → List PyObjectRef → Bindings → Said
+type_del_attr w args kw =
+    with_self w args (λ c. with_two w args kw (λ o n. with_text w n (λ x. pass w (ToAttribute (DoTypeSet c x None)))))
+
+-- a class is called by name: any arguments and keywords will do
+abbrev pub called_with : PlainWorld → Option ℕ → List PyObjectRef → Bindings → Said
+called_with w None args kw = Ends w (fault SelfType)
+called_with w (Some c) args kw = pass w (ToCall (DoTypeCall c args kw))
+
+abbrev pub type_call : PlainWorld → List PyObjectRef → Bindings → Said
+type_call w [] kw = Ends w (fault ArgCount)
+type_call w (c ∷ args) kw = called_with w (class_number (datum_at w c)) args kw
+
+-- those that ask no task say what they end with
 abbrev pub type_by : PlainWorld → TypeNative → List PyObjectRef → Bindings → Said
 type_by w type.New args kw = type_new w args kw
 type_by w type.GetAttribute args kw = type_get_attribute w args kw
 type_by w type.SetAttr args kw = type_set_attr w args kw
-type_by w _ args kw = Ends w not_yet
+type_by w type.DelAttr args kw = type_del_attr w args kw
+type_by w type.Call args kw = type_call w args kw
+type_by w n args kw = type_native_say w n args kw
 
 abbrev pub type_say : PlainWorld → TypeNative → List PyObjectRef → Bindings → Row
 type_say w n args kw = start (type_by w n args kw) (native_end w)

@@ -46,8 +46,8 @@ pub(crate) fn begin_call(
     }
 }
 
-// What a native entry for calls asks for an object, if it is there yet.
-fn native_call(
+/// What a native entry for calls asks for an object, if it is there yet.
+pub fn native_call(
     world: &World,
     native: NativeEntry,
     f: PyObjectRef,

@@ -9,6 +9,7 @@ ghost use Rattle.proto_descr.specs.Rows.{Begins, Resumes, of_descriptor_kept};
 mod descriptor;
 
 use class_world::World;
+pub use descriptor::{bind_function, bind_native};
 use py_node::{Answer, DescriptorTask, OutOfMemory, Raised, Step};
 
 /// What a row of a descriptor keeps while it waits for an answer.

@@ -12,7 +12,7 @@ ghost use Rattle.proto_ops.specs.Rows.{of_operator_kept};
 ghost use Rattle.vm_eval.specs.Say.{Begins, Resumes, step_among, of_kept, bodies_in};
 ghost use Rattle.vm_eval.specs.Stack.{Answers, Reaches, Keeps, RunsAbove, AsDeep, EndsDeep, turns_left, of_turn, of_end};
 
-use crate::natives::begin_native;
+use crate::natives::{begin_native, native_end};
 use class_make::ClassKept;
 use class_world::World;
 use eval_forms::EvalKept;
@@ -34,6 +34,8 @@ pub enum Kept {
     ForCall(CallKept),
     ForClass(ClassKept),
     ForOperator(OperatorKept),
+    /// A native asked a task, and ends as that did.
+    ForNative,
 }
 
 /// How a command ended: its row ended, or its units were used up.
@@ -120,6 +122,7 @@ fn resume(
             let step = proto_ops::resume(world, kept, answer)?;
             Ok(of_operator(step))
         }
+        Kept::ForNative => Ok(native_end(world, answer)),
     }
 }
 

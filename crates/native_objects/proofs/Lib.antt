@@ -1,0 +1,5 @@
+pub mod Ended
+pub mod Listed
+pub mod Held
+pub mod Parts
+pub mod Named

@@ -1,0 +1,6 @@
+pub mod Takes
+pub mod Names
+pub mod Objects
+pub mod Descriptors
+pub mod Properties
+pub mod Makers
