@@ -1,5 +1,5 @@
 -- What the contracts of natives say that may ask one task, and then end as it did.
-use Rattle.std.specs.Prelude.{◌≡◌, ◌×◌, List, [], Result}
+use Rattle.std.specs.Prelude.{◌≡◌, List, [], Result}
 use Rattle.py_node.specs.declared.memory.OutOfMemory.{OutOfMemory}
 use Rattle.py_node.specs.declared.task.Step.{Step}
 use Rattle.py_node.specs.declared.task.Step.TheVariants.{Ask, End}
