@@ -27,6 +27,7 @@ use Rattle.plain_machine.specs.Takes.{with_one, with_two, with_three, with_text,
 use Rattle.plain_machine.specs.Known.{the_object, the_type, the_tuple}
 use Rattle.plain_machine.specs.Native.{native_task}
 use Rattle.plain_machine.specs.Show.{show}
+use Rattle.native_objects.specs.Objects.{object_native_say}
 use Rattle.plain_machine.specs.Row.{Row, start, fork, ask, pass, end, value, done, fault, not_yet, none, on_value, on_done}
 
 abbrev pub is_empty : {A : Type 0} → List A → Bool
@@ -224,13 +225,19 @@ object_get_attribute w args kw = with_two w args kw (λ o n. with_text w n (λ x
 abbrev pub object_set_attr : PlainWorld → List PyObjectRef → Bindings → Said
 object_set_attr w args kw = with_three w args kw (λ o n v. with_text w n (λ x. pass w (ToAttribute (DoGenericSet o x (Some v)))))
 
+-- an attribute by its name, as objects take it out
+abbrev pub object_del_attr : PlainWorld → List PyObjectRef → Bindings → Said
+object_del_attr w args kw = with_two w args kw (λ o n. with_text w n (λ x. pass w (ToAttribute (DoGenericSet o x None))))
+
+-- those that ask no task say what they end with
 abbrev pub object_by : PlainWorld → ObjectNative → List PyObjectRef → Bindings → Said
 object_by w object.New args kw = object_new w args
 object_by w object.Init args kw = object_init w args
 object_by w object.InitSubclass args kw = object_init_subclass w args kw
 object_by w object.GetAttribute args kw = object_get_attribute w args kw
 object_by w object.SetAttr args kw = object_set_attr w args kw
-object_by w _ args kw = Ends w not_yet
+object_by w object.DelAttr args kw = object_del_attr w args kw
+object_by w n args kw = object_native_say w n args kw
 
 abbrev pub object_say : PlainWorld → ObjectNative → List PyObjectRef → Bindings → Row
 object_say w n args kw = start (object_by w n args kw) (native_end w)
