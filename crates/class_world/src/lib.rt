@@ -14,6 +14,7 @@ mod nodes;
 mod numbers;
 pub mod objects;
 mod of_classes;
+mod one_base;
 pub mod payloads;
 pub mod scope;
 pub mod show;
