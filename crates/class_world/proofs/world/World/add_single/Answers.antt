@@ -7,15 +7,18 @@ use Rattle.class_table.specs.OneBase.{single_class}
 use Rattle.class_table.proofs.Bests.{found}
 use Rattle.class_table.proofs.Heaps.{only-best}
 use Rattle.class_world.specs.contracts.world.World.{the_view}
-use Rattle.class_world.specs.Sound.{Holds, IsClass, IsOf, of_binding, of_each}
+use Rattle.class_world.specs.Sound.{IsClass, IsOf, of_binding, of_each}
 use Rattle.class_world.proofs.Claims.{opened, opened-one}
 use Rattle.class_world.proofs.Growth.{grows-seen}
 use Rattle.class_world.proofs.ClassChanges.{room, made-grows, class-made, class-made-of, node-made, made-sound}
+use Rattle.class_world.proofs.OneBase.{class-there, no-names}
 use Rattle.class_world.proofs.world.World.add_single.Goals as goal
 
+pub is_base-requires : goal.is_base-requires
+is_base-requires c = class-there _ _ (opened-one (the_view c.self.inside) c.args.self.now (IsClass c.args.base.0) c.self.view_is c.requires.base)
+
 pub new_single-requires-clause-base : goal.new_single-requires-clause-base
-unfolding Holds
-new_single-requires-clause-base c = opened-one (the_view c.self.inside) c.args.self.now (IsClass c.args.base.0) c.self.view_is c.requires.base
+new_single-requires-clause-base c = class-there _ _ (opened-one (the_view c.self.inside) c.args.self.now (IsClass c.args.base.0) c.self.view_is c.requires.base)
 
 pub new_single-requires-clause-fresh : goal.new_single-requires-clause-fresh
 new_single-requires-clause-fresh c =
@@ -24,7 +27,6 @@ new_single-requires-clause-fresh c =
     omega (arith, l, size)
 
 pub invariant_of-self-in-Ok-new_single : goal.invariant_of-self-in-Ok-new_single
-unfolding Holds
 invariant_of-self-in-Ok-new_single c =
     let w = the_view c.self.inside in
     let meta = opened-one w c.args.self.now (IsClass c.args.metaclass.0) c.self.view_is c.requires.metaclass in
@@ -33,7 +35,7 @@ invariant_of-self-in-Ok-new_single c =
     let k = single_class c.args.name.now c.len.result c.args.base.0 c.args.attrs c.args.flags.0 in
     let size : c.len.result ≡ length w.nodes = omega (arith, c.len.ensures, c.in-Ok.ensures.len, c.self.inside.nodes.ok.0) in
     rw (c.push_reserved.ensures.items, c.in-Ok.ensures.items, c.in-Ok-new_single.ensures.added)
-    (made-sound w c.args.metaclass k c.in-Ok-new_single.class (ap (λ (n : PyTypeRef). n.0) c.in-Ok-new_single.ensures.number ∙ size) size c.self.invariant tt meta of attrs)
+    (made-sound w c.args.metaclass k c.in-Ok-new_single.class (ap (λ (n : PyTypeRef). n.0) c.in-Ok-new_single.ensures.number ∙ size) size c.self.invariant (no-names w) meta of attrs)
 
 pub returns-in-Ok-new_single-clause-grows : goal.returns-in-Ok-new_single-clause-grows
 returns-in-Ok-new_single-clause-grows c =
@@ -47,13 +49,12 @@ returns-in-Ok-new_single-clause-class c =
     rw (c.push_reserved.ensures.items, c.in-Ok.ensures.items, c.in-Ok-new_single.ensures.added) (class-made w c.args.metaclass k c.in-Ok-new_single.class (ap (λ (n : PyTypeRef). n.0) c.in-Ok-new_single.ensures.number ∙ size) size c.self.invariant)
 
 pub returns-in-Ok-new_single-clause-of : goal.returns-in-Ok-new_single-clause-of
-unfolding Holds
 returns-in-Ok-new_single-clause-of c = λ b h.
     let w = the_view c.self.inside in
     let d = c.args.base.0 in
     let k = single_class c.args.name.now c.len.result d c.args.attrs c.args.flags.0 in
     let size : c.len.result ≡ length w.nodes = omega (arith, c.len.ensures, c.in-Ok.ensures.len, c.self.inside.nodes.ok.0) in
-    let base = opened-one w c.args.self.now (IsClass d) c.self.view_is c.requires.base in
+    let base = class-there w d (opened-one w c.args.self.now (IsClass d) c.self.view_is c.requires.base) in
     let more = subst AreSound c.in-Ok-new_single.ensures.added c.sound-in-Ok-new_single.ensures.sound in
     let best : best_of w.classes (d ∷ []) ≡ Some d = only-best w.classes (found w.classes c.sound.ensures.sound) (c.args.base ∷ []) (omega arith) (base, tt) (omega arith) in
     rw (c.push_reserved.ensures.items, c.in-Ok.ensures.items, c.in-Ok-new_single.ensures.added)
