@@ -49,23 +49,19 @@ fn definitions_give_payloads(rt: HostRuntime) -> Result<(), Fail> {
         )
     );
     let class = world.built_in(BuiltIn::Str);
-    if method.is_bound() {
-        assert!(rt;
-            matches!(
-                &method.to_proper_method(&mut world, class)?,
-                Payload::MethodDescriptor(_)
-            )
-        );
-    }
+    assert!(rt;
+        matches!(
+            &method.to_proper_method(&mut world, class)?,
+            Payload::MethodDescriptor(_)
+        )
+    );
     let class = world.built_in(BuiltIn::Str);
-    if function.is_bound() {
-        assert!(rt;
-            matches!(
-                &function.to_proper_method(&mut world, class)?,
-                Payload::NativeFunction(_)
-            )
-        );
-    }
+    assert!(rt;
+        matches!(
+            &function.to_proper_method(&mut world, class)?,
+            Payload::NativeFunction(_)
+        )
+    );
     Ok(())
 }
 

@@ -6,7 +6,9 @@ use Rattle.py_node.specs.declared.built_in.BuiltIn.TheVariants.{BuiltinFunctionO
 use Rattle.py_node.specs.declared.entry.NativeEntry.{NativeEntry}
 use Rattle.py_node.specs.declared.refs.PyObjectRef.{PyObjectRef}
 use Rattle.py_node.specs.Tree.{Text}
-use Rattle.plain_machine.specs.Plain.{Datum, ANativeFunction, ABuiltinMethod, AMethodDescriptor}
+use Rattle.py_node.specs.BuiltIns.{place_of}
+use Rattle.plain_machine.specs.Plain.{Datum, ANativeFunction, ABuiltinMethod, AMethodDescriptor, PlainWorld}
+use Rattle.plain_machine.specs.World.{with_node, next_node, with_own_attr}
 use Rattle.native_defs.specs.declared.def.PyMethodDef.{PyMethodDef}
 
 -- the definition of a native method, with texts as bytes and flags as bits
@@ -19,12 +21,9 @@ pub record Definition : Type 0 where
 abbrev pub definition_of : PyMethodDef → Definition
 definition_of d = record { name = string_bytes d.name; func = d.func; flags = d.flags.0; doc = option_map (λ x. string_bytes x) d.doc }
 
--- how a native is bound: to the class of an object, to nothing, or to an object, by the bits of its flags
+-- how a native is bound: to the class of an object, or to an object, by the bits of its flags
 abbrev pub class_flag : ℕ
 class_flag = 16
-
-abbrev pub static_flag : ℕ
-static_flag = 32
 
 abbrev pub method_flag : ℕ
 method_flag = 512
@@ -35,10 +34,6 @@ has_bit bit d = bit_and d.flags bit == bit
 -- a method of objects or of classes
 abbrev pub is_method : Definition → Bool
 is_method d = has_bit method_flag d || has_bit class_flag d
-
--- whether one of the flags is set
-abbrev pub is_bound : Definition → Bool
-is_bound d = is_method d || has_bit static_flag d
 
 -- as a function, which may be bound to an object
 abbrev pub as_function : Definition → Option PyObjectRef → Datum
@@ -59,3 +54,10 @@ as_attribute d class = cond (is_method d) (as_method d class) (as_function d Non
 -- the class of such an object
 abbrev pub attribute_home : Definition → BuiltIn
 attribute_home d = cond (is_method d) MethodDescriptor BuiltinFunctionOrMethod
+
+-- a new such object, as an own attribute of the class under the definition's name
+unfoldable pub with_method : ℕ → PlainWorld → PyMethodDef → PlainWorld
+with_method class w def =
+    let d = definition_of def in
+    let home = place_of (attribute_home d) in
+    with_own_attr (with_node w home (as_attribute d class)) class d.name (next_node w home)

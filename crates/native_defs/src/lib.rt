@@ -3,8 +3,10 @@
 
 pub mod build;
 pub mod def;
+pub mod extend;
 pub mod payloads;
 pub mod signature;
 
 pub use def::PyMethodDef;
+pub use extend::extend_methods;
 pub use signature::get_text_signature_from_internal_doc;

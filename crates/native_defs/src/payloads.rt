@@ -1,10 +1,10 @@
 //! What a definition is as an object: its texts get numbers in a world, which stays as it was otherwise.
 
-ghost use Rattle.std.specs.Prelude.{◌≡◌, true, None, Some, IfOk};
+ghost use Rattle.std.specs.Prelude.{◌≡◌, None, Some, IfOk};
 ghost use Rattle.py_node.specs.declared.built_in.BuiltIn.TheVariants as built_in;
 ghost use Rattle.class_world.specs.Reading.{Reading, Reads, datum, plain, spelled, spelled_option};
 ghost use Rattle.class_world.specs.Sound.{IsNode, IsClass, IsName, Holds, AllHold, Grows, home_of, class_in, of_payload, of_option, of_name_ref, of_node_ref};
-ghost use Rattle.native_defs.specs.Definitions.{definition_of, as_function, as_method, as_bound_method, as_attribute, attribute_home, is_method, is_bound};
+ghost use Rattle.native_defs.specs.Definitions.{definition_of, as_function, as_method, as_bound_method, as_attribute, attribute_home, is_method};
 
 use crate::def::PyMethodDef;
 use bitflags::Flags;
@@ -153,13 +153,6 @@ impl PyMethodDef {
         self.flags.contains(PyMethodFlags::METHOD) || self.flags.contains(PyMethodFlags::CLASS)
     }
 
-    /// Whether its flags say how it is bound: to objects, to their class, or not at all.
-    pub fn is_bound(&self) -> bool
-        ensures { result ≡ is_bound (definition_of self.now) }
-    {
-        self.is_method() || self.flags.contains(PyMethodFlags::STATIC)
-    }
-
     /// As an attribute of a class: a method of it, or a function that isn't bound where the definition is static.
     pub fn to_proper_method(
         &self,
@@ -167,7 +160,6 @@ impl PyMethodDef {
         class: PyTypeRef,
     ) -> Result<Payload, OutOfMemory>
         requires class { Holds world.old (IsClass class.0) }
-        requires bound { is_bound (definition_of self.now) ≡ true }
         ensures reading { IfOk result (λ p. (t : Reading) → Reads t world.new →
             datum t p ≡ as_attribute (definition_of self.now) class.0) }
         ensures holds { IfOk result (λ p. AllHold world.new (of_payload p)) }
