@@ -1,7 +1,7 @@
 //! The definition of a native method.
 
 ghost use Rattle.std.specs.Prelude.{◌≡◌, IfOk, option_map};
-ghost use Rattle.native_defs.specs.Definitions.{Definition, definition_of, text_in};
+ghost use Rattle.native_defs.specs.Definitions.{definition_of};
 
 use py_node::{NativeEntry, OutOfMemory, PyMethodFlags};
 use std::alloc::Global;

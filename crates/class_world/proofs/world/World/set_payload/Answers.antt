@@ -1,9 +1,13 @@
 use Rattle.class_world.specs.contracts.world.World.{the_view}
-use Rattle.class_world.specs.Sound.{of_payload}
-use Rattle.class_world.proofs.Claims.{opened}
+use Rattle.class_world.specs.Sound.{IsNode, Holds, of_payload}
+use Rattle.class_world.proofs.Claims.{opened, opened-one}
 use Rattle.class_world.proofs.Growth.{grows-seen}
 use Rattle.class_world.proofs.PayloadChanges.{there, payload-grows, payload-sound, payload-read}
 use Rattle.class_world.proofs.world.World.set_payload.Goals as goal
+
+pub index_mut-requires : goal.index_mut-requires
+unfolding Holds
+index_mut-requires c = rw c.self.inside.nodes.ok.0 (opened-one (the_view c.self.inside) c.args.self.now (IsNode c.args.node) c.self.view_is c.requires.node)
 
 pub invariant_of-self : goal.invariant_of-self
 invariant_of-self c =
