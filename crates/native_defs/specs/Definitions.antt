@@ -18,6 +18,9 @@ pub record Definition : Type 0 where
   pub flags : ℕ
   pub doc : Option Text
 
+abbrev pub definition : Text → NativeEntry → ℕ → Option Text → Definition
+definition name func flags doc = record { name = name; func = func; flags = flags; doc = doc }
+
 abbrev pub definition_of : PyMethodDef → Definition
 definition_of d = record { name = string_bytes d.name; func = d.func; flags = d.flags.0; doc = option_map (λ x. string_bytes x) d.doc }
 

@@ -1,7 +1,8 @@
 //! The definition of a native method.
 
-ghost use Rattle.std.specs.Prelude.{◌≡◌, IfOk, option_map};
-ghost use Rattle.native_defs.specs.Definitions.{definition_of};
+ghost use Rattle.std.specs.Prelude.{◌≡◌, IfOk};
+ghost use Rattle.std.specs.Option.{option_copied};
+ghost use Rattle.native_defs.specs.Definitions.{definition, definition_of};
 
 use py_node::{NativeEntry, OutOfMemory, PyMethodFlags};
 use std::alloc::Global;
@@ -24,8 +25,7 @@ impl PyMethodDef {
         flags: PyMethodFlags,
         doc: Option<&str>,
     ) -> Result<PyMethodDef, OutOfMemory>
-        ensures { IfOk result (λ d. definition_of d ≡
-            record { name = name.now; func = func; flags = flags.0; doc = option_map (λ x. x.now) doc }) }
+        ensures { IfOk result (λ d. definition_of d ≡ definition name.now func flags.0 (option_copied doc.entry)) }
     {
         let name = String::from_str(alloc, name)?;
         let doc = match doc {
@@ -48,8 +48,7 @@ impl PyMethodDef {
         flags: PyMethodFlags,
         doc: Option<&str>,
     ) -> Result<PyMethodDef, OutOfMemory>
-        ensures { IfOk result (λ d. definition_of d ≡
-            record { name = name.now; func = func; flags = flags.0; doc = option_map (λ x. x.now) doc }) }
+        ensures { IfOk result (λ d. definition_of d ≡ definition name.now func flags.0 (option_copied doc.entry)) }
     {
         PyMethodDef::new_const(alloc, name, func, flags, doc)
     }
