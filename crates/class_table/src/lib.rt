@@ -11,6 +11,7 @@ pub mod heap;
 pub mod inherit;
 pub mod laws;
 pub mod natives;
+pub mod one_base;
 pub mod place;
 pub mod put;
 pub mod read;

@@ -77,6 +77,11 @@ impl ClassTable {
         Ok(table)
     }
 
+    // What the table takes its memory from.
+    pub(crate) fn alloc(&self) -> Global {
+        self.alloc
+    }
+
     // A table with no classes.
     pub(crate) fn empty(alloc: Global) -> ClassTable
         ensures { result ≡ [] }

@@ -26,3 +26,4 @@ pub mod PayloadChanges
 pub mod DictReads
 pub mod KeyEntries
 pub mod Items
+pub mod OneBase

@@ -18,6 +18,7 @@ pub mod nodes;
 mod numbers;
 pub mod objects;
 mod of_classes;
+mod one_base;
 pub mod scope;
 mod scopes;
 pub mod show;
