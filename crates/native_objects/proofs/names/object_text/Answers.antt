@@ -1,4 +1,4 @@
-use Rattle.std.proofs.Common.{◌≡◌, ◌++◌, codes, false, Some, option_map, string_bytes, sym, ap, ◌∙◌, rules}
+use Rattle.std.proofs.Common.{◌≡◌, ◌++◌, codes, false, Some, option_map, string_bytes, sym, ap, ◌∙◌}
 use Rattle.std.specs.Fmt.{digits}
 use Rattle.plain_machine.specs.World.{or_empty}
 use Rattle.plain_machine.specs.ClassText.{name_at}
@@ -19,5 +19,5 @@ returns-in_ok-text-in-Some-clause-text c = λ t r.
     ap (λ o. text_from o (module_of u k) (name_at u.classes k) n) (c.in_ok-qualname.ensures t r ∙ ap (option_map string_bytes) c.in-Some.is)
     ∙ ap (λ o. text_from (Some q) o (name_at u.classes k) n) (c.in_ok-module.ensures t r)
     ∙ ap (λ o. text_from (Some q) m (or_empty o) n) (c.class_name.ensures t)
-    ∙ ap (λ y. in_length (codes "<" ++ y ++ codes " object at 0x" ++ digits 16 false n ++ codes ">")) (sym named)
-    ∙ ap in_length (sym c.in_ok-text-in-Some.ensures.ok)
+    ∙ ap (λ y. in_length (codes "<" ++ y ++ codes " object at 0x" ++ digits 16 false n ++ codes ">")) (sym (c.as_str-in-Some.ensures.value ∙ named))
+    ∙ ap in_length (sym c.in_ok-text-in-Some.ensures)

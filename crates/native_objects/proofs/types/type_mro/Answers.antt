@@ -35,7 +35,7 @@ returns-in_ok-nodes-in-Ok-clause-ends c =
     let nodes = c.in_ok-nodes-in-Ok.nodes in
     let line = rw c.classes.ensures.same at c.mro.ensures.line in
     ends-after (λ t u. type_mro u c.args.args.now (bindings t c.args.kw.now)) (λ t u. object_made u the_list (datum t (payload.List nodes))) w c.new_object.new.world c.new_object.result (λ t r.
-      let u = plain t w in
-      c.in-Ok.ensures.given t (λ k. classes_made u (or_nothing (lin u.classes k)))
-      ∙ ap (λ l. classes_made u (or_nothing l)) (line-seen w w refl t c.in-Ok.class.0 ∙ line)
-      ∙ ap (λ rs. object_made u the_list (AList rs)) (sym c.in_ok-nodes-in-Ok.ensures.items)) c.new_object.ensures.ends
+    let u = plain t w in
+    c.in-Ok.ensures.given t (λ k. classes_made u (or_nothing (lin u.classes k)))
+    ∙ ap (λ l. classes_made u (or_nothing l)) (line-seen w w refl t c.in-Ok.class.0 ∙ line)
+    ∙ ap (λ rs. object_made u the_list (AList rs)) (sym c.in_ok-nodes-in-Ok.ensures.items)) c.new_object.ensures.ends

@@ -23,7 +23,7 @@ returns-clause-ends c =
     let args = c.args.args.now in
     let few : nat_le (length args) 3 ≡ true = search rules in
     ends-after (λ t u. type_prepare u args) (λ t u. object_made u the_dict (datum t (payload.Dict c.new-entries.result))) w c.new_object.new.world c.new_object.result (λ t r.
-      let u = plain t w in
-      c.in_default.ensures.given t (λ k. with_name_and_bases u args (object_made u the_dict (ADict [])))
-      ∙ ap (λ b. cond b (object_made u the_dict (ADict [])) (Ends u (fault ArgCount))) few
-      ∙ ap (λ es. object_made u the_dict (ADict es)) (sym c.new-entries.ensures.items)) c.new_object.ensures.ends
+    let u = plain t w in
+    c.in_default.ensures.given t (λ k. with_name_and_bases u args (object_made u the_dict (ADict [])))
+    ∙ ap (λ b. cond b (object_made u the_dict (ADict [])) (Ends u (fault ArgCount))) few
+    ∙ ap (λ es. object_made u the_dict (ADict es)) (sym c.new-entries.ensures.items)) c.new_object.ensures.ends

@@ -36,7 +36,7 @@ returns-in_ok-nodes-in-Ok-clause-ends c =
     let nodes = c.in_ok-nodes-in-Ok.nodes in
     let same = rw c.classes.ensures.same at c.subclasses.ensures in
     ends-after (λ t u. type_subclasses u c.args.args.now (bindings t c.args.kw.now)) (λ t u. object_made u the_list (datum t (payload.List nodes))) w c.new_object.new.world c.new_object.result (λ t r.
-      let u = plain t w in
-      c.in-Ok.ensures.given t (λ k. classes_made u (subclasses u.classes k))
-      ∙ ap (classes_made u) (subclasses-seen t w c.in-Ok.class.0 ∙ sym same)
-      ∙ ap (λ rs. object_made u the_list (AList rs)) (sym c.in_ok-nodes-in-Ok.ensures.items)) c.new_object.ensures.ends
+    let u = plain t w in
+    c.in-Ok.ensures.given t (λ k. classes_made u (subclasses u.classes k))
+    ∙ ap (classes_made u) (subclasses-seen t w c.in-Ok.class.0 ∙ sym same)
+    ∙ ap (λ rs. object_made u the_list (AList rs)) (sym c.in_ok-nodes-in-Ok.ensures.items)) c.new_object.ensures.ends
