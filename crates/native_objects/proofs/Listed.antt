@@ -3,10 +3,12 @@ use Rattle.std.proofs.Common.{◌≡◌, ℕ, zero, suc, ◌+◌, ◌<◌, ◌�
 use Rattle.std.specs.Prelude.{Some, is_some}
 use Rattle.std.proofs.lemmas.Bool.{eq-eqb}
 use Rattle.py_node.specs.declared.refs.PyTypeRef.{PyTypeRef}
-use Rattle.class_model.specs.Class.{Class, Classes, class_at, is_class, subclasses}
+use Rattle.class_model.specs.Class.{Class, Classes, class_at, is_class, renamed, subclasses}
 use Rattle.class_model.specs.Order.{has, Includes}
 use Rattle.class_table.specs.Keys.{numbers}
 use Rattle.plain_machine.specs.World.{ref}
+use Rattle.class_world.specs.Held.{Held}
+use Rattle.class_world.specs.Reading.{Reading, spelled, plain}
 
 -- all
 pub nodes-end : (cs : List PyTypeRef) (i : ℕ) → length cs ≤ i → map (λ c. ref c.0) (take i cs) ≡ map ref (numbers cs)
@@ -42,3 +44,12 @@ pub class-among : (cs : List PyTypeRef) (i : ℕ) (d : PyTypeRef) → i < length
 class-among [] i d l = absurd (omega arith)
 class-among (c ∷ cs) zero d l = inl refl
 class-among (c ∷ cs) (suc i) d l = inr (class-among cs i d (omega arith))
+
+-- subclasses have no names
+subclasses-renamed : {K L : Type 0} (f : K → L) (t : Classes K) (c : ℕ) → subclasses (renamed f t) c ≡ subclasses t c
+subclasses-renamed f [] c = refl
+subclasses-renamed f (k ∷ ks) c = ap (λ cs. cond (has k.bases c) (k.number ∷ cs) cs) (subclasses-renamed f ks c)
+
+pub subclasses-seen : (t : Reading) (w : Held) (c : ℕ) → subclasses (plain t w).classes c ≡ subclasses w.classes c
+unfolding plain
+subclasses-seen t w c = subclasses-renamed (spelled t) w.classes c

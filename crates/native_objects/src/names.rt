@@ -1,6 +1,7 @@
 //! What classes are called, and the texts of objects that name a class.
 
-ghost use Rattle.std.specs.Prelude.{◌≡◌, ◌++◌, codes, Err, IfErr, IfOk, IfSome, option_map, string_bytes};
+ghost use Rattle.std.specs.Prelude.{◌≡◌, ◌++◌, codes, false, Err, IfErr, IfOk, IfSome, option_map, string_bytes};
+ghost use Rattle.std.specs.Fmt.{digits};
 ghost use Rattle.py_node.specs.Known.{known_text};
 ghost use Rattle.plain_machine.specs.World.{datum_at, is_text};
 ghost use Rattle.class_world.specs.Reading.{Reading, Reads, plain};
@@ -49,11 +50,18 @@ pub(crate) fn object_text(
         None => Ok(Err(Raised::new(Cause::QualnameType))),
         Some(qualname) => {
             let name = in_module(alloc, module, qualname.as_str(), world.class_name(class))?;
-            let number = object.0;
-            let text = format!(in alloc; "<{name} object at 0x{number:x}>")?;
+            let text = numbered(alloc, name.as_str(), object.0)?;
             Ok(Ok(text))
         }
     }
+}
+
+// The text of an object, by the name of its class and its number.
+fn numbered(alloc: Global, name: &str, number: u64) -> Result<String, OutOfMemory>
+    ensures { IfOk result (λ s. string_bytes s ≡
+        codes "<" ++ name.now ++ codes " object at 0x" ++ digits 16 false number ++ codes ">") }
+{
+    Ok(format!(in alloc; "<{name} object at 0x{number:x}>")?)
 }
 
 /// The text of a class.

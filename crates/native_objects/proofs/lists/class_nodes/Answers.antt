@@ -1,4 +1,5 @@
-use Rattle.std.proofs.Common.{add-one, refl, ap, ◌∙◌, ◌++◌, ◌∷◌, [], arith}
+use Rattle.std.proofs.Common.{add-one, refl, ap, map, take, ◌∙◌, ◌++◌, ◌∷◌, [], arith}
+use Rattle.py_node.specs.declared.refs.PyTypeRef.{PyTypeRef}
 use Rattle.plain_machine.specs.World.{ref}
 use Rattle.class_world.proofs.Claims.{no-nodes, more-nodes}
 use Rattle.native_objects.proofs.Listed.{nodes-next, nodes-end, class-among}
@@ -14,8 +15,9 @@ pub loop-class-preserved : goal.loop-class-preserved
 loop-class-preserved c =
     let l = c.loop-class in
     let r = c.class_node.result in
-    rw (add-one, c.push.ensures.items) (record {
-      items = ap (λ rs. rs ++ r ∷ []) l.invariant.items ∙ rw c.class_node.ensures.reads (nodes-next c.args.classes.now l.class-index (record { 0 = 0 }) c.loop-class-test.true);
+    let cs = c.args.classes.now in
+    rw (add-one, c.in_ok-push.ensures.items) (record {
+      items = ap (λ rs. rs ++ r ∷ []) l.invariant.items ∙ ap (λ x. map (λ (k : PyTypeRef). ref k.0) (take l.class-index cs) ++ x ∷ []) c.class_node.ensures.reads ∙ nodes-next cs l.class-index (record { 0 = 0 }) c.loop-class-test.true;
       holds = more-nodes c.args.world.now l.nodes.items r l.invariant.holds c.class_node.ensures.node;
     })
 
