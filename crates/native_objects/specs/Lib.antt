@@ -4,3 +4,4 @@ pub mod Objects
 pub mod Descriptors
 pub mod Properties
 pub mod Makers
+pub mod Getters

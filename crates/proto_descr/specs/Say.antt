@@ -1,20 +1,22 @@
 -- What the rows of descriptors say.
 use Rattle.std.specs.Prelude.{ℕ, Bool, cond, not, eqb, ◌&&◌, false, [], ◌∷◌, Option, Some, None}
 use Rattle.py_node.specs.declared.refs.PyObjectRef.{PyObjectRef}
-use Rattle.py_node.specs.declared.raised.Cause.TheVariants.{NeedsType}
+use Rattle.py_node.specs.declared.raised.Cause.TheVariants.{NeedsType, NoGetter}
 use Rattle.py_node.specs.declared.entry.SlotId.TheVariants.{DescrGet}
 use Rattle.py_node.specs.declared.entry.SlotEntry.{SlotEntry}
 use Rattle.py_node.specs.declared.entry.SlotEntry.TheVariants.{Native, Wrapper}
 use Rattle.py_node.specs.declared.entry.NativeEntry.{NativeEntry}
-use Rattle.py_node.specs.declared.entry.NativeEntry.TheVariants.{OfCallable}
+use Rattle.py_node.specs.declared.entry.NativeEntry.TheVariants.{OfCallable, OfDescriptor}
 use Rattle.py_node.specs.declared.entry.CallableNative.TheVariants as callable
+use Rattle.py_node.specs.declared.entry.DescriptorNative.TheVariants as descriptor
 use Rattle.py_node.specs.Tree.{Text}
 use Rattle.py_node.specs.declared.known.Known.TheVariants as known
 use Rattle.py_node.specs.Known.{known_text}
-use Rattle.plain_machine.specs.Plain.{Datum, AMethod, ABuiltinMethod, AMethodDescriptor, PlainWorld, DescriptorJob, DoDescrGet, DoSpecial, ToAttribute, Said, Ends}
+use Rattle.plain_machine.specs.Plain.{Datum, AMethod, ABuiltinMethod, AMethodDescriptor, AGetSet, PlainWorld, DescriptorJob, DoDescrGet, DoSpecial, ToAttribute, Said, Ends}
 use Rattle.plain_machine.specs.World.{datum_at, slot_at, with_node, next_node}
 use Rattle.plain_machine.specs.Objects.{type_object, class_number, for_objects, for_classes}
 use Rattle.plain_machine.specs.Known.{the_none_type, the_method, the_builtin_method}
+use Rattle.plain_machine.specs.Native.{native_task}
 use Rattle.plain_machine.specs.Row.{Row, start, pass, end, value, fault, not_yet, none}
 
 abbrev pub or_none : Option PyObjectRef → PyObjectRef
@@ -64,12 +66,22 @@ native_get w (Some (AMethodDescriptor k x n flags doc)) m o c =
     cond (for_objects flags) (object_get w m bound o (class_of_option w c)) (cond (for_classes flags) (class_get w bound o c) (static_get w m o))
 native_get w _ m o c = Ends w (value m)
 
+-- what reads an attribute of objects is asked of the object, where there is one
+abbrev pub read_by : PlainWorld → Option NativeEntry → PyObjectRef → Said
+read_by w None o = Ends w (fault NoGetter)
+read_by w (Some n) o = pass w (native_task n (o ∷ []) [])
+
+abbrev pub getset_get : PlainWorld → Option Datum → PyObjectRef → Option PyObjectRef → Said
+getset_get w (Some (AGetSet k x get set)) m (Some o) = read_by w get o
+getset_get w _ m o = Ends w (value m)
+
 -- what a descriptor gives, as its class's entry for that says. Others are not there yet
 abbrev pub descr_get_by : PlainWorld → Option SlotEntry → PyObjectRef → Option PyObjectRef → Option PyObjectRef → Said
 descr_get_by w None m o c = Ends w (value m)
 descr_get_by w (Some (Wrapper s)) m o c = pass w (ToAttribute (DoSpecial m (known_text known.Get) (or_none o ∷ or_none c ∷ []) []))
 descr_get_by w (Some (Native (OfCallable callable.GetFunction))) m o c = function_get w m o (class_of_option w c)
 descr_get_by w (Some (Native (OfCallable callable.GetMethodDescriptor))) m o c = native_get w (datum_at w m) m o c
+descr_get_by w (Some (Native (OfDescriptor descriptor.GetSetGet))) m o c = getset_get w (datum_at w m) m o
 descr_get_by w (Some e) m o c = Ends w not_yet
 
 abbrev pub descr_get_say : PlainWorld → PyObjectRef → Option PyObjectRef → Option PyObjectRef → Row

@@ -3,7 +3,7 @@ use Rattle.std.specs.Prelude.{ℕ, List, Result}
 use Rattle.py_node.specs.declared.refs.PyObjectRef.{PyObjectRef}
 use Rattle.py_node.specs.declared.built_in.BuiltIn.TheVariants.{Int}
 use Rattle.py_node.specs.declared.entry.NativeEntry.{NativeEntry}
-use Rattle.py_node.specs.declared.entry.NativeEntry.TheVariants.{OfFixed, OfNumber, OfArithmetic, OfBits, OfCallable, OfDescriptor, OfProperty, OfWrapper, OfSuper, Compare, NewOf}
+use Rattle.py_node.specs.declared.entry.NativeEntry.TheVariants.{OfFixed, OfNumber, OfArithmetic, OfBits, OfCallable, OfDescriptor, OfProperty, OfWrapper, OfSuper, Compare, NewOf, Getter, GetterOf}
 use Rattle.py_node.specs.declared.raised.Raised.{Raised as Fault}
 use Rattle.py_node.specs.declared.task.Answer.{Answer}
 use Rattle.py_node.specs.declared.task.Task.{Task}
@@ -31,6 +31,7 @@ use Rattle.proto_ops.specs.Rows.{operator_stands, of_operator_kept}
 use Rattle.native_numbers.specs.Say.{fixed_say, number_say, arithmetic_say, bits_say, compare_say}
 use Rattle.native_objects.specs.Descriptors.{callable_say, descriptor_native_say, property_say, wrapper_say, super_say}
 use Rattle.native_objects.specs.Makers.{maker_say}
+use Rattle.native_objects.specs.Getters.{getter_say, getter_of_say}
 use Rattle.vm_eval.specs.declared.stack.Kept.{Kept}
 use Rattle.vm_eval.specs.declared.stack.Kept.TheVariants.{ForEval, ForAttribute, ForDescriptor, ForCall, ForClass, ForOperator}
 
@@ -47,6 +48,8 @@ native_by w (OfProperty n) args kw = property_say w n args kw
 native_by w (OfWrapper n) args kw = wrapper_say w n args kw
 native_by w (OfSuper n) args kw = super_say w n args kw
 native_by w (NewOf b) args kw = maker_say w b args
+native_by w (Getter p) args kw = getter_say w p args kw
+native_by w (GetterOf b d) args kw = getter_of_say w b d args kw
 native_by w _ args kw = Ends w not_yet
 
 abbrev pub native_say : PlainWorld → NativeEntry → List PyObjectRef → Bindings → Row
