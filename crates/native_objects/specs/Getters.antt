@@ -33,9 +33,6 @@ or_none (Some r) = r
 
 -- of `object` and `type`
 
-abbrev pub of_class : PlainWorld → PyObjectRef → (ℕ → Said) → Said
-of_class w o go = needed w (class_number (datum_at w o)) go
-
 -- what a class is given itself, or else a new text
 abbrev pub given_or : PlainWorld → Option PyObjectRef → Text → Said
 given_or w (Some v) x = Ends w (value v)
@@ -61,18 +58,23 @@ abbrev pub own_dict : PlainWorld → PyObjectRef → Option ℕ → Said
 own_dict w o (Some c) = Ends w not_yet
 own_dict w o None = dict_or_fault w (dict_of w o)
 
+abbrev pub class_read : PlainWorld → Property → ℕ → Said
+class_read w property.Name c = text_made w (Ok (name_at w.classes c))
+class_read w property.Qualname c = given_or w (given w c (known_text known.Qualname)) (name_at w.classes c)
+class_read w property.Module c = given_or w (given w c (known_text known.Module)) builtins
+class_read w property.Bases c = tuple_made w (bases_of w.classes c)
+class_read w property.Base c = Ends w (value (or_none (option_map ref (base w.classes c))))
+class_read w property.Mro c = tuple_made w (lin w.classes c)
+class_read w property.Flags c = int_made w (Ok (pos (flags_at w c)))
+class_read w property.TextSignature c = Ends w (value none)
+class_read w _ c = Ends w not_yet
+
 abbrev pub property_read : PlainWorld → Property → PyObjectRef → Said
 property_read w property.Class o = Ends w (value (type_object w o))
-property_read w property.Name o = of_class w o (λ c. text_made w (Ok (name_at w.classes c)))
-property_read w property.Qualname o = of_class w o (λ c. given_or w (given w c (known_text known.Qualname)) (name_at w.classes c))
-property_read w property.Module o = of_class w o (λ c. given_or w (given w c (known_text known.Module)) builtins)
-property_read w property.Bases o = of_class w o (λ c. tuple_made w (bases_of w.classes c))
-property_read w property.Base o = of_class w o (λ c. Ends w (value (or_none (option_map ref (base w.classes c)))))
-property_read w property.Mro o = of_class w o (λ c. tuple_made w (lin w.classes c))
-property_read w property.Flags o = of_class w o (λ c. int_made w (Ok (pos (flags_at w c))))
-property_read w property.TextSignature o = of_class w o (λ c. Ends w (value none))
 property_read w property.InstanceDict o = own_dict w o (class_number (datum_at w o))
-property_read w _ o = Ends w not_yet
+property_read w property.Dict o = Ends w not_yet
+property_read w property.Annotations o = Ends w not_yet
+property_read w p o = needed w (class_number (datum_at w o)) (class_read w p)
 
 abbrev pub getter_say : PlainWorld → Property → List PyObjectRef → Bindings → Said
 getter_say w p args kw = with_one w args kw (property_read w p)

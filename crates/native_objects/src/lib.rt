@@ -2,6 +2,8 @@
 #![tactic(auto, using(class_world::proofs::Items::item_holds))]
 
 mod descriptors;
+mod details;
+mod getters;
 mod lists;
 mod makers;
 mod names;
@@ -11,6 +13,8 @@ mod take;
 mod types;
 
 pub use descriptors::{callable_native, descriptor_native, super_native, wrapper_native};
+pub use details::getter_of_native;
+pub use getters::getter_native;
 pub use makers::maker_native;
 pub use object::object_native;
 pub use property::property_native;

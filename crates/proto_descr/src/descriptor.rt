@@ -11,17 +11,17 @@ ghost use Rattle.plain_machine.specs.Plain.{PlainWorld, Ends};
 ghost use Rattle.plain_machine.specs.World.{datum_at};
 ghost use Rattle.py_node.specs.declared.refs.PyObjectRef.{PyObjectRef as Object};
 ghost use Rattle.py_node.specs.declared.task.DescriptorTask.TheVariants as descriptor;
-ghost use Rattle.proto_descr.specs.Say.{descr_get_by, function_get, is_object_none, class_of_option, or_none, is_none_type, object_get, class_get, static_get, native_get};
+ghost use Rattle.proto_descr.specs.Say.{descr_get_by, function_get, is_object_none, class_of_option, or_none, is_none_type, object_get, class_get, static_get, native_get, getset_get};
 ghost use Rattle.proto_descr.specs.Rows.{Begins, Starts, EndsAs, number, described, native_of, bound_as, of_descriptor_kept};
 
 use crate::DescriptorKept;
 use bitflags::Flags;
-use class_world::args::both;
+use class_world::args::{alone, both, native_task};
 use class_world::{Fixed, World};
 use py_node::{
-    Answer, AttributeTask, BoundMethod, BuiltIn, BuiltinMethod, CallableNative, Cause, Known,
-    MethodDescriptor, NativeEntry, OutOfMemory, Payload, PyMethodFlags, PyObjectRef, PyTypeRef,
-    Raised, SlotEntry, SlotId, Step, Task,
+    Answer, AttributeTask, BoundMethod, BuiltIn, BuiltinMethod, CallableNative, Cause,
+    DescriptorNative, Known, MethodDescriptor, NativeEntry, OutOfMemory, Payload, PyMethodFlags,
+    PyObjectRef, PyTypeRef, Raised, SlotEntry, SlotId, Step, Task,
 };
 
 // How a row ends.
@@ -49,7 +49,35 @@ pub(crate) fn descr_get(
         Some(SlotEntry::Native(NativeEntry::OfCallable(CallableNative::GetMethodDescriptor))) => {
             get_of_native(world, m, o, class)
         }
+        Some(SlotEntry::Native(NativeEntry::OfDescriptor(DescriptorNative::GetSetGet))) => {
+            getset_get(world, m, o)
+        }
         Some(_) => Ok(Step::not_yet()),
+    }
+}
+
+// What reads an attribute of objects is asked of the object, where there is one.
+fn getset_get(
+    world: &World,
+    m: PyObjectRef,
+    o: Option<PyObjectRef>,
+) -> Result<Step<DescriptorKept>, OutOfMemory>
+    requires { AllHold world.now (IsNode m ∷ of_option of_node_ref o) }
+    ensures goes { IfOk result (λ step. (c : Option Object) → Starts (descriptor.DescrGet m o c)
+        (λ t w. getset_get w (datum_at w m) m o) world.now world.now step) }
+    ensures safe { Leaves of_descriptor_kept world.now world.now result }
+{
+    match (world.payload(m), o) {
+        (Payload::GetSet(parts), Some(object)) => match parts.getter {
+            None => Ok(Step::raise(Cause::NoGetter)),
+            Some(getter) => {
+                let alloc = world.alloc();
+                let args = alone(alloc, object)?;
+                let task = native_task(getter, args, Vec::new(alloc));
+                Ok(Step::Ask(task, DescriptorKept::Pass))
+            }
+        },
+        _ => Ok(Step::End(Ok(Answer::Value(m)))),
     }
 }
 

@@ -12,7 +12,8 @@ use crate::stack::Kept;
 use class_world::World;
 use native_numbers::{arithmetic_native, bits_native, compare_native, fixed_native, number_native};
 use native_objects::{
-    callable_native, descriptor_native, maker_native, property_native, super_native, wrapper_native,
+    callable_native, descriptor_native, getter_native, getter_of_native, maker_native,
+    property_native, super_native, wrapper_native,
 };
 use py_node::task::{Args, Keywords};
 use py_node::{
@@ -59,6 +60,8 @@ fn native(
         NativeEntry::OfWrapper(native) => wrapper_native(world, native, args, kw),
         NativeEntry::OfSuper(native) => super_native(world, native, args, kw),
         NativeEntry::NewOf(class) => maker_native(world, class, args),
+        NativeEntry::Getter(property) => getter_native(world, property, args, kw),
+        NativeEntry::GetterOf(class, detail) => getter_of_native(world, class, detail, args, kw),
         _ => Ok(Err(Raised::new(Cause::NotYet))),
     }
 }
