@@ -2,8 +2,6 @@
 #![tactic(auto)]
 
 #[cfg(test)]
-mod definitions;
-#[cfg(test)]
 mod merges;
 #[cfg(test)]
 mod nodes;

@@ -79,31 +79,3 @@ fn child_follows_its_base(rt: HostRuntime) -> Result<(), Fail> {
     }
     Ok(())
 }
-
-// A class below another: what is asked of it, and the lists that need memory.
-#[test]
-fn classes_are_asked(rt: HostRuntime) -> Result<(), Fail> {
-    let alloc = rt.alloc();
-    let mut table = ClassTable::new(alloc)?;
-    let first = PyTypeRef(100);
-    let child = PyTypeRef(200);
-    assert!(rt; grow(&mut table, alloc, first.0, 4)?);
-    assert!(rt; grow(&mut table, alloc, child.0, first.0)?);
-    if table.has_class(first) {
-        table.set_attr(first, PyStrInterned(7), PyObjectRef(8))?;
-    }
-    if table.has_class(child) {
-        let line = table.mro_collect(child)?;
-        assert!(rt; line.as_slice() == [child, first, PyTypeRef(4), PyTypeRef(0)].as_slice());
-        let numbers = table.mro_map_collect(child, |class| class.0)?;
-        assert!(rt; numbers.as_slice() == [200, 100, 4, 0].as_slice());
-        let attributes = table.get_attributes(child)?;
-        assert!(rt; attributes.get(PyStrInterned(7)) == Some(PyObjectRef(8)));
-        assert!(rt; table.attributes(child).len() == 0);
-        assert!(rt; table.bases(child) == [first].as_slice());
-        assert!(rt; table.base(child) == Some(first));
-        assert!(rt; table.solid_base(child) == PyTypeRef(4));
-        assert!(rt; table.iter_base_chain(child).count() == 4);
-    }
-    Ok(())
-}

@@ -1,5 +1,6 @@
 //! What no script reaches: numbers that a host may have, and the refusals of a class in their order.
 
+ghost use Rattle.std.specs.Prelude.{◌≤◌, length};
 ghost use Rattle.class_world.specs.Sound.{AllHold, of_class_ref, of_each};
 
 use class_table::ClassFault;
@@ -29,7 +30,8 @@ fn refusal(
     bases: Vec<PyTypeRef>,
     qualname: Fixed,
 ) -> Result<Option<Cause>, OutOfMemory>
-    requires { AllHold world.old (of_each of_class_ref bases.items) }
+    requires bases { AllHold world.old (of_each of_class_ref bases.items) }
+    requires one { length bases.items ≤ 1 }
 {
     let alloc = world.alloc();
     let name = world.known(Known::Qualname);
