@@ -1,5 +1,5 @@
 -- Solid classes, the best base of a class, and its layout.
-use Rattle.std.specs.Prelude.{ℕ, zero, suc, Bool, true, false, cond, not, ◌&&◌, ◌||◌, nat_lt, List, [], ◌∷◌, ◌++◌, map, length, Option, Some, None, option_and_then}
+use Rattle.std.specs.Prelude.{ℕ, zero, suc, ◌+◌, Bool, true, false, cond, eqb, not, ◌&&◌, ◌||◌, nat_lt, List, [], ◌∷◌, ◌++◌, map, length, Option, Some, None, option_map, option_and_then}
 use Rattle.py_node.specs.BuiltIns.{built_in_count}
 use Rattle.class_model.specs.Class.{Class, Classes, class_at, is_along, is_sub, lin, bases_of}
 
@@ -64,3 +64,21 @@ member_count (Some k) = length k.members
 -- a place of a class: a solid class of its layout, and an index below the number of its member names
 abbrev pub is_place : {K : Type 0} → Classes K → ℕ → ℕ → ℕ → Bool
 is_place t c d i = is_along d (layout t c) && nat_lt i (member_count (class_at t d))
+
+-- the members of some classes, added up
+abbrev pub members_in : {K : Type 0} → Classes K → List ℕ → ℕ
+members_in t [] = 0
+members_in t (c ∷ cs) = member_count (class_at t c) + members_in t cs
+
+-- the classes that stand before one in a list
+abbrev pub before : ℕ → List ℕ → List ℕ
+before d [] = []
+before d (c ∷ cs) = cond (eqb c d) [] (c ∷ before d cs)
+
+-- how many places the objects of a class have
+abbrev pub place_count : {K : Type 0} → Classes K → ℕ → Option ℕ
+place_count t c = option_map (members_in t) (layout t c)
+
+-- where the places begin that a class of the layout gives: after those of the classes before it
+abbrev pub first_place : {K : Type 0} → Classes K → ℕ → ℕ → Option ℕ
+first_place t c d = option_map (λ line. members_in t (before d line)) (layout t c)

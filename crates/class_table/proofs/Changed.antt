@@ -13,7 +13,7 @@ use Rattle.py_node.specs.Attributes.{AreNamesDistinct}
 use Rattle.class_model.specs.Order.{has}
 use Rattle.class_model.specs.Class.{Class, Classes, lin, subclasses}
 use Rattle.class_model.specs.Numbers.{numbers_of, ascend_from, is_ascending}
-use Rattle.class_model.specs.Layout.{base, solid}
+use Rattle.class_model.specs.Layout.{base, solid, place_count}
 use Rattle.class_model.specs.Slot.{entries}
 use Rattle.class_model.specs.Sound.{AreSound}
 use Rattle.class_model.specs.BuiltIn.{natives_of}
@@ -24,11 +24,13 @@ use Rattle.class_model.proofs.Subclasses.{subclasses-attr}
 use Rattle.class_model.proofs.Slots.{entry-attr-away, entry-attr-other}
 use Rattle.class_model.proofs.Solid.{base-attr, solid-attr}
 use Rattle.class_model.proofs.Sound.{sound-attr}
+use Rattle.class_model.proofs.Kept.{member_count-kept}
 use Rattle.class_table.specs.Keys.{table_keys}
 use Rattle.class_table.specs.Stored.{StoredClass, class_of, classes_of}
 use Rattle.class_table.specs.Coherent.{HasLines, IsCoherent}
 use Rattle.class_table.specs.Patch.{IsNear, AreNear, IsRefreshed, settled, refreshed_one}
 use Rattle.class_table.proofs.Distinct.{all-set}
+use Rattle.class_table.proofs.Counts.{count-agrees}
 use Rattle.py_node.proofs.SlotTables.{slot-at_place}
 use Rattle.class_table.proofs.Places.{get-set_cases}
 use Rattle.class_table.proofs.Refreshed.{there, entries-at, plain-refreshed, length-entries}
@@ -69,6 +71,7 @@ module _ (kept : List StoredClass) (ok : IsCoherent kept) (c : ℕ) (k : StoredC
     base : old.base ≡ y.base
     solid : old.solid ≡ y.solid
     subclasses : old.subclasses ≡ y.subclasses
+    places : old.places ≡ y.places
 
   was : (d : ℕ) (y : StoredClass) → slice_get (set kept c changed) d ≡ Some y → Was d y
   unfolding changed
@@ -82,8 +85,9 @@ module _ (kept : List StoredClass) (ok : IsCoherent kept) (c : ℕ) (k : StoredC
       base = ap (λ (x : StoredClass). x.base) r.1;
       solid = ap (λ (x : StoredClass). x.solid) r.1;
       subclasses = ap (λ (x : StoredClass). x.subclasses) r.1;
+      places = ap (λ (x : StoredClass). x.places) r.1;
     }
-    | inr r ↦ record { old = y; there = r.1; number = refl; mro = refl; slots = refl; base = refl; solid = refl; subclasses = refl }
+    | inr r ↦ record { old = y; there = r.1; number = refl; mro = refl; slots = refl; base = refl; solid = refl; subclasses = refl; places = refl }
   ]
 
   old-lin : (d : ℕ) (y : StoredClass) (w : Was d y) → lin (classes_of kept) y.number ≡ Some y.mro
@@ -125,11 +129,12 @@ module _ (kept : List StoredClass) (ok : IsCoherent kept) (c : ℕ) (k : StoredC
       base : base new x.number ≡ x.base
       solid : solid new x.number ≡ x.solid
       subclasses : x.subclasses ≡ subclasses new x.number
+      places : place_count new x.number ≡ Some x.places
 
     -- what the class has in the end
-    common : (d : ℕ) (y x : StoredClass) (w : Was d y) → y.number ≡ x.number → y.mro ≡ x.mro → y.base ≡ x.base → y.solid ≡ x.solid → y.subclasses ≡ x.subclasses → x.slots ≡ entries table_keys natives_of new x.number → IsNow x
+    common : (d : ℕ) (y x : StoredClass) (w : Was d y) → y.number ≡ x.number → y.mro ≡ x.mro → y.base ≡ x.base → y.solid ≡ x.solid → y.subclasses ≡ x.subclasses → y.places ≡ x.places → x.slots ≡ entries table_keys natives_of new x.number → IsNow x
     unfolding new
-    common d y x w i m b s c' h =
+    common d y x w i m b s c' p h =
         let e : w.old.number ≡ x.number = w.number ∙ i in
         record {
           mro = ap (lin new) (sym i) ∙ new-lin d y w ∙ ap Some m;
@@ -137,14 +142,20 @@ module _ (kept : List StoredClass) (ok : IsCoherent kept) (c : ℕ) (k : StoredC
           base = base-attr is_same_name (classes_of kept) k.number n v x.number ∙ ap (base (classes_of kept)) (sym e) ∙ ok.base d w.old w.there ∙ w.base ∙ b;
           solid = solid-attr is_same_name (classes_of kept) k.number n v x.number ∙ ap (solid (classes_of kept)) (sym e) ∙ ok.solid d w.old w.there ∙ w.solid ∙ s;
           subclasses = sym c' ∙ sym w.subclasses ∙ ok.subclasses d w.old w.there ∙ ap (subclasses (classes_of kept)) e ∙ sym (subclasses-attr is_same_name (classes_of kept) k.number n v x.number);
+          places =
+              ap (place_count new) (sym i)
+              ∙ count-agrees new (classes_of kept) y.number y.mro (new-lin d y w) (old-lin d y w) (λ z q. member_count-kept (λ k. record k { attrs = with_value is_same_name k.attrs n v }) (λ k. refl) (classes_of kept) k.number (λ k. refl) z)
+              ∙ ap (place_count (classes_of kept)) (sym w.number)
+              ∙ ok.places d w.old w.there
+              ∙ ap Some (w.places ∙ p);
         }
 
     anew : (d : ℕ) (y x : StoredClass) (w : Was d y) (b : Bool) → has y.mro k.number ≡ b → cond b (settled new y) y ≡ x → IsNow x
     unfolding new
     anew d y x w true test e =
-        common d y x w (ap (λ (z : StoredClass). z.number) e) (ap (λ (z : StoredClass). z.mro) e) (ap (λ (z : StoredClass). z.base) e) (ap (λ (z : StoredClass). z.solid) e) (ap (λ (z : StoredClass). z.subclasses) e) (ap (λ (z : StoredClass). z.slots) (sym e) ∙ ap (λ (z : StoredClass). entries table_keys natives_of new z.number) e)
+        common d y x w (ap (λ (z : StoredClass). z.number) e) (ap (λ (z : StoredClass). z.mro) e) (ap (λ (z : StoredClass). z.base) e) (ap (λ (z : StoredClass). z.solid) e) (ap (λ (z : StoredClass). z.subclasses) e) (ap (λ (z : StoredClass). z.places) e) (ap (λ (z : StoredClass). z.slots) (sym e) ∙ ap (λ (z : StoredClass). entries table_keys natives_of new z.number) e)
     anew d y x w false test e =
-        common d y x w (ap (λ (z : StoredClass). z.number) e) (ap (λ (z : StoredClass). z.mro) e) (ap (λ (z : StoredClass). z.base) e) (ap (λ (z : StoredClass). z.solid) e) (ap (λ (z : StoredClass). z.subclasses) e) (
+        common d y x w (ap (λ (z : StoredClass). z.number) e) (ap (λ (z : StoredClass). z.mro) e) (ap (λ (z : StoredClass). z.base) e) (ap (λ (z : StoredClass). z.solid) e) (ap (λ (z : StoredClass). z.subclasses) e) (ap (λ (z : StoredClass). z.places) e) (
         ap (λ (z : StoredClass). z.slots) (sym e)
         ∙ old-slots d y w
         ∙ sym (entry-attr-away table_keys natives_of (classes_of kept) k.number n v y.number y.mro (old-lin d y w) test)
@@ -169,6 +180,7 @@ module _ (kept : List StoredClass) (ok : IsCoherent kept) (c : ℕ) (k : StoredC
       base = λ d x e. ap (λ t. base t x.number) plain-final ∙ (all d x e).base;
       solid = λ d x e. ap (λ t. solid t x.number) plain-final ∙ (all d x e).solid;
       subclasses = λ d x e. (all d x e).subclasses ∙ ap (λ t. subclasses t x.number) (sym plain-final);
+      places = λ d x e. ap (λ t. place_count t x.number) plain-final ∙ (all d x e).places;
       sound = subst AreSound (sym plain-final) (sound-attr is_same_name (classes_of kept) k.number n v ok.sound);
       attrs = subst (λ t. All (λ k. AreNamesDistinct k.attrs) t) (sym plain-final) (all-set (classes_of kept) k.number n v ok.attrs);
     }

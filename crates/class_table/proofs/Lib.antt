@@ -4,6 +4,7 @@ pub mod Found
 pub mod Along
 pub mod Refreshed
 pub mod Distinct
+pub mod Counts
 pub mod Changed
 pub mod Bests
 pub mod Orders

@@ -1,5 +1,5 @@
 -- One more class, with what follows from its bases.
-use Rattle.std.proofs.Common.{◌≡◌, ℕ, ◌<◌, ◌≤◌, List, [], ◌∷◌, ◌++◌, length, get_or, set, Option, Some, None, IfSome, true, cond, not, ◌||◌, inl, inr, refl, sym, ap, subst, ◌∙◌, arith}
+use Rattle.std.proofs.Common.{◌≡◌, ℕ, ◌+◌, ◌<◌, ◌≤◌, List, [], ◌∷◌, ◌++◌, length, get_or, set, Option, Some, None, IfSome, true, cond, not, ◌||◌, inl, inr, refl, sym, ap, subst, ◌∙◌, arith}
 use Rattle.std.specs.Prelude.{slice_get, option_and_then, is_some, nat_lt, eqb}
 use Rattle.std.proofs.lemmas.List.{length-append, length-map, map-append, get_or_push}
 use Rattle.std.proofs.lemmas.Bool.{eq-eqb, ne_eqb, lt-ltb}
@@ -10,7 +10,7 @@ use Rattle.py_node.specs.Attributes.{AreNamesDistinct}
 use Rattle.class_model.specs.Order.{has, Includes, Distinct}
 use Rattle.class_model.specs.Class.{Class, Classes, is_class, lin, subclasses}
 use Rattle.class_model.specs.Numbers.{is_ascending, limit}
-use Rattle.class_model.specs.Layout.{built_ins, is_empty, base, solid, best_of}
+use Rattle.class_model.specs.Layout.{built_ins, is_empty, base, solid, best_of, members_in, place_count}
 use Rattle.class_model.specs.Slot.{entries}
 use Rattle.class_model.specs.Sound.{AreSound}
 use Rattle.class_model.specs.BuiltIn.{natives_of}
@@ -31,6 +31,7 @@ use Rattle.class_table.specs.Made.{IsFresh, noted}
 use Rattle.class_table.specs.Refused.{AreThere}
 use Rattle.class_table.specs.Inherit.{Follows}
 use Rattle.class_table.proofs.Distinct.{all-added}
+use Rattle.class_table.proofs.Counts.{count-push, count-last}
 use Rattle.class_table.proofs.Places.{get-set_cases, get-push_cases}
 use Rattle.class_table.proofs.Found.{class-here}
 use Rattle.class_table.proofs.Refreshed.{plain-set}
@@ -79,6 +80,9 @@ module _ (kept : List StoredClass) (ok : IsCoherent kept) (new : Class PyStrInte
   -- what is so of the further class
   pub line-given : (rest : List ℕ) → Follows (classes_of kept) new.bases rest → lin (with_class (classes_of kept) new) new.number ≡ Some (new.number ∷ rest)
   line-given rest f = lin-value (classes_of kept) new ok.sound room held (new.number ∷ rest) (f new.number room)
+
+  pub count-given : (rest : List ℕ) → Follows (classes_of kept) new.bases rest → place_count (with_class (classes_of kept) new) new.number ≡ Some (length new.members + members_in (classes_of kept) rest)
+  count-given rest f = count-last (classes_of kept) new rest room (line-given rest f)
 
   pub base-given : base (with_class (classes_of kept) new) new.number ≡ number_of best
   base-given = best-value (classes_of kept) new ok.sound room held ∙ best-is (classes_of kept) new.bases best is_best
@@ -164,6 +168,7 @@ module _ (kept : List StoredClass) (ok : IsCoherent kept) (new : Class PyStrInte
       base : base grown x.number ≡ x.base
       solid : solid grown x.number ≡ x.solid
       subclasses : x.subclasses ≡ subclasses grown x.number
+      places : place_count grown x.number ≡ Some x.places
 
     now-old : (i : ℕ) (k : StoredClass) → slice_get kept i ≡ Some k → IsNow (noting stored.bases stored.number k)
     unfolding grown called above
@@ -179,6 +184,7 @@ module _ (kept : List StoredClass) (ok : IsCoherent kept) (new : Class PyStrInte
               ∙ ap (λ bs. subclasses (classes_of kept) k.number ++ cond (has bs k.number) (stored.number ∷ []) []) above
               ∙ ap (λ n. subclasses (classes_of kept) k.number ++ cond (has new.bases k.number) (n ∷ []) []) called
               ∙ sym (subclasses-push (classes_of kept) new k.number);
+          places = count-push (classes_of kept) new k.number k.mro l ∙ ok.places i k e;
         }
 
     all-lines : (c : ℕ) → is_class (classes_of kept) c ≡ true → (l : List ℕ) × (lin (classes_of kept) c ≡ Some l)
@@ -198,6 +204,7 @@ module _ (kept : List StoredClass) (ok : IsCoherent kept) (new : Class PyStrInte
               ∙ fresh.subclasses
               ∙ sym (subclasses-new (classes_of kept) new ok.sound.ascending room all-lines held)
               ∙ ap (subclasses grown) n;
+          places = ap (place_count grown) (sym n) ∙ fresh.places ∙ ap (λ (z : StoredClass). Some z.places) e;
         }
 
     module _ (final : List StoredClass) (is : final ≡ set (noted stored.bases stored.number kept ++ stored ∷ []) (length kept) (settled (with_class (classes_of kept) new) stored)) where
@@ -224,6 +231,7 @@ module _ (kept : List StoredClass) (ok : IsCoherent kept) (new : Class PyStrInte
         base = λ i x e. ap (λ t. base t x.number) plain-added ∙ (now i x e).base;
         solid = λ i x e. ap (λ t. solid t x.number) plain-added ∙ (now i x e).solid;
         subclasses = λ i x e. (now i x e).subclasses ∙ ap (λ t. subclasses t x.number) (sym plain-added);
+        places = λ i x e. ap (λ t. place_count t x.number) plain-added ∙ (now i x e).places;
         sound = subst AreSound (sym plain-added) sound-given;
         attrs = subst (λ t. All (λ k. AreNamesDistinct k.attrs) t) (sym plain-added) (all-added (classes_of kept) new ok.attrs fresh.attrs);
       }

@@ -4,7 +4,7 @@ use Rattle.std.specs.List.{All}
 use Rattle.py_node.specs.Attributes.{AreNamesDistinct}
 use Rattle.class_model.specs.Class.{lin, subclasses}
 use Rattle.class_model.specs.Numbers.{is_ascending}
-use Rattle.class_model.specs.Layout.{base, solid}
+use Rattle.class_model.specs.Layout.{base, solid, place_count}
 use Rattle.class_model.specs.Slot.{entries}
 use Rattle.class_model.specs.Sound.{AreSound}
 use Rattle.class_model.specs.BuiltIn.{natives_of}
@@ -22,6 +22,7 @@ pub record IsCoherent (kept : List StoredClass) : Type 0 where
   pub base : (i : ℕ) (k : StoredClass) → slice_get kept i ≡ Some k → base (classes_of kept) k.number ≡ k.base
   pub solid : (i : ℕ) (k : StoredClass) → slice_get kept i ≡ Some k → solid (classes_of kept) k.number ≡ k.solid
   pub subclasses : (i : ℕ) (k : StoredClass) → slice_get kept i ≡ Some k → k.subclasses ≡ subclasses (classes_of kept) k.number
+  pub places : (i : ℕ) (k : StoredClass) → slice_get kept i ≡ Some k → place_count (classes_of kept) k.number ≡ Some k.places
   pub sound : AreSound (classes_of kept)
   -- in each class no own attribute's name stands twice
   pub attrs : All (λ k. AreNamesDistinct k.attrs) (classes_of kept)

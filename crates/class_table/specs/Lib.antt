@@ -10,3 +10,5 @@ pub mod Inherit
 pub mod Turn
 pub mod Table
 pub mod Given
+pub mod OneBase
+pub mod Name

@@ -5,7 +5,7 @@ use Rattle.py_node.specs.Attributes.{AreNamesDistinct}
 use Rattle.py_node.specs.Slots.{slot_count}
 use Rattle.class_model.specs.Order.{has}
 use Rattle.class_model.specs.Class.{Class, lin}
-use Rattle.class_model.specs.Layout.{base, solid}
+use Rattle.class_model.specs.Layout.{base, solid, place_count}
 use Rattle.class_model.specs.Change.{with_class}
 use Rattle.class_table.specs.Stored.{StoredClass, class_of, classes_of}
 
@@ -18,6 +18,7 @@ pub record IsFresh (kept : List StoredClass) (c : Class PyStrInterned) (k : Stor
   pub base : base (with_class (classes_of kept) c) c.number ≡ k.base
   pub solid : solid (with_class (classes_of kept) c) c.number ≡ k.solid
   pub subclasses : k.subclasses ≡ []
+  pub places : place_count (with_class (classes_of kept) c) c.number ≡ Some k.places
 
 -- a class is noted as the last direct subclass of each of its bases
 abbrev pub noted : List ℕ → ℕ → List StoredClass → List StoredClass

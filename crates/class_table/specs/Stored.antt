@@ -18,6 +18,7 @@ pub record StoredClass : Type 0 where
   pub base : Option ℕ
   pub solid : Option ℕ
   pub subclasses : List ℕ
+  pub places : ℕ
 
 -- the class itself, without what follows from it
 abbrev pub class_of : StoredClass → Class PyStrInterned

@@ -16,8 +16,9 @@ ghost use Rattle.class_table.specs.Made.{IsFresh, noted};
 ghost use Rattle.class_table.specs.Refused.{refusal, WithMemory, refused_order, AreThere};
 ghost use Rattle.class_table.specs.Inherit.{Follows};
 
+use crate::count::count_along;
 use crate::fault::ClassFault;
-use crate::inherit::{inherited, places, rest_of_line};
+use crate::inherit::{inherited, likely_places, rest_of_line};
 use crate::place::place;
 use crate::refresh::settle;
 use crate::stored::{NewClass, SLOTS, Stored};
@@ -86,8 +87,9 @@ fn with_line(
     are_distinct(&new.attrs);
     let slots = empty_slots(alloc)?;
     let mro = line(alloc, new.number, rest)?;
-    let near = places(classes, alloc, rest)?;
+    let near = likely_places(classes, alloc, rest)?;
     let solid = solid_of(new.number, &new.members, inherited(classes, best));
+    let places = count_along(classes, new.members.len(), rest)?;
     Ok(Stored {
         name: new.name,
         number: new.number,
@@ -101,6 +103,7 @@ fn with_line(
         base: best,
         solid,
         subclasses: Vec::new(alloc),
+        places,
     })
 }
 
@@ -116,7 +119,8 @@ fn build(
     requires fresh { limit (classes_of classes.now) ≤ new.number.0 }
     requires best { IsBest (classes_of classes.now) (numbers new.bases.items) best }
     ensures fresh { IfOk result (λ k. IsFresh classes.now (class_of_new new) k) }
-    ensures refused { WithMemory result (refusal result ≡ refused_order (classes_of classes.now) (numbers new.bases.items)) }
+    ensures refused { WithMemory result (refusal result ≡
+        refused_order (classes_of classes.now) (numbers new.bases.items)) }
 {
     let rest = match rest_of_line(classes, alloc, &new.bases) {
         Ok(rest) => rest,
@@ -202,7 +206,8 @@ pub(crate) fn add(
     requires best { IsBest (classes_of classes.old.items) (numbers new.bases.items) best }
     ensures number { IfOk result (λ c. c ≡ new.number) }
     ensures coherent { OnOk result (IsCoherent classes.new.items) }
-    ensures added { OnOk result (classes_of classes.new.items ≡ with_class (classes_of classes.old.items) (class_of_new new)) }
+    ensures added { OnOk result (classes_of classes.new.items ≡
+        with_class (classes_of classes.old.items) (class_of_new new)) }
     ensures refused { WithMemory result (refusal result ≡
         refused_order (classes_of classes.old.items) (numbers new.bases.items)) }
     ensures err { OnErr result (classes.new.items ≡ classes.old.items) }

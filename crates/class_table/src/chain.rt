@@ -33,7 +33,8 @@ impl<'a> Model for BaseChain<'a> {
 
     ghost view = { λ s. chain_from (classes_of s.classes.now) (number_of s.next) };
 
-    ghost invariant = { λ s. IsCoherent s.classes.now × IfSome s.next (λ c. is_class (classes_of s.classes.now) c.0 ≡ true) };
+    ghost invariant = { λ s. IsCoherent s.classes.now ×
+        IfSome s.next (λ c. is_class (classes_of s.classes.now) c.0 ≡ true) };
 }
 
 impl<'a> Iterator for BaseChain<'a> {

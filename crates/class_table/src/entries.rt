@@ -119,7 +119,8 @@ fn given_along(
     slot: SlotId,
 ) -> Option<SlotEntry>
     requires { HasLines classes.now }
-    ensures { result ≡ first_along (given_entry table_keys natives_of (classes_of classes.now) slot) (numbers line.now) }
+    ensures { result ≡
+        first_along (given_entry table_keys natives_of (classes_of classes.now) slot) (numbers line.now) }
 {
     for (place, class) in line.iter().enumerate() {
         if let Some(entry) = given_entry(classes, likely(near, place), *class, slot) {

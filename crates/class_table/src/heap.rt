@@ -73,7 +73,8 @@ pub(crate) fn add_heap(
     ensures number { IfOk result (λ c. c ≡ number) }
     ensures coherent { OnOk result (IsCoherent classes.new.items) }
     ensures added { OnOk result (classes_of classes.new.items ≡
-        with_class (classes_of classes.old.items) (heap_class name.now number.0 (numbers bases.items) attrs members.items)) }
+        with_class (classes_of classes.old.items)
+        (heap_class name.now number.0 (numbers bases.items) attrs members.items)) }
     ensures early { IsEarly (classes_of classes.old.items) (numbers bases.items) (refusal result) }
     ensures refused { WithMemory result (refusal result ≡
         refused_bases (classes_of classes.old.items) (numbers bases.items)) }

@@ -231,7 +231,7 @@ pub(crate) fn may_derive(
 }
 
 // Where the classes of a linearisation are kept, after the class at the end itself. Each is a guess.
-pub(crate) fn places(
+pub(crate) fn likely_places(
     classes: &[Stored],
     alloc: Global,
     rest: &[PyTypeRef],

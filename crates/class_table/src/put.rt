@@ -22,7 +22,8 @@ pub(crate) fn put(
     requires coherent { IsCoherent classes.old }
     requires there { is_class (classes_of classes.old) class.0 ≡ true }
     ensures coherent { OnOk result (IsCoherent classes.new) }
-    ensures ok { OnOk result (classes_of classes.new ≡ with_class_attr is_same_name (classes_of classes.old) class.0 name value) }
+    ensures ok { OnOk result (classes_of classes.new ≡
+        with_class_attr is_same_name (classes_of classes.old) class.0 name value) }
     ensures err { OnErr result (classes.new ≡ classes.old) }
 {
     let at = place(classes, class);

@@ -88,7 +88,8 @@ pub(crate) fn own_entry(classes: &[Stored], class: PyTypeRef, slot: SlotId) -> O
 fn nearest(classes: &[Stored], line: &[PyTypeRef], slot: SlotId) -> Option<SlotEntry>
     requires coherent { IsCoherent classes.now }
     requires inside { (x : ℕ) → Includes (numbers line.now) x → is_class (classes_of classes.now) x ≡ true }
-    ensures { result ≡ first_along (λ d. entry table_keys natives_of (classes_of classes.now) d slot) (numbers line.now) }
+    ensures { result ≡
+        first_along (λ d. entry table_keys natives_of (classes_of classes.now) d slot) (numbers line.now) }
 {
     for class in line {
         if let Some(found) = own_entry(classes, *class, slot) {

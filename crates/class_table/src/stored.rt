@@ -1,6 +1,6 @@
 //! What the table keeps of a class.
 
-ghost use Rattle.std.specs.Prelude.{◌≡◌, ℕ, List, ◌++◌, ◌∷◌, [], OnOk, OnErr, option_and_then, slice_get, slice_set};
+ghost use Rattle.std.specs.Prelude.{◌≡◌, ℕ, List, ◌++◌, ◌∷◌, [], OnOk, OnErr, option_and_then, length, slice_get, slice_set};
 ghost use Rattle.py_node.specs.Attributes.{value_of, with_value, is_same_name};
 ghost use Rattle.py_node.specs.Slots.{place_of};
 ghost use Rattle.class_model.specs.Order.{has};
@@ -44,6 +44,8 @@ pub(crate) struct Stored {
     pub(crate) base: Option<PyTypeRef>,
     pub(crate) solid: Option<PyTypeRef>,
     pub(crate) subclasses: Vec<PyTypeRef>,
+    // How many places the objects of the class have.
+    pub(crate) places: usize,
 }
 
 impl Model for Stored {
@@ -53,7 +55,20 @@ impl Model for Stored {
 
     ghost Value = { StoredClass };
 
-    ghost view = { λ a. record { name = string_bytes a.name; number = a.number.0; bases = numbers a.bases.items; attrs = a.attrs; members = a.members.items; flags = a.flags.0; mro = numbers a.mro.items; slots = a.slots.items; base = number_of a.base; solid = number_of a.solid; subclasses = numbers a.subclasses.items } };
+    ghost view = { λ a. record {
+      name = string_bytes a.name;
+      number = a.number.0;
+      bases = numbers a.bases.items;
+      attrs = a.attrs;
+      members = a.members.items;
+      flags = a.flags.0;
+      mro = numbers a.mro.items;
+      slots = a.slots.items;
+      base = number_of a.base;
+      solid = number_of a.solid;
+      subclasses = numbers a.subclasses.items;
+      places = a.places;
+    } };
 }
 
 impl Stored {
@@ -144,6 +159,20 @@ impl Stored {
         ensures { numbers result.now ≡ self.now.subclasses }
     {
         &self.subclasses
+    }
+
+    // How many places the objects of the class have.
+    pub(crate) fn places(&self) -> usize
+        ensures { result ≡ self.now.places }
+    {
+        self.places
+    }
+
+    // How many members the class itself has.
+    pub(crate) fn own_places(&self) -> usize
+        ensures { result ≡ length self.now.members }
+    {
+        self.members.len()
     }
 
     // What the class itself has in a slot.

@@ -6,7 +6,7 @@ ghost use Rattle.py_node.specs.declared.raised.Cause.TheVariants.{EmptyBases, No
 ghost use Rattle.py_node.specs.Attributes.{is_same_name, AreNamesDistinct};
 ghost use Rattle.class_model.specs.Class.{class_at, is_class, bases_of, lin, IsLeastLine, is_sub, is_heap, found, found_past, own_of, subclasses};
 ghost use Rattle.class_model.specs.Numbers.{limit, numbers_of};
-ghost use Rattle.class_model.specs.Layout.{base, best_of, solid, built_ins};
+ghost use Rattle.class_model.specs.Layout.{base, best_of, solid, built_ins, place_count};
 ghost use Rattle.class_model.specs.Chain.{base_chain, IsChain};
 ghost use Rattle.class_model.specs.Collect.{all_attributes};
 ghost use Rattle.class_model.specs.Sound.{AreSound};
@@ -26,6 +26,7 @@ use crate::add::add;
 use crate::candidates::{Candidates, in_turn, without_same};
 use crate::chain::{BaseChain, base_of, chain};
 use crate::collect::{attributes_along, map_along};
+use crate::count::count_at;
 use crate::fault::ClassFault;
 use crate::heap::{add_heap, set_heap};
 use crate::inherit::{best_base, may_derive, only, solid_class};
@@ -75,6 +76,11 @@ impl ClassTable {
             table.add_class(new)?;
         }
         Ok(table)
+    }
+
+    // What the table takes its memory from.
+    pub(crate) fn alloc(&self) -> Global {
+        self.alloc
     }
 
     // A table with no classes.
@@ -395,12 +401,20 @@ impl ClassTable {
         solid_class(&self.classes, class)
     }
 
-    /// The name of a class.
-    pub fn name(&self, class: PyTypeRef) -> &str
+    /// A class's name, with the parts before it.
+    pub fn slot_name(&self, class: PyTypeRef) -> &str
         requires { is_class self.now class.0 ≡ true }
         ensures { option_map (λ k. k.name) (class_at self.now class.0) ≡ Some result.now }
     {
         stored_at(&self.classes, class).name()
+    }
+
+    /// How many places the objects of a class have: the members of the classes of its layout.
+    pub fn member_count(&self, class: PyTypeRef) -> usize
+        requires { is_class self.now class.0 ≡ true }
+        ensures { place_count self.now class.0 ≡ Some result }
+    {
+        count_at(&self.classes, class)
     }
 
     /// A class's own attributes.

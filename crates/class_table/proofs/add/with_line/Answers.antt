@@ -1,11 +1,11 @@
-use Rattle.std.proofs.Common.{Some, List, refl, sym, ap, cond, ◌||◌, not, ◌∙◌}
+use Rattle.std.proofs.Common.{Some, List, refl, sym, ap, cond, ◌||◌, not, ◌∙◌, arith}
 use Rattle.std.specs.Prelude.{nat_lt}
 use Rattle.class_model.specs.Layout.{built_ins, is_empty}
 use Rattle.py_node.specs.declared.refs.PyStrInterned.{PyStrInterned}
 use Rattle.class_table.specs.Keys.{numbers, number_of}
 use Rattle.class_table.specs.Stored.{classes_of}
 use Rattle.class_table.specs.New.{class_of_new}
-use Rattle.class_table.proofs.Pushed.{there-of, best-there, line-given, base-given, solid-given}
+use Rattle.class_table.proofs.Pushed.{there-of, best-there, line-given, base-given, solid-given, count-given}
 use Rattle.class_table.proofs.add.with_line.Goals as goal
 
 pub inherited-requires-clause-there : goal.inherited-requires-clause-there
@@ -31,4 +31,5 @@ returns c =
           ∙ ap (λ (ms : List PyStrInterned). cond (nat_lt c.args.new.number.0 built_ins || not (is_empty ms)) (Some c.args.new.number.0) (number_of c.inherited.result)) (sym c.deref.ensures.value)
           ∙ sym c.solid_of-solid.ensures;
       subclasses = ap numbers c.new.ensures.items;
+      places = count-given kept ok new c.requires.fresh c.requires.below c.args.best c.requires.best (numbers c.args.rest.now) c.requires.rest ∙ ap Some (let h = c.in_ok-places.ensures in let n = c.len.ensures in omega (arith, h, n));
     }

@@ -1,4 +1,4 @@
-use Rattle.std.proofs.Common.{◌≡◌, sym, ap, arith, length, ◌≤◌}
+use Rattle.std.proofs.Common.{sym, ap, arith}
 use Rattle.std.specs.Prelude.{option_and_then}
 use Rattle.py_node.specs.BuiltIns.{all_built_ins}
 use Rattle.py_node.specs.OwnAttrs.{own_attrs}

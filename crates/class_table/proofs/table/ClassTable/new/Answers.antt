@@ -1,5 +1,4 @@
-use Rattle.std.proofs.Common.{◌≡◌, ℕ, ◌<◌, ◌≤◌, List, add-one, ap, sym, subst, ◌∙◌, arith, length, map, get_or, true}
-use Rattle.py_node.specs.declared.built_in.BuiltIn.{BuiltIn}
+use Rattle.std.proofs.Common.{◌≡◌, ◌<◌, add-one, ap, sym, subst, ◌∙◌, arith, true}
 use Rattle.py_node.specs.declared.built_in.BuiltIn.TheVariants.{Object}
 use Rattle.py_node.specs.declared.refs.PyStrInterned.{PyStrInterned}
 use Rattle.std.proofs.lemmas.List.{length-map}

@@ -1,0 +1,67 @@
+-- How many places the objects of a class have: the members of the classes along its linearisation, since only solid classes have any.
+use Rattle.std.proofs.Common.{◌≡◌, ℕ, ◌+◌, ◌≤◌, Bool, true, false, cond, ◌||◌, List, [], ◌∷◌, ◌++◌, length, Option, Some, None, inl, inr, refl, sym, ap, ◌∙◌, arith}
+use Rattle.std.specs.Prelude.{nat_lt, option_map, option_and_then}
+use Rattle.class_model.specs.Order.{Includes}
+use Rattle.class_model.specs.Class.{Class, Classes, class_at, lin}
+use Rattle.class_model.specs.Numbers.{limit}
+use Rattle.class_model.specs.Layout.{built_ins, has_members, is_solid, layout_along, member_count, members_in, place_count}
+use Rattle.class_model.specs.Change.{with_class}
+use Rattle.class_model.proofs.Held.{Includes-equal}
+use Rattle.class_model.proofs.Numbers.{at-before, at-last, old-or-last}
+use Rattle.class_model.proofs.Rule.{lin-classes, lin-distinct}
+use Rattle.class_model.proofs.Changed.{lin-push}
+
+module _ {K : Type 0} where
+  members-append : (t : Classes K) (xs ys : List ℕ) → members_in t (xs ++ ys) ≡ members_in t xs + members_in t ys
+  members-append t [] ys = omega arith
+  members-append t (x ∷ xs) ys = let r = members-append t xs ys in omega (arith, r)
+
+  none-of : (o : Option (Class K)) (a : Bool) → (a || has_members o) ≡ false → member_count o ≡ 0
+  none-of None a e = refl
+  none-of (Some k) true e = cc
+  none-of (Some k) false e = empty k.members e
+    where
+      empty : (ms : List K) → has_members (Some (record k { members = ms })) ≡ false → length ms ≡ 0
+      empty [] e = refl
+      empty (m ∷ ms) e = cc
+
+  members-layout : (t : Classes K) (line : List ℕ) → members_in t (layout_along t line) ≡ members_in t line
+  members-layout t [] = refl
+  members-layout t (c ∷ cs) = go (is_solid t c) refl (members-layout t cs)
+    where
+      go : (w : Bool) → is_solid t c ≡ w → members_in t (layout_along t cs) ≡ members_in t cs → members_in t (layout_along t cs ++ cond w (c ∷ []) []) ≡ member_count (class_at t c) + members_in t cs
+      go true e r = let a = members-append t (layout_along t cs) (c ∷ []) in omega (arith, a, r)
+      go false e r =
+          let a = members-append t (layout_along t cs) [] in
+          let n = none-of (class_at t c) (nat_lt c built_ins) e in
+          omega (arith, a, r, n)
+
+  pub count-line : (t : Classes K) (c : ℕ) (line : List ℕ) → lin t c ≡ Some line → place_count t c ≡ Some (members_in t line)
+  count-line t c line e =
+      ap (λ o. option_map (members_in t) (option_and_then (λ line. Some (layout_along t line)) o)) e ∙ ap Some (members-layout t line)
+
+  pub members-agree : (t u : Classes K) (line : List ℕ) → ((x : ℕ) → Includes line x → member_count (class_at t x) ≡ member_count (class_at u x)) → members_in t line ≡ members_in u line
+  members-agree t u [] h = refl
+  members-agree t u (c ∷ cs) h =
+      let a = h c (inl refl) in
+      let r = members-agree t u cs (λ x k. h x (inr k)) in
+      omega (arith, a, r)
+
+  -- a class with the same linearisation in two tables, whose classes have as many members in both
+  pub count-agrees : (t u : Classes K) (c : ℕ) (line : List ℕ) → lin t c ≡ Some line → lin u c ≡ Some line → ((x : ℕ) → Includes line x → member_count (class_at t x) ≡ member_count (class_at u x)) → place_count t c ≡ place_count u c
+  count-agrees t u c line e f h = count-line t c line e ∙ ap Some (members-agree t u line h) ∙ sym (count-line u c line f)
+
+  -- one more class
+  pub count-push : (t : Classes K) (k : Class K) (c : ℕ) (line : List ℕ) → lin t c ≡ Some line → place_count (with_class t k) c ≡ place_count t c
+  count-push t k c line e =
+      count-agrees (with_class t k) t c line (lin-push t k c line e) e (λ x h. ap member_count (at-before t k x (lin-classes t c line x e h)))
+
+  pub count-last : (t : Classes K) (k : Class K) (rest : List ℕ) → limit t ≤ k.number → lin (with_class t k) k.number ≡ Some (k.number ∷ rest) → place_count (with_class t k) k.number ≡ Some (length k.members + members_in t rest)
+  count-last t k rest l e =
+      let once = lin-distinct (with_class t k) k.number (k.number ∷ rest) e in
+      let own = ap member_count (at-last t k l) in
+      let others = members-agree (with_class t k) t rest (λ x h. ap member_count (elim (old-or-last t k x (lin-classes (with_class t k) k.number (k.number ∷ rest) x e (inr h))) [
+        | inl p ↦ at-before t k x p
+        | inr q ↦ absurd (once.0 (Includes-equal rest x k.number q h))
+      ])) in
+      count-line (with_class t k) k.number (k.number ∷ rest) e ∙ ap Some (omega (arith, own, others))

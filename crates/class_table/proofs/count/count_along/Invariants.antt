@@ -1,0 +1,9 @@
+use Rattle.std.proofs.Common.{◌≡◌, ◌+◌, drop}
+use Rattle.class_model.specs.Layout.{members_in}
+use Rattle.class_table.specs.Keys.{numbers}
+use Rattle.class_table.specs.Stored.{classes_of}
+use Rattle.class_table.proofs.count.count_along.Given as goal
+
+abbrev pub invariant-loop-class : goal.invariant-loop-class
+invariant-loop-class l =
+    l.count + members_in (classes_of l.classes) (numbers (drop l.class-index l.line)) ≡ l.own + members_in (classes_of l.classes) (numbers l.line)

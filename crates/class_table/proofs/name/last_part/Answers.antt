@@ -1,0 +1,34 @@
+use Rattle.std.proofs.Common.{◌≡◌, ◌<◌, ◌+◌, inl, inr, Some, refl, sym, subst, arith}
+use Rattle.std.specs.Str.{IsCharBoundary}
+use Rattle.std.specs.Prelude.{slice_index_or}
+use Rattle.std.proofs.lemmas.Str.Pattern.{NoCharPasses-char, rfind_char}
+use Rattle.class_table.proofs.name.last_part.Goals as goal
+
+pub returns-in-None : goal.returns-in-None
+returns-in-None c = record {
+  start = 0;
+  text = refl;
+  past = inl refl;
+  last = λ i from below at. NoCharPasses-char 46 c.args.name.now i c.in-None.ensures.cases (omega arith) below at;
+}
+
+pub returns-in-Some : goal.returns-in-Some
+returns-in-Some c =
+    let name = c.args.name.now in
+    let cut = c.in-Some.ensures.cases in
+    let i = cut.0 in
+    let hit = cut.2.1 in
+    let small : 46 < 128 = omega arith in
+    let ends : cut.1 ≡ i + 1 = hit.ends in
+    let order = cut.5 in
+    let size = cut.7 in
+    let byte : slice_index_or name i 0 ≡ 46 = hit.byte small in
+    let before : IsCharBoundary name i = (omega (arith, order, size), λ l h. omega (arith, h, byte)) in
+    let after : IsCharBoundary name cut.1 = subst (IsCharBoundary name) (sym hit.ends) hit.after in
+    let last = rfind_char 46 name (Some i) (cut.1, cut.2, order, before, after) small in
+    record {
+      start = cut.1;
+      text = cut.4;
+      past = inr (i, omega (arith, ends), last.0, last.1);
+      last = λ k from below at. last.2 k (omega (arith, from, ends)) below at;
+    }

@@ -1,0 +1,26 @@
+-- Classes with one base and no members, which no script makes.
+use Rattle.std.specs.Prelude.{ℕ, ◌-◌, ◌^◌, cond, List, [], ◌∷◌, Option, Some, None, option_map}
+use Rattle.std.specs.Int.RustNames.{bit_and, bit_or}
+use Rattle.py_node.specs.declared.raised.Cause.{Cause}
+use Rattle.py_node.specs.declared.raised.Cause.TheVariants.{NotBaseType}
+use Rattle.py_node.specs.declared.refs.PyObjectRef.{PyObjectRef}
+use Rattle.py_node.specs.BuiltIns.{heap_type, has_dict}
+use Rattle.py_node.specs.Tree.{Text}
+use Rattle.class_model.specs.Class.{Class, Classes, class_at}
+use Rattle.class_table.specs.Refused.{is_base_at}
+
+-- why a class may not have a base alone: the base may have no subclasses
+abbrev pub refused_single : {K : Type 0} → Classes K → ℕ → Option Cause
+refused_single t b = cond (is_base_at (class_at t b)) None (Some NotBaseType)
+
+-- a class with one base
+abbrev pub single_class : {K : Type 0} → Text → ℕ → ℕ → List (K × PyObjectRef) → ℕ → Class K
+single_class name number base attrs flags = record { name = name; number = number; bases = base ∷ []; attrs = attrs; members = []; flags = flags }
+
+abbrev pub flags_at : {K : Type 0} → Classes K → ℕ → Option ℕ
+flags_at t c = option_map (λ k. k.flags) (class_at t c)
+
+-- the flags of a static class: those that are given, but that no script makes it, and that it gives its objects a dict where its base does
+abbrev pub static_flags : ℕ → Option ℕ → ℕ
+static_flags flags None = bit_and flags (2 ^ 64 - 1 - heap_type)
+static_flags flags (Some base) = bit_or (bit_and flags (2 ^ 64 - 1 - heap_type)) (bit_and base has_dict)
