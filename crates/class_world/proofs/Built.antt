@@ -8,8 +8,8 @@ use Rattle.plain_machine.specs.Sound.{holds_as}
 use Rattle.class_model.specs.Class.{is_class}
 use Rattle.class_world.specs.Held.{Held}
 use Rattle.class_world.specs.Sound.{IsNode, IsClass, IsOf, Holds, Sound}
-use Rattle.class_world.specs.declared.world.Fixed.{Fixed}
-use Rattle.class_world.specs.declared.world.Fixed.TheVariants as fixed
+use Rattle.class_world.specs.declared.built_ins.Fixed.{Fixed}
+use Rattle.class_world.specs.declared.built_ins.Fixed.TheVariants as fixed
 use Rattle.py_node.specs.declared.built_in.BuiltIn.TheVariants as built_in
 use Rattle.class_world.specs.Fixed.{number_of_fixed}
 

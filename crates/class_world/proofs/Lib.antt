@@ -9,6 +9,8 @@ pub mod Added
 pub mod Bound
 pub mod Filled
 pub mod OfClasses
+pub mod Attributes
+pub mod Counts
 pub mod Refusals
 pub mod ClassChanges
 pub mod Look
@@ -26,3 +28,4 @@ pub mod PayloadChanges
 pub mod DictReads
 pub mod KeyEntries
 pub mod Items
+pub mod OneBase

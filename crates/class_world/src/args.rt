@@ -2,18 +2,12 @@
 
 ghost use Rattle.std.specs.Prelude.{◌≡◌, [], ◌∷◌, map, IfOk};
 ghost use Rattle.class_world.specs.Held.{Held};
-ghost use Rattle.class_world.specs.Reading.{Reading, spelled, bindings, task_of};
-ghost use Rattle.class_world.specs.Claims.{of_args, of_task};
+ghost use Rattle.class_world.specs.Reading.{Reading, spelled, bindings};
 ghost use Rattle.class_world.specs.Sound.{AllHold, AreNames, AreNodes, Holds, IsNode, of_binding, of_each};
 ghost use Rattle.plain_machine.specs.Args.{two_of, filled};
-ghost use Rattle.plain_machine.specs.Native.{native_task};
 
-use crate::world::World;
 use py_node::task::{Args, Keywords};
-use py_node::{
-    CallTask, ClassTask, NativeEntry, OperatorTask, OutOfMemory, PyAttributes, PyObjectRef,
-    PyStrInterned, Task,
-};
+use py_node::{OutOfMemory, PyAttributes, PyObjectRef, PyStrInterned};
 use std::alloc::Global;
 
 /// The arguments with one before them.
@@ -94,17 +88,4 @@ pub fn filled(
         vars.insert(*name, *value)?;
     }
     Ok(vars)
-}
-
-/// The task that a native is, with its arguments and keywords.
-pub fn native_task(entry: NativeEntry, args: Args, kw: Keywords) -> Task
-    ensures task { (t : Reading) → task_of t result ≡ native_task entry args.items (bindings t kw.items) }
-    ensures holds { (w : World) → AllHold w (of_args args.items kw.items) → AllHold w (of_task result) }
-{
-    match entry {
-        NativeEntry::OfObject(native) => Task::Call(CallTask::Object(native, args, kw)),
-        NativeEntry::OfType(native) => Task::Class(ClassTask::Type(native, args, kw)),
-        NativeEntry::OfInt(native) => Task::Operator(OperatorTask::Int(native, args, kw)),
-        entry => Task::Native(entry, args, kw),
-    }
 }

@@ -10,7 +10,8 @@ ghost use Rattle.py_node.specs.declared.built_in.BuiltIn.TheVariants as built_in
 ghost use Rattle.plain_machine.specs.Sound.{holds_as};
 ghost use Rattle.class_world.specs.Sound.{IsName, IsNode, Holds, AllHold, Grows, home_of, class_in, of_payload};
 
-use crate::world::{Fixed, World};
+use crate::built_ins::Fixed;
+use crate::world::World;
 use py_node::attr::Attr::{
     self, ClassMethod, Method, New, NoHash, Part, ReadOnly, Settable, SettablePart,
 };
@@ -170,7 +171,8 @@ fn descriptor(
     flags: PyMethodFlags,
 ) -> Payload
     requires { Holds world.now (IsName name) }
-    ensures reads { (t : Reading) → datum t result ≡ AMethodDescriptor (place_of class) (t.text name.0) entry flags.0 None }
+    ensures reads { (t : Reading) → datum t result ≡
+        AMethodDescriptor (place_of class) (t.text name.0) entry flags.0 None }
     ensures holds { AllHold world.now (of_payload result) }
     ensures home { home_of result ≡ built_in.MethodDescriptor }
     ensures other { class_in result ≡ None }

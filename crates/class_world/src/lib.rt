@@ -3,25 +3,30 @@
 
 pub mod args;
 mod attributes_of_built_ins;
-pub mod classes;
+pub mod built_ins;
+pub mod class_lines;
 mod definer;
 pub mod dicts;
 mod entries;
+pub mod expressions;
 mod heap;
 pub mod keys;
 pub mod limits;
-mod nodes;
+mod names;
+pub mod natives;
+pub mod nodes;
 mod numbers;
 pub mod objects;
 mod of_classes;
-pub mod payloads;
+mod one_base;
 pub mod scope;
+mod scopes;
 pub mod show;
 mod start;
-pub mod store;
 pub mod takes;
 mod variables;
 pub mod world;
 
+pub use built_ins::Fixed;
 pub use scope::Scope;
-pub use world::{Fixed, World};
+pub use world::World;

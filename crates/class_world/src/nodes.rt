@@ -1,14 +1,140 @@
-//! The table of nodes: objects that are added.
+//! Objects: what is read of one, how one is made, and how what it holds is changed.
 
-ghost use Rattle.std.specs.Prelude.{◌≡◌, ◌<◌, ◌∷◌, [], ◌++◌, length, vec_len, vec_capacity, IfOk, OnOk, OnErr};
-ghost use Rattle.plain_machine.specs.World.{ref};
-ghost use Rattle.class_world.specs.Added.{with_object, number_of_object};
+ghost use Rattle.std.specs.Prelude.{◌≡◌, is_some, Some, None, IfOk, OnOk, OnErr, IfSome, IsTrue, ◌<◌, ◌∷◌, [], ◌++◌, length, vec_len, vec_capacity, false};
+ghost use Rattle.plain_machine.specs.World.{with_node, next_node, has_dict, class_at, datum_at, number_of, ref};
+ghost use Rattle.plain_machine.specs.Known.{the_dict};
+ghost use Rattle.py_node.specs.declared.built_in.BuiltIn.TheVariants.{Dict, TypeType};
+ghost use Rattle.class_world.specs.Reading.{Reading, Reads, datum, plain};
+ghost use Rattle.class_world.specs.Sound.{IsNode, IsClass, IsOf, Holding, HasParams, Holds, AllHold, Grows, home_of, class_in, params_in, of_option, of_node, of_payload, is_lasting, with_payload};
+ghost use Rattle.class_world.specs.Added.{IsEmptyDict, with_object, number_of_object};
+ghost use Rattle.plain_machine.specs.Objects.{with_datum};
 
-use py_node::{Node, OutOfMemory, Payload, PyObjectRef, PyTypeRef};
+use crate::world::World;
+use py_node::{BuiltIn, Node, OutOfMemory, Payload, PyObjectRef, PyTypeFlags, PyTypeRef};
 
-/// Adds an object, after the node that is its dict, if it has one. Where memory runs out, there is
-/// neither.
-pub(crate) fn add_object(
+#[tactic(auto, unfolding(crate::specs::Reading::plain))]
+impl World {
+    /// What a node holds.
+    pub fn payload(&self, node: PyObjectRef) -> &Payload
+        requires { Holds self.now (IsNode node) }
+        ensures reads { (t : Reading) → datum_at (plain t self.now) node ≡ Some (datum t result.now) }
+        ensures holding { Holds self.now (Holding node (home_of result.now)) }
+        ensures params { IfSome (params_in result.now) (λ ps. Holds self.now (HasParams node ps)) }
+        ensures holds { AllHold self.now (of_payload result.now) }
+    {
+        &self.nodes[node.0 as usize].payload
+    }
+
+    /// The class of an object.
+    pub fn class_of(&self, node: PyObjectRef) -> PyTypeRef
+        requires { Holds self.now (IsNode node) }
+        ensures reads { (t : Reading) → class_at (plain t self.now) node ≡ Some result.0 }
+        ensures holds { Holds self.now (IsClass result.0) }
+    {
+        self.nodes[node.0 as usize].class
+    }
+
+    /// The class of a class, which is a metaclass.
+    pub fn metaclass(&self, node: PyObjectRef) -> PyTypeRef
+        requires node { Holds self.now (IsNode node) }
+        requires holding { Holds self.now (Holding node TypeType) }
+        ensures reads { (t : Reading) → class_at (plain t self.now) node ≡ Some result.0 }
+        ensures holds { Holds self.now (IsClass result.0) }
+        ensures of { Holds self.now (IsOf result.0 TypeType) }
+    {
+        self.nodes[node.0 as usize].class
+    }
+
+    /// The number that a node holds, if it holds one.
+    pub fn number(&self, node: PyObjectRef) -> Option<i128>
+        requires { Holds self.now (IsNode node) }
+        ensures { (t : Reading) → number_of (datum_at (plain t self.now) node) ≡ result }
+    {
+        match self.payload(node) {
+            Payload::Number(z) => Some(*z),
+            _ => None,
+        }
+    }
+
+    /// Makes a node that is no class, after its dict where its class gives it one. It holds what the
+    /// objects of its class hold. Where memory runs out, there is neither.
+    pub fn make_node(
+        &mut self,
+        class: PyTypeRef,
+        payload: Payload,
+    ) -> Result<PyObjectRef, OutOfMemory>
+        requires class { Holds self.old (IsClass class.0) }
+        requires of { Holds self.old (IsOf class.0 (home_of payload)) }
+        requires payload { AllHold self.old (of_payload payload) }
+        requires other { class_in payload ≡ None }
+        ensures made { OnOk result ((t : Reading) → plain t self.new ≡
+            with_node (plain t self.old) class.0 (datum t payload)) }
+        ensures number { IfOk result (λ r. (t : Reading) → r ≡ next_node (plain t self.old) class.0) }
+        ensures err { OnErr result (self.new ≡ self.old) }
+        ensures reads { (t : Reading) → Reads t self.new → Reads t self.old }
+        ensures grows { Grows self.old self.new }
+        ensures node { IfOk result (λ r. Holds self.new (IsNode r)) }
+        ensures holding { IfOk result (λ r. Holds self.new (Holding r (home_of payload))) }
+    {
+        let dict = self.new_dict(class);
+        add_object(&mut self.nodes, dict, class, payload)
+    }
+
+    // A new dict, where a class gives its objects one.
+    fn new_dict(&self, class: PyTypeRef) -> Option<Node>
+        requires { Holds self.now (IsClass class.0) }
+        ensures gives { (t : Reading) → has_dict (plain t self.now) class.0 ≡ is_some result }
+        ensures empty { IfSome result (λ d. IsEmptyDict d) }
+        ensures holds { AllHold self.now (of_option of_node result) }
+    {
+        let alloc = self.alloc;
+        if self.gives_dict(class) {
+            Some(Node {
+                class: self.class_of_dicts(),
+                dict: None,
+                payload: Payload::Dict(Vec::new(alloc)),
+            })
+        } else {
+            None
+        }
+    }
+
+    // The class of dicts.
+    #[tactic(auto, unfolding(py_node::specs::BuiltIns::place_of))]
+    fn class_of_dicts(&self) -> PyTypeRef
+        ensures place { result.0 ≡ the_dict }
+        ensures class { Holds self.now (IsClass result.0) }
+        ensures of { Holds self.now (IsOf result.0 Dict) }
+    {
+        self.built_in(BuiltIn::Dict)
+    }
+
+    // Whether a class gives its objects a dict.
+    fn gives_dict(&self, class: PyTypeRef) -> bool
+        requires { Holds self.now (IsClass class.0) }
+        ensures gives { (t : Reading) → has_dict (plain t self.now) class.0 ≡ result }
+        ensures dict { IsTrue result → Holds self.now (IsClass the_dict) }
+    {
+        self.classes.flags(class).has_feature(PyTypeFlags::HAS_DICT)
+    }
+
+    /// Gives an object other contents of the kind that it has. A class, a function, a number and a text keep theirs.
+    pub fn set_payload(&mut self, node: PyObjectRef, payload: Payload)
+        requires node { Holds self.old (IsNode node) }
+        requires holding { Holds self.old (Holding node (home_of payload)) }
+        requires kind { is_lasting (home_of payload) ≡ false }
+        requires payload { AllHold self.old (of_payload payload) }
+        ensures set { (t : Reading) → plain t self.new ≡ with_datum (plain t self.old) node (datum t payload) }
+        ensures reads { (t : Reading) → Reads t self.new → Reads t self.old }
+        ensures grows { Grows self.old self.new }
+    {
+        set_payload(&mut self.nodes[node.0 as usize], payload);
+    }
+}
+
+// Adds an object, after the node that is its dict, if it has one. Where memory runs out, there is
+// neither.
+fn add_object(
     nodes: &mut Vec<Node>,
     dict: Option<Node>,
     class: PyTypeRef,
@@ -48,4 +174,11 @@ fn push(
         payload,
     });
     PyObjectRef(number as u64)
+}
+
+// Other contents of a node, which stays of its class and keeps its dict.
+fn set_payload(node: &mut Node, payload: Payload)
+    ensures { node.new ≡ with_payload node.old payload }
+{
+    node.payload = payload;
 }

@@ -4,9 +4,9 @@ use Rattle.class_world.proofs.Claims.{opened-one}
 use Rattle.class_world.proofs.Shown.{name-read}
 use Rattle.class_world.proofs.world.World.class_name.Goals as goal
 
-pub name-requires : goal.name-requires
+pub slot_name-requires : goal.slot_name-requires
 unfolding Holds
-name-requires c = opened-one (the_view c.self.inside) c.args.self.now (IsClass c.args.class.0) c.self.view_is c.requires
+slot_name-requires c = opened-one (the_view c.self.inside) c.args.self.now (IsClass c.args.class.0) c.self.view_is c.requires
 
 pub returns : goal.returns
-returns c = name-read (the_view c.self.inside) c.args.self.now c.args.class.0 c.name.result.now c.self.view_is c.name.ensures
+returns c = name-read (the_view c.self.inside) c.args.self.now c.args.class.0 c.slot_name.result.now c.self.view_is c.slot_name.ensures

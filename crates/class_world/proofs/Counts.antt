@@ -1,0 +1,29 @@
+-- How many places the objects of a class have, as a reading has the classes.
+use Rattle.std.proofs.Common.{◌≡◌, ℕ, List, [], ◌∷◌, Option, Some, None, refl, ap, ◌∙◌, subst, arith}
+use Rattle.std.specs.Prelude.{option_map}
+use Rattle.std.proofs.lemmas.List.{length-map}
+use Rattle.class_model.specs.Class.{Classes, renamed}
+use Rattle.class_model.specs.Layout.{layout, member_count, members_in, place_count}
+use Rattle.class_model.proofs.Renamed.{at-renamed, layout-renamed}
+use Rattle.class_world.specs.Held.{Held}
+use Rattle.class_world.specs.Reading.{Reading, spelled, plain}
+
+module _ {K L : Type 0} (f : K → L) (t : Classes K) where
+  members-renamed : (line : List ℕ) → members_in (renamed f t) line ≡ members_in t line
+  members-renamed [] = refl
+  members-renamed (c ∷ line) =
+      let own = at-renamed f member_count member_count refl (λ k. length-map k.members f) t c in
+      let rest = members-renamed line in
+      omega (arith, own, rest)
+
+  places-in : (o : Option (List ℕ)) → option_map (members_in (renamed f t)) o ≡ option_map (members_in t) o
+  places-in None = refl
+  places-in (Some line) = ap Some (members-renamed line)
+
+  count-renamed : (c : ℕ) → place_count (renamed f t) c ≡ place_count t c
+  count-renamed c = ap (option_map (members_in (renamed f t))) (layout-renamed f t c) ∙ places-in (layout t c)
+
+pub count-seen : (w now : Held) → w ≡ now → (t : Reading) (c : ℕ) → place_count (plain t now).classes c ≡ place_count w.classes c
+unfolding plain
+count-seen w now v t c =
+    subst (λ n. place_count (plain t n).classes c ≡ place_count w.classes c) v (count-renamed (spelled t) w.classes c)

@@ -1,0 +1,29 @@
+-- Classes with one base.
+use Rattle.std.proofs.Common.{◌≡◌, ℕ, true, [], cond, Some, None, refl, ap, arith}
+use Rattle.std.specs.Prelude.{option_map}
+use Rattle.py_node.specs.declared.raised.Cause.TheVariants.{NotBaseType}
+use Rattle.py_node.specs.declared.refs.PyStrInterned.{PyStrInterned}
+use Rattle.py_node.specs.Tree.{Text}
+use Rattle.class_model.specs.Class.{Class, is_class}
+use Rattle.class_table.specs.Refused.{is_base_at}
+use Rattle.class_table.specs.OneBase.{refused_single, flags_at}
+use Rattle.class_world.specs.Held.{Held}
+use Rattle.class_world.specs.Reading.{Reading, plain}
+use Rattle.class_world.specs.Sound.{Holds, IsClass, AreNames}
+use Rattle.class_world.proofs.OfClasses.{class-seen}
+
+pub class-there : (w : Held) (c : ℕ) → Holds w (IsClass c) → is_class w.classes c ≡ true
+unfolding Holds
+class-there w c h = h
+
+pub no-names : (w : Held) → Holds w (AreNames [])
+unfolding Holds
+no-names w = λ k d l. absurd (omega (arith, l))
+
+-- what is seen of the classes by numbers is seen by texts
+module _ (w now : Held) (v : w ≡ now) (t : Reading) (c : ℕ) where
+  pub single-seen : refused_single (plain t now).classes c ≡ refused_single w.classes c
+  single-seen = ap (λ b. cond b None (Some NotBaseType)) (class-seen w now v t is_base_at is_base_at refl (λ k. refl) c)
+
+  pub flags-seen : flags_at (plain t now).classes c ≡ flags_at w.classes c
+  flags-seen = class-seen w now v t (option_map (λ (k : Class Text). k.flags)) (option_map (λ (k : Class PyStrInterned). k.flags)) refl (λ k. refl) c

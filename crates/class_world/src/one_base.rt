@@ -1,0 +1,164 @@
+//! Classes with one base and no members: simple ones as scripts make them, and static ones, which scripts can't change.
+
+ghost use Rattle.std.specs.Prelude.{◌≡◌, ◌∷◌, [], length, IfOk, OnOk, OnErr, Some, option_map};
+ghost use Rattle.py_node.specs.declared.built_in.BuiltIn.{BuiltIn as Home};
+ghost use Rattle.py_node.specs.declared.built_in.BuiltIn.TheVariants.{TypeType};
+ghost use Rattle.class_model.specs.Class.{class_at};
+ghost use Rattle.class_table.specs.Refused.{refusal, refused_attr};
+ghost use Rattle.class_table.specs.OneBase.{refused_single, single_class, flags_at, static_flags};
+ghost use Rattle.plain_machine.specs.Known.{the_type};
+ghost use Rattle.plain_machine.specs.World.{ref, with_new_class, with_own_attr};
+ghost use Rattle.class_world.specs.NewHeap.{heap_class_of};
+ghost use Rattle.class_world.specs.Reading.{Reading, Reads, bindings, plain};
+ghost use Rattle.class_world.specs.Sound.{IsNode, IsClass, IsOf, Holds, AllHold, Grows, of_binding, of_each};
+
+use crate::world::World;
+use class_table::ClassFault;
+use class_table::one_base::flags_of_static;
+use py_node::{BuiltIn, Cause, Node, Payload, PyAttributes, PyObjectRef, PyTypeFlags, PyTypeRef};
+
+#[tactic(auto, unfolding(crate::specs::Reading::plain))]
+impl World {
+    // A class with one base and these flags, and the node that stands for it, unless the base may have no subclasses.
+    fn add_single(
+        &mut self,
+        name: &str,
+        base: PyTypeRef,
+        attrs: PyAttributes,
+        flags: PyTypeFlags,
+        metaclass: PyTypeRef,
+    ) -> Result<PyTypeRef, ClassFault>
+        requires base { Holds self.old (IsClass base.0) }
+        requires attrs { AllHold self.old (of_each of_binding attrs) }
+        requires metaclass { Holds self.old (IsClass metaclass.0) }
+        requires of_classes { Holds self.old (IsOf metaclass.0 TypeType) }
+        ensures made { OnOk result ((t : Reading) → plain t self.new ≡
+            with_new_class (plain t self.old) metaclass.0
+            (single_class name.now (length (plain t self.old).nodes) base.0 (bindings t attrs) flags.0)) }
+        ensures number { IfOk result (λ c. (t : Reading) → c.0 ≡ length (plain t self.old).nodes) }
+        ensures refused { refusal result ≡ refused_single self.old.classes base.0 }
+        ensures err { OnErr result (self.new ≡ self.old) }
+        ensures reads { (t : Reading) → Reads t self.new → Reads t self.old }
+        ensures grows { Grows self.old self.new }
+        ensures class { IfOk result (λ c. Holds self.new (IsClass c.0)) }
+        ensures of { IfOk result (λ c. (b : Home) → Holds self.old (IsOf base.0 b) → Holds self.new (IsOf c.0 b)) }
+        ensures node { IfOk result (λ c. Holds self.new (IsNode (ref c.0))) }
+    {
+        if !self.classes.is_base(base) {
+            return Err(ClassFault::Refused(Cause::NotBaseType));
+        }
+        match self.nodes.reserve(1) {
+            Ok(()) => (),
+            Err(_) => return Err(ClassFault::OutOfMemory),
+        }
+        let number = PyTypeRef(self.nodes.len() as u64);
+        self.classes.sound();
+        match self.classes.new_single(number, name, base, attrs, flags) {
+            Err(fault) => Err(fault),
+            Ok(class) => {
+                self.classes.sound();
+                self.nodes.push_reserved(Node {
+                    class: metaclass,
+                    dict: None,
+                    payload: Payload::Class(class),
+                });
+                Ok(class)
+            }
+        }
+    }
+
+    /// A class as a script makes it, with one base and no attributes, and the node that stands for it. It is
+    /// refused where the base may have no subclasses; then, and where memory runs out, the world stays as it was.
+    pub fn new_simple_heap(&mut self, name: &str, base: PyTypeRef) -> Result<PyTypeRef, ClassFault>
+        requires base { Holds self.old (IsClass base.0) }
+        ensures made { OnOk result ((t : Reading) → plain t self.new ≡ with_new_class (plain t self.old) the_type
+            (heap_class_of t name.now (length (plain t self.old).nodes) (base ∷ []) [] [])) }
+        ensures number { IfOk result (λ c. (t : Reading) → c.0 ≡ length (plain t self.old).nodes) }
+        ensures refused { (t : Reading) → refusal result ≡ refused_single (plain t self.old).classes base.0 }
+        ensures err { OnErr result (self.new ≡ self.old) }
+        ensures reads { (t : Reading) → Reads t self.new → Reads t self.old }
+        ensures grows { Grows self.old self.new }
+        ensures class { IfOk result (λ c. Holds self.new (IsClass c.0)) }
+        ensures of { IfOk result (λ c. (b : Home) → Holds self.old (IsOf base.0 b) → Holds self.new (IsOf c.0 b)) }
+        ensures node { IfOk result (λ c. Holds self.new (IsNode (ref c.0))) }
+    {
+        let attrs = PyAttributes::new(self.alloc());
+        let metaclass = self.class_of_classes();
+        self.add_single(name, base, attrs, PyTypeFlags::of_script_class(), metaclass)
+    }
+
+    // The class of classes.
+    #[tactic(auto, unfolding(py_node::specs::BuiltIns::place_of))]
+    fn class_of_classes(&self) -> PyTypeRef
+        ensures place { result.0 ≡ the_type }
+        ensures class { Holds self.now (IsClass result.0) }
+        ensures of { Holds self.now (IsOf result.0 TypeType) }
+    {
+        self.built_in(BuiltIn::TypeType)
+    }
+
+    /// A static class, which scripts can't change, and the node that stands for it: with one base and attributes,
+    /// and with the flags but for what the base settles. It is refused where the base may have no subclasses;
+    /// then, and where memory runs out, the world stays as it was.
+    pub fn new_static(
+        &mut self,
+        name: &str,
+        base: PyTypeRef,
+        attrs: PyAttributes,
+        flags: PyTypeFlags,
+        metaclass: PyTypeRef,
+    ) -> Result<PyTypeRef, ClassFault>
+        requires base { Holds self.old (IsClass base.0) }
+        requires attrs { AllHold self.old (of_each of_binding attrs) }
+        requires metaclass { Holds self.old (IsClass metaclass.0) }
+        requires of_classes { Holds self.old (IsOf metaclass.0 TypeType) }
+        ensures made { OnOk result ((t : Reading) → plain t self.new ≡
+            with_new_class (plain t self.old) metaclass.0 (single_class name.now (length (plain t self.old).nodes)
+            base.0 (bindings t attrs) (static_flags flags.0 (flags_at (plain t self.old).classes base.0)))) }
+        ensures number { IfOk result (λ c. (t : Reading) → c.0 ≡ length (plain t self.old).nodes) }
+        ensures refused { (t : Reading) → refusal result ≡ refused_single (plain t self.old).classes base.0 }
+        ensures err { OnErr result (self.new ≡ self.old) }
+        ensures reads { (t : Reading) → Reads t self.new → Reads t self.old }
+        ensures grows { Grows self.old self.new }
+        ensures class { IfOk result (λ c. Holds self.new (IsClass c.0)) }
+        ensures of { IfOk result (λ c. (b : Home) → Holds self.old (IsOf base.0 b) → Holds self.new (IsOf c.0 b)) }
+        ensures node { IfOk result (λ c. Holds self.new (IsNode (ref c.0))) }
+    {
+        let flags = flags_of_static(flags, self.class_flags(base));
+        self.add_single(name, base, attrs, flags, metaclass)
+    }
+
+    /// The flags of a class.
+    pub fn class_flags(&self, class: PyTypeRef) -> PyTypeFlags
+        requires { Holds self.now (IsClass class.0) }
+        ensures { (t : Reading) → flags_at (plain t self.now).classes class.0 ≡ Some result.0 }
+    {
+        self.classes.flags(class)
+    }
+
+    /// Gives a class's own attribute a value, by the text of its name. The class must be made by a script. Where it is
+    /// refused or memory runs out, only the text may have got a number.
+    pub fn set_str_attr(
+        &mut self,
+        class: PyTypeRef,
+        name: &str,
+        value: PyObjectRef,
+    ) -> Result<(), ClassFault>
+        requires class { Holds self.old (IsClass class.0) }
+        requires value { Holds self.old (IsNode value) }
+        ensures refused { (t : Reading) → refusal result ≡ refused_attr (plain t self.old).classes class.0 }
+        ensures set { OnOk result ((t : Reading) → Reads t self.new → plain t self.new ≡
+            with_own_attr (plain t self.old) class.0 name.now value) }
+        ensures same { OnErr result ((t : Reading) → plain t self.new ≡ plain t self.old) }
+        ensures reads { (t : Reading) → Reads t self.new → Reads t self.old }
+        ensures grows { Grows self.old self.new }
+    {
+        if !self.class_is_heap(class) {
+            return Err(ClassFault::Refused(Cause::ImmutableType));
+        }
+        match self.intern(name) {
+            Err(_) => Err(ClassFault::OutOfMemory),
+            Ok(name) => self.set_attr(class, name, value),
+        }
+    }
+}
