@@ -1,0 +1,18 @@
+use Rattle.std.proofs.Common.{subst, sym}
+use Rattle.class_world.specs.Sound.{AllHold}
+use Rattle.native_objects.specs.Properties.{of_property}
+use Rattle.native_objects.proofs.Parts.{placed-hold, name-holds}
+use Rattle.native_objects.proofs.property.property_init.Goals as goal
+
+pub with_parts-requires-clause-parts : goal.with_parts-requires-clause-parts
+with_parts-requires-clause-parts c =
+    let w = c.args.world.now in
+    subst (λ p. AllHold w (of_property p)) (sym c.placed.ensures) (placed-hold w c.args.args.now c.requires.args)
+
+pub may_name-requires : goal.may_name-requires
+may_name-requires c =
+    let w = c.args.world.now in
+    name-holds w c.without_none-parts.result (c.without_none-parts.ensures.holds w c.in-Some.ensures.holds)
+
+pub set_payload-requires-clause-payload : goal.set_payload-requires-clause-payload
+set_payload-requires-clause-payload c = c.without_none-parts.ensures.holds c.args.world.now c.in-Some.ensures.holds

@@ -1,0 +1,10 @@
+pub mod Takes
+pub mod Names
+pub mod Objects
+pub mod Descriptors
+pub mod Properties
+pub mod Makers
+pub mod Attributes
+pub mod Details
+pub mod DetailParts
+pub mod Getters

@@ -1,0 +1,138 @@
+//! What makes the objects of built-in classes.
+
+ghost use Rattle.std.specs.Prelude.{◌≡◌, ℕ, Ok, Err, IfErr, IfOk};
+ghost use Rattle.py_node.specs.Faults.{raised};
+ghost use Rattle.plain_machine.specs.Plain.{Said, Ends};
+ghost use Rattle.plain_machine.specs.Sound.{holds_as};
+ghost use Rattle.class_world.specs.Reading.{Reading, plain};
+ghost use Rattle.class_world.specs.Rows.{EndsAs, LeavesEnd};
+ghost use Rattle.class_world.specs.Sound.{AreNodes, IsClass, IsOf, Holds};
+ghost use Rattle.native_objects.specs.Makers.{maker_say, with_heir};
+
+use crate::take::own_class;
+use class_world::World;
+use py_node::{
+    Answer, BuiltIn, Cause, OutOfMemory, Payload, PyObjectRef, PyProperty, PySuper, PyTypeRef,
+    Raised,
+};
+
+/// A new object of the class that is the first argument: of a built-in class or of one that derives from it.
+pub fn maker_native(
+    world: &mut World,
+    built_in: BuiltIn,
+    args: &[PyObjectRef],
+) -> Result<Result<Answer, Raised>, OutOfMemory>
+    requires { Holds world.old (AreNodes args.now) }
+    ensures ends { IfOk result (λ r. EndsAs (λ t u. maker_say u built_in args.now) world.old world.new r) }
+    ensures safe { LeavesEnd world.old world.new result }
+{
+    match built_in {
+        BuiltIn::Int | BuiltIn::Bool | BuiltIn::Str | BuiltIn::Tuple => not_yet(),
+        BuiltIn::ClassMethod | BuiltIn::StaticMethod => not_yet(),
+        BuiltIn::List => new_list(world, args),
+        BuiltIn::Dict => new_dict(world, args),
+        BuiltIn::Property => new_property(world, args),
+        BuiltIn::Super => new_super(world, args),
+        _ => match heir(world, built_in, args) {
+            Err(raised) => Ok(Err(raised)),
+            Ok(_class) => Ok(Err(Raised::new(Cause::CannotCreate))),
+        },
+    }
+}
+
+// What asks a task is not there yet.
+fn not_yet() -> Result<Result<Answer, Raised>, OutOfMemory>
+    ensures { result ≡ Ok (Err (raised Cause.NotYet)) }
+{
+    Ok(Err(Raised::new(Cause::NotYet)))
+}
+
+// The class that is the first argument, where its objects are those of a built-in class, or why it is refused.
+fn heir(world: &World, built_in: BuiltIn, args: &[PyObjectRef]) -> Result<PyTypeRef, Raised>
+    requires { Holds world.now (AreNodes args.now) }
+    ensures given { IfOk result (λ c. (t : Reading) (go : ℕ → Said) →
+        with_heir (plain t world.now) built_in args.now go ≡ go c.0) }
+    ensures refused { IfErr result (λ x. (t : Reading) (go : ℕ → Said) →
+        with_heir (plain t world.now) built_in args.now go ≡ Ends (plain t world.now) (Err x)) }
+    ensures class { IfOk result (λ c. Holds world.now (IsClass c.0)) }
+    ensures of { IfOk result (λ c. Holds world.now (IsOf c.0 (holds_as built_in))) }
+{
+    let class = own_class(world, args)?;
+    match world.nearest_built_in(class) {
+        Some(nearest) if nearest.0 == built_in.class().0 => Ok(class),
+        _ => Err(Raised::new(Cause::UnsafeNew)),
+    }
+}
+
+// A new list, which is empty.
+fn new_list(world: &mut World, args: &[PyObjectRef]) -> Result<Result<Answer, Raised>, OutOfMemory>
+    requires { Holds world.old (AreNodes args.now) }
+    ensures ends { IfOk result (λ r. EndsAs (λ t u. maker_say u BuiltIn.List args.now) world.old world.new r) }
+    ensures safe { LeavesEnd world.old world.new result }
+{
+    match heir(world, BuiltIn::List, args) {
+        Err(raised) => Ok(Err(raised)),
+        Ok(class) => {
+            let items = Vec::new(world.alloc());
+            let node = world.make_node(class, Payload::List(items))?;
+            Ok(Ok(Answer::Value(node)))
+        }
+    }
+}
+
+// A new dict, which is empty.
+fn new_dict(world: &mut World, args: &[PyObjectRef]) -> Result<Result<Answer, Raised>, OutOfMemory>
+    requires { Holds world.old (AreNodes args.now) }
+    ensures ends { IfOk result (λ r. EndsAs (λ t u. maker_say u BuiltIn.Dict args.now) world.old world.new r) }
+    ensures safe { LeavesEnd world.old world.new result }
+{
+    match heir(world, BuiltIn::Dict, args) {
+        Err(raised) => Ok(Err(raised)),
+        Ok(class) => {
+            let entries = Vec::new(world.alloc());
+            let node = world.make_node(class, Payload::Dict(entries))?;
+            Ok(Ok(Answer::Value(node)))
+        }
+    }
+}
+
+// A new property, which has no parts.
+fn new_property(
+    world: &mut World,
+    args: &[PyObjectRef],
+) -> Result<Result<Answer, Raised>, OutOfMemory>
+    requires { Holds world.old (AreNodes args.now) }
+    ensures ends { IfOk result (λ r. EndsAs (λ t u. maker_say u BuiltIn.Property args.now) world.old world.new r) }
+    ensures safe { LeavesEnd world.old world.new result }
+{
+    match heir(world, BuiltIn::Property, args) {
+        Err(raised) => Ok(Err(raised)),
+        Ok(class) => {
+            let parts = PyProperty {
+                fget: None,
+                fset: None,
+                fdel: None,
+                doc: None,
+                name: None,
+            };
+            let node = world.make_node(class, Payload::Property(parts))?;
+            Ok(Ok(Answer::Value(node)))
+        }
+    }
+}
+
+// A new `super`, which looks past `object` and is bound to nothing.
+fn new_super(world: &mut World, args: &[PyObjectRef]) -> Result<Result<Answer, Raised>, OutOfMemory>
+    requires { Holds world.old (AreNodes args.now) }
+    ensures ends { IfOk result (λ r. EndsAs (λ t u. maker_say u BuiltIn.Super args.now) world.old world.new r) }
+    ensures safe { LeavesEnd world.old world.new result }
+{
+    match heir(world, BuiltIn::Super, args) {
+        Err(raised) => Ok(Err(raised)),
+        Ok(class) => {
+            let typ = world.built_in(BuiltIn::Object);
+            let node = world.make_node(class, Payload::Super(PySuper { typ, obj: None }))?;
+            Ok(Ok(Answer::Value(node)))
+        }
+    }
+}
