@@ -1,0 +1,12 @@
+use Rattle.std.proofs.Common.{subst, sym}
+use Rattle.class_world.specs.Reading.{bindings}
+use Rattle.native_calls.specs.declared.way.Way.TheVariants.{Binds}
+use Rattle.native_calls.specs.Asks.{Does}
+use Rattle.native_calls.specs.Say.{by_way}
+use Rattle.native_calls.proofs.binds.Goals as goal
+
+pub returns-in-ClassMethod-clause-goes : goal.returns-in-ClassMethod-clause-goes
+returns-in-ClassMethod-clause-goes c =
+    let a = c.args in
+    let f = c.class_method_by_name in
+    subst (λ k. Does a.entry (λ t u. by_way u (Binds k) a.entry a.args.now (bindings t a.kw.now)) a.world.now a.world.now f.result) (sym c.in-ClassMethod.is) f.ensures.goes

@@ -1,0 +1,2 @@
+pub mod Say
+pub mod Asks
