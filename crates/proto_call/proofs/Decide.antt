@@ -1,5 +1,8 @@
 -- What was read stands in what is decided.
-use Rattle.std.proofs.Common.{◌≡◌, ℕ, zero, suc, ◌<◌, List, ◌∷◌, length, get_or, Result, Ok, Err, IfOk, sym, subst, arith}
+use Rattle.std.proofs.Common.{◌≡◌, ℕ, zero, suc, ◌<◌, List, [], ◌∷◌, length, get_or, Result, Ok, Err, IfOk, refl, sym, subst, arith}
+use Rattle.py_node.specs.declared.raised.Raised.{Raised as Fault}
+use Rattle.py_node.specs.declared.task.Answer.{Answer}
+use Rattle.py_node.specs.declared.task.Step.TheVariants.{End}
 use Rattle.py_node.specs.declared.refs.PyObjectRef.{PyObjectRef}
 use Rattle.py_node.specs.declared.task.Step.{Step}
 use Rattle.py_node.specs.declared.memory.OutOfMemory.{OutOfMemory}
@@ -8,7 +11,7 @@ use Rattle.plain_machine.specs.Rows.{Pending, fresh}
 use Rattle.class_world.specs.declared.world.World.{World}
 use Rattle.class_world.specs.Held.{Held}
 use Rattle.class_world.specs.Reading.{Reading, Reads, plain}
-use Rattle.class_world.specs.Rows.{Steps, Follows}
+use Rattle.class_world.specs.Rows.{EndsAs, Steps, Follows}
 use Rattle.class_world.specs.Sound.{IsNode, AreNodes, Holds}
 use Rattle.proto_call.specs.declared.CallKept.{CallKept}
 use Rattle.proto_call.specs.Say.{call_job_say}
@@ -33,6 +36,12 @@ does-after F old mid new (Err e) reads same h = tt
 
 pub does : (F : Reading → PlainWorld → Said) (old new : World) (step : Step CallKept) → Closes F old new step → Does F old new step
 does F old new step h = λ n args kw. h (λ t. fresh (DoObject n args (kw t)))
+
+-- what a native of `object` does that asks no task
+pub ends-does : (F : Reading → PlainWorld → Said) (old new : World) (r : Result Answer Fault) → EndsAs F old new r → Does F old new (End r)
+ends-does F old new r h = λ n args kw t q.
+    let k = h t q in
+    (k.0, subst (λ s. Steps call_job_say (call_stands t) t (DoObject n args (kw t)) [] s (End r) new) (sym k.1) (refl, refl))
 
 pub first-node : (w : Held) (r : PyObjectRef) (rs : List PyObjectRef) → Holds w (IsNode r) → Holds w (AreNodes rs) → Holds w (AreNodes (r ∷ rs))
 unfolding Holds

@@ -12,11 +12,11 @@ ghost use Rattle.proto_call.specs.Rows.{Begins, Starts, OpensNone, LeavesNone};
 use crate::CallKept;
 use crate::asked::{bound, special};
 use class_world::World;
-use class_world::args::native_task;
+use class_world::natives::native_task;
 use py_node::task::{Args, Keywords};
 use py_node::{
     CallTask, CallableNative, Cause, Known, NativeEntry, OutOfMemory, Payload, PyObjectRef,
-    SlotEntry, SlotId, Step, Task, TypeNative,
+    SlotEntry, SlotId, Step, Task, TypeNative, WrapperNative,
 };
 use std::alloc::Global;
 
@@ -46,8 +46,8 @@ pub(crate) fn begin_call(
     }
 }
 
-// What a native entry for calls asks for an object, if it is there yet.
-fn native_call(
+/// What a native entry for calls asks for an object, if it is there yet.
+pub fn native_call(
     world: &World,
     native: NativeEntry,
     f: PyObjectRef,
@@ -106,6 +106,9 @@ fn call_held(
         ) => { Ok(Some(native_task(method.entry, args, kw))) }
         (NativeEntry::OfType(TypeNative::Call), Payload::Class(class)) => {
             Ok(Some(Task::Call(CallTask::TypeCall(*class, args, kw))))
+        }
+        (NativeEntry::OfWrapper(WrapperNative::StaticCall), Payload::StaticMethod(func)) => {
+            Ok(Some(Task::Call(CallTask::Call(*func, args, kw))))
         }
         _ => Ok(None),
     }

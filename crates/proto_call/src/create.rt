@@ -14,7 +14,8 @@ ghost use Rattle.proto_call.specs.Rows.{Begins, Starts, Continues, Resumes, Open
 use crate::CallKept;
 use crate::asked::bound;
 use class_world::World;
-use class_world::args::{copy_args, copy_keywords, native_task};
+use class_world::args::{copy_args, copy_keywords};
+use class_world::natives::native_task;
 use py_node::task::{Args, Keywords};
 use py_node::{
     Answer, BuiltIn, CallTask, Cause, Known, OutOfMemory, PyObjectRef, PyStrInterned, PyTypeRef,

@@ -8,7 +8,7 @@ ghost use Rattle.proto_call.specs.Rows.{Begins, Resumes, OpensNone, LeavesNone};
 
 use crate::CallKept;
 use crate::asked::{bound, special};
-use class_world::args::native_task;
+use class_world::natives::native_task;
 use class_world::{Fixed, World};
 use py_node::task::{Args, Keywords};
 use py_node::{Answer, Cause, Known, OutOfMemory, PyObjectRef, SlotEntry, SlotId, Step};

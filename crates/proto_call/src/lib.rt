@@ -8,6 +8,7 @@ ghost use Rattle.proto_call.specs.Rows.{Begins, Resumes, of_call_kept, bodies_of
 
 use crate::body::begin_body;
 use crate::call::begin_call;
+pub use crate::call::native_call;
 use crate::create::{begin_new, begin_type_call, resume_type_call};
 use crate::init::{begin_init, resume_init};
 use crate::object::{begin_object, native_end};

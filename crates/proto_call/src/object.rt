@@ -8,13 +8,14 @@ ghost use Rattle.py_node.specs.declared.built_in.BuiltIn.TheVariants.{Object};
 ghost use Rattle.class_world.specs.Sound.{AllHold, Holds, Grows, IsNode, IsClass, IsOf, AreNodes, of_option, of_node_ref, of_class_ref};
 ghost use Rattle.class_world.specs.Claims.{of_args, of_ended};
 ghost use Rattle.class_world.specs.Reading.{Reading, Reads, bindings, datum, plain};
-ghost use Rattle.proto_call.specs.Say.{object_by, object_new, object_init, object_init_subclass, object_get_attribute, object_set_attr, new_of_class, created, unless_abstract, is_abstract, has_items};
+ghost use Rattle.proto_call.specs.Say.{object_by, object_new, object_init, object_init_subclass, object_get_attribute, object_set_attr, object_del_attr, new_of_class, created, unless_abstract, is_abstract, has_items};
 ghost use Rattle.plain_machine.specs.Known.{the_object};
 ghost use Rattle.proto_call.specs.Rows.{Begins, Resumes, Closes, Does, OpensNone, LeavesNone};
 
 use crate::CallKept;
 use class_world::takes::{one, three, two};
 use class_world::{Fixed, World};
+use native_objects::object_native;
 use py_node::task::{Args, Keywords};
 use py_node::{
     Answer, AttributeTask, BuiltIn, Cause, Known, ObjectNative, OutOfMemory, Payload, PyObjectRef,
@@ -54,7 +55,8 @@ fn object_by(
         ObjectNative::InitSubclass => Ok(object_init_subclass(world, args, kw)),
         ObjectNative::GetAttribute => object_get_attribute(world, args, kw),
         ObjectNative::SetAttr => object_set_attr(world, args, kw),
-        _ => Ok(Step::not_yet()),
+        ObjectNative::DelAttr => object_del_attr(world, args, kw),
+        native => Ok(Step::End(object_native(world, native, args, kw)?)),
     }
 }
 
@@ -171,6 +173,29 @@ fn object_set_attr(
             Ok(name) => {
                 let value = PySetterValue::Assign(value);
                 Ok(asked(AttributeTask::GenericSet(o, name, value)))
+            }
+        },
+    }
+}
+
+// An attribute by its name, as objects take it out.
+fn object_del_attr(
+    world: &mut World,
+    args: &[PyObjectRef],
+    kw: &[(PyStrInterned, PyObjectRef)],
+) -> Result<Step<CallKept>, OutOfMemory>
+    requires { Holds world.old (AreNodes args.now) }
+    ensures goes { IfOk result (λ step. Does (λ t u. object_del_attr u args.now (bindings t kw.now))
+        world.old world.new step) }
+    ensures safe { LeavesNone world.old world.new result }
+{
+    match two(args, kw) {
+        Err(raised) => Ok(Step::End(Err(raised))),
+        Ok((o, name)) => match world.name_in(name)? {
+            Err(raised) => Ok(Step::End(Err(raised))),
+            Ok(name) => {
+                let task = AttributeTask::GenericSet(o, name, PySetterValue::Delete);
+                Ok(asked(task))
             }
         },
     }

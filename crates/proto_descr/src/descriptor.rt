@@ -15,17 +15,18 @@ ghost use Rattle.proto_descr.specs.Say.{descr_get_by, function_get, is_object_no
 ghost use Rattle.proto_descr.specs.Rows.{Begins, Starts, EndsAs, number, described, native_of, bound_as, of_descriptor_kept};
 
 use crate::DescriptorKept;
+use crate::wrapped::{get_of_class_method, get_of_getset, static_method_get};
 use bitflags::Flags;
 use class_world::args::both;
 use class_world::{Fixed, World};
 use py_node::{
-    Answer, AttributeTask, BoundMethod, BuiltIn, BuiltinMethod, CallableNative, Cause, Known,
-    MethodDescriptor, NativeEntry, OutOfMemory, Payload, PyMethodFlags, PyObjectRef, PyTypeRef,
-    Raised, SlotEntry, SlotId, Step, Task,
+    Answer, AttributeTask, BoundMethod, BuiltIn, BuiltinMethod, CallableNative, Cause,
+    DescriptorNative, Known, MethodDescriptor, NativeEntry, OutOfMemory, Payload, PyMethodFlags,
+    PyObjectRef, PyTypeRef, Raised, SlotEntry, SlotId, Step, Task, WrapperNative,
 };
 
-// How a row ends.
-type Ended = Result<Answer, Raised>;
+/// How a row ends.
+pub type Ended = Result<Answer, Raised>;
 
 // A descriptor's value for an object and a class, as its class's entry for that says.
 pub(crate) fn descr_get(
@@ -49,6 +50,16 @@ pub(crate) fn descr_get(
         Some(SlotEntry::Native(NativeEntry::OfCallable(CallableNative::GetMethodDescriptor))) => {
             get_of_native(world, m, o, class)
         }
+        Some(SlotEntry::Native(NativeEntry::OfDescriptor(DescriptorNative::GetSetGet))) => {
+            get_of_getset(world, m, o, class)
+        }
+        Some(SlotEntry::Native(NativeEntry::OfWrapper(WrapperNative::ClassGet))) => {
+            Ok(get_of_class_method(world, m, o, class))
+        }
+        Some(SlotEntry::Native(NativeEntry::OfWrapper(WrapperNative::StaticGet))) => {
+            let value = static_method_get(world, m);
+            Ok(Step::End(Ok(Answer::Value(value))))
+        }
         Some(_) => Ok(Step::not_yet()),
     }
 }
@@ -69,6 +80,40 @@ fn get_of_native(
     let native = descriptor_of(world, m);
     let ended = native_get(world, native, m, o, class)?;
     Ok(Step::End(ended))
+}
+
+/// A function is bound to an object as it is looked up in a class, where these are given.
+pub fn bind_function(
+    world: &mut World,
+    m: PyObjectRef,
+    o: Option<PyObjectRef>,
+    class: Option<PyObjectRef>,
+) -> Result<Ended, OutOfMemory>
+    requires { AllHold world.old (of_descriptor_task (descriptor.DescrGet m o class)) }
+    ensures goes { IfOk result (λ r.
+        EndsAs (λ t w. function_get w m o (class_of_option w class)) world.old world.new r) }
+    ensures grows { Grows world.old world.new }
+    ensures safe { IfOk result (λ r. AllHold world.new (of_ended r)) }
+{
+    let class = class_of_option(world, class);
+    function_get(world, m, o, class)
+}
+
+/// A native as a method is bound to an object or to a class, where these are given.
+pub fn bind_native(
+    world: &mut World,
+    m: PyObjectRef,
+    o: Option<PyObjectRef>,
+    class: Option<PyObjectRef>,
+) -> Result<Ended, OutOfMemory>
+    requires { AllHold world.old (of_descriptor_task (descriptor.DescrGet m o class)) }
+    ensures goes { IfOk result (λ r.
+        EndsAs (λ t w. native_get w (datum_at w m) m o class) world.old world.new r) }
+    ensures grows { Grows world.old world.new }
+    ensures safe { IfOk result (λ r. AllHold world.new (of_ended r)) }
+{
+    let native = descriptor_of(world, m);
+    native_get(world, native, m, o, class)
 }
 
 // A special method is asked, and is given None for what is missing.

@@ -10,7 +10,8 @@ ghost use Rattle.proto_ops.specs.Say.{total, in_order};
 ghost use Rattle.plain_machine.specs.Args.{two_of};
 ghost use Rattle.proto_ops.specs.Rows.{Begins, Resumes, Sums, of_operator_kept};
 
-use class_world::args::{alone, both, native_task, two_of};
+use class_world::args::{alone, both, two_of};
+use class_world::natives::native_task;
 use class_world::{Fixed, World};
 use py_node::task::{Args, Keywords};
 use py_node::{
