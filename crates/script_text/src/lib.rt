@@ -4,5 +4,6 @@
 mod forms;
 mod parts;
 pub mod read;
+mod words;
 
 pub use read::{ScriptError, ScriptFault};
