@@ -2,3 +2,5 @@ pub mod Spaces
 pub mod Making
 pub mod Parts
 pub mod EachBase
+pub mod Telling
+pub mod Descriptors

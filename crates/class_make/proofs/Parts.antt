@@ -11,7 +11,10 @@ use Rattle.py_node.specs.declared.raised.Cause.{Cause}
 use Rattle.py_node.specs.declared.raised.Cause.TheVariants.{NullInName, TypeArgs}
 use Rattle.py_node.specs.declared.known.Known.TheVariants.{MroEntries}
 use Rattle.py_node.specs.Known.{known_text}
+use Rattle.py_node.specs.declared.raised.Raised.{Raised as Fault}
+use Rattle.py_node.specs.declared.task.Answer.{Answer}
 use Rattle.py_node.specs.declared.task.Step.{Step}
+use Rattle.py_node.specs.declared.task.Step.TheVariants.{End}
 use Rattle.py_node.specs.Tree.{Text}
 use Rattle.class_model.specs.BuiltIn.{natives_of}
 use Rattle.class_model.specs.Slot.{entry}
@@ -25,29 +28,29 @@ use Rattle.plain_machine.specs.World.{datum_at, text_keys}
 use Rattle.class_world.specs.Held.{Held}
 use Rattle.class_world.specs.declared.world.World.{World}
 use Rattle.class_world.specs.Reading.{Reading, bindings, plain}
-use Rattle.class_world.specs.Rows.{Steps, Goes}
+use Rattle.class_world.specs.Rows.{EndsAs, Steps, Goes}
 use Rattle.class_world.specs.Sound.{IsNode, AreNodes, Holds}
 use Rattle.class_world.proofs.Claims.{node-in}
 use Rattle.class_make.specs.declared.ClassKept.{ClassKept}
-use Rattle.class_make.specs.Say.{Entries, class_job_say, by_bases, by_classes, by_one, by_parts, by_winner, classes_of, dict_of, from_three, has_null, namespace, on_bases, on_layout, one_of, text_of, three_of, tuple_of, type_by, type_new, type_new_of, with_namespace, winner}
+use Rattle.class_make.specs.Say.{Entries, class_job_say, by_bases, by_classes, by_one, by_parts, by_winner, called_with, classes_of, dict_of, from_three, has_null, namespace, on_bases, on_layout, one_of, text_of, three_of, tuple_of, type_by, type_call, type_new, type_new_of, with_namespace, winner}
 use Rattle.class_make.specs.Rows.{Bound, Makes, Types, class_stands}
 
 -- the bases: allowed together, or not
-pub bases-read : (u v : PlainWorld) (meta : ℕ) (name : Text) (bases : List ℕ) (es ds : Entries) (o : Option Bindings) → v ≡ u → refused_layout u.classes bases ≡ None → namespace u ds ≡ o → ds ≡ es → with_namespace v meta name bases o ≡ on_bases u meta name bases es
-bases-read u v meta name bases es ds o e f g h =
+pub bases-read : (u v : PlainWorld) (meta : ℕ) (name : Text) (bases : List ℕ) (es ds : Entries) (kw : Bindings) (o : Option Bindings) → v ≡ u → refused_layout u.classes bases ≡ None → namespace u ds ≡ o → ds ≡ es → with_namespace v meta name bases o kw ≡ on_bases u meta name bases es kw
+bases-read u v meta name bases es ds kw o e f g h =
     let o-is : o ≡ namespace u es = sym g ∙ ap (namespace u) h in
-    (λ i. with_namespace (e i) meta name bases (o-is i)) ∙ ap (λ r. on_layout u r meta name bases es) (sym f)
+    (λ i. with_namespace (e i) meta name bases (o-is i) kw) ∙ ap (λ r. on_layout u r meta name bases es kw) (sym f)
 
-pub bases-refused : (u : PlainWorld) (meta : ℕ) (name : Text) (bases : List ℕ) (es : Entries) (cause : Cause) → refused_layout u.classes bases ≡ Some cause → Ends u (fault cause) ≡ on_bases u meta name bases es
-bases-refused u meta name bases es cause e = ap (λ r. on_layout u r meta name bases es) (sym e)
+pub bases-refused : (u : PlainWorld) (meta : ℕ) (name : Text) (bases : List ℕ) (es : Entries) (kw : Bindings) (cause : Cause) → refused_layout u.classes bases ≡ Some cause → Ends u (fault cause) ≡ on_bases u meta name bases es kw
+bases-refused u meta name bases es kw cause e = ap (λ r. on_layout u r meta name bases es kw) (sym e)
 
-pub winner-goes : (u : PlainWorld) (meta : ℕ) (o : Option ℕ) (c : ℕ) (name : Text) (bases : List ℕ) (es : Entries) (args : List PyObjectRef) (kw : Bindings) → o ≡ Some c → not (eqb c meta) && is_some (entry text_keys natives_of u.classes c New) ≡ false → on_bases u c name bases es ≡ by_winner u meta o name bases es args kw
+pub winner-goes : (u : PlainWorld) (meta : ℕ) (o : Option ℕ) (c : ℕ) (name : Text) (bases : List ℕ) (es : Entries) (args : List PyObjectRef) (kw : Bindings) → o ≡ Some c → not (eqb c meta) && is_some (entry text_keys natives_of u.classes c New) ≡ false → on_bases u c name bases es kw ≡ by_winner u meta o name bases es args kw
 winner-goes u meta o c name bases es args kw e f =
-    sym (ap (λ b. cond b (pass u (ToCall (DoNew c c args kw))) (on_bases u c name bases es)) f) ∙ ap (λ o. by_winner u meta o name bases es args kw) (sym e)
+    sym (ap (λ b. cond b (pass u (ToCall (DoNew c c args kw))) (on_bases u c name bases es kw)) f) ∙ ap (λ o. by_winner u meta o name bases es args kw) (sym e)
 
 -- none, some one of which is no class, or classes
-pub none-goes : (u : PlainWorld) (meta : ℕ) (name : Text) (bs : List PyObjectRef) (cs : List PyTypeRef) (c : PyTypeRef) (es : Entries) (args : List PyObjectRef) (kw : Bindings) → eqb (length bs) 0 ≡ true → cs ≡ c ∷ [] → c.0 ≡ 0 → on_bases u meta name (numbers cs) es ≡ by_bases u meta name bs es args kw
-none-goes u meta name [] cs c es args kw l e f = ap (λ (cs : List PyTypeRef). on_bases u meta name (numbers cs) es) e ∙ ap (λ c. on_bases u meta name (c ∷ []) es) f
+pub none-goes : (u : PlainWorld) (meta : ℕ) (name : Text) (bs : List PyObjectRef) (cs : List PyTypeRef) (c : PyTypeRef) (es : Entries) (args : List PyObjectRef) (kw : Bindings) → eqb (length bs) 0 ≡ true → cs ≡ c ∷ [] → c.0 ≡ 0 → on_bases u meta name (numbers cs) es kw ≡ by_bases u meta name bs es args kw
+none-goes u meta name [] cs c es args kw l e f = ap (λ (cs : List PyTypeRef). on_bases u meta name (numbers cs) es kw) e ∙ ap (λ c. on_bases u meta name (c ∷ []) es kw) f
 none-goes u meta name (b ∷ bs) cs c es args kw l e f = let no : length (b ∷ bs) ≡ 0 = eqb-true (length (b ∷ bs)) 0 l in absurd (omega (arith, no))
 
 pub other-goes : (u : PlainWorld) (meta : ℕ) (name : Text) (bs : List PyObjectRef) (b : PyObjectRef) (es : Entries) (args : List PyObjectRef) (kw : Bindings) → eqb (length bs) 0 ≡ false → classes_of u bs ≡ Err b → Asks u (Chose 0 ∷ []) (ToAttribute (DoGetAttr b (known_text MroEntries))) ≡ by_bases u meta name bs es args kw
@@ -135,3 +138,14 @@ pub types-from : (said other : Reading → PlainWorld → Said) (old new : World
 types-from said other old new step e h = λ n args kw t q.
     let k = h n args kw t q in
     (k.0, subst (λ s. Steps class_job_say (class_stands t) t (DoType n args (bindings t kw)) [] s step new) (e t) k.1)
+
+-- a native of `type` that asks no task
+pub ends-types : (F : Reading → PlainWorld → Said) (old new : World) (r : Result Answer Fault) → EndsAs F old new r → Types F old new (End r)
+ends-types F old new r h = λ n args kw t q.
+    let k = h t q in
+    (k.0, subst (λ s. Steps class_job_say (class_stands t) t (DoType n args (bindings t kw)) [] s (End r) new) (sym k.1) (refl, refl))
+
+-- a call by name
+pub call-goes : (u : PlainWorld) (args rest : List PyObjectRef) (kw : Bindings) (d : PyObjectRef) (o : Option ℕ) → 1 ≤ length args → class_number (datum_at u (get_or args 0 d)) ≡ o → rest ≡ drop 1 args → called_with u o rest kw ≡ type_call u args kw
+call-goes u [] rest kw d o l e f = absurd (omega arith)
+call-goes u (c ∷ args) rest kw d o l e f = λ i. called_with u (sym e i) (f i) kw

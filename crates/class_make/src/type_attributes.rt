@@ -7,7 +7,7 @@ ghost use Rattle.plain_machine.specs.Plain.{Said, Ends};
 ghost use Rattle.class_world.specs.Claims.{of_args, of_ended, of_step, Leaves};
 ghost use Rattle.class_world.specs.Reading.{Reading, bindings, plain};
 ghost use Rattle.class_world.specs.Sound.{AreNodes, IsClass, Holds, AllHold};
-ghost use Rattle.class_make.specs.Say.{with_self, type_get_attribute, type_set_attr};
+ghost use Rattle.class_make.specs.Say.{with_self, type_get_attribute, type_set_attr, type_del_attr};
 ghost use Rattle.class_make.specs.Rows.{Resumes, Types, of_class_kept};
 
 use crate::ClassKept;
@@ -65,6 +65,33 @@ pub(crate) fn type_set_attr(
             Ok(name) => {
                 let value = PySetterValue::Assign(value);
                 Ok(asked(AttributeTask::TypeSet(class, name, value)))
+            }
+        },
+    }
+}
+
+/// A class's attribute by its name, as classes take it out.
+pub(crate) fn type_del_attr(
+    world: &mut World,
+    args: Args,
+    kw: Keywords,
+) -> Result<Step<ClassKept>, OutOfMemory>
+    requires { AllHold world.old (of_args args.items kw.items) }
+    ensures goes { IfOk result (λ step. Types (λ t u. type_del_attr u args.items (bindings t kw.items))
+        world.old world.new step) }
+    ensures safe { Leaves of_class_kept world.old world.new result }
+{
+    let class = match class_of_self(world, &args) {
+        Err(raised) => return Ok(Step::End(Err(raised))),
+        Ok(class) => class,
+    };
+    match two(&args, &kw) {
+        Err(raised) => Ok(Step::End(Err(raised))),
+        Ok((_, name)) => match world.name_in(name)? {
+            Err(raised) => Ok(Step::End(Err(raised))),
+            Ok(name) => {
+                let task = AttributeTask::TypeSet(class, name, PySetterValue::Delete);
+                Ok(asked(task))
             }
         },
     }

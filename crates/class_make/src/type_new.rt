@@ -6,17 +6,19 @@ ghost use Rattle.py_node.specs.declared.built_in.BuiltIn.TheVariants.{TypeType};
 ghost use Rattle.class_world.specs.Claims.{of_class_task, of_args, of_step, Leaves};
 ghost use Rattle.class_world.specs.Reading.{Reading, bindings, plain};
 ghost use Rattle.class_world.specs.Sound.{IsClass, IsOf, Holds, AllHold, of_class_ref, of_option};
-ghost use Rattle.class_make.specs.Say.{is_class, type_new, type_new_of};
+ghost use Rattle.class_make.specs.Say.{called_with, is_class, type_call, type_new, type_new_of};
 ghost use Rattle.plain_machine.specs.Known.{the_type};
 ghost use Rattle.class_make.specs.Rows.{Begins, Types, of_class_kept};
 ghost use Rattle.py_node.specs.declared.task.ClassTask.TheVariants as class_task;
 
 use crate::ClassKept;
-use crate::type_attributes::{type_get_attribute, type_set_attr};
+use crate::type_attributes::{type_del_attr, type_get_attribute, type_set_attr};
 use class_world::World;
 use class_world::args::copy_args;
 use py_node::task::{Args, Keywords};
-use py_node::{BuiltIn, Cause, ClassTask, OutOfMemory, PyTypeRef, Step, Task, TypeNative};
+use py_node::{
+    BuiltIn, CallTask, Cause, ClassTask, OutOfMemory, PyTypeRef, Step, Task, TypeNative,
+};
 
 /// A native of `type`.
 pub(crate) fn type_native(
@@ -33,7 +35,12 @@ pub(crate) fn type_native(
         TypeNative::New => type_new(world, args, kw),
         TypeNative::GetAttribute => type_get_attribute(world, args, kw),
         TypeNative::SetAttr => type_set_attr(world, args, kw),
-        _ => Ok(Step::not_yet()),
+        TypeNative::DelAttr => type_del_attr(world, args, kw),
+        TypeNative::Call => type_call(world, args, kw),
+        native => {
+            let answer = native_objects::type_native(world, native, &args, &kw)?;
+            Ok(Step::End(answer))
+        }
     }
 }
 
@@ -74,6 +81,42 @@ fn type_new_of(world: &World, class: Option<PyTypeRef>, args: Args, kw: Keywords
                 Task::Class(ClassTask::MakeClass(class, args, kw)),
                 ClassKept::Native,
             )
+        }
+    }
+}
+
+// A class is called by name.
+fn type_call(world: &mut World, args: Args, kw: Keywords) -> Result<Step<ClassKept>, OutOfMemory>
+    requires { AllHold world.old (of_args args.items kw.items) }
+    ensures goes { IfOk result (λ step.
+        Types (λ t u. type_call u args.items (bindings t kw.items)) world.old world.new step) }
+    ensures safe { Leaves of_class_kept world.old world.new result }
+{
+    let alloc = world.alloc();
+    match args.as_slice() {
+        [] => Ok(Step::raise(Cause::ArgCount)),
+        [class, rest @ ..] => {
+            let class = world.class_number(*class);
+            let rest = copy_args(alloc, rest)?;
+            let step = called_with(world, class, rest, kw);
+            Ok(step)
+        }
+    }
+}
+
+// The same, with what the first argument stands for.
+fn called_with(world: &World, class: Option<PyTypeRef>, args: Args, kw: Keywords) -> Step<ClassKept>
+    requires class { AllHold world.now (of_option of_class_ref class) }
+    requires rest { AllHold world.now (of_args args.items kw.items) }
+    ensures goes { Types (λ t u.
+        called_with u (option_map (λ c. c.0) class) args.items (bindings t kw.items)) world.now world.now result }
+    ensures safe { AllHold world.now (of_step of_class_kept result) }
+{
+    match class {
+        None => Step::raise(Cause::SelfType),
+        Some(class) => {
+            let task = CallTask::TypeCall(class, args, kw);
+            Step::Ask(Task::Call(task), ClassKept::Native)
         }
     }
 }

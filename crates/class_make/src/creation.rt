@@ -1,0 +1,120 @@
+//! A class that is made as planned.
+
+ghost use Rattle.std.specs.Prelude.{◌≡◌, map, string_bytes, None, IfOk};
+ghost use Rattle.py_node.specs.declared.built_in.BuiltIn.TheVariants.{TypeType};
+ghost use Rattle.class_table.specs.Keys.{numbers};
+ghost use Rattle.class_table.specs.Refused.{refused_layout};
+ghost use Rattle.class_world.specs.Claims.{Leaves};
+ghost use Rattle.class_world.specs.Reading.{Reading, Reads, bindings, plain, spelled};
+ghost use Rattle.class_world.specs.Sound.{IsClass, IsOf, AreNames, Holds, AllHold, of_binding, of_class_ref, of_each};
+ghost use Rattle.class_make.specs.Say.{values_of, refusal, made, made_unless};
+ghost use Rattle.class_make.specs.Rows.{Makes, of_class_kept};
+
+use crate::ClassKept;
+use crate::members::{add_own_members, define_functions};
+use crate::slots::member_names;
+use crate::tell::tell;
+use class_table::ClassFault;
+use class_world::World;
+use py_node::task::Keywords;
+use py_node::{Cause, OutOfMemory, PyAttributes, PyObjectRef, PyStrInterned, PyTypeRef, Step};
+use std::alloc::Global;
+
+/// What a class is made from: its metaclass, its name, its bases and its attributes.
+#[derive(Drop)]
+pub(crate) struct Plan {
+    pub(crate) meta: PyTypeRef,
+    pub(crate) name: String,
+    pub(crate) bases: Vec<PyTypeRef>,
+    pub(crate) attrs: PyAttributes,
+}
+
+/// Makes a class as planned, of bases that are allowed together. What `__slots__` names must be texts.
+#[tactic(auto, unfolding(crate::specs::Say::class_job_say, crate::specs::Say::made))]
+pub(crate) fn made(
+    world: &mut World,
+    plan: Plan,
+    kw: Keywords,
+) -> Result<Step<ClassKept>, OutOfMemory>
+    requires meta { Holds world.old (IsClass plan.meta.0) }
+    requires meta_of { Holds world.old (IsOf plan.meta.0 TypeType) }
+    requires bases { AllHold world.old (of_each of_class_ref plan.bases.items) }
+    requires layout { (t : Reading) → Reads t world.old →
+        refused_layout (plain t world.old).classes (numbers plan.bases.items) ≡ None }
+    requires attrs { AllHold world.old (of_each of_binding plan.attrs) }
+    requires kw { AllHold world.old (of_each of_binding kw.items) }
+    ensures goes { IfOk result (λ step. Makes kw.items (λ t u.
+        made plan.meta.0 (string_bytes plan.name) (numbers plan.bases.items) (bindings t kw.items)
+        (u, bindings t plan.attrs)) world.old world.new step) }
+    ensures safe { Leaves of_class_kept world.old world.new result }
+{
+    let names = member_names(world, &plan.attrs)?;
+    match names {
+        None => Ok(Step::raise(Cause::SlotsType)),
+        Some(names) => new_class(world, plan, names, kw),
+    }
+}
+
+// Makes a class and tells of it, unless the world refuses it: its bases have no order, or its qualified name is
+// no text.
+#[tactic(auto, unfolding(crate::specs::Say::class_job_say, crate::specs::Say::made_unless))]
+fn new_class(
+    world: &mut World,
+    plan: Plan,
+    names: Vec<PyStrInterned>,
+    kw: Keywords,
+) -> Result<Step<ClassKept>, OutOfMemory>
+    requires meta { Holds world.old (IsClass plan.meta.0) }
+    requires meta_of { Holds world.old (IsOf plan.meta.0 TypeType) }
+    requires bases { AllHold world.old (of_each of_class_ref plan.bases.items) }
+    requires layout { (t : Reading) → Reads t world.old →
+        refused_layout (plain t world.old).classes (numbers plan.bases.items) ≡ None }
+    requires attrs { AllHold world.old (of_each of_binding plan.attrs) }
+    requires names { Holds world.old (AreNames names.items) }
+    requires kw { AllHold world.old (of_each of_binding kw.items) }
+    ensures goes { IfOk result (λ step. Makes kw.items (λ t u.
+        made_unless (refusal u (numbers plan.bases.items) (bindings t plan.attrs)) plan.meta.0
+        (string_bytes plan.name) (numbers plan.bases.items) (map (spelled t) names.items) (bindings t kw.items)
+        (u, bindings t plan.attrs)) world.old world.new step) }
+    ensures safe { Leaves of_class_kept world.old world.new result }
+{
+    let alloc = world.alloc();
+    let Plan {
+        meta,
+        name,
+        bases,
+        attrs,
+    } = plan;
+    let values = values_of(alloc, &attrs)?;
+    let members = copy_names(alloc, &names)?;
+    match world.new_heap(name.as_str(), bases, attrs, members, meta) {
+        Err(ClassFault::OutOfMemory) => Err(OutOfMemory),
+        Err(ClassFault::Refused(cause)) => Ok(Step::raise(cause)),
+        Ok(class) => {
+            define_functions(world, class, &values);
+            add_own_members(world, class, &names)?;
+            tell(world, class, kw)
+        }
+    }
+}
+
+// The same names again.
+fn copy_names(alloc: Global, names: &[PyStrInterned]) -> Result<Vec<PyStrInterned>, OutOfMemory>
+    ensures { IfOk result (λ v. v.items ≡ names.now) }
+{
+    let mut copy = Vec::new(alloc);
+    copy.extend_from_slice(names)?;
+    Ok(copy)
+}
+
+// The values of the attributes.
+fn values_of(alloc: Global, attrs: &PyAttributes) -> Result<Vec<PyObjectRef>, OutOfMemory>
+    ensures { IfOk result (λ v. v.items ≡ values_of attrs.now) }
+{
+    let mut values = Vec::new(alloc);
+    for i in 0..attrs.len() {
+        let (_, value) = attrs.at(i);
+        values.push(value)?;
+    }
+    Ok(values)
+}
