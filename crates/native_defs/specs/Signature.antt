@@ -1,14 +1,11 @@
 -- The signature that a native's text for readers begins with.
-use Rattle.std.specs.Prelude.{◌≡◌, ℕ, suc, ◌+◌, ◌<◌, ◌≤◌, ◌⊎◌, List, ◌++◌, slice_index_or, length, take, drop, codes}
+use Rattle.std.specs.Prelude.{◌≡◌, ℕ, ◌+◌, ◌<◌, ◌≤◌, ◌++◌, length, take, drop, codes}
 use Rattle.py_node.specs.Tree.{Text}
+use Rattle.class_table.specs.Name.{IsLastPart}
 
 -- a text stands in another one at a place
 abbrev pub StandsAt : Text → Text → ℕ → Type 0
 StandsAt x text i = (rest : Text) × (drop i text ≡ x ++ rest)
-
--- the dot that parts names
-abbrev pub dot : ℕ
-dot = 46
 
 abbrev pub opening : Text
 opening = codes "("
@@ -16,15 +13,6 @@ opening = codes "("
 -- what ends a signature, beginning with the bracket that closes it
 abbrev pub ending : Text
 ending = codes ")\n--\n\n"
-
--- the part of a name after its last dot, or all of it
-pub record IsLastPart (name part : Text) : Type 0 where
-  pub start : ℕ
-  pub text : part ≡ drop start name
-  -- it begins where the name does, or past a dot
-  pub past : (start ≡ 0) ⊎ ((i : ℕ) × (start ≡ suc i) × (i < length name) × (slice_index_or name i 0 ≡ dot))
-  -- and has no dot
-  pub last : (i : ℕ) → start ≤ i → i < length name → slice_index_or name i 0 ≡ dot → ⊥
 
 -- a text begins with a name and then an opening bracket; the answer is all from that bracket to the first closing one with which the end of a signature begins
 pub record IsSignature (name doc answer : Text) : Type 0 where

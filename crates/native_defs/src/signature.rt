@@ -1,7 +1,9 @@
 //! The signature that a native's text for readers begins with.
 
 ghost use Rattle.std.specs.Prelude.{◌≡◌, IfSome, IfNone};
-ghost use Rattle.native_defs.specs.Signature.{IsLastPart, IsSignature, HasNoSignature, IsSignatureOf, HasNoSignatureOf, opening, StandsAt};
+ghost use Rattle.native_defs.specs.Signature.{IsSignature, HasNoSignature, IsSignatureOf, HasNoSignatureOf, opening, StandsAt};
+
+use class_table::last_part;
 
 // What ends a signature, beginning with the bracket that closes it.
 const ENDING: &str = ")\n--\n\n";
@@ -14,16 +16,6 @@ pub fn get_text_signature_from_internal_doc<'a>(name: &str, doc: &'a str) -> Opt
     ensures none { IfNone result (HasNoSignatureOf name.now doc.now) }
 {
     signature(last_part(name), doc)
-}
-
-// The part of a name after its last dot.
-fn last_part(name: &str) -> &str
-    ensures { IsLastPart name.now result.now }
-{
-    match name.rsplit_once('.') {
-        None => name,
-        Some((_, part)) => part,
-    }
 }
 
 // The signature that follows a name at the head of a text.
