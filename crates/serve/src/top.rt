@@ -12,7 +12,7 @@ ghost use Rattle.serve.specs.Status.{HasReadAll, IsDoneOrPoor};
 ghost use Rattle.vm_eval.specs.Runs.{trees_in};
 
 use crate::status::Status;
-use class_world::classes::push_classes;
+use class_world::class_lines::push_classes;
 use outside::read_all::read_all;
 use outside::words::units_of;
 use outside::write_all::write_all;

@@ -1,4 +1,5 @@
 pub mod Groups
+pub mod Asking
 pub mod Turns
 pub mod Commands
 pub mod Rests

@@ -1,9 +1,9 @@
 -- The rows of all groups.
-use Rattle.std.specs.Prelude.{ℕ, List, Result}
+use Rattle.std.specs.Prelude.{ℕ, cond, List, [], Result}
 use Rattle.py_node.specs.declared.refs.PyObjectRef.{PyObjectRef}
 use Rattle.py_node.specs.declared.built_in.BuiltIn.TheVariants.{Int, Str}
 use Rattle.py_node.specs.declared.entry.NativeEntry.{NativeEntry}
-use Rattle.py_node.specs.declared.entry.NativeEntry.TheVariants.{OfFixed, OfNumber, OfArithmetic, OfBits, OfStr, Compare, OfTuple, OfList, OfDict, OfIterator}
+use Rattle.py_node.specs.declared.entry.NativeEntry.TheVariants.{OfFixed, OfNumber, OfArithmetic, OfBits, OfStr, Compare, OfTuple, OfList, OfDict, OfIterator, OfCallable, OfDescriptor, OfProperty, OfWrapper, OfSuper, NewOf, Getter, GetterOf}
 use Rattle.py_node.specs.declared.raised.Raised.{Raised as Fault}
 use Rattle.py_node.specs.declared.task.Answer.{Answer}
 use Rattle.py_node.specs.declared.task.Task.{Task}
@@ -20,7 +20,7 @@ use Rattle.eval_forms.specs.Say.{eval_say}
 use Rattle.eval_forms.specs.Rows.{eval_stands, of_eval_kept}
 use Rattle.proto_attr.specs.Say.{attribute_say}
 use Rattle.proto_attr.specs.Rows.{attribute_stands, of_attribute_kept}
-use Rattle.proto_descr.specs.Say.{descriptor_say}
+use Rattle.proto_descr.specs.Say.{descriptor_say, start_with}
 use Rattle.proto_descr.specs.Rows.{descriptor_stands, of_descriptor_kept}
 use Rattle.proto_call.specs.Say.{call_job_say}
 use Rattle.proto_call.specs.Rows.{call_stands, of_call_kept, bodies_of}
@@ -30,11 +30,17 @@ use Rattle.proto_ops.specs.Say.{operator_say}
 use Rattle.proto_ops.specs.Rows.{operator_stands, of_operator_kept}
 use Rattle.native_containers.specs.Say.{tuple_say, list_say, dict_say, iterator_say}
 use Rattle.native_numbers.specs.Say.{fixed_say, number_say, arithmetic_say, bits_say, compare_say}
+use Rattle.native_calls.specs.Say.{asks, asking_by, asking_rest}
+use Rattle.native_calls.specs.Asks.{asking_stands, of_native_kept}
 use Rattle.native_texts.specs.Say.{text_say, compare_text_say}
+use Rattle.native_objects.specs.Descriptors.{callable_say, descriptor_native_say, property_say, wrapper_say, super_say}
+use Rattle.native_objects.specs.Makers.{maker_say}
+use Rattle.native_objects.specs.Getters.{getter_say}
+use Rattle.native_objects.specs.Details.{getter_of_say}
 use Rattle.vm_eval.specs.declared.stack.Kept.{Kept}
-use Rattle.vm_eval.specs.declared.stack.Kept.TheVariants.{ForEval, ForAttribute, ForDescriptor, ForCall, ForClass, ForOperator}
+use Rattle.vm_eval.specs.declared.stack.Kept.TheVariants.{ForEval, ForAttribute, ForDescriptor, ForCall, ForClass, ForOperator, ForNative}
 
--- what a native of no group of rows says, which ends at once. Those that are not named here are not there yet
+-- what a native of no group of rows says that ends at once. Those that are not named here are not there yet
 abbrev pub native_by : PlainWorld → NativeEntry → List PyObjectRef → Bindings → Said
 native_by w (OfFixed n) args kw = fixed_say w n args kw
 native_by w (OfNumber n) args kw = number_say w n args kw
@@ -47,10 +53,19 @@ native_by w (OfDict n) args kw = dict_say w n args kw
 native_by w (OfIterator n) args kw = iterator_say w n args kw
 native_by w (Compare Int n) args kw = compare_say w n args kw
 native_by w (Compare Str n) args kw = compare_text_say w n args kw
+native_by w (OfCallable n) args kw = callable_say w n args kw
+native_by w (OfDescriptor n) args kw = descriptor_native_say w n args kw
+native_by w (OfProperty n) args kw = property_say w n args kw
+native_by w (OfWrapper n) args kw = wrapper_say w n args kw
+native_by w (OfSuper n) args kw = super_say w n args kw
+native_by w (NewOf b) args kw = maker_say w b args
+native_by w (Getter p) args kw = getter_say w p args kw
+native_by w (GetterOf b d) args kw = getter_of_say w b d args kw
 native_by w _ args kw = Ends w not_yet
 
+-- a native asks a task, or ends at once
 abbrev pub native_say : PlainWorld → NativeEntry → List PyObjectRef → Bindings → Row
-native_say w n args kw told = native_by w n args kw
+native_say w n args kw = start_with (cond (asks n) (asking_by w n args kw) (native_by w n args kw)) (asking_rest w n)
 
 -- what a task's row says, by the group that the task is in. A group without rows is not there yet
 unfoldable pub say : Saying PlainTask
@@ -81,6 +96,7 @@ stands t (ForDescriptor kept) = among ToDescriptor (descriptor_stands t kept)
 stands t (ForCall kept) = among ToCall (call_stands t kept)
 stands t (ForClass kept) = among ToClass (class_stands t kept)
 stands t (ForOperator kept) = among ToOperator (operator_stands t kept)
+stands t (ForNative kept) = asking_stands t kept
 
 abbrev pub Begins : Task → World → World → Step Kept → Type 0
 Begins task = Goes say stands (λ t. fresh (task_of t task))
@@ -95,6 +111,7 @@ of_kept (ForDescriptor kept) = of_descriptor_kept kept
 of_kept (ForCall kept) = of_call_kept kept
 of_kept (ForClass kept) = of_class_kept kept
 of_kept (ForOperator kept) = of_operator_kept kept
+of_kept (ForNative kept) = of_native_kept kept
 
 -- how many bodies are open in what is kept: only a call opens one
 abbrev pub bodies_in : Kept → ℕ

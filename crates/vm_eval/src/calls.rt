@@ -16,7 +16,7 @@ ghost use Rattle.vm_eval.specs.State.{MadeHeap, MarkedBy, MarkedAs};
 
 use crate::machine::VirtualMachine;
 use class_table::{ClassFault, ClassTable};
-use class_world::store;
+use class_world::expressions;
 use py_node::{Expr, OutOfMemory, PyAttributes, PyObjectRef, PyStrInterned, PyTypeRef};
 
 impl VirtualMachine {
@@ -70,7 +70,7 @@ impl VirtualMachine {
         ensures holds { IfOk result (λ n. Holds self.new.world (IsExpression n)) }
         ensures mark { MarkedBy self.old self.new result }
     {
-        match store::add_expr(&mut self.world, expr) {
+        match expressions::add_expr(&mut self.world, expr) {
             Ok(number) => Ok(number),
             Err(error) => {
                 self.failed = true;

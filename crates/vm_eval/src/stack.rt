@@ -12,10 +12,11 @@ ghost use Rattle.proto_ops.specs.Rows.{of_operator_kept};
 ghost use Rattle.vm_eval.specs.Say.{Begins, Resumes, step_among, of_kept, bodies_in};
 ghost use Rattle.vm_eval.specs.Stack.{Answers, Reaches, Keeps, RunsAbove, AsDeep, EndsDeep, turns_left, of_turn, of_end};
 
-use crate::natives::begin_native;
+use crate::natives::{begin_native, of_native};
 use class_make::ClassKept;
 use class_world::World;
 use eval_forms::EvalKept;
+use native_calls::NativeKept;
 use proto_attr::AttributeKept;
 use proto_call::CallKept;
 use proto_descr::DescriptorKept;
@@ -34,6 +35,7 @@ pub enum Kept {
     ForCall(CallKept),
     ForClass(ClassKept),
     ForOperator(OperatorKept),
+    ForNative(NativeKept),
 }
 
 /// How a command ended: its row ended, or its units were used up.
@@ -119,6 +121,10 @@ fn resume(
         Kept::ForOperator(kept) => {
             let step = proto_ops::resume(world, kept, answer)?;
             Ok(of_operator(step))
+        }
+        Kept::ForNative(kept) => {
+            let step = native_calls::resume(world, kept, answer)?;
+            Ok(of_native(step))
         }
     }
 }
