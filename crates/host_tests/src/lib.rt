@@ -6,6 +6,8 @@ mod merges;
 #[cfg(test)]
 mod nodes;
 #[cfg(test)]
+mod one_base;
+#[cfg(test)]
 mod scripts;
 #[cfg(test)]
 mod streams;
