@@ -1,28 +1,34 @@
 -- What the rows of expressions say.
-use Rattle.std.specs.Prelude.{ℕ, Bool, cond, eqb, if◌then◌else◌, bytes_eq, codes, List, [], ◌∷◌, ◌++◌, Option, Some, None, option_map, Ok, Err, is_some, true, false, not, filter, length, take, drop, slice_get}
+use Rattle.std.specs.Prelude.{ℕ, ℤ, Bool, cond, eqb, if◌then◌else◌, bytes_eq, codes, List, [], ◌∷◌, ◌++◌, Option, Some, None, option_map, Ok, Err, is_some, true, false, not, filter, length, take, drop, slice_get}
 use Rattle.py_node.specs.declared.refs.PyObjectRef.{PyObjectRef}
 use Rattle.py_node.specs.declared.built_in.BuiltIn.{BuiltIn}
 use Rattle.py_node.specs.declared.built_in.BuiltIn.TheVariants as built_in
 use Rattle.py_node.specs.declared.known.Known.TheVariants.{Metaclass}
 use Rattle.py_node.specs.declared.raised.Kind.{Kind}
-use Rattle.py_node.specs.declared.raised.Cause.TheVariants.{ArgCount, Body, KeyType, NotYet, RepeatedKeyword, Unbound}
+use Rattle.py_node.specs.declared.raised.Cause.TheVariants.{ArgCount, Body, IndexRange, KeyType, NotYet, RepeatedKeyword, Unbound}
 use Rattle.py_node.specs.declared.expr.Word.{Word}
 use Rattle.py_node.specs.declared.expr.Word.TheVariants as word
-use Rattle.py_node.specs.declared.expr.ObjectWord.TheVariants.{Is, TypeOf, Callable}
+use Rattle.py_node.specs.declared.expr.SequenceWord.{SequenceWord}
+use Rattle.py_node.specs.declared.expr.SequenceWord.TheVariants as sequence
+use Rattle.py_node.specs.declared.expr.ObjectWord.{ObjectWord}
+use Rattle.py_node.specs.declared.expr.ObjectWord.TheVariants as object
 use Rattle.py_node.specs.declared.entry.SlotId.TheVariants.{Call}
+use Rattle.py_node.specs.declared.task.PyNumberBinaryOp.{PyNumberBinaryOp}
 use Rattle.py_node.specs.declared.task.PyNumberBinaryOp.TheVariants as op
 use Rattle.py_node.specs.Attributes.{value_of}
 use Rattle.py_node.specs.BuiltIns.{place_of}
 use Rattle.py_node.specs.Known.{known_text}
-use Rattle.py_node.specs.Tree.{Text, Tree, TConst, TName, TBind, TTuple, TList, TDict, TFunc, TAttr, TSetAttr, TCall, TOp, TRaise, TClass, KeyedTrees, no_keyed, keyed as keyed_tree, Trees, Entries, no_entries, entry, Literal, LNone, LFalse, LTrue, LInt, LText, list_of, entry_trees}
-use Rattle.plain_machine.specs.Plain.{ANumber, AText, ATuple, AList, ADict, AFunction, PlainWorld, Bindings, EvalJob, DoEval, ToEval, DoAdd, DoGetAttr, DoSetAttr, DoLoadMethod, DoInvoke, DoCall, AsFunction, AsAttribute, Ended, PlainTask, ToAttribute, ToCall, ToOperator, Said}
+use Rattle.py_node.specs.Tree.{Text, Tree, TConst, TName, TBind, TTuple, TList, TDict, TFunc, TAttr, TSetAttr, TDelAttr, TCall, TOp, TIf, TSeq, TRaise, TClass, KeyedTrees, no_keyed, keyed as keyed_tree, Trees, Entries, no_entries, entry, Literal, LNone, LFalse, LTrue, LInt, LText, list_of, entry_trees}
+use Rattle.plain_machine.specs.Plain.{ANumber, AText, ATuple, AList, ADict, AFunction, PlainWorld, Bindings, EvalJob, DoEval, ToEval, DoAdd, DoBinary, DoInplace, DoInplaceAdd, DoInplaceMul, DoInplacePower, DoInplaceConcat, DoInplaceRepeat, DoConcat, DoMul, DoPower, DoRepeat, DoUnary, DoCompare, DoIsTrue, DoIndex, DoWhole, DoLength, DoGetAttr, DoSetAttr, DoHasAttr, DoLoadMethod, DoInvoke, DoCall, AsTruth, AsFunction, AsAttribute, Ended, PlainTask, ToAttribute, ToCall, ToOperator, ToCompare, ToProtocol, Said}
 use Rattle.plain_machine.specs.World.{ref, is_text, slot_at, variable, or_else_var, with_binding, with_node, next_node}
+use Rattle.plain_machine.specs.Takes.{with_text}
 use Rattle.plain_machine.specs.Args.{two_of, filled}
 use Rattle.plain_machine.specs.Known.{the_type, the_int, the_str, the_tuple, the_list, the_dict, the_function}
 use Rattle.plain_machine.specs.Dicts.{entries_from}
 use Rattle.plain_machine.specs.Objects.{class_object, type_object}
 use Rattle.plain_machine.specs.Sound.{key_at}
-use Rattle.plain_machine.specs.Row.{Row, start, ask, pass, end, value, none, fault, on_value, on_done, make, limited, truth, not_implemented, evaluate}
+use Rattle.eval_forms.specs.Words.{item_word_say, object_word_say}
+use Rattle.plain_machine.specs.Row.{Row, start, ask, pass, end, value, none, fault, on_value, on_truth, on_number, on_index, on_done, make, limited, truth, not_implemented, evaluate}
 
 -- a constant is a fixed object, or a new one
 abbrev pub const_say : PlainWorld → Literal → Row
@@ -114,11 +120,6 @@ func_say w x ps rest e = make w the_function (AFunction x ps rest e None)
 abbrev pub not_yet : PlainWorld → Row
 not_yet w = end w (fault NotYet)
 
--- a sum of two operands
-abbrev pub add_of : PlainWorld → Option (PyObjectRef × PyObjectRef) → Row
-add_of w None = end w (fault ArgCount)
-add_of w (Some p) = ask w (ToOperator (DoAdd p.0 p.1)) (end w)
-
 -- whether the two operands are the same object
 abbrev pub is_of : PlainWorld → Option (PyObjectRef × PyObjectRef) → Row
 is_of w None = end w (fault ArgCount)
@@ -134,18 +135,103 @@ abbrev pub callable_of : PlainWorld → Option PyObjectRef → Row
 callable_of w None = end w (fault ArgCount)
 callable_of w (Some o) = end w (value (truth (is_some (slot_at w o Call))))
 
--- what the word says of the values of the operands: its task, or what it reads by itself
-abbrev pub op_say : PlainWorld → Word → List PyObjectRef → Row
-op_say w (word.Binary op.Add) vs = add_of w (two_of vs)
-op_say w (word.Object Is) vs = is_of w (two_of vs)
-op_say w (word.Object TypeOf) vs = type_of w (one_of vs)
-op_say w (word.Object Callable) vs = callable_of w (one_of vs)
-op_say w _ vs = not_yet w
+-- a task of one operand, of two, or of two with a third
+abbrev pub one_asked : PlainWorld → (PyObjectRef → PlainTask) → (Ended → Row) → Option PyObjectRef → Row
+one_asked w task go None = end w (fault ArgCount)
+one_asked w task go (Some a) = ask w (task a) go
 
--- an attribute is set to the second operand, and the answer is None
+abbrev pub two_asked : PlainWorld → (PyObjectRef → PyObjectRef → PlainTask) → Option (PyObjectRef × PyObjectRef) → Row
+two_asked w task None = end w (fault ArgCount)
+two_asked w task (Some p) = ask w (task p.0 p.1) (end w)
+
+-- the task of a binary operator: sequences can be joined and repeated besides numbers
+abbrev pub binary_task : PyNumberBinaryOp → PyObjectRef → PyObjectRef → PlainTask
+binary_task op.Add a b = ToOperator (DoAdd a b)
+binary_task op.Multiply a b = ToOperator (DoMul a b)
+binary_task o a b = ToOperator (DoBinary o a b)
+
+abbrev pub inplace_task : PyNumberBinaryOp → PyObjectRef → PyObjectRef → PlainTask
+inplace_task op.Add a b = ToOperator (DoInplaceAdd a b)
+inplace_task op.Multiply a b = ToOperator (DoInplaceMul a b)
+inplace_task o a b = ToOperator (DoInplace o a b)
+
+-- a power has two operands, or a modulus as its third
+abbrev pub power_of : PlainWorld → List PyObjectRef → Row
+power_of w (a ∷ b ∷ c ∷ []) = ask w (ToOperator (DoPower a b c)) (end w)
+power_of w vs = two_asked w (λ a b. ToOperator (DoPower a b none)) (two_of vs)
+
+-- a sequence is repeated as often as the second operand says
+abbrev pub repeat_of : PlainWorld → (PyObjectRef → ℤ → PlainTask) → Option (PyObjectRef × PyObjectRef) → Row
+repeat_of w task None = end w (fault ArgCount)
+repeat_of w task (Some p) = ask w (ToProtocol (DoIndex p.1)) (λ r. on_index w IndexRange r (λ z. start (pass w (task p.0 z)) (end w)))
+
+-- truth values are the fixed objects, and numbers are new ones
+abbrev pub truth_of : PlainWorld → (Bool → Bool) → Option PyObjectRef → Row
+truth_of w turn o = one_asked w (λ a. ToProtocol (DoIsTrue a)) (λ r. on_truth w r (λ b. end w (value (truth (turn b))))) o
+
+abbrev pub length_of : PlainWorld → Option PyObjectRef → Row
+length_of w o = one_asked w (λ a. ToProtocol (DoLength a)) (λ r. on_number w r (λ z. make w the_int (ANumber z))) o
+
+-- whether the first operand has an attribute with the second one as its name, which must be a text
+abbrev pub truth_say : PlainWorld → Ended → Row
+truth_say w (Ok (AsTruth b)) = end w (value (truth b))
+truth_say w r = end w r
+
+abbrev pub has_attr_of : PlainWorld → Option (PyObjectRef × PyObjectRef) → Row
+has_attr_of w None = end w (fault ArgCount)
+has_attr_of w (Some p) = start (with_text w p.1 (λ x. pass w (ToAttribute (DoHasAttr p.0 x)))) (truth_say w)
+
+-- what the word says of the values of the operands: its task, or what it reads by itself
+abbrev pub sequence_say : PlainWorld → SequenceWord → List PyObjectRef → Row
+sequence_say w sequence.Concat vs = two_asked w (λ a b. ToOperator (DoConcat a b)) (two_of vs)
+sequence_say w sequence.InplaceConcat vs = two_asked w (λ a b. ToOperator (DoInplaceConcat a b)) (two_of vs)
+sequence_say w sequence.Repeat vs = repeat_of w (λ a z. ToOperator (DoRepeat a z)) (two_of vs)
+sequence_say w sequence.InplaceRepeat vs = repeat_of w (λ a z. ToOperator (DoInplaceRepeat a z)) (two_of vs)
+sequence_say w sequence.Len vs = length_of w (one_of vs)
+sequence_say w s vs = item_word_say w s vs
+
+abbrev pub object_say : PlainWorld → ObjectWord → List PyObjectRef → Row
+object_say w object.Is vs = is_of w (two_of vs)
+object_say w object.TypeOf vs = type_of w (one_of vs)
+object_say w object.Callable vs = callable_of w (one_of vs)
+object_say w object.Not vs = truth_of w not (one_of vs)
+object_say w object.Bool vs = truth_of w (λ b. b) (one_of vs)
+object_say w object.Index vs = one_asked w (λ a. ToProtocol (DoIndex a)) (end w) (one_of vs)
+object_say w object.Int vs = one_asked w (λ a. ToProtocol (DoWhole a)) (end w) (one_of vs)
+object_say w object.HasAttr vs = has_attr_of w (two_of vs)
+object_say w o vs = object_word_say w o vs
+
+abbrev pub op_say : PlainWorld → Word → List PyObjectRef → Row
+op_say w (word.Binary o) vs = two_asked w (binary_task o) (two_of vs)
+op_say w (word.Inplace o) vs = two_asked w (inplace_task o) (two_of vs)
+op_say w word.Power vs = power_of w vs
+op_say w word.InplacePower vs = two_asked w (λ a b. ToOperator (DoInplacePower a b none)) (two_of vs)
+op_say w (word.Compare o) vs = two_asked w (λ a b. ToCompare (DoCompare a b o)) (two_of vs)
+op_say w (word.Unary o) vs = one_asked w (λ a. ToOperator (DoUnary o a)) (end w) (one_of vs)
+op_say w (word.Sequence s) vs = sequence_say w s vs
+op_say w (word.Object o) vs = object_say w o vs
+
+-- a condition, and then the one branch or the other
+abbrev pub branch : Tree → Tree → Bool → Tree
+branch a b holds = cond holds a b
+
+abbrev pub if_say : PlainWorld → Tree → Tree → Option PyObjectRef → Row
+if_say w a b o =
+    one_asked w (λ c. ToProtocol (DoIsTrue c)) (λ r. on_truth w r (λ holds. start (pass w (ToEval (DoEval (branch a b holds)))) (end w))) o
+
+
+-- an attribute is set, or taken out, and the answer is None
+abbrev pub change_attr : PlainWorld → PyObjectRef → Text → Option PyObjectRef → Row
+change_attr w o x v = ask w (ToAttribute (DoSetAttr o x v)) (λ r. on_done w r (end w (value none)))
+
+-- it is set to the second operand
 abbrev pub set_attr_say : PlainWorld → Text → Option (PyObjectRef × PyObjectRef) → Row
 set_attr_say w x None = end w (fault ArgCount)
-set_attr_say w x (Some p) = ask w (ToAttribute (DoSetAttr p.0 x (Some p.1))) (λ r. on_done w r (end w (value none)))
+set_attr_say w x (Some p) = change_attr w p.0 x (Some p.1)
+
+abbrev pub del_attr_say : PlainWorld → Text → Option PyObjectRef → Row
+del_attr_say w x None = end w (fault ArgCount)
+del_attr_say w x (Some o) = change_attr w o x None
 
 -- an attribute of the operand
 abbrev pub attr_say : PlainWorld → Text → Option PyObjectRef → Row
@@ -239,6 +325,16 @@ class_say w x bases keys names vs =
     on_keywords w (unrepeated [] keys (take (length keys) (drop bases vs))) (λ kw.
     start (class_by w x (take bases vs) kw (filled [] names (drop (length keys) (drop bases vs)))) (end w))
 
+-- the last of some values, or else None
+abbrev pub last_or_none : List PyObjectRef → PyObjectRef
+last_or_none [] = none
+last_or_none (v ∷ []) = v
+last_or_none (v ∷ (u ∷ vs)) = last_or_none (u ∷ vs)
+
+-- expressions one after another: the value of the last
+abbrev pub seq_say : PlainWorld → List PyObjectRef → Row
+seq_say w vs = end w (value (last_or_none vs))
+
 -- a fault of this kind
 abbrev pub raise_say : PlainWorld → Kind → Row
 raise_say w kind = end w (Err (record { kind = kind; cause = Body }))
@@ -255,8 +351,11 @@ operand_trees (TTuple es) = list_of es
 operand_trees (TList es) = list_of es
 operand_trees (TAttr o x) = o ∷ []
 operand_trees (TSetAttr o x e) = o ∷ e ∷ []
+operand_trees (TDelAttr o x) = o ∷ []
 operand_trees (TCall f es kw) = callee_tree f ∷ []
 operand_trees (TOp word es) = list_of es
+operand_trees (TIf c a b) = c ∷ []
+operand_trees (TSeq es) = list_of es
 operand_trees (TClass x bs kw es) = list_of bs ++ (entry_trees kw ++ entry_trees es)
 operand_trees _ = []
 
@@ -271,8 +370,11 @@ own_say w (TDict ps) vs = dict_say w ps
 own_say w (TFunc x ps rest e) vs = func_say w x ps rest e
 own_say w (TAttr o x) vs = attr_say w x (one_of vs)
 own_say w (TSetAttr o x e) vs = set_attr_say w x (two_of vs)
+own_say w (TDelAttr o x) vs = del_attr_say w x (one_of vs)
 own_say w (TCall f es kw) vs = called_say w f es kw (one_of vs)
 own_say w (TOp word es) vs = op_say w word vs
+own_say w (TIf c a b) vs = if_say w a b (one_of vs)
+own_say w (TSeq es) vs = seq_say w vs
 own_say w (TRaise kind) vs = raise_say w kind
 own_say w (TClass x bs kw es) vs = class_say w x (length (list_of bs)) (entry_names kw) (entry_names es) vs
 own_say w _ vs = not_yet w

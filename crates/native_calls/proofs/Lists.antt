@@ -3,7 +3,7 @@ use Rattle.std.proofs.Common.{◌++◌, Option, Some, None, subst, sym, ◌≡�
 use Rattle.py_node.specs.declared.refs.PyObjectRef.{PyObjectRef}
 use Rattle.plain_machine.specs.Plain.{PlainWorld, Bindings, Said}
 use Rattle.plain_machine.specs.Takes.{with_one, with_two}
-use Rattle.native_calls.specs.Say.{with_get}
+use Rattle.native_objects.specs.Takes.{with_one_or_two}
 use Rattle.class_world.specs.Held.{Held}
 use Rattle.class_world.specs.Sound.{AreNodes, Holds}
 
@@ -25,14 +25,14 @@ pub rest-hold : (w : Held) (rs : List PyObjectRef) → Holds w (AreNodes rs) →
 rest-hold w rs h = subst (λ all. Holds w (AreNodes all)) (sym (rest-is rs)) (rest-nodes w rs h)
 
 -- two are an object and a class
-pub get-two : (w : PlainWorld) (rs : List PyObjectRef) (kw : Bindings) (go : PyObjectRef → Option PyObjectRef → Said) → length rs ≡ 2 → with_get w rs kw go ≡ with_two w rs kw (λ o c. go o (Some c))
+pub get-two : (w : PlainWorld) (rs : List PyObjectRef) (kw : Bindings) (go : PyObjectRef → Option PyObjectRef → Said) → length rs ≡ 2 → with_one_or_two w rs kw go ≡ with_two w rs kw (λ o c. go o (Some c))
 get-two w [] kw go e = refl
 get-two w (o ∷ []) kw go e = absurd (omega arith)
 get-two w (o ∷ c ∷ []) kw go e = refl
 get-two w (o ∷ c ∷ d ∷ rs) kw go e = refl
 
 -- and else there is no class
-pub get-one : (w : PlainWorld) (rs : List PyObjectRef) (kw : Bindings) (go : PyObjectRef → Option PyObjectRef → Said) → (length rs ≡ 2 → ⊥) → with_get w rs kw go ≡ with_one w rs kw (λ o. go o None)
+pub get-one : (w : PlainWorld) (rs : List PyObjectRef) (kw : Bindings) (go : PyObjectRef → Option PyObjectRef → Said) → (length rs ≡ 2 → ⊥) → with_one_or_two w rs kw go ≡ with_one w rs kw (λ o. go o None)
 get-one w [] kw go e = refl
 get-one w (o ∷ []) kw go e = refl
 get-one w (o ∷ c ∷ []) kw go e = absurd (e refl)

@@ -13,7 +13,8 @@ ghost use Rattle.class_world.specs.Sound.{AllHold, AreNodes, Holds, IsNode, of_o
 ghost use Rattle.proto_descr.specs.Rows.{StepsAs, nothing_held};
 ghost use Rattle.proto_descr.specs.Say.{class_method_get};
 ghost use Rattle.native_calls.specs.Asks.{Does, Resumes, class_asked, is_of_kind, of_native_kept};
-ghost use Rattle.native_calls.specs.Say.{function_get_by_name, native_get_by_name, getset_get_by_name, class_method_by_name, static_method_by_name, get_by_name, way_of, with_get};
+ghost use Rattle.native_calls.specs.Say.{function_get_by_name, native_get_by_name, getset_get_by_name, class_method_by_name, static_method_by_name, get_by_name, way_of};
+ghost use Rattle.native_objects.specs.Takes.{with_one_or_two};
 
 use crate::way::Kind;
 use crate::{NativeKept, passed};
@@ -187,9 +188,9 @@ fn object_and_class(
     kw: &[(PyStrInterned, PyObjectRef)],
 ) -> Result<(PyObjectRef, Option<PyObjectRef>), Raised>
     ensures given { IfOk result (λ p. (t : Reading) (w : PlainWorld) (go : Object → Option Object → Said) →
-        with_get w args.now (bindings t kw.now) go ≡ go p.0 p.1) }
+        with_one_or_two w args.now (bindings t kw.now) go ≡ go p.0 p.1) }
     ensures refused { IfErr result (λ x. (t : Reading) (w : PlainWorld) (go : Object → Option Object → Said) →
-        with_get w args.now (bindings t kw.now) go ≡ Ends w (Err x)) }
+        with_one_or_two w args.now (bindings t kw.now) go ≡ Ends w (Err x)) }
     ensures object { IfOk result (λ p. (w : Held) → Holds w (AreNodes args.now) → Holds w (IsNode p.0)) }
     ensures class { IfOk result (λ p. (w : Held) → Holds w (AreNodes args.now) →
         AllHold w (of_option of_node_ref p.1)) }

@@ -1,9 +1,12 @@
 //! What each native does that asks.
 
 ghost use Rattle.std.specs.Prelude.{◌≡◌};
-ghost use Rattle.native_calls.specs.Say.{asks, way_of};
+ghost use Rattle.native_calls.specs.Say.{asks, reads, reads_wrapped, way_of};
 
-use py_node::{BuiltIn, CallableNative, DescriptorNative, NativeEntry, WrapperNative};
+use py_node::{
+    BuiltIn, CallableNative, DescriptorNative, Detail, NativeEntry, PropertyNative, SuperNative,
+    WrapperNative,
+};
 
 /// What an object is that a native binds.
 #[derive(Clone, Copy)]
@@ -11,8 +14,11 @@ pub enum Kind {
     Function,
     Native,
     GetSet,
+    Member,
+    Property,
     ClassMethod,
     StaticMethod,
+    Super,
 }
 
 /// What wraps a callable: a class method or a static method.
@@ -22,13 +28,37 @@ pub enum Wrapper {
     Static,
 }
 
-/// What a native does: it binds an object of a kind, makes a new wrapper, makes an object as a class does, or calls.
+/// What an object is by which a native sets an attribute, or takes it out.
+#[derive(Clone, Copy)]
+pub enum Setting {
+    GetSet,
+    Member,
+    Property,
+}
+
+/// What a native does: it binds an object of a kind, sets an attribute by one or takes it out, makes a new wrapper, makes an object as a class does, or calls.
 #[derive(Clone, Copy)]
 pub enum Way {
     Binds(Kind),
+    Sets(Setting),
+    Deletes(Setting),
     Wraps(Wrapper),
     Makes,
     Calls,
+    /// `super` gives an attribute.
+    Looks,
+    /// `super` is initialised.
+    Starts,
+    /// A class method or a static method gives what it wraps has under a name.
+    Reads(BuiltIn, Detail),
+    /// It tells whether what it wraps is abstract.
+    Marked(BuiltIn),
+    /// What it wraps, or the getter of a property, is marked as abstract.
+    Marks(BuiltIn),
+    /// A member gives its qualified name.
+    Names,
+    /// A property tells whether its getter or its setter is abstract.
+    Abstract,
 }
 
 /// Whether a native is one that asks.
@@ -39,13 +69,49 @@ pub fn asks(entry: NativeEntry) -> bool
         NativeEntry::OfCallable(CallableNative::ReprMethodDescriptor) => false,
         NativeEntry::OfCallable(_) => true,
         NativeEntry::OfDescriptor(DescriptorNative::GetSetGet) => true,
+        NativeEntry::OfDescriptor(DescriptorNative::GetSetSet) => true,
+        NativeEntry::OfDescriptor(DescriptorNative::GetSetDelete) => true,
         NativeEntry::OfWrapper(WrapperNative::ClassGet) => true,
         NativeEntry::OfWrapper(WrapperNative::StaticGet) => true,
         NativeEntry::OfWrapper(WrapperNative::StaticCall) => true,
         NativeEntry::NewOf(BuiltIn::ClassMethod) => true,
         NativeEntry::NewOf(BuiltIn::StaticMethod) => true,
         NativeEntry::NewWrapper => true,
+        NativeEntry::OfDescriptor(DescriptorNative::MemberGet) => true,
+        NativeEntry::OfDescriptor(DescriptorNative::MemberSet) => true,
+        NativeEntry::OfDescriptor(DescriptorNative::MemberDelete) => true,
+        NativeEntry::OfProperty(PropertyNative::Get) => true,
+        NativeEntry::OfProperty(PropertyNative::Set) => true,
+        NativeEntry::OfProperty(PropertyNative::Delete) => true,
+        NativeEntry::OfSuper(SuperNative::Repr) => false,
+        NativeEntry::OfSuper(_) => true,
+        NativeEntry::GetterOf(class, detail) => reads(class, detail),
+        NativeEntry::SetterOf(_, Detail::IsAbstract) => true,
         _ => false,
+    }
+}
+
+// Whether a part of the objects of a class is read by asking another object.
+fn reads(class: BuiltIn, detail: Detail) -> bool
+    ensures { result ≡ reads class detail }
+{
+    match (class, detail) {
+        (BuiltIn::ClassMethod, _) => reads_wrapped(detail),
+        (BuiltIn::StaticMethod, _) => reads_wrapped(detail),
+        (BuiltIn::MemberDescriptor, Detail::Qualname) => true,
+        (BuiltIn::Property, Detail::IsAbstract) => true,
+        _ => false,
+    }
+}
+
+// Of a class method or a static method all but what it wraps.
+fn reads_wrapped(detail: Detail) -> bool
+    ensures { result ≡ reads_wrapped detail }
+{
+    match detail {
+        Detail::Func => false,
+        Detail::Wrapped => false,
+        _ => true,
     }
 }
 
@@ -57,11 +123,27 @@ pub(crate) fn way_of(entry: NativeEntry) -> Way
         NativeEntry::OfCallable(CallableNative::GetFunction) => Way::Binds(Kind::Function),
         NativeEntry::OfCallable(CallableNative::GetMethodDescriptor) => Way::Binds(Kind::Native),
         NativeEntry::OfDescriptor(DescriptorNative::GetSetGet) => Way::Binds(Kind::GetSet),
+        NativeEntry::OfDescriptor(DescriptorNative::GetSetSet) => Way::Sets(Setting::GetSet),
+        NativeEntry::OfDescriptor(DescriptorNative::GetSetDelete) => Way::Deletes(Setting::GetSet),
         NativeEntry::OfWrapper(WrapperNative::ClassGet) => Way::Binds(Kind::ClassMethod),
         NativeEntry::OfWrapper(WrapperNative::StaticGet) => Way::Binds(Kind::StaticMethod),
         NativeEntry::NewOf(BuiltIn::ClassMethod) => Way::Wraps(Wrapper::Class),
         NativeEntry::NewOf(BuiltIn::StaticMethod) => Way::Wraps(Wrapper::Static),
         NativeEntry::NewWrapper => Way::Makes,
+        NativeEntry::OfDescriptor(DescriptorNative::MemberGet) => Way::Binds(Kind::Member),
+        NativeEntry::OfDescriptor(DescriptorNative::MemberSet) => Way::Sets(Setting::Member),
+        NativeEntry::OfDescriptor(DescriptorNative::MemberDelete) => Way::Deletes(Setting::Member),
+        NativeEntry::OfProperty(PropertyNative::Get) => Way::Binds(Kind::Property),
+        NativeEntry::OfProperty(PropertyNative::Set) => Way::Sets(Setting::Property),
+        NativeEntry::OfProperty(PropertyNative::Delete) => Way::Deletes(Setting::Property),
+        NativeEntry::OfSuper(SuperNative::Get) => Way::Binds(Kind::Super),
+        NativeEntry::OfSuper(SuperNative::Init) => Way::Starts,
+        NativeEntry::OfSuper(_) => Way::Looks,
+        NativeEntry::GetterOf(BuiltIn::MemberDescriptor, _) => Way::Names,
+        NativeEntry::GetterOf(BuiltIn::Property, _) => Way::Abstract,
+        NativeEntry::GetterOf(class, Detail::IsAbstract) => Way::Marked(class),
+        NativeEntry::GetterOf(class, detail) => Way::Reads(class, detail),
+        NativeEntry::SetterOf(class, _) => Way::Marks(class),
         _ => Way::Calls,
     }
 }

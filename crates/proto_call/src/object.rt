@@ -99,12 +99,13 @@ fn is_abstract(world: &World, methods: Option<PyObjectRef>) -> bool
     }
 }
 
-// Whether this is a tuple that isn't empty.
+// Whether this is a tuple or a list that isn't empty.
 fn has_items(payload: &Payload) -> bool
     ensures { (t : Reading) → has_items (Some (datum t payload.now)) ≡ result }
 {
     match payload {
         Payload::Tuple(items) => !items.is_empty(),
+        Payload::List(items) => !items.is_empty(),
         _ => false,
     }
 }

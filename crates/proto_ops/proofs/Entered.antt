@@ -2,7 +2,7 @@
 use Rattle.std.proofs.Common.{◌≡◌, [], ◌∷◌, Some, Ok, true, cond, sym, ap, ◌∙◌, subst}
 use Rattle.py_node.specs.declared.refs.PyObjectRef.{PyObjectRef}
 use Rattle.py_node.specs.declared.task.Answer.TheVariants.{Value}
-use Rattle.plain_machine.specs.Plain.{PlainWorld, Told, DoAdd, DoInt, ANumber, Answered, Ends}
+use Rattle.plain_machine.specs.Plain.{PlainWorld, Told, DoAdd, DoConcat, DoInt, ToOperator, ANumber, Answered, Ends}
 use Rattle.plain_machine.specs.World.{datum_at, number_of, with_node, next_node, slot_at}
 use Rattle.plain_machine.specs.Row.{value, start, end, is_not_implemented}
 use Rattle.class_world.specs.declared.world.World.{World}
@@ -11,7 +11,8 @@ use Rattle.class_world.specs.Rows.{Steps}
 use Rattle.py_node.specs.declared.task.Step.TheVariants.{End}
 use Rattle.py_node.specs.declared.entry.IntNative.TheVariants as int
 use Rattle.std.specs.Prelude.{ℤ}
-use Rattle.proto_ops.specs.Say.{operator_say, joined, sum_say, int_or_fault, total}
+use Rattle.proto_ops.specs.Say.{operator_say, sum_say, int_or_fault, total}
+use Rattle.proto_ops.specs.Sequences.{joined}
 use Rattle.py_node.specs.declared.entry.SlotId.TheVariants.{SeqItem}
 use Rattle.proto_ops.specs.Rows.{operator_stands, Sums}
 
@@ -25,6 +26,6 @@ sum-made w new a b r x y z hx hy f made number reads = λ t q.
     (reads t q, subst (λ s. Steps operator_say (operator_stands t) t (DoInt int.Add (a ∷ b ∷ []) []) [] s (End (Ok (Value r))) new) (sym said) (ap value (number t), made t))
 
 -- where no candidate serves, the row goes on so
-pub add-joins : (u : PlainWorld) (a b x : PyObjectRef) (more : Told) → is_not_implemented x ≡ true → operator_say u (DoAdd a b) (Answered (value x) ∷ more) ≡ start (joined u (slot_at u a SeqItem) a b) (end u) more
+pub add-joins : (u : PlainWorld) (a b x : PyObjectRef) (more : Told) → is_not_implemented x ≡ true → operator_say u (DoAdd a b) (Answered (value x) ∷ more) ≡ start (joined u (slot_at u a SeqItem) (ToOperator (DoConcat a b))) (end u) more
 unfolding operator_say
-add-joins u a b x more e = ap (λ c. cond c (start (joined u (slot_at u a SeqItem) a b) (end u)) (end u (value x)) more) e
+add-joins u a b x more e = ap (λ c. cond c (start (joined u (slot_at u a SeqItem) (ToOperator (DoConcat a b))) (end u)) (end u (value x)) more) e

@@ -6,7 +6,8 @@ ghost use Rattle.class_world.specs.Sound.{AllHold, Holds, IsNode, AreNodes};
 ghost use Rattle.class_world.specs.Claims.{of_operator_task, of_ended, of_step, Leaves};
 ghost use Rattle.py_node.specs.declared.task.OperatorTask.TheVariants as operator;
 ghost use Rattle.plain_machine.specs.Row.{is_not_implemented};
-ghost use Rattle.proto_ops.specs.Say.{total, in_order};
+ghost use Rattle.proto_ops.specs.Binary.{in_order};
+ghost use Rattle.proto_ops.specs.Say.{total};
 ghost use Rattle.plain_machine.specs.Args.{two_of};
 ghost use Rattle.proto_ops.specs.Rows.{Begins, Resumes, Sums, of_operator_kept};
 

@@ -1,16 +1,17 @@
 -- The rows of all groups.
-use Rattle.std.specs.Prelude.{ℕ, cond, List, [], Result}
+use Rattle.std.specs.Prelude.{ℕ, Bool, true, false, cond, List, [], Result}
 use Rattle.py_node.specs.declared.refs.PyObjectRef.{PyObjectRef}
 use Rattle.py_node.specs.declared.built_in.BuiltIn.TheVariants.{Int, Str}
+use Rattle.py_node.specs.declared.built_in.BuiltIn.TheVariants as built_in
 use Rattle.py_node.specs.declared.entry.NativeEntry.{NativeEntry}
-use Rattle.py_node.specs.declared.entry.NativeEntry.TheVariants.{OfFixed, OfNumber, OfArithmetic, OfBits, OfStr, Compare, OfTuple, OfList, OfDict, OfIterator, OfCallable, OfDescriptor, OfProperty, OfWrapper, OfSuper, NewOf, Getter, GetterOf}
+use Rattle.py_node.specs.declared.entry.NativeEntry.TheVariants.{OfFixed, OfNumber, OfArithmetic, OfBits, OfStr, Compare, OfTuple, OfList, OfDict, OfIterator, OfCallable, OfDescriptor, OfProperty, OfWrapper, OfSuper, NewOf, Getter, Setter, GetterOf, SetterOf}
 use Rattle.py_node.specs.declared.raised.Raised.{Raised as Fault}
 use Rattle.py_node.specs.declared.task.Answer.{Answer}
 use Rattle.py_node.specs.declared.task.Task.{Task}
 use Rattle.py_node.specs.declared.task.Step.{Step}
 use Rattle.py_node.specs.declared.task.Step.TheVariants.{Ask, End}
-use Rattle.plain_machine.specs.Plain.{PlainWorld, Bindings, Said, Ends, PlainTask, ToEval, ToAttribute, ToDescriptor, ToCall, ToClass, ToOperator, ToCompare, ToProtocol, ToObject, ToNative, Saying}
-use Rattle.plain_machine.specs.Row.{Row, end, not_yet}
+use Rattle.plain_machine.specs.Plain.{PlainWorld, Bindings, Said, Ends, PlainTask, ToEval, ToAttribute, ToDescriptor, ToCall, ToClass, ToOperator, ToCompare, ToProtocol, ToObject, ToNative, Saying, ProtocolJob, DoIsTrue, DoIndex, DoWhole, DoLength, DoHint}
+use Rattle.plain_machine.specs.Row.{Row, start, end, not_yet}
 use Rattle.plain_machine.specs.Rows.{Pending, fresh, given}
 use Rattle.class_world.specs.declared.world.World.{World}
 use Rattle.class_world.specs.Reading.{Reading, task_of, ended_of}
@@ -20,23 +21,33 @@ use Rattle.eval_forms.specs.Say.{eval_say}
 use Rattle.eval_forms.specs.Rows.{eval_stands, of_eval_kept}
 use Rattle.proto_attr.specs.Say.{attribute_say}
 use Rattle.proto_attr.specs.Rows.{attribute_stands, of_attribute_kept}
-use Rattle.proto_descr.specs.Say.{descriptor_say, start_with}
+use Rattle.proto_descr.specs.Say.{descriptor_say}
 use Rattle.proto_descr.specs.Rows.{descriptor_stands, of_descriptor_kept}
 use Rattle.proto_call.specs.Say.{call_job_say}
 use Rattle.proto_call.specs.Rows.{call_stands, of_call_kept, bodies_of}
 use Rattle.class_make.specs.Say.{class_job_say}
 use Rattle.class_make.specs.Rows.{class_stands, of_class_kept}
+use Rattle.proto_items.specs.Say.{items_job_say}
+use Rattle.proto_object.specs.Say.{object_job_say}
+use Rattle.native_items.specs.Say.{asks_for_items, items_native_say}
 use Rattle.proto_ops.specs.Say.{operator_say}
 use Rattle.proto_ops.specs.Rows.{operator_stands, of_operator_kept}
 use Rattle.native_containers.specs.Say.{tuple_say, list_say, dict_say, iterator_say}
 use Rattle.native_numbers.specs.Say.{fixed_say, number_say, arithmetic_say, bits_say, compare_say}
-use Rattle.native_calls.specs.Say.{asks, asking_by, asking_rest}
+use Rattle.native_calls.specs.Say.{asks, asking_say}
 use Rattle.native_calls.specs.Asks.{asking_stands, of_native_kept}
 use Rattle.native_texts.specs.Say.{text_say, compare_text_say}
 use Rattle.native_objects.specs.Descriptors.{callable_say, descriptor_native_say, property_say, wrapper_say, super_say}
 use Rattle.native_objects.specs.Makers.{maker_say}
 use Rattle.native_objects.specs.Getters.{getter_say}
+use Rattle.native_objects.specs.Setters.{setter_say}
+use Rattle.native_objects.specs.DetailSetters.{setter_of_say}
 use Rattle.native_objects.specs.Details.{getter_of_say}
+use Rattle.proto_compare.specs.Say.{compare_job_say}
+use Rattle.proto_compare.specs.Containers.{sequences_say, dicts_say}
+use Rattle.proto_number.specs.Say.{number_job_say}
+use Rattle.proto_number.specs.Natives.{int_new_say, bool_new_say, repeats, repeat_by_name_say}
+use Rattle.native_containers.specs.declared.take.Kind.TheVariants as kind
 use Rattle.vm_eval.specs.declared.stack.Kept.{Kept}
 use Rattle.vm_eval.specs.declared.stack.Kept.TheVariants.{ForEval, ForAttribute, ForDescriptor, ForCall, ForClass, ForOperator, ForNative}
 
@@ -60,12 +71,34 @@ native_by w (OfWrapper n) args kw = wrapper_say w n args kw
 native_by w (OfSuper n) args kw = super_say w n args kw
 native_by w (NewOf b) args kw = maker_say w b args
 native_by w (Getter p) args kw = getter_say w p args kw
+native_by w (Setter p) args kw = setter_say w p args kw
 native_by w (GetterOf b d) args kw = getter_of_say w b d args kw
+native_by w (SetterOf b d) args kw = setter_of_say w b d args kw
 native_by w _ args kw = Ends w not_yet
 
 -- a native asks a task, or ends at once
 abbrev pub native_say : PlainWorld → NativeEntry → List PyObjectRef → Bindings → Row
-native_say w n args kw = start_with (cond (asks n) (asking_by w n args kw) (native_by w n args kw)) (asking_rest w n)
+native_say w (NewOf built_in.Int) args kw = int_new_say w args kw
+native_say w (NewOf built_in.Bool) args kw = bool_new_say w args kw
+native_say w (Compare built_in.Tuple n) args kw = sequences_say kind.Tuple w n args kw
+native_say w (Compare built_in.List n) args kw = sequences_say kind.List w n args kw
+native_say w (Compare built_in.Dict n) args kw = dicts_say w n args kw
+native_say w n args kw =
+    cond (repeats n) (repeat_by_name_say w n args kw) (
+    cond (asks_for_items n) (items_native_say w n args kw) (
+    cond (asks n) (asking_say w n args kw) (start (native_by w n args kw) (end w))))
+
+-- tasks on numbers, and those on items and iterations
+abbrev pub is_of_numbers : ProtocolJob → Bool
+is_of_numbers (DoIsTrue o) = true
+is_of_numbers (DoIndex o) = true
+is_of_numbers (DoWhole o) = true
+is_of_numbers (DoLength o) = true
+is_of_numbers (DoHint o d) = true
+is_of_numbers _ = false
+
+abbrev pub protocol_say : PlainWorld → ProtocolJob → Row
+protocol_say w job = cond (is_of_numbers job) (number_job_say w job) (items_job_say w job)
 
 -- what a task's row says, by the group that the task is in. A group without rows is not there yet
 unfoldable pub say : Saying PlainTask
@@ -75,9 +108,9 @@ say w (ToDescriptor job) = descriptor_say w job
 say w (ToCall job) = call_job_say w job
 say w (ToClass job) = class_job_say w job
 say w (ToOperator job) = operator_say w job
-say w (ToCompare job) = end w not_yet
-say w (ToProtocol job) = end w not_yet
-say w (ToObject job) = end w not_yet
+say w (ToCompare job) = compare_job_say w job
+say w (ToProtocol job) = protocol_say w job
+say w (ToObject job) = object_job_say w job
 say w (ToNative n args kw) = native_say w n args kw
 
 -- a row of a group, among all rows

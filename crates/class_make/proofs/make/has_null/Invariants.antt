@@ -1,5 +1,5 @@
 use Rattle.std.proofs.Common.{◌≡◌, drop}
-use Rattle.class_make.specs.Say.{has_null}
+use Rattle.native_objects.specs.Names.{has_null}
 use Rattle.class_make.proofs.make.has_null.Given as goal
 
 abbrev pub invariant-loop-byte : goal.invariant-loop-byte
