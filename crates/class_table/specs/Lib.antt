@@ -12,3 +12,6 @@ pub mod Table
 pub mod Given
 pub mod OneBase
 pub mod Name
+pub mod Rebase
+pub mod Steps
+pub mod Trial

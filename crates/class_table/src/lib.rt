@@ -17,13 +17,18 @@ pub mod one_base;
 pub mod place;
 pub mod put;
 pub mod read;
+pub mod rebase;
 pub mod refresh;
 pub mod start;
+pub mod steps;
 pub mod stored;
 pub mod table;
+pub mod take;
+pub mod trial;
 
 pub use candidates::Candidates;
 pub use chain::BaseChain;
 pub use fault::ClassFault;
 pub use name::last_part;
+pub use steps::Steps;
 pub use table::ClassTable;

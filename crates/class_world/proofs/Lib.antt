@@ -9,8 +9,6 @@ pub mod Added
 pub mod Bound
 pub mod Filled
 pub mod OfClasses
-pub mod Attributes
-pub mod Counts
 pub mod Refusals
 pub mod ClassChanges
 pub mod Look

@@ -1,5 +1,5 @@
 -- Classes with one base.
-use Rattle.std.proofs.Common.{◌≡◌, ℕ, true, [], cond, Some, None, refl, ap, arith}
+use Rattle.std.proofs.Common.{◌≡◌, ℕ, true, List, [], cond, Option, Some, None, refl, ap, arith}
 use Rattle.std.specs.Prelude.{option_map}
 use Rattle.py_node.specs.declared.raised.Cause.TheVariants.{NotBaseType}
 use Rattle.py_node.specs.declared.refs.PyStrInterned.{PyStrInterned}

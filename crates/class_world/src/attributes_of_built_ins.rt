@@ -171,8 +171,7 @@ fn descriptor(
     flags: PyMethodFlags,
 ) -> Payload
     requires { Holds world.now (IsName name) }
-    ensures reads { (t : Reading) → datum t result ≡
-        AMethodDescriptor (place_of class) (t.text name.0) entry flags.0 None }
+    ensures reads { (t : Reading) → datum t result ≡ AMethodDescriptor (place_of class) (t.text name.0) entry flags.0 None }
     ensures holds { AllHold world.now (of_payload result) }
     ensures home { home_of result ≡ built_in.MethodDescriptor }
     ensures other { class_in result ≡ None }

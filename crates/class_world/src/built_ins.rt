@@ -10,15 +10,6 @@ ghost use Rattle.class_world.specs.Sound.{IsNode, IsClass, IsOf, Holds};
 use crate::world::World;
 use py_node::{BuiltIn, PyObjectRef, PyTypeRef};
 
-// The numbers of the objects that every world has.
-pub(crate) const NONE: u64 = 23;
-
-pub(crate) const NOT_IMPLEMENTED: u64 = 24;
-
-pub(crate) const FALSE: u64 = 25;
-
-pub(crate) const TRUE: u64 = 26;
-
 /// An object that every world has.
 #[derive(Clone, Copy, PartialEq, Eq, Debug)]
 pub enum Fixed {
@@ -34,10 +25,10 @@ impl Fixed {
         ensures { result.0 ≡ number_of_fixed self }
     {
         match self {
-            Fixed::None => PyObjectRef(NONE),
-            Fixed::NotImplemented => PyObjectRef(NOT_IMPLEMENTED),
-            Fixed::False => PyObjectRef(FALSE),
-            Fixed::True => PyObjectRef(TRUE),
+            Fixed::None => PyObjectRef(23),
+            Fixed::NotImplemented => PyObjectRef(24),
+            Fixed::False => PyObjectRef(25),
+            Fixed::True => PyObjectRef(26),
         }
     }
 }

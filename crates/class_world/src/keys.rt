@@ -68,8 +68,7 @@ impl World {
     // The place of the first key that is the same.
     fn place_like(&self, entries: &[(PyObjectRef, PyObjectRef)], key: PyObjectRef) -> Option<usize>
         requires { Holds self.now (IsNode key) }
-        ensures { result ≡
-            position (λ e. is_one_key (held_key self.now.nodes e.0) (held_key self.now.nodes key)) entries.now }
+        ensures { result ≡ position (λ e. is_one_key (held_key self.now.nodes e.0) (held_key self.now.nodes key)) entries.now }
     {
         place_like(&self.nodes, entries, &self.nodes[key.0 as usize].payload)
     }

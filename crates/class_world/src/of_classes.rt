@@ -1,22 +1,17 @@
 //! What is read of classes.
 
-ghost use Rattle.std.specs.Prelude.{◌≡◌, Some, IfSome, IfOk, option_map};
+ghost use Rattle.std.specs.Prelude.{◌≡◌, Some, IfSome, option_map};
 ghost use Rattle.class_model.specs.BuiltIn.{natives_of};
 ghost use Rattle.class_model.specs.Class.{class_at as class_numbered, found, found_past, own_of, is_sub, has_flag};
-ghost use Rattle.class_model.specs.Collect.{all_attributes};
-ghost use Rattle.class_model.specs.Layout.{place_count};
 ghost use Rattle.class_model.specs.Slot.{entry, slot as slot_read, candidates_of, is_heap_at};
 ghost use Rattle.class_table.specs.Turn.{list_of};
 ghost use Rattle.plain_machine.specs.World.{ref, class_at, text_keys, slot_at, candidates_at, is_text};
-ghost use Rattle.class_world.specs.Reading.{Reading, Reads, bindings, plain};
-ghost use Rattle.class_world.specs.Sound.{IsNode, IsClass, Holds, AllHold, of_binding, of_each};
+ghost use Rattle.class_world.specs.Reading.{Reading, Reads, plain};
+ghost use Rattle.class_world.specs.Sound.{IsNode, IsClass, Holds};
 
 use crate::world::World;
 use class_table::Candidates;
-use py_node::{
-    OutOfMemory, PyAttributes, PyObjectRef, PyStrInterned, PyTypeFlags, PyTypeRef, SlotEntry,
-    SlotId,
-};
+use py_node::{PyObjectRef, PyStrInterned, PyTypeFlags, PyTypeRef, SlotEntry, SlotId};
 
 #[tactic(auto, unfolding(crate::specs::Reading::plain))]
 impl World {
@@ -121,27 +116,6 @@ impl World {
         self.classes.get_direct_attr(class, name)
     }
 
-    /// A class's own attributes, in order.
-    pub fn attributes(&self, class: PyTypeRef) -> &PyAttributes
-        requires { Holds self.now (IsClass class.0) }
-        ensures attrs { (t : Reading) →
-            option_map (λ k. k.attrs) (class_numbered (plain t self.now).classes class.0) ≡
-            Some (bindings t result.now) }
-        ensures holds { AllHold self.now (of_each of_binding result.now) }
-    {
-        self.classes.attributes(class)
-    }
-
-    /// The attributes of a class, its own and those that it inherits.
-    pub fn get_attributes(&self, class: PyTypeRef) -> Result<PyAttributes, OutOfMemory>
-        requires { Holds self.now (IsClass class.0) }
-        ensures attrs { IfOk result (λ a. (t : Reading) → Reads t self.now →
-            all_attributes is_text (plain t self.now).classes class.0 ≡ Some (bindings t a)) }
-        ensures holds { IfOk result (λ a. AllHold self.now (of_each of_binding a)) }
-    {
-        self.classes.get_attributes(class)
-    }
-
     /// Whether a class is another one or has it along its linearisation.
     pub fn is_sub(&self, class: PyTypeRef, other: PyTypeRef) -> bool
         requires { Holds self.now (IsClass class.0) }
@@ -165,14 +139,6 @@ impl World {
             option_map (λ k. has_flag flag.0 k) (class_numbered (plain t self.now).classes class.0) ≡ Some result }
     {
         self.classes.flags(class).has_feature(flag)
-    }
-
-    /// How many places the objects of a class have: the members of the classes of its layout.
-    pub fn member_count(&self, class: PyTypeRef) -> usize
-        requires { Holds self.now (IsClass class.0) }
-        ensures { (t : Reading) → place_count (plain t self.now).classes class.0 ≡ Some result }
-    {
-        self.classes.member_count(class)
     }
 
     /// The object that stands for a class: it has the class's number.

@@ -67,8 +67,8 @@ impl World {
         }
     }
 
-    /// A class as a script makes it, with one base and no attributes, and the node that stands for it. It is
-    /// refused where the base may have no subclasses; then, and where memory runs out, the world stays as it was.
+    /// A class as a script makes it, with one base and no attributes, and the node that stands for it. It is refused where
+    /// the base may have no subclasses; then, and where memory runs out, the world stays as it was.
     pub fn new_simple_heap(&mut self, name: &str, base: PyTypeRef) -> Result<PyTypeRef, ClassFault>
         requires base { Holds self.old (IsClass base.0) }
         ensures made { OnOk result ((t : Reading) → plain t self.new ≡ with_new_class (plain t self.old) the_type
@@ -97,9 +97,9 @@ impl World {
         self.built_in(BuiltIn::TypeType)
     }
 
-    /// A static class, which scripts can't change, and the node that stands for it: with one base and attributes,
-    /// and with the flags but for what the base settles. It is refused where the base may have no subclasses;
-    /// then, and where memory runs out, the world stays as it was.
+    /// A static class, which scripts can't change, and the node that stands for it: with one base and attributes, and with
+    /// the flags but for what the base settles. It is refused where the base may have no subclasses; then, and where memory
+    /// runs out, the world stays as it was.
     pub fn new_static(
         &mut self,
         name: &str,

@@ -1,18 +1,35 @@
 //! The text of an object, as replies show it.
 
-ghost use Rattle.std.specs.Prelude.{◌≡◌, ◌==◌, ◌++◌, IfOk, OnOk, codes, string_bytes, option_map, map, take, drop};
-ghost use Rattle.py_node.specs.BuiltIns.{place_of};
+ghost use Rattle.std.specs.Prelude.{◌≡◌, ◌++◌, IfOk, OnOk, codes, string_bytes, option_map, map, take, drop};
 ghost use Rattle.plain_machine.specs.Escapes.{escaped};
 ghost use Rattle.plain_machine.specs.Lines.{joined};
 ghost use Rattle.plain_machine.specs.Show.{show, class_name, plain_text, fixed_text, datum_text, rest_text, item_texts, entry_text, tuple_end, tuple_text, list_text, dict_text, containers, text_within};
 ghost use Rattle.class_world.specs.Reading.{Reading, plain, datum};
 ghost use Rattle.class_world.specs.Sound.{IsNode, AreNodes, IsClass, Holds, AllHold, of_payload};
 
-use crate::built_ins::{FALSE, NONE, NOT_IMPLEMENTED, TRUE};
 use crate::world::World;
-use py_node::{BuiltIn, OutOfMemory, Payload, PyObjectRef, PyTypeRef};
+use py_node::{OutOfMemory, Payload, PyObjectRef, PyTypeRef};
 use reply_text::escape::{escaped_string, quoted_string};
 use std::alloc::Global;
+
+const NONE: u64 = 23;
+
+const NOT_IMPLEMENTED: u64 = 24;
+
+const FALSE: u64 = 25;
+
+const TRUE: u64 = 26;
+
+// The classes of whole numbers, texts, tuples, lists and dicts.
+const INT: u64 = 4;
+
+const STR: u64 = 6;
+
+const TUPLE: u64 = 7;
+
+const LIST: u64 = 8;
+
+const DICT: u64 = 9;
 
 // How many containers deep are shown, and how many items of each.
 const DEPTH: u8 = 3;
@@ -54,16 +71,8 @@ fn fixed(node: PyObjectRef) -> Option<&'static str>
     }
 }
 
-// Whether a class is this built-in one.
-fn is(class: PyTypeRef, built_in: BuiltIn) -> bool
-    ensures { (class.0 == place_of built_in) ≡ result }
-{
-    class.0 == built_in.class().0
-}
-
 // The text of an object of this class that holds this.
 #[cycle(show)]
-#[tactic(auto, unfolding(py_node::specs::BuiltIns::place_of))]
 fn show_payload(
     world: &World,
     depth: u8,
@@ -77,11 +86,11 @@ fn show_payload(
 {
     let alloc = world.alloc();
     match payload {
-        Payload::Number(z) if is(class, BuiltIn::Int) => Ok(format!(in alloc; "{z}")?),
-        Payload::Text(text) if is(class, BuiltIn::Str) => quoted_string(alloc, text.as_str()),
-        Payload::Tuple(items) if is(class, BuiltIn::Tuple) => show_tuple(world, depth, items),
-        Payload::List(items) if is(class, BuiltIn::List) => show_list(world, depth, items),
-        Payload::Dict(entries) if is(class, BuiltIn::Dict) => show_dict(world, depth, entries),
+        Payload::Number(z) if class.0 == INT => Ok(format!(in alloc; "{z}")?),
+        Payload::Text(text) if class.0 == STR => quoted_string(alloc, text.as_str()),
+        Payload::Tuple(items) if class.0 == TUPLE => show_tuple(world, depth, items),
+        Payload::List(items) if class.0 == LIST => show_list(world, depth, items),
+        Payload::Dict(entries) if class.0 == DICT => show_dict(world, depth, entries),
         Payload::Class(named) => show_class(world, *named),
         _ => show_plain(world, class),
     }

@@ -1,51 +1,42 @@
 //! The nodes of a new machine.
 
 ghost use Rattle.std.specs.Prelude.{◌≡◌, map, IfOk};
-ghost use Rattle.py_node.specs.BuiltIns.{all_built_ins, place_of};
-ghost use Rattle.class_world.specs.StartNodes.{plain_node as stored, class_node as stored_class, start_nodes as the_start_nodes};
+ghost use Rattle.py_node.specs.BuiltIns.{all_built_ins};
+ghost use Rattle.class_world.specs.StartNodes.{plain_node as stored, class_node, start_nodes as the_start_nodes};
 
 use py_node::built_in::built_ins;
-use py_node::{BuiltIn, Node, OutOfMemory, Payload};
+use py_node::{Node, OutOfMemory, Payload, PyTypeRef};
 use std::alloc::Global;
 
 /// The nodes of the built-in classes, and then None, NotImplemented, False and True.
-#[tactic(auto, unfolding(py_node::specs::BuiltIns::place_of))]
 pub(crate) fn start_nodes(alloc: Global) -> Result<Vec<Node>, OutOfMemory>
     ensures { IfOk result (λ v. v.items ≡ the_start_nodes) }
 {
     let mut nodes = class_nodes(alloc)?;
-    nodes.push(plain_node(BuiltIn::NoneType, Payload::Object))?;
-    nodes.push(plain_node(BuiltIn::NotImplementedType, Payload::Object))?;
-    nodes.push(plain_node(BuiltIn::Bool, Payload::Number(0)))?;
-    nodes.push(plain_node(BuiltIn::Bool, Payload::Number(1)))?;
+    nodes.push(plain_node(PyTypeRef(2), Payload::Object))?;
+    nodes.push(plain_node(PyTypeRef(3), Payload::Object))?;
+    nodes.push(plain_node(PyTypeRef(5), Payload::Number(0)))?;
+    nodes.push(plain_node(PyTypeRef(5), Payload::Number(1)))?;
     Ok(nodes)
 }
 
 // The nodes of the built-in classes.
 fn class_nodes(alloc: Global) -> Result<Vec<Node>, OutOfMemory>
-    ensures { IfOk result (λ v. v.items ≡ map stored_class all_built_ins) }
+    ensures { IfOk result (λ v. v.items ≡ map class_node all_built_ins) }
 {
     let mut nodes = Vec::new(alloc);
     for row in built_ins() {
-        nodes.push(class_node(row.0))?;
+        nodes.push(plain_node(PyTypeRef(1), Payload::Class(row.0.class())))?;
     }
     Ok(nodes)
 }
 
-// The node of a built-in class.
-#[tactic(auto, unfolding(py_node::specs::BuiltIns::place_of))]
-fn class_node(class: BuiltIn) -> Node
-    ensures { result ≡ stored_class class }
-{
-    plain_node(BuiltIn::TypeType, Payload::Class(class.class()))
-}
-
-// An object of a built-in class that has no dict.
-fn plain_node(class: BuiltIn, payload: Payload) -> Node
-    ensures { result ≡ stored (record { 0 = place_of class }) payload }
+// An object that has no dict.
+fn plain_node(class: PyTypeRef, payload: Payload) -> Node
+    ensures { result ≡ stored class payload }
 {
     Node {
-        class: class.class(),
+        class,
         dict: None,
         payload,
     }

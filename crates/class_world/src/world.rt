@@ -40,25 +40,9 @@ impl Model for World {
 
     ghost use Rattle.class_world.specs.Sound.{Sound};
 
-    ghost view = { λ a. record {
-      names = a.names;
-      forms = a.forms.items;
-      nodes = a.nodes.items;
-      classes = a.classes;
-      vars = a.vars;
-      scopes = a.scopes.items;
-      calls = map started_of a.calls.items;
-    } };
+    ghost view = { λ a. record { names = a.names; forms = a.forms.items; nodes = a.nodes.items; classes = a.classes; vars = a.vars; scopes = a.scopes.items; calls = map started_of a.calls.items } };
 
-    ghost invariant = { λ a. Sound (record {
-      names = a.names;
-      forms = a.forms.items;
-      nodes = a.nodes.items;
-      classes = a.classes;
-      vars = a.vars;
-      scopes = a.scopes.items;
-      calls = map started_of a.calls.items;
-    }) };
+    ghost invariant = { λ a. Sound (record { names = a.names; forms = a.forms.items; nodes = a.nodes.items; classes = a.classes; vars = a.vars; scopes = a.scopes.items; calls = map started_of a.calls.items }) };
 }
 
 #[tactic(auto, unfolding(crate::specs::Reading::plain))]

@@ -1,7 +1,6 @@
 -- The class form: names with their values, and the new objects of a class.
-use Rattle.std.proofs.Common.{◌≡◌, ℕ, zero, suc, List, [], ◌∷◌, ◌++◌, length, take, drop, map, Some, None, Ok, Err, arith, refl, sym, ap, ◌∙◌, subst}
-use Rattle.std.specs.Prelude.{slice_get, Option, Result, IfOk, IfSome}
-use Rattle.std.proofs.lemmas.List.{length-map}
+use Rattle.std.proofs.Common.{◌≡◌, ℕ, zero, suc, List, [], ◌∷◌, ◌++◌, length, take, drop, map, Some, Ok, Err, arith, refl, sym, ap, ◌∙◌, subst}
+use Rattle.std.specs.Prelude.{slice_get, Result, IfOk}
 use Rattle.py_node.specs.Tree.{Text}
 use Rattle.py_node.specs.declared.memory.OutOfMemory.{OutOfMemory}
 use Rattle.py_node.specs.declared.task.Step.{Step}
@@ -10,16 +9,15 @@ use Rattle.py_node.specs.declared.task.Task.{Task}
 use Rattle.py_node.specs.declared.refs.PyObjectRef.{PyObjectRef}
 use Rattle.py_node.specs.declared.refs.PyStrInterned.{PyStrInterned}
 use Rattle.plain_machine.specs.Plain.{PlainWorld, Bindings, AText, ATuple, DoCall, ToCall, Said, Asks}
-use Rattle.plain_machine.specs.Args.{filled}
 use Rattle.plain_machine.specs.Row.{Row, start, end}
 use Rattle.plain_machine.specs.World.{with_node, next_node}
 use Rattle.class_world.specs.Held.{Held}
-use Rattle.class_world.specs.Reading.{Reading, Reads, bindings, spelled, plain, task_of}
+use Rattle.class_world.specs.Reading.{Reading, Reads, bindings, plain, task_of}
 use Rattle.class_world.specs.declared.world.World.{World}
 use Rattle.class_world.specs.Sound.{Grows, Holds, AllHold, IsName, IsNode, AreNodes, of_each, of_binding, of_option, of_node_ref}
 use Rattle.class_world.proofs.Claims.{each-get, no-nodes, more-nodes, node-in}
 use Rattle.class_world.proofs.Stored.{map-push}
-use Rattle.eval_forms.specs.Say.{Pairs, keyed, metaclass, given_metaclass, other_keywords, on_keywords, unrepeated, with_dict, call_with, class_by, class_say, eval_say}
+use Rattle.eval_forms.specs.Say.{Pairs, keyed, metaclass, with_dict, call_with, class_by, eval_say}
 use Rattle.plain_machine.specs.Known.{the_str, the_tuple}
 use Rattle.eval_forms.specs.declared.EvalKept.{EvalKept}
 use Rattle.eval_forms.specs.declared.EvalKept.TheVariants.{Pass}
@@ -55,34 +53,15 @@ pairs-push w ps key value h k v = (
   subst (λ rs. Holds w (AreNodes rs)) (sym (map-push (λ p. p.1) ps (key, value))) (more-nodes w (map (λ p. p.1) ps) value h.1 v),
 )
 
--- the metaclass that is called, and the new objects and the keywords that it is called with
-pub class-made : (u0 u1 u2 u3 : PlainWorld) (x : Text) (bs : List PyObjectRef) (kw es : Bindings) (meta name bases dict : PyObjectRef) → metaclass u0 (given_metaclass kw) (slice_get bs 0) ≡ meta → u1 ≡ with_node u0 the_str (AText x) → name ≡ next_node u0 the_str → u2 ≡ with_node u1 the_tuple (ATuple bs) → bases ≡ next_node u1 the_tuple → with_dict (keyed u2 [] es) ≡ (u3, dict) → class_by u0 x bs kw es ≡ Asks u3 [] (ToCall (DoCall meta (name ∷ bases ∷ dict ∷ []) (other_keywords kw)))
-class-made u0 u1 u2 u3 x bs kw es meta name bases dict m e1 n1 e2 n2 k =
-    let first = metaclass u0 (given_metaclass kw) (slice_get bs 0) in
-    let others = other_keywords kw in
-    ap (λ v. call_with first (next_node u0 the_str) (next_node v the_tuple) others (with_dict (keyed (with_node v the_tuple (ATuple bs)) [] es))) (sym e1)
-    ∙ ap (λ v. call_with first (next_node u0 the_str) (next_node u1 the_tuple) others (with_dict (keyed v [] es))) (sym e2)
-    ∙ ap (call_with first (next_node u0 the_str) (next_node u1 the_tuple) others) k
-    ∙ ap (λ c. call_with c (next_node u0 the_str) (next_node u1 the_tuple) others (u3, dict)) m
-    ∙ ap (λ r. call_with meta r (next_node u1 the_tuple) others (u3, dict)) (sym n1)
-    ∙ ap (λ r. call_with meta name r others (u3, dict)) (sym n2)
-
--- what a class says once its keywords and its entries have their values
-pub class-said : (t : Reading) (u : PlainWorld) (x : Text) (n : ℕ) (keys names : List PyStrInterned) (vs bs given rest : List PyObjectRef) (kw entries : Bindings) → bs ≡ take n vs → given ≡ take (length keys) (drop n vs) → rest ≡ drop (length keys) (drop n vs)
-    → unrepeated [] (map (spelled t) keys) given ≡ Some kw → entries ≡ filled [] (map (spelled t) names) rest → start (class_by u x bs kw entries) (end u) ≡ class_say u x n (map (spelled t) keys) (map (spelled t) names) vs
-class-said t u x n keys names vs bs given rest kw entries b g r k e =
-    let ks = map (spelled t) keys in
-    let ns = map (spelled t) names in
-    let long : length ks ≡ length keys = length-map keys (spelled t) in
-    let all : entries ≡ filled [] ns (drop (length ks) (drop n vs)) = e ∙ ap (filled [] ns) (r ∙ ap (λ m. drop m (drop n vs)) (sym long)) in
-    let once : unrepeated [] ks (take (length ks) (drop n vs)) ≡ Some kw = ap (unrepeated [] ks) (ap (λ m. take m (drop n vs)) long ∙ sym g) ∙ k in
-    ap (λ bs. start (class_by u x bs kw entries) (end u)) b
-    ∙ ap (λ es. start (class_by u x (take n vs) kw es) (end u)) all
-    ∙ ap (λ o. on_keywords u o (λ kw. start (class_by u x (take n vs) kw (filled [] ns (drop (length ks) (drop n vs)))) (end u))) (sym once)
-
-pub given-holds : (w : Held) (o : Option PyObjectRef) → IfSome o (λ r. Holds w (IsNode r)) → AllHold w (of_option of_node_ref o)
-given-holds w None h = tt
-given-holds w (Some r) h = (h, tt)
+-- the metaclass that is called, and the new objects that it is called with
+pub class-made : (u0 u1 u2 u3 : PlainWorld) (x : Text) (bs : List PyObjectRef) (es : Bindings) (meta name bases dict : PyObjectRef) → metaclass u0 (slice_get bs 0) ≡ meta → u1 ≡ with_node u0 the_str (AText x) → name ≡ next_node u0 the_str → u2 ≡ with_node u1 the_tuple (ATuple bs) → bases ≡ next_node u1 the_tuple → with_dict (keyed u2 [] es) ≡ (u3, dict) → class_by u0 x bs es ≡ Asks u3 [] (ToCall (DoCall meta (name ∷ bases ∷ dict ∷ []) []))
+class-made u0 u1 u2 u3 x bs es meta name bases dict m e1 n1 e2 n2 k =
+    ap (λ v. call_with (metaclass u0 (slice_get bs 0)) (next_node u0 the_str) (next_node v the_tuple) (with_dict (keyed (with_node v the_tuple (ATuple bs)) [] es))) (sym e1)
+    ∙ ap (λ v. call_with (metaclass u0 (slice_get bs 0)) (next_node u0 the_str) (next_node u1 the_tuple) (with_dict (keyed v [] es))) (sym e2)
+    ∙ ap (call_with (metaclass u0 (slice_get bs 0)) (next_node u0 the_str) (next_node u1 the_tuple)) k
+    ∙ ap (λ c. call_with c (next_node u0 the_str) (next_node u1 the_tuple) (u3, dict)) m
+    ∙ ap (λ r. call_with meta r (next_node u1 the_tuple) (u3, dict)) (sym n1)
+    ∙ ap (λ r. call_with meta name r (u3, dict)) (sym n2)
 
 -- parts of lists of nodes
 module _ (w : Held) where

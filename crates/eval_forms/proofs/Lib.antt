@@ -3,4 +3,3 @@ pub mod ClassForm
 pub mod Keys
 pub mod Arguments
 pub mod DictForm
-pub mod Unrepeated

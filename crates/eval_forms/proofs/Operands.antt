@@ -1,6 +1,6 @@
 -- Expressions whose operands are evaluated in order.
-use Rattle.std.proofs.Common.{◌≡◌, ℕ, zero, suc, ◌+◌, ◌<◌, ◌≤◌, List, [], ◌∷◌, ◌++◌, length, map, Some, None, Ok, Err, refl, sym, ap, ◌∙◌, subst, arith, length-append}
-use Rattle.std.specs.Prelude.{slice_get, Result, IfOk, Bool}
+use Rattle.std.proofs.Common.{◌≡◌, ℕ, zero, suc, ◌+◌, ◌<◌, ◌≤◌, List, [], ◌∷◌, ◌++◌, length, map, Option, Some, None, Ok, Err, refl, sym, ap, ◌∙◌, subst, arith, length-append}
+use Rattle.std.specs.Prelude.{slice_get, Result, IfOk, IfSome, Bool}
 use Rattle.std.specs.Global.{Vec}
 use Rattle.std.proofs.lemmas.Bool.{ltb-true, lt-ltb}
 use Rattle.std.proofs.lemmas.List.{map-append, length-map}
@@ -14,12 +14,12 @@ use Rattle.py_node.specs.declared.task.Answer.TheVariants.{Value, Done, Number, 
 use Rattle.py_node.specs.declared.task.PyMethod.TheVariants as method
 use Rattle.py_node.specs.declared.payload.Form.{Form}
 use Rattle.py_node.specs.declared.payload.Form.TheVariants as form
-use Rattle.py_node.specs.Tree.{Text, Tree, trees_of, list_of, entry_trees}
-use Rattle.plain_machine.specs.Plain.{PlainWorld, EvalJob, DoEval, ToEval, Answered, Told, Said, Asks, Ends}
+use Rattle.py_node.specs.Tree.{Text, Tree, Trees, TCall, TClass, Entries, no_entries, trees_of, list_of, entry_trees}
+use Rattle.plain_machine.specs.Plain.{PlainWorld, DoEval, ToEval, Answered, Told, Said, Asks, Ends}
 use Rattle.plain_machine.specs.Row.{Row, on_value, evaluate}
 use Rattle.class_world.specs.Held.{Held}
-use Rattle.class_world.specs.Reading.{Reading, Reads, form_tree, entry_list, stored_entries, spelled, plain, ended_of}
-use Rattle.class_world.specs.Sound.{Holds, AllHold, IsName, AreNames, AreNodes, IsExpression, AreExpressions, HasForm, of_form, of_node_ref, of_option}
+use Rattle.class_world.specs.Reading.{Reading, Reads, form_tree, entry_list, stored_entries, plain, ended_of}
+use Rattle.class_world.specs.Sound.{Holds, AllHold, IsNode, IsName, AreNames, AreNodes, IsExpression, AreExpressions, HasForm, of_form, of_node_ref, of_option}
 use Rattle.class_world.proofs.Claims.{expression-in, got-map, node-in}
 use Rattle.py_node.specs.declared.task.Step.{Step}
 use Rattle.py_node.specs.declared.task.Step.TheVariants.{Ask, End}
@@ -31,19 +31,18 @@ use Rattle.eval_forms.specs.declared.EvalKept.{EvalKept}
 use Rattle.eval_forms.specs.declared.EvalKept.TheVariants.{Operands}
 use Rattle.eval_forms.specs.declared.Own.TheVariants as own
 use Rattle.py_node.specs.declared.expr.Word.{Word}
-use Rattle.py_node.specs.declared.raised.Kind.{Kind}
-use Rattle.eval_forms.specs.Say.{operand_trees, own_say, one_of, func_say, tuple_say, list_say, set_attr_say, attr_say, called_say, op_say, not_yet, raise_say, class_say, entry_names, eval_say}
+use Rattle.eval_forms.specs.Say.{operand_trees, own_say, one_of, func_say, tuple_say, list_say, set_attr_say, attr_say, called_say, op_say, not_yet, class_say, entry_names, eval_say}
 use Rattle.plain_machine.specs.Args.{two_of}
-use Rattle.eval_forms.specs.Rows.{answered, eval_stands, Continues, EndsRow, TakesAt, Takes, StepsAt, EndsSo, HasValues, IsLater, IsOther, IsOwn, operands, operands_at, has_operand, evaluated_tree, args_of, keywords_of}
+use Rattle.eval_forms.specs.Rows.{answered, eval_stands, Continues, EndsRow, TakesAt, Takes, StepsAt, EndsSo, HasValues, IsLater, IsOther, IsOwn, operands, operands_at, has_operand, evaluated_tree, args_of}
 
 pub list_of-trees_of : (ts : List Tree) → list_of (trees_of ts) ≡ ts
 list_of-trees_of [] = refl
 list_of-trees_of (e ∷ ts) = ap (λ l. e ∷ l) (list_of-trees_of ts)
 
-abbrev pub part : (ℕ → Text) → (ℕ → Tree) → PyStrInterned × ℕ → Text × Tree
+abbrev part : (ℕ → Text) → (ℕ → Tree) → PyStrInterned × ℕ → Text × Tree
 part text tree e = (text e.0.0, tree e.1)
 
-pub entry_trees-list : (text : ℕ → Text) (tree : ℕ → Tree) (es : List (PyStrInterned × ℕ)) → entry_trees (entry_list (map (part text tree) es)) ≡ map tree (map (λ e. e.1) es)
+entry_trees-list : (text : ℕ → Text) (tree : ℕ → Tree) (es : List (PyStrInterned × ℕ)) → entry_trees (entry_list (map (part text tree) es)) ≡ map tree (map (λ e. e.1) es)
 entry_trees-list text tree [] = refl
 entry_trees-list text tree (e ∷ es) = ap (λ l. tree e.1 ∷ l) (entry_trees-list text tree es)
 
@@ -53,11 +52,9 @@ operand_trees-form text tree (form.Tuple es) = list_of-trees_of (map tree es.ite
 operand_trees-form text tree (form.List es) = list_of-trees_of (map tree es.items)
 operand_trees-form text tree (form.Op word es) = list_of-trees_of (map tree es.items)
 operand_trees-form text tree (form.Class x bs kw es) =
-    ap (λ l. l ++ (entry_trees (entry_list (map (part text tree) kw.items)) ++ entry_trees (entry_list (map (part text tree) es.items)))) (list_of-trees_of (map tree bs.items))
-    ∙ ap (λ l. map tree bs.items ++ (l ++ entry_trees (entry_list (map (part text tree) es.items)))) (entry_trees-list text tree kw.items)
-    ∙ ap (λ l. map tree bs.items ++ (map tree (map (λ e. e.1) kw.items) ++ l)) (entry_trees-list text tree es.items)
-    ∙ ap (λ l. map tree bs.items ++ l) (sym (map-append tree (map (λ e. e.1) kw.items) (map (λ e. e.1) es.items)))
-    ∙ sym (map-append tree bs.items (map (λ e. e.1) kw.items ++ map (λ e. e.1) es.items))
+    ap (λ l. l ++ entry_trees (entry_list (map (part text tree) es.items))) (list_of-trees_of (map tree bs.items))
+    ∙ ap (λ l. map tree bs.items ++ l) (entry_trees-list text tree es.items)
+    ∙ sym (map-append tree bs.items (map (λ e. e.1) es.items))
 operand_trees-form text tree _ = refl
 
 pub append-nil : {A : Type 0} (xs : List A) → xs ++ [] ≡ xs
@@ -104,14 +101,7 @@ module _ (w : PlainWorld) where
   evaluate-all (t ∷ ts) go [] more h = absurd (omega arith)
   evaluate-all (t ∷ ts) go (v ∷ vs) more h = evaluate-all ts (λ us. go (v ∷ us)) vs more (omega arith)
 
--- the expressions of two lists, one after the other
-pub both-hold : (w : Held) (xs ys : List ℕ) → Holds w (AreExpressions xs) → Holds w (AreExpressions ys) → Holds w (AreExpressions (xs ++ ys))
-unfolding Holds
-both-hold w [] ys g h i d l = h i d l
-both-hold w (x ∷ xs) ys g h zero d l = g zero d (omega arith)
-both-hold w (x ∷ xs) ys g h (suc i) d l = both-hold w xs ys (λ j e m. g (suc j) e (omega arith)) h i d (omega arith)
-
-pub append-holds : (w : Held) (xs ys : List ℕ) (n e : ℕ) → Holds w (AreExpressions xs) → Holds w (AreExpressions ys) → slice_get (xs ++ ys) n ≡ Some e → Holds w (IsExpression e)
+append-holds : (w : Held) (xs ys : List ℕ) (n e : ℕ) → Holds w (AreExpressions xs) → Holds w (AreExpressions ys) → slice_get (xs ++ ys) n ≡ Some e → Holds w (IsExpression e)
 unfolding Holds
 append-holds w [] ys n e g h k = expression-in w ys n e h k
 append-holds w (x ∷ xs) ys zero e g h k = expression-in w (x ∷ xs) zero e g (k)
@@ -131,8 +121,7 @@ operand-holds w (form.Call f es kw) (suc n) e h p = cc
 operand-holds w (form.Tuple es) n e h p = expression-in w es.items n e h.0 p
 operand-holds w (form.List es) n e h p = expression-in w es.items n e h.0 p
 operand-holds w (form.Op word es) n e h p = expression-in w es.items n e h.0 p
-operand-holds w (form.Class x bs kw es) n e h p =
-    append-holds w bs.items (map (λ e. e.1) kw.items ++ map (λ e. e.1) es.items) n e h.1.0 (both-hold w (map (λ e. e.1) kw.items) (map (λ e. e.1) es.items) h.1.1.1.0 h.1.1.1.1.1.0) p
+operand-holds w (form.Class x bs kw es) n e h p = append-holds w bs.items (map (λ e. e.1) es.items) n e h.1.0 h.1.1.1.1.1.0 p
 operand-holds w _ n e h p = cc
 
 -- a row at an expression of the store is that at its tree
@@ -199,32 +188,34 @@ pub append-on : {A : Type 0} (xs ys zs : List A) → (xs ++ ys) ++ zs ≡ xs ++ 
 append-on [] ys zs = refl
 append-on (x ∷ xs) ys zs = ap (λ l. x ∷ l) (append-on xs ys zs)
 
--- a point of a row from which it says as another row does
-pub point-takes : (t : Reading) (job : EvalJob) (told : Told) (row : PlainWorld → Row) (new : World) → ((u : PlainWorld) (more : Told) → eval_say u job (told ++ more) ≡ row u more)
-    → (said : Said) (next : Step EvalKept) → TakesAt row t said next new → Steps eval_say (eval_stands t) t job told said next new
-point-takes t job told row new on (Asks u learnt other) (Ask asked kept) k =
-    (k.0, k.1, record { says = λ v s more. ap (eval_say v job) (append-on told learnt (Answered s ∷ more)) ∙ on v (learnt ++ Answered s ∷ more) ∙ k.2 v s more })
-point-takes t job told row new on (Asks u learnt other) (End s) k = absurd k
-point-takes t job told row new on (Ends u s) (Ask asked kept) k = absurd k
-point-takes t job told row new on (Ends u s) (End x) k = k
-
 -- an expression goes on as the row of its own step says
 pub own-takes-read : (w new : World) (e : ℕ) (f : Form) (vs : List PyObjectRef) (row : Reading → PlainWorld → Row) (next : Step EvalKept) → slice_get w.forms e ≡ Some f → length (operands f) ≡ length vs → ((t : Reading) → Reads t w → (u : PlainWorld) (more : Told) → own_say u (form_tree t.text t.tree f) vs more ≡ row t u more) → Takes row w new next → Continues e vs w new next
 own-takes-read w new e f vs row next h l says k = λ t r.
     let here = k t r in
     let told = own-first (plain t w) t w e f vs here.0 h l ∙ ap (λ x. own_say (plain t w) x vs []) (here.0.trees e f h) ∙ says t here.0 (plain t w) [] in
-    (here.0, subst (λ said. Steps eval_say (eval_stands t) t (DoEval (t.tree e)) (map answered vs) said next new) (sym told) (point-takes t (DoEval (t.tree e)) (map answered vs) (row t) new (on t here.0) (row t (plain t w) []) next here.1))
+    (here.0, subst (λ said. Steps eval_say (eval_stands t) t (DoEval (t.tree e)) (map answered vs) said next new) (sym told) (go t here.0 (row t (plain t w) []) next here.1))
   where
     on : (t : Reading) → Reads t w → (u : PlainWorld) (more : Told) → eval_say u (DoEval (t.tree e)) (map answered vs ++ more) ≡ row t u more
     on t r u more = own-row u t w e f vs more r h l ∙ ap (λ x. own_say u x vs more) (r.trees e f h) ∙ says t r u more
 
+    go : (t : Reading) → Reads t w → (said : Said) (next : Step EvalKept) → TakesAt (row t) t said next new → Steps eval_say (eval_stands t) t (DoEval (t.tree e)) (map answered vs) said next new
+    go t r (Asks u learnt other) (Ask asked kept) k = (k.0, k.1, record { says = λ v s more. ap (eval_say v (DoEval (t.tree e))) (append-on (map answered vs) learnt (Answered s ∷ more)) ∙ on t r v (learnt ++ Answered s ∷ more) ∙ k.2 v s more })
+    go t r (Asks u learnt other) (End s) k = absurd k
+    go t r (Ends u s) (Ask asked kept) k = absurd k
+    go t r (Ends u s) (End x) k = k
+
 pub own-takes : (w new : World) (e : ℕ) (f : Form) (vs : List PyObjectRef) (row : Reading → PlainWorld → Row) (next : Step EvalKept) → slice_get w.forms e ≡ Some f → length (operands f) ≡ length vs → ((t : Reading) (u : PlainWorld) (more : Told) → own_say u (form_tree t.text t.tree f) vs more ≡ row t u more) → Takes row w new next → Continues e vs w new next
 own-takes w new e f vs row next h l says k = own-takes-read w new e f vs row next h l (λ t r. says t) k
 
--- the text of a name is there
+-- the text of a name is there, and the fixed nodes are
 pub names-in : (w : Held) (x : PyStrInterned) → Holds w (IsName x) → x.0 < length w.names
 unfolding Holds
 names-in w x h = h
+
+pub nodes-in : (w : Held) (last : PyObjectRef) (o : Option PyObjectRef) → last.0 ≡ 26 → Holds w (IsNode last) → IfSome o (λ r. r.0 ≤ 26) → IfSome o (λ r. Holds w (IsNode r))
+unfolding Holds
+nodes-in w last None e h k = tt
+nodes-in w last (Some r) e h k = omega (arith, e, h, k)
 
 -- what is said of the operand of a form with one
 pub one-holds : (w : Held) (vs : List PyObjectRef) → Holds w (AreNodes vs) → AllHold w (of_option of_node_ref (one_of vs))
@@ -274,25 +265,48 @@ pub says-set : (x : PyStrInterned) (vs : List PyObjectRef) (f : Form) → IsOwn 
 says-set x vs (form.SetAttr a y b) o t u more = ap (λ z. set_attr_say u (t.text z.0) (two_of vs) more) (sym o)
 says-set x vs _ o t u more = absurd o
 
+-- a call and a class as they are with these keywords
+call-row : PlainWorld → Tree → Trees → List PyObjectRef → Told → Entries → Said
+call-row u f es vs more kw = own_say u (TCall f es kw) vs more
+
+class-row : PlainWorld → Text → Trees → Entries → List PyObjectRef → Told → Entries → Said
+class-row u x bs es vs more kw = own_say u (TClass x bs kw es) vs more
+
+-- no keywords are no entries
+none-stored : (text : ℕ → Text) (tree : ℕ → Tree) (kw : List (PyStrInterned × ℕ)) → kw ≡ [] → stored_entries text tree kw ≡ no_entries
+none-stored text tree kw h = ap (stored_entries text tree) h
+
 pub says-attr : (x : PyStrInterned) (vs : List PyObjectRef) (f : Form) → IsOwn (own.Attr x) f → (t : Reading) (u : PlainWorld) (more : Told) → own_say u (form_tree t.text t.tree f) vs more ≡ attr_say u (t.text x.0) (one_of vs) more
 says-attr x vs (form.Attr a y) o t u more = ap (λ z. attr_say u (t.text z.0) (one_of vs) more) (sym o)
 says-attr x vs _ o t u more = absurd o
 
-pub says-call : (g : ℕ) (vs : List PyObjectRef) (f : Form) → IsOwn (own.Call g) f → (t : Reading) (u : PlainWorld) (more : Told) → own_say u (form_tree t.text t.tree f) vs more ≡ called_say u (t.tree g) (args_of (form_tree t.text t.tree f)) (keywords_of (form_tree t.text t.tree f)) (one_of vs) more
+pub says-call : (g : ℕ) (vs : List PyObjectRef) (f : Form) → IsOwn (own.Call g) f → (t : Reading) (u : PlainWorld) (more : Told) → own_say u (form_tree t.text t.tree f) vs more ≡ called_say u (t.tree g) (list_of (args_of (form_tree t.text t.tree f))) (one_of vs) more
+unfolding call-row
 says-call g vs (form.Call h es kw) o t u more =
-    ap (λ k. called_say u (t.tree k) (trees_of (map t.tree es.items)) (stored_entries t.text t.tree kw.items) (one_of vs) more) (sym o)
+    ap (call-row u (t.tree h) (trees_of (map t.tree es.items)) vs more) (none-stored t.text t.tree kw.items o.1)
+    ∙ ap (λ k. called_say u (t.tree k) (list_of (trees_of (map t.tree es.items))) (one_of vs) more) (sym o.0)
 says-call g vs _ o t u more = absurd o
 
 pub says-op : (word : Word) (vs : List PyObjectRef) (f : Form) → IsOwn (own.Op word) f → (t : Reading) (u : PlainWorld) (more : Told) → own_say u (form_tree t.text t.tree f) vs more ≡ op_say u word vs more
 says-op word vs (form.Op v es) o t u more = ap (λ v. op_say u v vs more) (sym o)
 says-op word vs _ o t u more = absurd o
 
-pub says-raise : (kind : Kind) (vs : List PyObjectRef) (f : Form) → IsOwn (own.Raise kind) f → (t : Reading) (u : PlainWorld) → own_say u (form_tree t.text t.tree f) vs [] ≡ raise_say u kind []
-says-raise kind vs (form.Raise other) o t u = ap (λ k. raise_say u k []) (sym o)
-says-raise kind vs _ o t u = absurd o
+-- with keywords, neither is named
+call-later : (u : PlainWorld) (f : Tree) (es : Trees) (vs : List PyObjectRef) (more : Told) (text : ℕ → Text) (tree : ℕ → Tree) (kw : List (PyStrInterned × ℕ))
+    → 0 < length kw → call-row u f es vs more (stored_entries text tree kw) ≡ not_yet u more
+unfolding call-row
+call-later u f es vs more text tree [] h = absurd (omega arith)
+call-later u f es vs more text tree (k ∷ kw) h = refl
+
+class-later : (u : PlainWorld) (x : Text) (bs : Trees) (es : Entries) (vs : List PyObjectRef) (more : Told) (text : ℕ → Text) (tree : ℕ → Tree) (kw : List (PyStrInterned × ℕ))
+    → 0 < length kw → class-row u x bs es vs more (stored_entries text tree kw) ≡ not_yet u more
+unfolding class-row
+class-later u x bs es vs more text tree [] h = absurd (omega arith)
+class-later u x bs es vs more text tree (k ∷ kw) h = refl
 
 -- a form that no stage so far has named
 says-later : (vs : List PyObjectRef) (f : Form) → IsLater f → (t : Reading) (u : PlainWorld) (more : Told) → own_say u (form_tree t.text t.tree f) vs more ≡ not_yet u more
+unfolding call-row class-row
 says-later vs (form.Const k) o t u more = absurd o
 says-later vs (form.Name y) o t u more = absurd o
 says-later vs (form.Bind y e) o t u more = absurd o
@@ -303,49 +317,48 @@ says-later vs (form.Func y ps rest e) o t u more = absurd o
 says-later vs (form.Attr a y) o t u more = absurd o
 says-later vs (form.SetAttr a y b) o t u more = absurd o
 says-later vs (form.Op v es) o t u more = absurd o
-says-later vs (form.Call g es kw) o t u more = absurd o
-says-later vs (form.Raise kind) o t u more = absurd o
-says-later vs (form.Class y bs kw es) o t u more = absurd o
+says-later vs (form.Call g es kw) o t u more = call-later u (t.tree g) (trees_of (map t.tree es.items)) vs more t.text t.tree kw.items o
+says-later vs (form.Class y bs kw es) o t u more =
+    class-later u (t.text y.0) (trees_of (map t.tree bs.items)) (stored_entries t.text t.tree es.items) vs more t.text t.tree kw.items o
 says-later vs _ o t u more = refl
 
 pub own-later : (w : World) (e : ℕ) (f : Form) (vs : List PyObjectRef) (next : Step EvalKept) → slice_get w.forms e ≡ Some f → length (operands f) ≡ length vs → IsLater f
     → EndsRow (λ t u. not_yet u) w w next → Continues e vs w w next
 own-later w e f vs next h l o k = own-closes w w e f vs (λ t u. not_yet u) next h l (λ t u. says-later vs f o t u []) k
 
-pub long-trees : (tree : ℕ → Tree) (es : List ℕ) → length (list_of (trees_of (map tree es))) ≡ length es
+long-trees : (tree : ℕ → Tree) (es : List ℕ) → length (list_of (trees_of (map tree es))) ≡ length es
 long-trees tree [] = refl
 long-trees tree (e ∷ es) = ap suc (long-trees tree es)
 
-pub names-of-entries : (text : ℕ → Text) (tree : ℕ → Tree) (es : List (PyStrInterned × ℕ)) → entry_names (entry_list (map (part text tree) es)) ≡ map (λ x. text x.0) (map (λ e. e.0) es)
+names-of-entries : (text : ℕ → Text) (tree : ℕ → Tree) (es : List (PyStrInterned × ℕ)) → entry_names (entry_list (map (part text tree) es)) ≡ map (λ x. text x.0) (map (λ e. e.0) es)
 names-of-entries text tree [] = refl
 names-of-entries text tree (e ∷ es) = ap (λ l. text e.0.0 ∷ l) (names-of-entries text tree es)
 
-pub says-class : (x : PyStrInterned) (n : ℕ) (ks xs : Vec PyStrInterned) (vs : List PyObjectRef) (f : Form) → IsOwn (own.Class x n ks xs) f → (t : Reading) (u : PlainWorld) (more : Told) → own_say u (form_tree t.text t.tree f) vs more ≡ class_say u (t.text x.0) n (map (spelled t) ks.items) (map (spelled t) xs.items) vs more
-says-class x n ks xs vs (form.Class y bs kw es) o t u more =
-    ap (λ m. class_say u (t.text y.0) m (entry_names (entry_list (map (part t.text t.tree) kw.items))) (entry_names (entry_list (map (part t.text t.tree) es.items))) vs more) (long-trees t.tree bs.items ∙ sym o.1)
-    ∙ ap (λ ys. class_say u (t.text y.0) n ys (entry_names (entry_list (map (part t.text t.tree) es.items))) vs more) (names-of-entries t.text t.tree kw.items ∙ ap (map (spelled t)) (sym o.2))
-    ∙ ap (λ ys. class_say u (t.text y.0) n (map (spelled t) ks.items) ys vs more) (names-of-entries t.text t.tree es.items ∙ ap (map (spelled t)) (sym o.3))
-    ∙ ap (λ z. class_say u (t.text z.0) n (map (spelled t) ks.items) (map (spelled t) xs.items) vs more) (sym o.0)
-says-class x n ks xs vs _ o t u more = absurd o
+pub says-class : (x : PyStrInterned) (n : ℕ) (xs : Vec PyStrInterned) (vs : List PyObjectRef) (f : Form) → IsOwn (own.Class x n xs) f → (t : Reading) (u : PlainWorld) (more : Told) → own_say u (form_tree t.text t.tree f) vs more ≡ class_say u (t.text x.0) n (map (λ y. t.text y.0) xs.items) vs more
+unfolding class-row
+says-class x n xs vs (form.Class y bs kw es) o t u more =
+    ap (class-row u (t.text y.0) (trees_of (map t.tree bs.items)) (stored_entries t.text t.tree es.items) vs more) (none-stored t.text t.tree kw.items o.3)
+    ∙ ap (λ m. class_say u (t.text y.0) m (entry_names (entry_list (map (part t.text t.tree) es.items))) vs more) (long-trees t.tree bs.items ∙ sym o.1)
+    ∙ ap (λ ys. class_say u (t.text y.0) n ys vs more) (names-of-entries t.text t.tree es.items ∙ ap (map (λ y. t.text y.0)) (sym o.2))
+    ∙ ap (λ z. class_say u (t.text z.0) n (map (λ y. t.text y.0) xs.items) vs more) (sym o.0)
+says-class x n xs vs _ o t u more = absurd o
 
 -- how many operands a class has
-pub class-long : (x : PyStrInterned) (n : ℕ) (ks xs : Vec PyStrInterned) (f : Form) → IsOwn (own.Class x n ks xs) f → length (operands f) ≡ n + (length ks.items + length xs.items)
-class-long x n ks xs (form.Class y bs kw es) o =
-    let all = length-append bs.items (map (λ e. e.1) kw.items ++ map (λ e. e.1) es.items) in
-    let both = length-append (map (λ e. e.1) kw.items) (map (λ e. e.1) es.items) in
-    let keywords = length-map kw.items (λ e. e.1) in
+pub class-long : (x : PyStrInterned) (n : ℕ) (xs : Vec PyStrInterned) (f : Form) → IsOwn (own.Class x n xs) f → length (operands f) ≡ n + length xs.items
+class-long x n xs (form.Class y bs kw es) o =
+    let both = length-append bs.items (map (λ e. e.1) es.items) in
     let entries = length-map es.items (λ e. e.1) in
-    let keys = ap length o.2 ∙ length-map kw.items (λ e. e.0) in
-    let names = ap length o.3 ∙ length-map es.items (λ e. e.0) in
+    let names = ap length o.2 in
+    let named = length-map es.items (λ e. e.0) in
     let bases = o.1 in
-    omega (arith, all, both, keywords, entries, keys, names, bases)
-class-long x n ks xs _ o = absurd o
+    omega (arith, both, entries, names, named, bases)
+class-long x n xs _ o = absurd o
 
 -- what is said of the names of a class
-pub class-names : (w : Held) (x : PyStrInterned) (n : ℕ) (ks xs : Vec PyStrInterned) (f : Form) → IsOwn (own.Class x n ks xs) f → AllHold w (of_form f) → Holds w (IsName x) × Holds w (AreNames ks.items) × Holds w (AreNames xs.items)
-class-names w x n ks xs (form.Class y bs kw es) o h =
-    (subst (λ z. Holds w (IsName z)) (sym o.0) h.0, subst (λ ys. Holds w (AreNames ys)) (sym o.2) h.1.1.0, subst (λ ys. Holds w (AreNames ys)) (sym o.3) h.1.1.1.1.0)
-class-names w x n ks xs _ o h = absurd o
+pub class-names : (w : Held) (x : PyStrInterned) (n : ℕ) (xs : Vec PyStrInterned) (f : Form) → IsOwn (own.Class x n xs) f → AllHold w (of_form f) → Holds w (IsName x) × Holds w (AreNames xs.items)
+class-names w x n xs (form.Class y bs kw es) o h =
+    (subst (λ z. Holds w (IsName z)) (sym o.0) h.0, subst (λ ys. Holds w (AreNames ys)) (sym o.2) h.1.1.1.1.0)
+class-names w x n xs _ o h = absurd o
 
 pub set-name : (w : Held) (x : PyStrInterned) (f : Form) → IsOwn (own.SetAttr x) f → AllHold w (of_form f) → Holds w (IsName x)
 set-name w x (form.SetAttr a y b) o h = subst (λ z. Holds w (IsName z)) (sym o) h.1.0
@@ -357,5 +370,5 @@ attr-name w x _ o h = absurd o
 
 -- what a call calls is an expression
 pub call-func : (w : Held) (g : ℕ) (f : Form) → IsOwn (own.Call g) f → AllHold w (of_form f) → Holds w (IsExpression g)
-call-func w g (form.Call h es kw) o k = subst (λ x. Holds w (IsExpression x)) (sym o) k.0
+call-func w g (form.Call h es kw) o k = subst (λ x. Holds w (IsExpression x)) (sym o.0) k.0
 call-func w g _ o k = absurd o

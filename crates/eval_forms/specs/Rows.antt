@@ -1,5 +1,5 @@
 -- What the contracts of the rows of expressions say.
-use Rattle.std.specs.Prelude.{◌≡◌, ℕ, ltb, Bool, List, [], ◌∷◌, ◌++◌, map, length, Option, Some, None, Result, Ok, slice_get}
+use Rattle.std.specs.Prelude.{◌≡◌, ℕ, ◌<◌, ltb, Bool, List, [], ◌∷◌, ◌++◌, map, length, Option, Some, None, Result, Ok, slice_get}
 use Rattle.py_node.specs.declared.raised.Raised.{Raised as Fault}
 use Rattle.py_node.specs.declared.refs.PyObjectRef.{PyObjectRef}
 use Rattle.py_node.specs.declared.expr.Word.TheVariants.{Binary}
@@ -12,8 +12,8 @@ use Rattle.py_node.specs.declared.task.Step.{Step}
 use Rattle.py_node.specs.declared.task.Step.TheVariants.{Ask, End}
 use Rattle.py_node.specs.declared.payload.Form.{Form}
 use Rattle.py_node.specs.declared.payload.Form.TheVariants as form
-use Rattle.py_node.specs.Tree.{literal_of, Tree, TAttr, TCall, TDict, TOp, TSetAttr, KeyedTrees, no_keyed, Trees, tree, no_trees, Entries, no_entries, TConst, LNone}
-use Rattle.plain_machine.specs.Plain.{Bindings, PlainWorld, EvalJob, DoEval, DoInvoke, DoCall, PlainTask, ToAttribute, ToCall, Ended, Fact, Answered, Told, Said, Asks, Ends}
+use Rattle.py_node.specs.Tree.{literal_of, Tree, TAttr, TCall, TDict, TOp, TSetAttr, KeyedTrees, no_keyed, Trees, tree, no_trees, no_entries, TConst, LNone}
+use Rattle.plain_machine.specs.Plain.{PlainWorld, EvalJob, DoEval, DoInvoke, DoCall, PlainTask, ToAttribute, ToCall, Ended, Fact, Answered, Told, Said, Asks, Ends}
 use Rattle.plain_machine.specs.Row.{Row, value}
 use Rattle.plain_machine.specs.Rows.{Pending}
 use Rattle.class_world.specs.declared.world.World.{World}
@@ -46,23 +46,19 @@ setting = TSetAttr (TConst LNone) [] (TConst LNone)
 abbrev pub passed : List PyObjectRef
 passed = record { 0 = 0 } ∷ record { 0 = 0 } ∷ []
 
--- the arguments of a call, and its keywords
+-- the arguments of a call
 abbrev pub args_of : Tree → Trees
 args_of (TCall f es kw) = es
 args_of _ = no_trees
 
-abbrev pub keywords_of : Tree → Entries
-keywords_of (TCall f es kw) = kw
-keywords_of _ = no_entries
-
--- a call of a method with the arguments and keywords of a call, whatever object has it and whatever its name is
-abbrev pub method_call : Tree → Tree
-method_call x = TCall (TAttr (TConst LNone) []) (args_of x) (keywords_of x)
+-- a call of a method with arguments, whatever object has it and whatever its name is
+abbrev pub method_call : Trees → Tree
+method_call es = TCall (TAttr (TConst LNone) []) es no_entries
 
 -- a call that has learnt what it calls
-abbrev pub called_tree : Called → Tree → Tree
-called_tree (called.Object f) x = TCall (TConst LNone) (args_of x) (keywords_of x)
-called_tree (called.Method m) x = method_call x
+abbrev pub called_tree : Called → Trees → Tree
+called_tree (called.Object f) es = TCall (TConst LNone) es no_entries
+called_tree (called.Method m) es = method_call es
 
 abbrev pub called_told : Called → Told
 called_told (called.Object f) = answered f ∷ []
@@ -84,9 +80,9 @@ eval_stands t Pass = record { task = DoEval passing; told = map answered passed 
 eval_stands t SetDone = record { task = DoEval setting; told = map answered passed }
 eval_stands t (Operands e vs) = record { task = DoEval (t.tree e); told = map answered vs.items }
 eval_stands t (Load e) =
-    record { task = DoEval (method_call (t.tree e)); told = answered (record { 0 = 0 }) ∷ [] }
+    record { task = DoEval (method_call (args_of (t.tree e))); told = answered (record { 0 = 0 }) ∷ [] }
 eval_stands t (Arguments e f vs) =
-    record { task = DoEval (called_tree f (t.tree e)); told = called_told f ++ map answered vs.items }
+    record { task = DoEval (called_tree f (args_of (t.tree e))); told = called_told f ++ map answered vs.items }
 eval_stands t (Key e es) = record { task = DoEval (TDict (pairs_of (t.tree e))); told = pairs_told es.items }
 eval_stands t (OfKey e es k) =
     record { task = DoEval (TDict (pairs_of (t.tree e))); told = pairs_told es.items ++ answered k ∷ [] }
@@ -100,7 +96,7 @@ operands (form.Attr o x) = o ∷ []
 operands (form.SetAttr o x e) = o ∷ e ∷ []
 operands (form.Call f es kw) = f ∷ []
 operands (form.Op word es) = es.items
-operands (form.Class x bs kw es) = bs.items ++ (map (λ e. e.1) kw.items ++ map (λ e. e.1) es.items)
+operands (form.Class x bs kw es) = bs.items ++ map (λ e. e.1) es.items
 operands _ = []
 
 abbrev pub operands_at : Option Form → List ℕ
@@ -121,17 +117,10 @@ abbrev pub attribute : Form → Option (ℕ × PyStrInterned)
 attribute (form.Attr o x) = Some (o, x)
 attribute _ = None
 
--- the arguments of a call of the store, its keywords, and all that is evaluated for both
-abbrev pub positional : Form → List ℕ
-positional (form.Call f es kw) = es.items
-positional _ = []
-
-abbrev pub named : Form → List (PyStrInterned × ℕ)
-named (form.Call f es kw) = kw.items
-named _ = []
-
+-- the arguments of a call of the store
 abbrev pub arguments : Form → List ℕ
-arguments f = positional f ++ map (λ k. k.1) (named f)
+arguments (form.Call f es kw) = es.items
+arguments _ = []
 
 abbrev pub arguments_at : Option Form → List ℕ
 arguments_at None = []
@@ -155,9 +144,9 @@ abbrev pub has_pair : ℕ → Form → Bool
 has_pair n f = ltb n (length (pairs f))
 
 -- the task that calls it
-abbrev pub called_task : Called → List PyObjectRef → Bindings → PlainTask
-called_task (called.Object f) args kw = ToCall (DoCall f args kw)
-called_task (called.Method m) args kw = ToAttribute (DoInvoke (method_target m) (method_func m) args kw)
+abbrev pub called_task : Called → List PyObjectRef → PlainTask
+called_task (called.Object f) args = ToCall (DoCall f args [])
+called_task (called.Method m) args = ToAttribute (DoInvoke (method_target m) (method_func m) args [])
 
 abbrev pub of_called : Called → List Claim
 of_called (called.Object f) = IsNode f ∷ []
@@ -209,9 +198,8 @@ IsLater (form.Func x ps rest e) = ⊥
 IsLater (form.Attr o x) = ⊥
 IsLater (form.SetAttr o x e) = ⊥
 IsLater (form.Op word es) = ⊥
-IsLater (form.Call f es kw) = ⊥
-IsLater (form.Raise kind) = ⊥
-IsLater (form.Class x bs kw es) = ⊥
+IsLater (form.Call f es kw) = 0 < length kw.items
+IsLater (form.Class x bs kw es) = 0 < length kw.items
 IsLater _ = Unit {0}
 
 -- what is kept of an expression's own step is that of the expression
@@ -236,13 +224,11 @@ IsOwn (own.Attr x) (form.Attr o y) = x ≡ y
 IsOwn (own.Attr x) _ = ⊥
 IsOwn (own.SetAttr x) (form.SetAttr o y e) = x ≡ y
 IsOwn (own.SetAttr x) _ = ⊥
-IsOwn (own.Call f) (form.Call g es kw) = f ≡ g
+IsOwn (own.Call f) (form.Call g es kw) = (f ≡ g) × (kw.items ≡ [])
 IsOwn (own.Call f) _ = ⊥
-IsOwn (own.Raise kind) (form.Raise other) = kind ≡ other
-IsOwn (own.Raise kind) _ = ⊥
-IsOwn (own.Class x n ks xs) (form.Class y bs kw es) =
-    (x ≡ y) × (n ≡ length bs.items) × (ks.items ≡ map (λ e. e.0) kw.items) × (xs.items ≡ map (λ e. e.0) es.items)
-IsOwn (own.Class x n ks xs) _ = ⊥
+IsOwn (own.Class x n xs) (form.Class y bs kw es) =
+    (x ≡ y) × (n ≡ length bs.items) × (xs.items ≡ map (λ e. e.0) es.items) × (kw.items ≡ [])
+IsOwn (own.Class x n xs) _ = ⊥
 IsOwn own.NotYet f = IsLater f
 
 -- the expression's operands have so many values

@@ -1,28 +1,21 @@
 -- What the rows of expressions say.
-use Rattle.std.specs.Prelude.{ℕ, Bool, cond, eqb, if◌then◌else◌, bytes_eq, codes, List, [], ◌∷◌, ◌++◌, Option, Some, None, option_map, Ok, Err, is_some, true, false, not, filter, length, take, drop, slice_get}
+use Rattle.std.specs.Prelude.{ℕ, Bool, cond, eqb, if◌then◌else◌, bytes_eq, codes, List, [], ◌∷◌, ◌++◌, Option, Some, None, Ok, is_some, true, false, length, take, drop, slice_get}
 use Rattle.py_node.specs.declared.refs.PyObjectRef.{PyObjectRef}
-use Rattle.py_node.specs.declared.built_in.BuiltIn.{BuiltIn}
-use Rattle.py_node.specs.declared.built_in.BuiltIn.TheVariants as built_in
-use Rattle.py_node.specs.declared.known.Known.TheVariants.{Metaclass}
-use Rattle.py_node.specs.declared.raised.Kind.{Kind}
-use Rattle.py_node.specs.declared.raised.Cause.TheVariants.{ArgCount, Body, KeyType, NotYet, RepeatedKeyword, Unbound}
+use Rattle.py_node.specs.declared.raised.Cause.TheVariants.{ArgCount, KeyType, NotYet, Unbound}
 use Rattle.py_node.specs.declared.expr.Word.{Word}
 use Rattle.py_node.specs.declared.expr.Word.TheVariants as word
 use Rattle.py_node.specs.declared.expr.ObjectWord.TheVariants.{Is, TypeOf, Callable}
 use Rattle.py_node.specs.declared.entry.SlotId.TheVariants.{Call}
 use Rattle.py_node.specs.declared.task.PyNumberBinaryOp.TheVariants as op
-use Rattle.py_node.specs.Attributes.{value_of}
-use Rattle.py_node.specs.BuiltIns.{place_of}
-use Rattle.py_node.specs.Known.{known_text}
-use Rattle.py_node.specs.Tree.{Text, Tree, TConst, TName, TBind, TTuple, TList, TDict, TFunc, TAttr, TSetAttr, TCall, TOp, TRaise, TClass, KeyedTrees, no_keyed, keyed as keyed_tree, Trees, Entries, no_entries, entry, Literal, LNone, LFalse, LTrue, LInt, LText, list_of, entry_trees}
-use Rattle.plain_machine.specs.Plain.{ANumber, AText, ATuple, AList, ADict, AFunction, PlainWorld, Bindings, EvalJob, DoEval, ToEval, DoAdd, DoGetAttr, DoSetAttr, DoLoadMethod, DoInvoke, DoCall, AsFunction, AsAttribute, Ended, PlainTask, ToAttribute, ToCall, ToOperator, Said}
-use Rattle.plain_machine.specs.World.{ref, is_text, slot_at, variable, or_else_var, with_binding, with_node, next_node}
+use Rattle.py_node.specs.Tree.{Text, Tree, TConst, TName, TBind, TTuple, TList, TDict, TFunc, TAttr, TSetAttr, TCall, TOp, TClass, KeyedTrees, no_keyed, keyed as keyed_tree, Entries, no_entries, entry, Literal, LNone, LFalse, LTrue, LInt, LText, list_of, entry_trees}
+use Rattle.plain_machine.specs.Plain.{ANumber, AText, ATuple, AList, ADict, AFunction, PlainWorld, Bindings, EvalJob, DoEval, ToEval, DoAdd, DoGetAttr, DoSetAttr, DoLoadMethod, DoInvoke, DoCall, AsFunction, AsAttribute, Ended, ToAttribute, ToCall, ToOperator, Said}
+use Rattle.plain_machine.specs.World.{ref, slot_at, variable, or_else_var, with_binding, with_node, next_node}
 use Rattle.plain_machine.specs.Args.{two_of, filled}
 use Rattle.plain_machine.specs.Known.{the_type, the_int, the_str, the_tuple, the_list, the_dict, the_function}
 use Rattle.plain_machine.specs.Dicts.{entries_from}
 use Rattle.plain_machine.specs.Objects.{class_object, type_object}
 use Rattle.plain_machine.specs.Sound.{key_at}
-use Rattle.plain_machine.specs.Row.{Row, start, ask, pass, end, value, none, fault, on_value, on_done, make, limited, truth, not_implemented, evaluate}
+use Rattle.plain_machine.specs.Row.{Row, start, ask, pass, end, value, none, fault, on_value, on_done, make, limited, truth, evaluate}
 
 -- a constant is a fixed object, or a new one
 abbrev pub const_say : PlainWorld → Literal → Row
@@ -32,28 +25,23 @@ const_say w LTrue = end w (value (truth true))
 const_say w (LInt z) = make w the_int (ANumber z)
 const_say w (LText x) = make w the_str (AText x)
 
--- the built-in classes that every body can name
-unfoldable pub class_named : Text → Option BuiltIn
-class_named x =
-    if bytes_eq x (codes "object") then Some built_in.Object
-    else (if bytes_eq x (codes "type") then Some built_in.TypeType
-    else (if bytes_eq x (codes "int") then Some built_in.Int
-    else (if bytes_eq x (codes "bool") then Some built_in.Bool
-    else (if bytes_eq x (codes "str") then Some built_in.Str
-    else (if bytes_eq x (codes "tuple") then Some built_in.Tuple
-    else (if bytes_eq x (codes "list") then Some built_in.List
-    else (if bytes_eq x (codes "dict") then Some built_in.Dict
-    else (if bytes_eq x (codes "property") then Some built_in.Property
-    else (if bytes_eq x (codes "classmethod") then Some built_in.ClassMethod
-    else (if bytes_eq x (codes "staticmethod") then Some built_in.StaticMethod
-    else (if bytes_eq x (codes "super") then Some built_in.Super
-    else None)))))))))))
-
--- what every body can name: one of these classes, or NotImplemented
-abbrev pub built_in_named : Text → Option PyObjectRef
+-- the names that every body can read, with the nodes of what they name
+unfoldable pub built_in_named : Text → Option PyObjectRef
 built_in_named x =
-    or_else_var (option_map (λ b. ref (place_of b)) (class_named x))
-    (if bytes_eq x (codes "NotImplemented") then Some not_implemented else None)
+    if bytes_eq x (codes "object") then Some (ref 0)
+    else (if bytes_eq x (codes "type") then Some (ref 1)
+    else (if bytes_eq x (codes "int") then Some (ref 4)
+    else (if bytes_eq x (codes "bool") then Some (ref 5)
+    else (if bytes_eq x (codes "str") then Some (ref 6)
+    else (if bytes_eq x (codes "tuple") then Some (ref 7)
+    else (if bytes_eq x (codes "list") then Some (ref 8)
+    else (if bytes_eq x (codes "dict") then Some (ref 9)
+    else (if bytes_eq x (codes "property") then Some (ref 17)
+    else (if bytes_eq x (codes "classmethod") then Some (ref 18)
+    else (if bytes_eq x (codes "staticmethod") then Some (ref 19)
+    else (if bytes_eq x (codes "super") then Some (ref 20)
+    else (if bytes_eq x (codes "NotImplemented") then Some (ref 24)
+    else None))))))))))))
 
 -- what a name names, or a fault where it names nothing
 abbrev pub named_say : PlainWorld → Option PyObjectRef → Row
@@ -152,39 +140,13 @@ abbrev pub attr_say : PlainWorld → Text → Option PyObjectRef → Row
 attr_say w x None = end w (fault ArgCount)
 attr_say w x (Some o) = start (pass w (ToAttribute (DoGetAttr o x))) (end w)
 
--- the names of entries
-abbrev pub entry_names : Entries → List Text
-entry_names no_entries = []
-entry_names (entry x e es) = x ∷ entry_names es
+-- the arguments are evaluated, and an object is called with them
+abbrev pub call_say : PlainWorld → List Tree → PyObjectRef → Row
+call_say w es f = evaluate w es (λ args. start (pass w (ToCall (DoCall f args []))) (end w))
 
--- keywords: names with values in order, after some that are there already, unless a name stands twice
-abbrev pub unrepeated : Bindings → List Text → List PyObjectRef → Option Bindings
-unrepeated kw [] vs = Some kw
-unrepeated kw (x ∷ xs) [] = Some kw
-unrepeated kw (x ∷ xs) (v ∷ vs) = cond (is_some (value_of (λ y. is_text y x) kw)) None (unrepeated (kw ++ (x, v) ∷ []) xs vs)
-
--- goes on with keywords, unless one is repeated
-abbrev pub on_keywords : PlainWorld → Option Bindings → (Bindings → Row) → Row
-on_keywords w None go = end w (fault RepeatedKeyword)
-on_keywords w (Some kw) go = go kw
-
--- something is called with arguments, and with keywords of these names, whose values come after them
-abbrev pub given_say : PlainWorld → (List PyObjectRef → Bindings → PlainTask) → ℕ → List Text → List PyObjectRef → Row
-given_say w task args names vs =
-    on_keywords w (unrepeated [] names (drop args vs)) (λ kw. start (pass w (task (take args vs) kw)) (end w))
-
--- the arguments and then the keywords are evaluated, and something is called with them
-abbrev pub arguments_say : PlainWorld → Trees → Entries → (List PyObjectRef → Bindings → PlainTask) → Row
-arguments_say w es kw task =
-    evaluate w (list_of es ++ entry_trees kw) (given_say w task (length (list_of es)) (entry_names kw))
-
--- an object is called
-abbrev pub call_say : PlainWorld → Trees → Entries → PyObjectRef → Row
-call_say w es kw f = arguments_say w es kw (λ args keywords. ToCall (DoCall f args keywords))
-
--- a method is invoked
-abbrev pub invoke_say : PlainWorld → Trees → Entries → Option PyObjectRef → PyObjectRef → Row
-invoke_say w es kw target f = arguments_say w es kw (λ args keywords. ToAttribute (DoInvoke target f args keywords))
+-- the arguments are evaluated, and a method is invoked with them
+abbrev pub invoke_say : PlainWorld → List Tree → Option PyObjectRef → PyObjectRef → Row
+invoke_say w es target f = evaluate w es (λ args. start (pass w (ToAttribute (DoInvoke target f args []))) (end w))
 
 -- a method that was loaded: the object that goes before its arguments, if any, and what is called
 abbrev pub on_method : PlainWorld → Ended → (Option PyObjectRef → PyObjectRef → Row) → Row
@@ -193,55 +155,43 @@ on_method w (Ok (AsAttribute f)) go = go None f
 on_method w other go = end w other
 
 -- the operand is called, or else an attribute of it, which is loaded as a method before the arguments are evaluated
-abbrev pub callee_say : PlainWorld → Tree → Trees → Entries → PyObjectRef → Row
-callee_say w (TAttr o x) es kw v = ask w (ToAttribute (DoLoadMethod v x)) (λ r. on_method w r (invoke_say w es kw))
-callee_say w f es kw v = call_say w es kw v
+abbrev pub callee_say : PlainWorld → Tree → List Tree → PyObjectRef → Row
+callee_say w (TAttr o x) es v = ask w (ToAttribute (DoLoadMethod v x)) (λ r. on_method w r (invoke_say w es))
+callee_say w f es v = call_say w es v
 
-abbrev pub called_say : PlainWorld → Tree → Trees → Entries → Option PyObjectRef → Row
-called_say w f es kw None = end w (fault ArgCount)
-called_say w f es kw (Some v) = callee_say w f es kw v
+abbrev pub called_say : PlainWorld → Tree → List Tree → Option PyObjectRef → Row
+called_say w f es None = end w (fault ArgCount)
+called_say w f es (Some v) = callee_say w f es v
 
--- a class: its name is a new text, its bases are a new tuple, its entries are a new dict, with a new text for each name. What the keyword `metaclass` gives, or else the class of the first base, or else `type`, is called with these and with the other keywords
+-- a class: its name is a new text, its bases are a new tuple, its entries are a new dict, with a new text for each name, and the class of the first base, or `type`, is called with these
 
 -- new texts for names, with their values
 abbrev pub keyed : PlainWorld → Pairs → Bindings → PlainWorld × Pairs
 keyed w ps [] = (w, ps)
 keyed w ps (b ∷ bs) = keyed (with_node w the_str (AText b.0)) (ps ++ (next_node w the_str, b.1) ∷ []) bs
 
--- what is called for a class: the one that is given, or else the class of the first base, or else `type`
-abbrev pub metaclass : PlainWorld → Option PyObjectRef → Option PyObjectRef → PyObjectRef
-metaclass w (Some meta) first = meta
-metaclass w None None = class_object w the_type
-metaclass w None (Some b) = type_object w b
-
--- the metaclass among keywords, and all others
-abbrev pub given_metaclass : Bindings → Option PyObjectRef
-given_metaclass kw = value_of (λ y. is_text y (known_text Metaclass)) kw
-
-abbrev pub other_keywords : Bindings → Bindings
-other_keywords kw = filter (λ k. not (is_text k.0 (known_text Metaclass))) kw
+abbrev pub metaclass : PlainWorld → Option PyObjectRef → PyObjectRef
+metaclass w None = class_object w the_type
+metaclass w (Some b) = type_object w b
 
 -- a new dict
 abbrev pub with_dict : PlainWorld × Pairs → PlainWorld × PyObjectRef
 with_dict s = (with_node s.0 the_dict (ADict s.1), next_node s.0 the_dict)
 
-abbrev pub call_with : PyObjectRef → PyObjectRef → PyObjectRef → Bindings → PlainWorld × PyObjectRef → Said
-call_with meta name bases kw s = pass s.0 (ToCall (DoCall meta (name ∷ bases ∷ s.1 ∷ []) kw))
+abbrev pub call_with : PyObjectRef → PyObjectRef → PyObjectRef → PlainWorld × PyObjectRef → Said
+call_with meta name bases s = pass s.0 (ToCall (DoCall meta (name ∷ bases ∷ s.1 ∷ []) []))
 
-abbrev pub class_by : PlainWorld → Text → List PyObjectRef → Bindings → Bindings → Said
-class_by w x bases kw entries =
+abbrev pub class_by : PlainWorld → Text → List PyObjectRef → Bindings → Said
+class_by w x bases entries =
     let named = with_node w the_str (AText x) in
-    call_with (metaclass w (given_metaclass kw) (slice_get bases 0)) (next_node w the_str) (next_node named the_tuple) (other_keywords kw) (with_dict (keyed (with_node named the_tuple (ATuple bases)) [] entries))
+    call_with (metaclass w (slice_get bases 0)) (next_node w the_str) (next_node named the_tuple) (with_dict (keyed (with_node named the_tuple (ATuple bases)) [] entries))
 
--- the values of so many bases, of the keywords, and of the entries
-abbrev pub class_say : PlainWorld → Text → ℕ → List Text → List Text → List PyObjectRef → Row
-class_say w x bases keys names vs =
-    on_keywords w (unrepeated [] keys (take (length keys) (drop bases vs))) (λ kw.
-    start (class_by w x (take bases vs) kw (filled [] names (drop (length keys) (drop bases vs)))) (end w))
+abbrev pub class_say : PlainWorld → Text → ℕ → List Text → List PyObjectRef → Row
+class_say w x bases names vs = start (class_by w x (take bases vs) (filled [] names (drop bases vs))) (end w)
 
--- a fault of this kind
-abbrev pub raise_say : PlainWorld → Kind → Row
-raise_say w kind = end w (Err (record { kind = kind; cause = Body }))
+abbrev pub entry_names : Entries → List Text
+entry_names no_entries = []
+entry_names (entry x e es) = x ∷ entry_names es
 
 -- what a call evaluates first: what it calls, or the object whose method it calls
 abbrev pub callee_tree : Tree → Tree
@@ -257,10 +207,10 @@ operand_trees (TAttr o x) = o ∷ []
 operand_trees (TSetAttr o x e) = o ∷ e ∷ []
 operand_trees (TCall f es kw) = callee_tree f ∷ []
 operand_trees (TOp word es) = list_of es
-operand_trees (TClass x bs kw es) = list_of bs ++ (entry_trees kw ++ entry_trees es)
+operand_trees (TClass x bs kw es) = list_of bs ++ entry_trees es
 operand_trees _ = []
 
--- what an expression does with the values of its operands
+-- what an expression does with the values of its operands. No keyword is named yet
 abbrev pub own_say : PlainWorld → Tree → List PyObjectRef → Row
 own_say w (TConst k) vs = const_say w k
 own_say w (TName x) vs = name_say w x
@@ -271,10 +221,9 @@ own_say w (TDict ps) vs = dict_say w ps
 own_say w (TFunc x ps rest e) vs = func_say w x ps rest e
 own_say w (TAttr o x) vs = attr_say w x (one_of vs)
 own_say w (TSetAttr o x e) vs = set_attr_say w x (two_of vs)
-own_say w (TCall f es kw) vs = called_say w f es kw (one_of vs)
+own_say w (TCall f es no_entries) vs = called_say w f (list_of es) (one_of vs)
 own_say w (TOp word es) vs = op_say w word vs
-own_say w (TRaise kind) vs = raise_say w kind
-own_say w (TClass x bs kw es) vs = class_say w x (length (list_of bs)) (entry_names kw) (entry_names es) vs
+own_say w (TClass x bs no_entries es) vs = class_say w x (length (list_of bs)) (entry_names es) vs
 own_say w _ vs = not_yet w
 
 -- an expression's operands are evaluated in order. Then it has a step of its own

@@ -1,18 +1,16 @@
 //! Calls: what is called, or the object whose method is, has a value. Then a method is loaded, and then the
-//! arguments and the keywords are evaluated.
+//! arguments are evaluated.
 
-ghost use Rattle.std.specs.Prelude.{◌≡◌, ◌+◌, ◌≤◌, length, map, slice_get, IfOk};
-ghost use Rattle.class_world.specs.Sound.{AllHold, Holds, IsExpression, IsNode, AreNames, AreNodes, of_node_ref, of_option};
-ghost use Rattle.class_world.specs.Claims.{of_args, of_ended, of_step, of_task};
-ghost use Rattle.class_world.specs.Reading.{Reading, Reads, bindings, spelled, task_of};
-ghost use Rattle.eval_forms.specs.Say.{callee_say, callee_tree, called_say, given_say};
-ghost use Rattle.eval_forms.specs.Rows.{Takes, Resumes, GoesOn, args_of, arguments, arguments_at, attribute, called_task, evaluated_tree, keywords_of, named, of_called, of_eval_kept, positional};
+ghost use Rattle.std.specs.Prelude.{◌≡◌, ◌≤◌, length, slice_get, IfOk};
+ghost use Rattle.class_world.specs.Sound.{AllHold, Holds, IsExpression, IsNode, AreNodes, of_node_ref, of_option};
+ghost use Rattle.class_world.specs.Claims.{of_ended, of_step, of_task};
+ghost use Rattle.class_world.specs.Reading.{Reading, Reads, task_of};
+ghost use Rattle.py_node.specs.Tree.{list_of};
+ghost use Rattle.eval_forms.specs.Say.{callee_say, callee_tree, called_say};
+ghost use Rattle.eval_forms.specs.Rows.{Takes, Resumes, GoesOn, args_of, arguments, arguments_at, attribute, called_task, evaluated_tree, of_called, of_eval_kept};
 
-use crate::keywords::{list_of, unrepeated};
-use crate::{EvalKept, entry_value, names_of, object_of, with_value};
+use crate::{EvalKept, object_of, with_value};
 use class_world::World;
-use class_world::args::copy_args;
-use py_node::task::{Args, Keywords};
 use py_node::{
     Answer, AttributeTask, CallTask, Cause, EvalTask, Form, OutOfMemory, PyMethod, PyObjectRef,
     PyStrInterned, Raised, Step, Task,
@@ -67,63 +65,54 @@ pub(crate) fn call_step(
     e: u64,
     func: u64,
     value: Option<PyObjectRef>,
-) -> Result<Step<EvalKept>, OutOfMemory>
+) -> Step<EvalKept>
     requires call { Holds world.now (IsExpression e) }
     requires func { Holds world.now (IsExpression func) }
     requires value { AllHold world.now (of_option of_node_ref value) }
-    ensures goes { IfOk result (λ step. Takes (λ t u.
-        called_say u (t.tree func) (args_of (t.tree e)) (keywords_of (t.tree e)) value) world.now world.now step) }
-    ensures safe { IfOk result (λ step. AllHold world.now (of_step of_eval_kept step)) }
+    ensures goes { Takes (λ t u.
+        called_say u (t.tree func) (list_of (args_of (t.tree e))) value) world.now world.now result }
+    ensures safe { AllHold world.now (of_step of_eval_kept result) }
 {
     match value {
-        None => Ok(Step::raise(Cause::ArgCount)),
+        None => Step::raise(Cause::ArgCount),
         Some(value) => callee_step(world, e, func, value),
     }
 }
 
 // An attribute that is called is loaded as a method. Else the first argument is evaluated.
-fn callee_step(
-    world: &World,
-    e: u64,
-    func: u64,
-    value: PyObjectRef,
-) -> Result<Step<EvalKept>, OutOfMemory>
+fn callee_step(world: &World, e: u64, func: u64, value: PyObjectRef) -> Step<EvalKept>
     requires call { Holds world.now (IsExpression e) }
     requires func { Holds world.now (IsExpression func) }
     requires value { Holds world.now (IsNode value) }
-    ensures goes { IfOk result (λ step. Takes (λ t u.
-        callee_say u (t.tree func) (args_of (t.tree e)) (keywords_of (t.tree e)) value) world.now world.now step) }
-    ensures safe { IfOk result (λ step. AllHold world.now (of_step of_eval_kept step)) }
+    ensures goes { Takes (λ t u.
+        callee_say u (t.tree func) (list_of (args_of (t.tree e))) value) world.now world.now result }
+    ensures safe { AllHold world.now (of_step of_eval_kept result) }
 {
     match attribute(world.form(func)) {
-        Some((_, name)) => Ok(Step::Ask(
+        Some((_, name)) => Step::Ask(
             Task::Attribute(AttributeTask::LoadMethod(value, name)),
             EvalKept::Load(e),
-        )),
+        ),
         None => next_argument(world, e, Called::Object(value), Vec::new(world.alloc())),
     }
 }
 
 // A method was loaded: the first argument is evaluated.
-pub(crate) fn loaded(
-    world: &World,
-    e: u64,
-    answer: Result<Answer, Raised>,
-) -> Result<Step<EvalKept>, OutOfMemory>
+pub(crate) fn loaded(world: &World, e: u64, answer: Result<Answer, Raised>) -> Step<EvalKept>
     requires call { Holds world.now (IsExpression e) }
     requires answer { AllHold world.now (of_ended answer) }
-    ensures goes { IfOk result (λ step. Resumes (EvalKept.Load e) answer world.now world.now step) }
-    ensures safe { IfOk result (λ step. AllHold world.now (of_step of_eval_kept step)) }
+    ensures goes { Resumes (EvalKept.Load e) answer world.now world.now result }
+    ensures safe { AllHold world.now (of_step of_eval_kept result) }
 {
     match answer {
         Ok(Answer::Method(method)) => {
             next_argument(world, e, Called::Method(method), Vec::new(world.alloc()))
         }
-        other => Ok(Step::End(other)),
+        other => Step::End(other),
     }
 }
 
-// An argument or a keyword was evaluated.
+// An argument was evaluated.
 pub(crate) fn argued(
     world: &World,
     e: u64,
@@ -140,104 +129,48 @@ pub(crate) fn argued(
     match object_of(answer) {
         Ok(value) => {
             let values = with_value(values, value)?;
-            next_argument(world, e, called, values)
+            let step = next_argument(world, e, called, values);
+            Ok(step)
         }
         Err(other) => Ok(Step::End(other)),
     }
 }
 
-// The next argument is evaluated, and after the arguments the keywords. Where all have values, what is called is
-// called with them.
-fn next_argument(
-    world: &World,
-    e: u64,
-    called: Called,
-    values: Vec<PyObjectRef>,
-) -> Result<Step<EvalKept>, OutOfMemory>
+// The next argument is evaluated. Where all have values, what is called is called with them.
+fn next_argument(world: &World, e: u64, called: Called, values: Vec<PyObjectRef>) -> Step<EvalKept>
     requires call { Holds world.now (IsExpression e) }
     requires called { AllHold world.now (of_called called) }
     requires values { Holds world.now (AreNodes values.items) }
     requires fits { length values.items ≤ length (arguments_at (slice_get world.now.forms e)) }
-    ensures goes { IfOk result (λ step. GoesOn (EvalKept.Arguments e called values) world.now world.now step) }
-    ensures safe { IfOk result (λ step. AllHold world.now (of_step of_eval_kept step)) }
+    ensures goes { GoesOn (EvalKept.Arguments e called values) world.now world.now result }
+    ensures safe { AllHold world.now (of_step of_eval_kept result) }
 {
-    let form = world.form(e);
-    match argument(form, values.len()) {
-        Some(argument) => Ok(Step::Ask(
+    match argument(world.form(e), values.len()) {
+        Some(argument) => Step::Ask(
             Task::Eval(EvalTask::Eval(argument)),
             EvalKept::Arguments(e, called, values),
-        )),
-        None => {
-            let alloc = world.alloc();
-            let names = names_of(alloc, named(form))?;
-            call_with(alloc, called, positional(form).len(), &names, &values)
-        }
+        ),
+        None => Step::Ask(call_task(world.alloc(), called, values), EvalKept::Pass),
     }
 }
 
-// The arguments of a call.
-fn positional(form: &Form) -> &[u64]
-    ensures { result.now ≡ positional form.now }
-{
-    match form {
-        Form::Call(_, args, _) => args,
-        _ => &[],
-    }
-}
-
-// The keywords of a call.
-fn named(form: &Form) -> &[(PyStrInterned, u64)]
-    ensures { result.now ≡ named form.now }
-{
-    match form {
-        Form::Call(_, _, keywords) => keywords,
-        _ => &[],
-    }
-}
-
-// What is evaluated at a place: an argument of a call, or past them a keyword.
+// The argument of a call at a place.
 fn argument(form: &Form, place: usize) -> Option<u64>
     ensures { result ≡ slice_get (arguments form.now) place }
 {
-    let args = positional(form);
-    if place < args.len() {
-        Some(args[place])
-    } else {
-        entry_value(named(form), place - args.len())
+    match form {
+        Form::Call(_, args, _) => args.get(place).copied(),
+        _ => None,
     }
 }
 
-// Something is called with so many of the values as arguments and with the others as keywords, unless one is repeated.
-fn call_with(
-    alloc: Global,
-    called: Called,
-    count: usize,
-    names: &[PyStrInterned],
-    values: &[PyObjectRef],
-) -> Result<Step<EvalKept>, OutOfMemory>
-    requires { length values.now ≡ count + length names.now }
-    ensures goes { IfOk result (λ step. (w : World) → Takes (λ t u.
-        given_say u (called_task called) count (map (spelled t) names.now) values.now) w w step) }
-    ensures safe { IfOk result (λ step. (w : World) → AllHold w (of_called called) → Holds w (AreNames names.now) →
-        Holds w (AreNodes values.now) → AllHold w (of_step of_eval_kept step)) }
-{
-    let (args, rest) = values.split_at(count);
-    match unrepeated(alloc, names, rest)? {
-        None => Ok(Step::raise(Cause::RepeatedKeyword)),
-        Some(keywords) => {
-            let args = copy_args(alloc, args)?;
-            let keywords = list_of(alloc, &keywords)?;
-            Ok(Step::Ask(call_task(called, args, keywords), EvalKept::Pass))
-        }
-    }
-}
-
-// What is called is called with arguments and keywords.
-fn call_task(called: Called, args: Args, keywords: Keywords) -> Task
-    ensures task { (t : Reading) → task_of t result ≡ called_task called args.items (bindings t keywords.items) }
-    ensures safe { (w : World) → AllHold w (of_called called) → AllHold w (of_args args.items keywords.items) →
+// What is called is called with arguments.
+fn call_task(alloc: Global, called: Called, args: Vec<PyObjectRef>) -> Task
+    ensures task { (t : Reading) → task_of t result ≡ called_task called args.items }
+    ensures safe { (w : World) → AllHold w (of_called called) → Holds w (AreNodes args.items) →
         AllHold w (of_task result) }
 {
+    let keywords = Vec::new(alloc);
     match called {
         Called::Object(func) => Task::Call(CallTask::Call(func, args, keywords)),
         Called::Method(method) => Task::Attribute(AttributeTask::Invoke(method, args, keywords)),

@@ -1,5 +1,4 @@
-//! The class form: a class's name, bases and entries are new objects, and a metaclass is called with them and with
-//! keywords.
+//! The class form: a class's name, bases and entries are new objects, and a metaclass is called with them.
 
 ghost use Rattle.std.specs.Prelude.{◌≡◌, ◌+◌, [], ◌∷◌, length, map, slice_get, IfOk, OnOk};
 ghost use Rattle.plain_machine.specs.World.{with_node, next_node};
@@ -7,7 +6,7 @@ ghost use Rattle.plain_machine.specs.Plain.{AText, ATuple};
 ghost use Rattle.plain_machine.specs.Row.{start, end};
 ghost use Rattle.class_world.specs.Sound.{AllHold, Grows, Holds, IsName, IsNode, AreNames, AreNodes, KeysDiffer, of_each, of_binding, of_option, of_node_ref};
 ghost use Rattle.class_world.specs.Claims.{Leaves};
-ghost use Rattle.class_world.specs.Reading.{Reading, Reads, bindings, plain, spelled};
+ghost use Rattle.class_world.specs.Reading.{Reading, Reads, bindings, plain};
 ghost use Rattle.py_node.specs.Attributes.{is_same_name};
 ghost use Rattle.eval_forms.specs.Say.{class_by, class_say, keyed, metaclass, with_dict};
 ghost use Rattle.plain_machine.specs.Known.{the_str, the_tuple};
@@ -15,75 +14,58 @@ ghost use Rattle.eval_forms.specs.ClassForm.{ArePairs};
 ghost use Rattle.eval_forms.specs.Rows.{Takes, of_eval_kept};
 
 use crate::EvalKept;
-use crate::keywords::{list_of, unrepeated, without};
 use class_world::World;
 use class_world::args::{copy_args, filled};
 use py_node::{
-    BuiltIn, CallTask, Cause, Known, OutOfMemory, Payload, PyAttributes, PyObjectRef,
-    PyStrInterned, Step, Task,
+    BuiltIn, CallTask, OutOfMemory, Payload, PyAttributes, PyObjectRef, PyStrInterned, Step, Task,
 };
 
-// A class, with the values of its bases, of its keywords and of its entries.
+// A class, with the values of its bases and of its entries.
 pub(crate) fn class_step(
     world: &mut World,
     name: PyStrInterned,
     bases: usize,
-    keys: &[PyStrInterned],
     names: &[PyStrInterned],
     values: &[PyObjectRef],
 ) -> Result<Step<EvalKept>, OutOfMemory>
     requires name { Holds world.old (IsName name) }
-    requires keys { Holds world.old (AreNames keys.now) }
     requires names { Holds world.old (AreNames names.now) }
     requires values { Holds world.old (AreNodes values.now) }
-    requires all { length values.now ≡ bases + (length keys.now + length names.now) }
+    requires all { length values.now ≡ bases + length names.now }
     ensures goes { IfOk result (λ step.
         Takes (λ t u.
-        class_say u (t.text name.0) bases (map (spelled t) keys.now) (map (spelled t) names.now) values.now)
-        world.old world.new step) }
+        class_say u (t.text name.0) bases (map (λ x. t.text x.0) names.now) values.now) world.old world.new step) }
     ensures safe { Leaves of_eval_kept world.old world.new result }
 {
     let alloc = world.alloc();
     let (bases, values) = values.split_at(bases);
-    let (given, values) = values.split_at(keys.len());
-    match unrepeated(alloc, keys, given)? {
-        None => Ok(Step::raise(Cause::RepeatedKeyword)),
-        Some(keywords) => {
-            let entries = filled(alloc, names, values)?;
-            call_metaclass(world, name, bases, &keywords, &entries)
-        }
-    }
+    let entries = filled(alloc, names, values)?;
+    call_metaclass(world, name, bases, &entries)
 }
 
-// A metaclass is called with a class's name, bases and entries, and with the keywords that do not give it.
+// A metaclass is called with a class's name, bases and entries.
 #[tactic(auto, unfolding(crate::specs::Say::eval_say, py_node::specs::BuiltIns::place_of))]
 fn call_metaclass(
     world: &mut World,
     name: PyStrInterned,
     bases: &[PyObjectRef],
-    keywords: &PyAttributes,
     entries: &PyAttributes,
 ) -> Result<Step<EvalKept>, OutOfMemory>
     requires name { Holds world.old (IsName name) }
     requires bases { Holds world.old (AreNodes bases.now) }
-    requires keywords { AllHold world.old (of_each of_binding keywords.now) }
     requires entries { AllHold world.old (of_each of_binding entries.now) }
     ensures goes { IfOk result (λ step.
         Takes (λ t u.
-        start (class_by u (t.text name.0) bases.now (bindings t keywords.now) (bindings t entries.now)) (end u))
-        world.old world.new step) }
+        start (class_by u (t.text name.0) bases.now (bindings t entries.now)) (end u)) world.old world.new step) }
     ensures safe { Leaves of_eval_kept world.old world.new result }
 {
     let alloc = world.alloc();
-    let key = world.known(Known::Metaclass);
-    let meta = metaclass(world, keywords.get(key), first(bases));
-    let given = list_of(alloc, keywords)?;
-    let others = without(alloc, &given, key)?;
+    let meta = metaclass(world, first(bases));
     let name = new_text(world, name)?;
     let bases = new_tuple(world, bases)?;
     let dict = new_dict(world, entries)?;
     let args = vec![in alloc; name, bases, dict]?;
-    let task = CallTask::Call(meta, args, others);
+    let task = CallTask::Call(meta, args, Vec::new(alloc));
     Ok(Step::Ask(Task::Call(task), EvalKept::Pass))
 }
 
@@ -126,21 +108,19 @@ fn first(objects: &[PyObjectRef]) -> Option<PyObjectRef>
     objects.first().copied()
 }
 
-// What is called for a class: the one that is given, or else the class of the first base, or else `type`.
+// The class of the first base, or `type`.
 #[tactic(auto, unfolding(py_node::specs::BuiltIns::place_of))]
-fn metaclass(world: &World, given: Option<PyObjectRef>, first: Option<PyObjectRef>) -> PyObjectRef
-    requires given { AllHold world.now (of_option of_node_ref given) }
-    requires first { AllHold world.now (of_option of_node_ref first) }
-    ensures meta { (t : Reading) → metaclass (plain t world.now) given first ≡ result }
+fn metaclass(world: &World, first: Option<PyObjectRef>) -> PyObjectRef
+    requires { AllHold world.now (of_option of_node_ref first) }
+    ensures meta { (t : Reading) → metaclass (plain t world.now) first ≡ result }
     ensures node { Holds world.now (IsNode result) }
 {
-    match (given, first) {
-        (Some(meta), _) => meta,
-        (None, Some(base)) => world.type_object(base),
-        (None, None) => {
+    match first {
+        None => {
             let class = world.built_in(BuiltIn::TypeType);
             world.class_object(class)
         }
+        Some(base) => world.type_object(base),
     }
 }
 

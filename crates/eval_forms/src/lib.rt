@@ -6,7 +6,7 @@ ghost use Rattle.py_node.specs.Faults.{raised};
 ghost use Rattle.class_world.specs.Sound.{AllHold, Holds, IsExpression, IsName, IsNode, AreNodes, of_form, of_node_ref, of_option};
 ghost use Rattle.class_world.specs.Claims.{of_eval_task, of_ended, of_step, Leaves};
 ghost use Rattle.class_world.specs.Reading.{Reading, Reads};
-ghost use Rattle.eval_forms.specs.Say.{one_of, bind_say, func_say, raise_say, tuple_say, list_say};
+ghost use Rattle.eval_forms.specs.Say.{one_of, bind_say, func_say, tuple_say, list_say};
 ghost use Rattle.py_node.specs.Tree.{TConst, literal_of};
 ghost use Rattle.eval_forms.specs.Rows.{Begins, Resumes, Continues, ContinuesTree, EndsRow, IsOwn, HasValues, IsLater, IsOther, of_eval_kept, operands, operands_at};
 
@@ -14,7 +14,6 @@ mod attr;
 mod call_form;
 mod class_form;
 mod dict_form;
-mod keywords;
 mod names;
 mod words;
 
@@ -26,8 +25,8 @@ use class_world::{Fixed, World};
 use dict_form::{keyed, next_key, valued};
 use names::name_step;
 use py_node::{
-    Answer, BuiltIn, Cause, Constant, EvalTask, Form, Function, Kind, OutOfMemory, Payload,
-    PyObjectRef, PyStrInterned, Raised, Step, Task, Word,
+    Answer, BuiltIn, Cause, Constant, EvalTask, Form, Function, OutOfMemory, Payload, PyObjectRef,
+    PyStrInterned, Raised, Step, Task, Word,
 };
 use std::alloc::Global;
 use words::op_step;
@@ -43,7 +42,7 @@ pub enum EvalKept {
     Operands(u64, Vec<PyObjectRef>),
     /// The call whose method is being loaded.
     Load(u64),
-    /// The call, what it calls, and the values of its arguments, and then of its keywords, so far.
+    /// The call, what it calls, and the values of its arguments so far.
     Arguments(u64, Called, Vec<PyObjectRef>),
     /// The dict whose next key is evaluated, and its pairs so far.
     Key(u64, Vec<(PyObjectRef, PyObjectRef)>),
@@ -80,7 +79,10 @@ pub fn resume(
             Ok(value) => one_more(world, e, values, value),
             Err(other) => Ok(Step::End(other)),
         },
-        EvalKept::Load(e) => loaded(world, e, answer),
+        EvalKept::Load(e) => {
+            let step = loaded(world, e, answer);
+            Ok(step)
+        }
         EvalKept::Arguments(e, called, values) => argued(world, e, called, values, answer),
         EvalKept::Key(e, pairs) => {
             let step = keyed(world, e, pairs, answer);
@@ -187,39 +189,17 @@ fn operand(form: &Form, place: usize) -> Option<u64>
         Form::Tuple(items) => items.get(place).copied(),
         Form::List(items) => items.get(place).copied(),
         Form::Op(_, operands) => operands.get(place).copied(),
-        Form::Class(_, bases, keywords, entries) => {
+        Form::Class(_, bases, _, entries) => {
             if place < bases.len() {
                 Some(bases[place])
             } else {
-                entry_of_two(keywords, entries, place - bases.len())
+                match entries.get(place - bases.len()) {
+                    Some(entry) => Some(entry.1),
+                    None => None,
+                }
             }
         }
         _ => None,
-    }
-}
-
-// The expression at a place of two lists of entries, one after the other.
-fn entry_of_two(
-    first: &[(PyStrInterned, u64)],
-    second: &[(PyStrInterned, u64)],
-    place: usize,
-) -> Option<u64>
-    ensures { result ≡ slice_get (map (λ e. e.1) first.now ++ map (λ e. e.1) second.now) place }
-{
-    if place < first.len() {
-        entry_value(first, place)
-    } else {
-        entry_value(second, place - first.len())
-    }
-}
-
-// The expression of the entry at a place.
-pub(crate) fn entry_value(entries: &[(PyStrInterned, u64)], place: usize) -> Option<u64>
-    ensures { result ≡ slice_get (map (λ e. e.1) entries.now) place }
-{
-    match entries.get(place) {
-        Some(entry) => Some(entry.1),
-        None => None,
     }
 }
 
@@ -246,9 +226,8 @@ pub enum Own {
     /// The expression of what is called.
     Call(u64),
     Op(Word),
-    Raise(Kind),
-    /// The class's name, how many bases it has, the names of its keywords, and those of its entries.
-    Class(PyStrInterned, usize, Vec<PyStrInterned>, Vec<PyStrInterned>),
+    /// The class's name, how many bases it has, and the names of its entries.
+    Class(PyStrInterned, usize, Vec<PyStrInterned>),
     /// What no stage so far has named.
     NotYet,
 }
@@ -285,15 +264,15 @@ fn own_step(
             let step = set_attr_step(name, &values);
             Ok(step)
         }
-        Own::Call(func) => call_step(world, e, func, one_of(&values)),
+        Own::Call(func) => {
+            let step = call_step(world, e, func, one_of(&values));
+            Ok(step)
+        }
         Own::Op(word) => {
             let step = op_step(world, word, &values);
             Ok(step)
         }
-        Own::Raise(kind) => Ok(raise_step(kind)),
-        Own::Class(name, bases, keys, names) => {
-            class_step(world, name, bases, &keys, &names, &values)
-        }
+        Own::Class(name, bases, names) => class_step(world, name, bases, &names, &values),
         Own::NotYet => Ok(not_yet()),
     }
 }
@@ -318,20 +297,28 @@ fn own_of(alloc: Global, form: &Form) -> Result<Own, OutOfMemory>
         }
         Form::Attr(_, name) => Ok(Own::Attr(*name)),
         Form::SetAttr(_, name, _) => Ok(Own::SetAttr(*name)),
-        Form::Call(func, _, _) => Ok(Own::Call(*func)),
+        Form::Call(func, _, keywords) => {
+            if keywords.is_empty() {
+                Ok(Own::Call(*func))
+            } else {
+                Ok(Own::NotYet)
+            }
+        }
         Form::Op(word, _) => Ok(Own::Op(*word)),
-        Form::Raise(kind) => Ok(Own::Raise(*kind)),
         Form::Class(name, bases, keywords, entries) => {
-            let keys = names_of(alloc, keywords)?;
-            let names = names_of(alloc, entries)?;
-            Ok(Own::Class(*name, bases.len(), keys, names))
+            if keywords.is_empty() {
+                let names = names_of(alloc, entries)?;
+                Ok(Own::Class(*name, bases.len(), names))
+            } else {
+                Ok(Own::NotYet)
+            }
         }
         _ => Ok(Own::NotYet),
     }
 }
 
-// The names of entries.
-pub(crate) fn names_of(
+// The names of a class's entries.
+fn names_of(
     alloc: Global,
     entries: &[(PyStrInterned, u64)],
 ) -> Result<Vec<PyStrInterned>, OutOfMemory>
@@ -452,17 +439,6 @@ fn func_step(
     };
     let node = world.make_node(class, Payload::Function(function))?;
     Ok(Step::End(Ok(Answer::Value(node))))
-}
-
-// A fault of this kind.
-fn raise_step(kind: Kind) -> Step<EvalKept>
-    ensures goes { (w : World) → EndsRow (λ t u. raise_say u kind) w w result }
-    ensures safe { (w : World) → AllHold w (of_step of_eval_kept result) }
-{
-    Step::End(Err(Raised {
-        kind,
-        cause: Cause::Body,
-    }))
 }
 
 // What no stage so far has named.

@@ -1,15 +1,15 @@
 //! What a name names: a variable, or a built-in object.
 
-ghost use Rattle.std.specs.Prelude.{◌≡◌, IfSome};
+ghost use Rattle.std.specs.Prelude.{◌≡◌, ◌≤◌, IfSome};
 ghost use Rattle.class_world.specs.Sound.{AllHold, Holds, IsName, IsNode};
 ghost use Rattle.class_world.specs.Claims.{of_step};
 ghost use Rattle.class_world.specs.Reading.{Reading, Reads};
-ghost use Rattle.eval_forms.specs.Say.{built_in_named, class_named, name_say};
+ghost use Rattle.eval_forms.specs.Say.{built_in_named, name_say};
 ghost use Rattle.eval_forms.specs.Rows.{EndsRow, of_eval_kept};
 
 use crate::EvalKept;
 use class_world::{Fixed, World};
-use py_node::{Answer, BuiltIn, Cause, PyObjectRef, PyStrInterned, Step};
+use py_node::{Answer, Cause, PyObjectRef, PyStrInterned, Step};
 
 // A name is that of a variable, or else of a built-in object.
 pub(crate) fn name_step(world: &World, name: PyStrInterned) -> Step<EvalKept>
@@ -32,48 +32,43 @@ fn built_in_at(world: &World, name: PyStrInterned) -> Option<PyObjectRef>
     ensures named { (t : Reading) → Reads t world.now → built_in_named (t.text name.0) ≡ result }
     ensures node { IfSome result (λ r. Holds world.now (IsNode r)) }
 {
-    let text = world.names().text(name);
-    match class_named(text) {
-        Some(class) => Some(world.built_in_node(class)),
-        None => {
-            if text == "NotImplemented" {
-                Some(world.fixed(Fixed::NotImplemented))
-            } else {
-                None
-            }
-        }
-    }
+    // Every world has the nodes up to this one.
+    let _last = world.fixed(Fixed::True);
+    built_in_named(world.names().text(name))
 }
 
-// The built-in class that a text names.
-#[tactic(auto, unfolding(crate::specs::Say::class_named))]
-fn class_named(text: &str) -> Option<BuiltIn>
-    ensures { result ≡ class_named text.now }
+// The built-in object that a text names.
+#[tactic(auto, unfolding(crate::specs::Say::built_in_named))]
+fn built_in_named(text: &str) -> Option<PyObjectRef>
+    ensures named { result ≡ built_in_named text.now }
+    ensures fixed { IfSome result (λ r. r.0 ≤ 26) }
 {
     if text == "object" {
-        Some(BuiltIn::Object)
+        Some(PyObjectRef(0))
     } else if text == "type" {
-        Some(BuiltIn::TypeType)
+        Some(PyObjectRef(1))
     } else if text == "int" {
-        Some(BuiltIn::Int)
+        Some(PyObjectRef(4))
     } else if text == "bool" {
-        Some(BuiltIn::Bool)
+        Some(PyObjectRef(5))
     } else if text == "str" {
-        Some(BuiltIn::Str)
+        Some(PyObjectRef(6))
     } else if text == "tuple" {
-        Some(BuiltIn::Tuple)
+        Some(PyObjectRef(7))
     } else if text == "list" {
-        Some(BuiltIn::List)
+        Some(PyObjectRef(8))
     } else if text == "dict" {
-        Some(BuiltIn::Dict)
+        Some(PyObjectRef(9))
     } else if text == "property" {
-        Some(BuiltIn::Property)
+        Some(PyObjectRef(17))
     } else if text == "classmethod" {
-        Some(BuiltIn::ClassMethod)
+        Some(PyObjectRef(18))
     } else if text == "staticmethod" {
-        Some(BuiltIn::StaticMethod)
+        Some(PyObjectRef(19))
     } else if text == "super" {
-        Some(BuiltIn::Super)
+        Some(PyObjectRef(20))
+    } else if text == "NotImplemented" {
+        Some(PyObjectRef(24))
     } else {
         None
     }

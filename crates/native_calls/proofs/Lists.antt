@@ -1,5 +1,5 @@
 -- Lists of nodes without those in front.
-use Rattle.std.proofs.Common.{◌++◌, Option, Some, None, subst, sym, ◌≡◌, ◌∙◌, suc, ◌-◌, List, [], ◌∷◌, length, take, drop, refl, ap, arith}
+use Rattle.std.proofs.Common.{◌++◌, Option, Some, None, subst, sym, ◌≡◌, ◌∙◌, ℕ, suc, ◌-◌, List, [], ◌∷◌, length, take, drop, refl, ap, arith}
 use Rattle.py_node.specs.declared.refs.PyObjectRef.{PyObjectRef}
 use Rattle.plain_machine.specs.Plain.{PlainWorld, Bindings, Said}
 use Rattle.plain_machine.specs.Takes.{with_one, with_two}

@@ -1,76 +1,27 @@
--- What the contracts of natives say that may ask a task.
-use Rattle.std.specs.Prelude.{Bool, List, [], ◌∷◌, Result, Option, Some, None}
-use Rattle.py_node.specs.declared.refs.PyObjectRef.{PyObjectRef}
-use Rattle.py_node.specs.declared.raised.Raised.{Raised as Fault}
-use Rattle.py_node.specs.declared.known.Known.TheVariants.{Get}
-use Rattle.py_node.specs.Known.{known_text}
-use Rattle.py_node.specs.declared.built_in.BuiltIn.TheVariants as built_in
-use Rattle.py_node.specs.declared.entry.NativeEntry.{NativeEntry}
-use Rattle.py_node.specs.declared.entry.NativeEntry.TheVariants.{NewOf, NewWrapper, OfWrapper}
-use Rattle.py_node.specs.declared.entry.WrapperNative.TheVariants.{ClassGet}
-use Rattle.py_node.specs.declared.task.Answer.{Answer}
-use Rattle.py_node.specs.declared.task.Task.{Task}
+-- What the contracts of natives say that may ask one task, and then end as it did.
+use Rattle.std.specs.Prelude.{◌≡◌, List, [], Result}
+use Rattle.py_node.specs.declared.memory.OutOfMemory.{OutOfMemory}
 use Rattle.py_node.specs.declared.task.Step.{Step}
 use Rattle.py_node.specs.declared.task.Step.TheVariants.{Ask, End}
-use Rattle.plain_machine.specs.Plain.{Datum, PlainWorld, PlainTask, Bindings, DoGetAttr, ToAttribute, ToNative, Answered, Made, ReadObjects, Said, Asks, Ends}
-use Rattle.plain_machine.specs.World.{ref}
-use Rattle.plain_machine.specs.Row.{value}
-use Rattle.plain_machine.specs.Rows.{Pending, fresh}
+use Rattle.plain_machine.specs.Plain.{PlainWorld, Said, Asks, Ends}
 use Rattle.class_world.specs.declared.world.World.{World}
-use Rattle.class_world.specs.Reading.{Reading, task_of}
-use Rattle.class_world.specs.Rows as rows
-use Rattle.class_world.specs.Rows.{Group, Follows}
-use Rattle.class_world.specs.Sound.{Claim, IsClass, IsNode, IsOf}
-use Rattle.native_calls.specs.declared.NativeKept.{NativeKept}
-use Rattle.native_calls.specs.declared.NativeKept.TheVariants.{Pass, AfterGet, AfterDoc, AfterSet}
-use Rattle.native_calls.specs.declared.way.Kind.{Kind}
-use Rattle.native_calls.specs.declared.way.Kind.TheVariants as kind
-use Rattle.native_calls.specs.Say.{asking_job_say, class_of_wrapper, is_function, is_method_descriptor, is_getset, is_class_method, is_static_method}
+use Rattle.class_world.specs.Held.{Held}
+use Rattle.class_world.specs.Reading.{Reading, Reads, plain, task_of, ended_of}
+use Rattle.class_world.specs.Sound.{Claim}
+use Rattle.class_world.specs.Claims.{Leaves}
 
--- what an object must be that a native binds
-abbrev pub is_of_kind : Kind → Option Datum → Bool
-is_of_kind kind.Function d = is_function d
-is_of_kind kind.Native d = is_method_descriptor d
-is_of_kind kind.GetSet d = is_getset d
-is_of_kind kind.ClassMethod d = is_class_method d
-is_of_kind kind.StaticMethod d = is_static_method d
+-- what a step says, having learnt nothing
+abbrev pub step_said : {K : Type 0} → Reading → World → Step K → Said
+step_said t new (Ask asked kept) = Asks (plain t new) [] (task_of t asked)
+step_said t new (End r) = Ends (plain t new) (ended_of r)
 
--- what is asked for a class method that wraps this, if it is one
-abbrev pub class_asked : PlainWorld → Option PyObjectRef → PyObjectRef → PyObjectRef → Said
-class_asked w None m k = Ends w (value m)
-class_asked w (Some f) m k = Asks w (ReadObjects (k ∷ f ∷ []) ∷ []) (ToAttribute (DoGetAttr f (known_text Get)))
+-- the step is what is said, however the numbers are read
+abbrev pub StepsAs : {K : Type 0} → (Reading → PlainWorld → Said) → World → World → Step K → Type 0
+StepsAs said old new step = (t : Reading) → Reads t new → Reads t old × (said t (plain t old) ≡ step_said t new step)
 
--- the row that goes on, at each answer, just as the row that the code keeps this for
-abbrev pub asking_stands : Reading → NativeKept → Pending PlainTask
-asking_stands t Pass = record { task = ToNative NewWrapper [] []; told = [] }
-asking_stands t (AfterGet k f) = record { task = ToNative (OfWrapper ClassGet) [] []; told = ReadObjects (k ∷ f ∷ []) ∷ [] }
-asking_stands t (AfterDoc b c f) = record { task = ToNative (NewOf (class_of_wrapper b)) [] []; told = ReadObjects (ref c.0 ∷ f ∷ []) ∷ [] }
-asking_stands t (AfterSet new) =
-    record { task = ToNative (NewOf built_in.ClassMethod) [] []; told = ReadObjects (ref 0 ∷ ref 0 ∷ []) ∷ (Answered (value (ref 0)) ∷ (Made new ∷ [])) }
+abbrev pub nothing_held : {K : Type 0} → K → List Claim
+nothing_held kept = []
 
--- what is said of what is kept
-abbrev pub of_native_kept : NativeKept → List Claim
-of_native_kept Pass = []
-of_native_kept (AfterGet k f) = IsNode k ∷ IsNode f ∷ []
-of_native_kept (AfterDoc b c f) = IsClass c.0 ∷ IsOf c.0 (class_of_wrapper b) ∷ IsNode f ∷ []
-of_native_kept (AfterSet new) = IsNode new ∷ []
-
--- the group: its jobs, what they say, what goes on, and what is claimed of that
-abbrev pub native_group : Group Task PlainTask NativeKept
-native_group = record { job = task_of; say = asking_job_say; stands = asking_stands; claims = of_native_kept }
-
-abbrev pub Begins : Task → World → World → Step NativeKept → Type 0
-Begins = rows.Begins native_group
-
-abbrev pub Resumes : NativeKept → Result Answer Fault → World → World → Step NativeKept → Type 0
-Resumes = rows.Resumes native_group
-
--- a native does so, whatever its arguments are
-abbrev pub Does : NativeEntry → (Reading → PlainWorld → Said) → World → World → Step NativeKept → Type 0
-Does n said old new step =
-    (args : List PyObjectRef) (kw : Reading → Bindings) → Follows asking_job_say asking_stands (λ t. fresh (ToNative n args (kw t))) said old new step
-
--- a step that keeps nothing, among those of natives
-abbrev pub passed : Step (Unit {0}) → Step NativeKept
-passed (Ask asked kept) = Ask asked Pass
-passed (End r) = End r
+-- what held of numbers holds still, and so does all that the step says
+abbrev pub LeavesStep : {K : Type 0} → Held → Held → Result (Step K) OutOfMemory → Type 0
+LeavesStep old new result = Leaves nothing_held old new result

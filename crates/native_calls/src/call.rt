@@ -2,10 +2,10 @@
 
 ghost use Rattle.std.specs.Prelude.{◌≡◌, ◌∷◌, IfOk, option_map};
 ghost use Rattle.plain_machine.specs.World.{datum_at};
-ghost use Rattle.class_world.specs.Claims.{of_args, of_task, Leaves};
+ghost use Rattle.class_world.specs.Claims.{of_args, of_task};
 ghost use Rattle.class_world.specs.Reading.{Reading, bindings, plain, task_of};
 ghost use Rattle.class_world.specs.Sound.{AllHold, Holds, IsNode, of_option};
-ghost use Rattle.proto_descr.specs.Rows.{StepsAs, nothing_held};
+ghost use Rattle.native_calls.specs.Asks.{StepsAs, LeavesStep};
 ghost use Rattle.native_calls.specs.Say.{call_by_name, called_task, is_function};
 
 use class_world::World;
@@ -17,14 +17,14 @@ use py_node::{CallableNative, Cause, NativeEntry, OutOfMemory, Payload, PyObject
 /// The first argument is called with those after it, by a native that is for its kind.
 pub(crate) fn call_by_name(
     world: &World,
-    native: NativeEntry,
+    native: CallableNative,
     args: Args,
     kw: Keywords,
 ) -> Result<Step<()>, OutOfMemory>
     requires { AllHold world.now (of_args args.items kw.items) }
     ensures steps { IfOk result (λ step. StepsAs (λ t u. call_by_name u native args.items (bindings t kw.items))
         world.now world.now step) }
-    ensures safe { Leaves nothing_held world.now world.now result }
+    ensures safe { LeavesStep world.now world.now result }
 {
     match args.as_slice() {
         [] => Ok(Step::raise(Cause::ArgCount)),
@@ -41,7 +41,7 @@ pub(crate) fn call_by_name(
 // What is asked where an object is called by a native that is for its kind.
 fn called_task(
     world: &World,
-    native: NativeEntry,
+    native: CallableNative,
     f: PyObjectRef,
     args: Args,
     kw: Keywords,
@@ -51,11 +51,10 @@ fn called_task(
         called_task (plain t world.now) native f args.items (bindings t kw.items)) }
     ensures holds { IfOk result (λ o. AllHold world.now (of_option of_task o)) }
 {
-    let body = NativeEntry::OfCallable(CallableNative::CallFunction);
-    if native.is_same(body) && !is_function(world, f) {
+    if native == CallableNative::CallFunction && !is_function(world, f) {
         Ok(None)
     } else {
-        native_call(world, native, f, args, kw)
+        native_call(world, NativeEntry::OfCallable(native), f, args, kw)
     }
 }
 

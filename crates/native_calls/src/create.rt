@@ -1,10 +1,10 @@
 //! The making of objects by name.
 
 ghost use Rattle.std.specs.Prelude.{◌≡◌, IfOk};
-ghost use Rattle.class_world.specs.Claims.{of_args, Leaves};
+ghost use Rattle.class_world.specs.Claims.{of_args};
 ghost use Rattle.class_world.specs.Reading.{Reading, bindings};
 ghost use Rattle.class_world.specs.Sound.{AllHold};
-ghost use Rattle.proto_descr.specs.Rows.{StepsAs, nothing_held};
+ghost use Rattle.native_calls.specs.Asks.{StepsAs, LeavesStep};
 ghost use Rattle.native_calls.specs.Say.{new_by_name};
 
 use class_world::World;
@@ -21,7 +21,7 @@ pub(crate) fn new_by_name(
     requires { AllHold world.now (of_args args.now kw.items) }
     ensures steps { IfOk result (λ step. StepsAs (λ t u. new_by_name u args.now (bindings t kw.items))
         world.now world.now step) }
-    ensures safe { Leaves nothing_held world.now world.now result }
+    ensures safe { LeavesStep world.now world.now result }
 {
     match args {
         [own, class, rest @ ..] => match (world.class_number(*own), world.class_number(*class)) {

@@ -1,153 +1,76 @@
-//! The natives that call an object, bind it, or make one, by name. Each is a small automaton: `begin` and `resume`.
-#![tactic(auto, using(class_world::proofs::Items::item_holds), unfolding(crate::specs::Say::asking_job_say))]
+//! The natives that call an object, bind it, or make one, by name. They may ask one task.
+#![tactic(auto, using(class_world::proofs::Items::item_holds))]
 
 ghost use Rattle.std.specs.Prelude.{◌≡◌, IfOk};
-ghost use Rattle.class_world.specs.Claims.{of_args, of_ended, of_step, Leaves};
+ghost use Rattle.class_world.specs.Claims.{of_args};
 ghost use Rattle.class_world.specs.Reading.{Reading, bindings};
-ghost use Rattle.class_world.specs.Sound.{AllHold, AreNodes, Holds};
-ghost use Rattle.py_node.specs.declared.task.Task.TheVariants as task;
-ghost use Rattle.proto_descr.specs.Rows.{nothing_held};
-ghost use Rattle.native_calls.specs.Asks.{Begins, Resumes, Does, of_native_kept, passed};
-ghost use Rattle.native_calls.specs.Say.{by_way, way_of};
+ghost use Rattle.class_world.specs.Sound.{AllHold};
+ghost use Rattle.native_calls.specs.Asks.{StepsAs, LeavesStep};
+ghost use Rattle.native_calls.specs.Say.{asks, asking_say, callable_by};
 
-use crate::bind::{
-    class_method_by_name, function_get_by_name, getset_get_by_name, native_get_by_name,
-    resume_class_method, static_method_by_name,
-};
+use crate::bind::{function_get_by_name, native_get_by_name};
 use crate::call::call_by_name;
 use crate::create::new_by_name;
-use crate::way::{Kind, Way, Wrapper, way_of};
-use crate::wrap::{ask_for_doc, give_doc};
-use class_world::{Fixed, World};
+use class_world::World;
 use py_node::task::{Args, Keywords};
-use py_node::{
-    Answer, NativeEntry, OutOfMemory, PyObjectRef, PyStrInterned, PyTypeRef, Raised, Step,
-};
+use py_node::{CallableNative, NativeEntry, OutOfMemory, Step};
 
 mod bind;
 mod call;
 mod create;
-pub mod way;
-mod wrap;
 
-pub use way::asks;
-
-/// What a native keeps while it waits for an answer.
-#[derive(Drop)]
-pub enum NativeKept {
-    /// The answer is passed on: where there is no object, it is None.
-    Pass,
-    /// A class method asked for `__get__` of what it wraps: the class, and what it wraps.
-    AfterGet(PyObjectRef, PyObjectRef),
-    /// A new class method or static method asked for the doc of what it is to wrap: its class, and what it wraps.
-    AfterDoc(Wrapper, PyTypeRef, PyObjectRef),
-    /// It was made, and is given the doc.
-    AfterSet(PyObjectRef),
+/// Whether a native is one of these.
+pub fn asks(entry: NativeEntry) -> bool
+    ensures { result ≡ asks entry }
+{
+    match entry {
+        NativeEntry::OfCallable(CallableNative::ReprMethodDescriptor) => false,
+        NativeEntry::OfCallable(_) => true,
+        NativeEntry::NewWrapper => true,
+        _ => false,
+    }
 }
 
 /// The first step of one of these natives.
-pub fn begin(
+pub fn asking_native(
     world: &mut World,
     entry: NativeEntry,
     args: Args,
     kw: Keywords,
-) -> Result<Step<NativeKept>, OutOfMemory>
+) -> Result<Step<()>, OutOfMemory>
     requires { AllHold world.old (of_args args.items kw.items) }
-    ensures goes { IfOk result (λ step. Begins (task.Native entry args kw) world.old world.new step) }
-    ensures safe { Leaves of_native_kept world.old world.new result }
+    ensures steps { IfOk result (λ step. StepsAs (λ t u. asking_say u entry args.items (bindings t kw.items))
+        world.old world.new step) }
+    ensures safe { LeavesStep world.old world.new result }
 {
-    match way_of(entry) {
-        Way::Binds(kind) => binds(world, entry, kind, &args, &kw),
-        Way::Wraps(wrapper) => Ok(ask_for_doc(world, entry, wrapper, &args, &kw)),
-        Way::Makes => {
-            let step = new_by_name(world, &args, kw)?;
-            Ok(passed(step))
-        }
-        Way::Calls => {
-            let step = call_by_name(world, entry, args, kw)?;
-            Ok(passed(step))
-        }
+    match entry {
+        NativeEntry::OfCallable(native) => callable_native(world, native, args, kw),
+        NativeEntry::NewWrapper => new_by_name(world, &args, kw),
+        _ => Ok(Step::not_yet()),
     }
 }
 
-// What an object of a kind gives as it is bound.
-fn binds(
+// A native of what is called or bound.
+fn callable_native(
     world: &mut World,
-    entry: NativeEntry,
-    kind: Kind,
-    args: &[PyObjectRef],
-    kw: &[(PyStrInterned, PyObjectRef)],
-) -> Result<Step<NativeKept>, OutOfMemory>
-    requires args { Holds world.old (AreNodes args.now) }
-    requires way { way_of entry ≡ Way.Binds kind }
-    ensures goes { IfOk result (λ step. Does entry
-        (λ t u. by_way u (Way.Binds kind) entry args.now (bindings t kw.now)) world.old world.new step) }
-    ensures safe { Leaves of_native_kept world.old world.new result }
+    native: CallableNative,
+    args: Args,
+    kw: Keywords,
+) -> Result<Step<()>, OutOfMemory>
+    requires { AllHold world.old (of_args args.items kw.items) }
+    ensures steps { IfOk result (λ step. StepsAs (λ t u. callable_by u native args.items (bindings t kw.items))
+        world.old world.new step) }
+    ensures safe { LeavesStep world.old world.new result }
 {
-    match kind {
-        Kind::Function => {
-            let ended = function_get_by_name(world, args, kw)?;
+    match native {
+        CallableNative::GetFunction => {
+            let ended = function_get_by_name(world, &args, &kw)?;
             Ok(Step::End(ended))
         }
-        Kind::Native => {
-            let ended = native_get_by_name(world, args, kw)?;
+        CallableNative::GetMethodDescriptor => {
+            let ended = native_get_by_name(world, &args, &kw)?;
             Ok(Step::End(ended))
         }
-        Kind::GetSet => {
-            let step = getset_get_by_name(world, args, kw)?;
-            Ok(passed(step))
-        }
-        Kind::ClassMethod => Ok(class_method_by_name(world, entry, args, kw)),
-        Kind::StaticMethod => {
-            let ended = static_method_by_name(world, args, kw);
-            Ok(Step::End(ended))
-        }
-    }
-}
-
-/// Goes on with a native that was given an answer.
-pub fn resume(
-    world: &mut World,
-    kept: NativeKept,
-    answer: Result<Answer, Raised>,
-) -> Result<Step<NativeKept>, OutOfMemory>
-    requires kept { AllHold world.old (of_native_kept kept) }
-    requires answer { AllHold world.old (of_ended answer) }
-    ensures goes { IfOk result (λ step. Resumes kept answer world.old world.new step) }
-    ensures safe { Leaves of_native_kept world.old world.new result }
-{
-    match kept {
-        NativeKept::Pass => Ok(native_end(world, answer)),
-        NativeKept::AfterGet(class, func) => resume_class_method(world, class, func, answer),
-        NativeKept::AfterDoc(wrapper, class, func) => {
-            give_doc(world, wrapper, class, func, answer)
-        }
-        NativeKept::AfterSet(new) => match answer {
-            Err(raised) => Ok(Step::End(Err(raised))),
-            Ok(_done) => Ok(Step::End(Ok(Answer::Value(new)))),
-        },
-    }
-}
-
-// How a native ends that asked a task: as that did, or with None where that gave no object.
-fn native_end(world: &World, answer: Result<Answer, Raised>) -> Step<NativeKept>
-    requires { AllHold world.now (of_ended answer) }
-    ensures goes { Resumes NativeKept.Pass answer world.now world.now result }
-    ensures safe { AllHold world.now (of_step of_native_kept result) }
-{
-    match answer {
-        Ok(Answer::Done) => Step::End(Ok(Answer::Value(world.fixed(Fixed::None)))),
-        other => Step::End(other),
-    }
-}
-
-// A step that keeps nothing, among those of natives.
-pub(crate) fn passed(step: Step<()>) -> Step<NativeKept>
-    ensures step { result ≡ passed step }
-    ensures says { of_step of_native_kept result ≡ of_step nothing_held step }
-{
-    match step {
-        Step::Ask(task, _) => Step::Ask(task, NativeKept::Pass),
-        Step::End(answer) => Step::End(answer),
+        _ => call_by_name(world, native, args, kw),
     }
 }

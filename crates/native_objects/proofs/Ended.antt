@@ -25,11 +25,3 @@ ends-after said other old new (Err e) same h = tt
 pub ends-made : (said : Reading → PlainWorld → Said) (old new : World) (c : ℕ) (d : Reading → Datum) (r : PyObjectRef) → ((t : Reading) → Reads t old → said t (plain t old) ≡ Ends (with_node (plain t old) c (d t)) (value (next_node (plain t old) c))) → ((t : Reading) → plain t new ≡ with_node (plain t old) c (d t)) → ((t : Reading) → r ≡ next_node (plain t old) c) → ((t : Reading) → Reads t new → Reads t old) → EndsAs said old new (Ok (Value r))
 ends-made said old new c d r says made number reads = λ t q.
     (reads t q, says t (reads t q) ∙ sym (ap (λ v. Ends v (value r)) (made t) ∙ ap (λ m. Ends (with_node (plain t old) c (d t)) (value m)) (number t)))
-
--- a native that first makes something, and then ends as is said of the world after that
-ends-on : (said other : Reading → PlainWorld → Said) (old mid new : World) (r : Result Answer Fault) → ((t : Reading) → Reads t mid → Reads t old × (said t (plain t old) ≡ other t (plain t mid))) → EndsAs other mid new r → EndsAs said old new r
-ends-on said other old mid new r same h = λ t q. let k = h t q in let s = same t k.0 in (s.0, s.1 ∙ k.1)
-
-pub ends-then : (said other : Reading → PlainWorld → Said) (old mid new : World) (r : Result (Result Answer Fault) OutOfMemory) → ((t : Reading) → Reads t mid → Reads t old × (said t (plain t old) ≡ other t (plain t mid))) → IfOk r (λ a. EndsAs other mid new a) → IfOk r (λ a. EndsAs said old new a)
-ends-then said other old mid new (Ok a) same h = ends-on said other old mid new a same h
-ends-then said other old mid new (Err e) same h = tt

@@ -3,7 +3,3 @@ pub mod Listed
 pub mod Held
 pub mod Parts
 pub mod Named
-pub mod Bases
-pub mod Keyed
-pub mod Owned
-pub mod Followed

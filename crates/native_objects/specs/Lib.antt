@@ -4,7 +4,3 @@ pub mod Objects
 pub mod Descriptors
 pub mod Properties
 pub mod Makers
-pub mod Attributes
-pub mod Details
-pub mod DetailParts
-pub mod Getters

@@ -14,7 +14,6 @@ use Rattle.plain_machine.specs.Objects.{class_number, is_instance}
 use Rattle.plain_machine.specs.Row.{value, truth, not_implemented, fault, not_yet}
 use Rattle.plain_machine.specs.Takes.{with_one, with_two}
 use Rattle.native_base.specs.Say.{object_made, int_made, text_made}
-use Rattle.native_objects.specs.Attributes.{type_dir}
 use Rattle.native_objects.specs.Takes.{needed, with_class, with_lone_class, with_class_and}
 use Rattle.native_objects.specs.Names.{object_text, class_text}
 
@@ -104,7 +103,6 @@ type_native_say w type.Repr args kw = type_repr w args kw
 type_native_say w type.InstanceCheck args kw = instance_check w args kw
 type_native_say w type.SubclassCheck args kw = subclass_check w args kw
 type_native_say w type.Subclasses args kw = type_subclasses w args kw
-type_native_say w type.Dir args kw = type_dir w args kw
 type_native_say w type.Mro args kw = type_mro w args kw
 type_native_say w type.Prepare args kw = type_prepare w args
 type_native_say w type.SubclassHook args kw = type_subclass_hook w args

@@ -1,10 +1,7 @@
 //! The natives of `object` and `type`, of descriptors and of `super` that ask no task, and what makes objects.
 #![tactic(auto, using(class_world::proofs::Items::item_holds))]
 
-mod attributes;
 mod descriptors;
-mod details;
-mod getters;
 mod lists;
 mod makers;
 mod names;
@@ -14,8 +11,6 @@ mod take;
 mod types;
 
 pub use descriptors::{callable_native, descriptor_native, super_native, wrapper_native};
-pub use details::getter_of_native;
-pub use getters::getter_native;
 pub use makers::maker_native;
 pub use object::object_native;
 pub use property::property_native;

@@ -169,7 +169,6 @@ pub(crate) fn own_static(
     ensures refused { IfErr result (λ x. (t : Reading) (go : Object → Object → Said) →
         with_own static_in (plain t world.now) args.now go ≡ Ends (plain t world.now) (Err x)) }
     ensures node { IfOk result (λ p. Holds world.now (IsNode p.0)) }
-    ensures callable { IfOk result (λ p. Holds world.now (IsNode p.1)) }
     ensures holding { IfOk result (λ p. Holds world.now (Holding p.0 StaticMethod)) }
 {
     match args {

@@ -7,7 +7,6 @@ ghost use Rattle.class_world.specs.Rows.{EndsAs, LeavesEnd};
 ghost use Rattle.class_world.specs.Sound.{AllHold, AreNodes, Holds};
 ghost use Rattle.native_objects.specs.Objects.{type_native_say, type_repr, instance_check, subclass_check, type_subclasses, type_mro, type_prepare, type_subclass_hook};
 
-use crate::attributes::type_dir;
 use crate::lists::class_nodes;
 use crate::names::{class_text, limited_text};
 use crate::take::{class_and, lone_class, own_class};
@@ -34,7 +33,6 @@ pub fn type_native(
         TypeNative::InstanceCheck => Ok(instance_check(world, args, kw)),
         TypeNative::SubclassCheck => Ok(subclass_check(world, args, kw)),
         TypeNative::Subclasses => type_subclasses(world, args, kw),
-        TypeNative::Dir => type_dir(world, args, kw),
         TypeNative::Mro => type_mro(world, args, kw),
         TypeNative::Prepare => type_prepare(world, args),
         TypeNative::SubclassHook => Ok(type_subclass_hook(world, args)),

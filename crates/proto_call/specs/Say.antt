@@ -6,12 +6,11 @@ use Rattle.py_node.specs.declared.entry.SlotId.TheVariants.{Call, Init, New}
 use Rattle.py_node.specs.declared.entry.SlotEntry.{SlotEntry}
 use Rattle.py_node.specs.declared.entry.SlotEntry.TheVariants.{Native, Wrapper}
 use Rattle.py_node.specs.declared.entry.NativeEntry.{NativeEntry}
-use Rattle.py_node.specs.declared.entry.NativeEntry.TheVariants.{OfType, OfCallable, OfWrapper}
+use Rattle.py_node.specs.declared.entry.NativeEntry.TheVariants.{OfType, OfCallable}
 use Rattle.py_node.specs.declared.entry.ObjectNative.{ObjectNative}
 use Rattle.py_node.specs.declared.entry.ObjectNative.TheVariants as object
 use Rattle.py_node.specs.declared.entry.TypeNative.TheVariants as type
 use Rattle.py_node.specs.declared.entry.CallableNative.TheVariants as callable
-use Rattle.py_node.specs.declared.entry.WrapperNative.TheVariants as wrapper
 use Rattle.py_node.specs.Attributes.{value_of, with_value}
 use Rattle.py_node.specs.Tree.{Text, Tree}
 use Rattle.py_node.specs.Replies.{Started}
@@ -20,7 +19,7 @@ use Rattle.py_node.specs.Known.{known_text}
 use Rattle.class_model.specs.Class.{found}
 use Rattle.class_model.specs.Slot.{slot}
 use Rattle.class_model.specs.BuiltIn.{natives_of}
-use Rattle.plain_machine.specs.Plain.{Datum, AnObject, AClass, AFunction, AMethod, ANativeFunction, ABuiltinMethod, AMethodDescriptor, AStaticMethod, ATuple, PlainWorld, Bindings, DoEval, CallJob, DoCall, DoBody, DoTypeCall, DoNew, DoInit, DoObject, DoGeneric, DoGenericSet, DoSpecial, PlainTask, ToEval, ToAttribute, ToCall, Ended, Chose, Said, Asks, Ends}
+use Rattle.plain_machine.specs.Plain.{Datum, AnObject, AClass, AFunction, AMethod, ANativeFunction, ABuiltinMethod, AMethodDescriptor, ATuple, PlainWorld, Bindings, DoEval, CallJob, DoCall, DoBody, DoTypeCall, DoNew, DoInit, DoObject, DoGeneric, DoGenericSet, DoSpecial, PlainTask, ToEval, ToAttribute, ToCall, Ended, Chose, Said, Asks, Ends}
 use Rattle.plain_machine.specs.World.{is_text, datum_at, slot_at, text_keys, with_node, next_node, with_scope, without_scope}
 use Rattle.plain_machine.specs.Objects.{class_object, class_number, is_instance, nearest_built_in}
 use Rattle.plain_machine.specs.Args.{filled}
@@ -41,7 +40,7 @@ abbrev pub with_self : Option PyObjectRef → List PyObjectRef → List PyObject
 with_self None args = args
 with_self (Some r) args = r ∷ args
 
--- what the native entry for calls does with what the object holds: a body runs, a bound function is called with its object first, a native is asked, a class makes an object, what a static method wraps is called
+-- what the native entry for calls does with what the object holds: a body runs, a bound function is called with its object first, a native is asked, a class makes an object
 abbrev pub call_native : NativeEntry → Option Datum → PyObjectRef → List PyObjectRef → Bindings → Option PlainTask
 call_native (OfCallable callable.CallFunction) d f args kw = Some (ToCall (DoBody f args kw))
 call_native (OfCallable callable.CallMethod) (Some (AMethod o g)) f args kw = Some (ToCall (DoCall g (o ∷ args) kw))
@@ -49,7 +48,6 @@ call_native (OfCallable callable.CallNativeFunction) (Some (ANativeFunction x n 
 call_native (OfCallable callable.CallBuiltinMethod) (Some (ABuiltinMethod x n o c doc)) f args kw = Some (native_task n (o ∷ args) kw)
 call_native (OfCallable callable.CallMethodDescriptor) (Some (AMethodDescriptor c x n flags doc)) f args kw = Some (native_task n args kw)
 call_native (OfType type.Call) (Some (AClass c)) f args kw = Some (ToCall (DoTypeCall c args kw))
-call_native (OfWrapper wrapper.StaticCall) (Some (AStaticMethod g)) f args kw = Some (ToCall (DoCall g args kw))
 call_native _ d f args kw = None
 
 -- what is asked, where the native entry is one of these. Others are not there yet

@@ -16,7 +16,7 @@ use class_world::natives::native_task;
 use py_node::task::{Args, Keywords};
 use py_node::{
     CallTask, CallableNative, Cause, Known, NativeEntry, OutOfMemory, Payload, PyObjectRef,
-    SlotEntry, SlotId, Step, Task, TypeNative, WrapperNative,
+    SlotEntry, SlotId, Step, Task, TypeNative,
 };
 use std::alloc::Global;
 
@@ -106,9 +106,6 @@ fn call_held(
         ) => { Ok(Some(native_task(method.entry, args, kw))) }
         (NativeEntry::OfType(TypeNative::Call), Payload::Class(class)) => {
             Ok(Some(Task::Call(CallTask::TypeCall(*class, args, kw))))
-        }
-        (NativeEntry::OfWrapper(WrapperNative::StaticCall), Payload::StaticMethod(func)) => {
-            Ok(Some(Task::Call(CallTask::Call(*func, args, kw))))
         }
         _ => Ok(None),
     }

@@ -1,20 +1,16 @@
 -- Steps that follow from what was read.
-use Rattle.std.proofs.Common.{◌≡◌, [], ◌∷◌, ◌++◌, refl, sym, subst}
-use Rattle.std.specs.Prelude.{Result, Option}
+use Rattle.std.proofs.Common.{◌≡◌, [], sym, subst}
+use Rattle.std.specs.Prelude.{Result}
 use Rattle.py_node.specs.declared.raised.Raised.{Raised as Fault}
 use Rattle.py_node.specs.declared.task.Answer.{Answer}
 use Rattle.py_node.specs.declared.task.DescriptorTask.{DescriptorTask}
-use Rattle.py_node.specs.declared.task.Step.{Step}
-use Rattle.py_node.specs.declared.task.Step.TheVariants.{Ask, End}
-use Rattle.py_node.specs.declared.task.DescriptorTask.TheVariants.{DescrGet}
-use Rattle.py_node.specs.declared.refs.PyObjectRef.{PyObjectRef}
-use Rattle.plain_machine.specs.Plain.{PlainWorld, Answered, Said, Asks, Ends}
+use Rattle.py_node.specs.declared.task.Step.TheVariants.{End}
+use Rattle.plain_machine.specs.Plain.{PlainWorld, Said, Asks, Ends}
 use Rattle.class_world.specs.declared.world.World.{World}
-use Rattle.class_world.specs.Reading.{Reading, Reads, plain, descriptor_job, ended_of}
+use Rattle.class_world.specs.Reading.{Reading, Reads, plain, descriptor_job}
 use Rattle.class_world.specs.Rows.{Steps}
-use Rattle.proto_descr.specs.Say.{descriptor_say, class_method_by}
-use Rattle.proto_descr.specs.Rows.{descriptor_stands, Starts, Resumes, StepsAs, EndsAs, EndsSo, passed}
-use Rattle.proto_descr.specs.declared.DescriptorKept.TheVariants.{Pass, AfterGet}
+use Rattle.proto_descr.specs.Say.{descriptor_say}
+use Rattle.proto_descr.specs.Rows.{descriptor_stands, Starts, EndsAs, EndsSo}
 
 -- a row that is said to end ends
 ends-so : (t : Reading) (task : DescriptorTask) (said : Said) (r : Result Answer Fault) (new : World) → EndsSo said r (plain t new) → Steps descriptor_say (descriptor_stands t) t (descriptor_job t task) [] said (End r) new
@@ -25,25 +21,3 @@ pub closes-starts : (task : DescriptorTask) (said other : Reading → PlainWorld
 closes-starts task said other old new r same closes = λ t q.
     let k = closes t q in
     (k.0, subst (λ s. Steps descriptor_say (descriptor_stands t) t (descriptor_job t task) [] s (End r) new) (sym (same t k.0)) (ends-so t task (other t (plain t old)) r new k.1))
-
--- a row that begins with a step that keeps nothing
-pub passed-starts : (m : PyObjectRef) (o c : Option PyObjectRef) (said : Reading → PlainWorld → Said) (old new : World) (step : Step Unit) → StepsAs said old new step → Starts (DescrGet m o c) said old new (passed step)
-unfolding descriptor_say
-passed-starts m o c said old new (Ask asked kept) h = λ t q.
-    let k = h t q in
-    (k.0, subst (λ s. Steps descriptor_say (descriptor_stands t) t (descriptor_job t (DescrGet m o c)) [] s (Ask asked Pass) new) (sym k.1) (refl, refl, record { says = λ w s more. refl }))
-passed-starts m o c said old new (End r) h = λ t q.
-    let k = h t q in
-    (k.0, subst (λ s. Steps descriptor_say (descriptor_stands t) t (descriptor_job t (DescrGet m o c)) [] s (End r) new) (sym k.1) (refl, refl))
-
--- and one that goes on with such a step, where a class method was given `__get__` of what it wraps
-pub passed-resumes : (k f : PyObjectRef) (r : Result Answer Fault) (old new : World) (step : Step Unit) → StepsAs (λ t w. class_method_by w k f (ended_of r)) old new step → Resumes (AfterGet k f) r old new (passed step)
-unfolding descriptor_say
-passed-resumes k f r old new (Ask asked kept) h = λ t q.
-    let e = h t q in
-    let p = descriptor_stands t (AfterGet k f) in
-    (e.0, subst (λ s. Steps descriptor_say (descriptor_stands t) t p.task (p.told ++ Answered (ended_of r) ∷ []) s (Ask asked Pass) new) (sym e.1) (refl, refl, record { says = λ w s more. refl }))
-passed-resumes k f r old new (End s) h = λ t q.
-    let e = h t q in
-    let p = descriptor_stands t (AfterGet k f) in
-    (e.0, subst (λ said. Steps descriptor_say (descriptor_stands t) t p.task (p.told ++ Answered (ended_of r) ∷ []) said (End s) new) (sym e.1) (refl, refl))

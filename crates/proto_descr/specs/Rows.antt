@@ -8,28 +8,25 @@ use Rattle.py_node.specs.declared.payload.Payload.TheVariants as payload
 use Rattle.py_node.specs.declared.task.Answer.{Answer}
 use Rattle.py_node.specs.declared.task.DescriptorTask.{DescriptorTask}
 use Rattle.py_node.specs.declared.task.Step.{Step}
-use Rattle.py_node.specs.declared.task.Step.TheVariants.{Ask, End}
-use Rattle.plain_machine.specs.Plain.{Datum, PlainWorld, DescriptorJob, DoDescrGet, ReadObjects, Said, Asks, Ends}
+use Rattle.plain_machine.specs.Plain.{Datum, PlainWorld, DescriptorJob, DoDescrGet, Said, Asks, Ends}
 use Rattle.plain_machine.specs.Rows.{Pending}
 use Rattle.plain_machine.specs.World.{ref}
 use Rattle.class_world.specs.declared.world.World.{World}
-use Rattle.class_world.specs.Reading.{Reading, Reads, plain, descriptor_job, datum, task_of, ended_of, spelled, spelled_option}
+use Rattle.class_world.specs.Reading.{Reading, Reads, plain, descriptor_job, datum, ended_of, spelled, spelled_option}
 use Rattle.class_world.specs.Rows as rows
 use Rattle.class_world.specs.Rows.{Group}
-use Rattle.class_world.specs.Sound.{Claim, IsNode, of_payload}
+use Rattle.class_world.specs.Sound.{Claim, of_payload}
 use Rattle.proto_descr.specs.declared.DescriptorKept.{DescriptorKept}
-use Rattle.proto_descr.specs.declared.DescriptorKept.TheVariants.{Pass, AfterGet}
+use Rattle.proto_descr.specs.declared.DescriptorKept.TheVariants.{Pass}
 use Rattle.proto_descr.specs.Say.{descriptor_say, bound_native}
 
 -- the row that goes on, at each answer, just as the row that the code keeps this for
 abbrev pub descriptor_stands : Reading → DescriptorKept → Pending DescriptorJob
 descriptor_stands t Pass = record { task = DoDescrGet (ref 0) None None; told = [] }
-descriptor_stands t (AfterGet k f) = record { task = DoDescrGet (ref 0) None None; told = ReadObjects (k ∷ f ∷ []) ∷ [] }
 
 -- what is said of what is kept
 abbrev pub of_descriptor_kept : DescriptorKept → List Claim
 of_descriptor_kept Pass = []
-of_descriptor_kept (AfterGet k f) = IsNode k ∷ IsNode f ∷ []
 
 -- the group: its jobs, what they say, what goes on, and what is claimed of that
 abbrev pub descriptor_group : Group DescriptorTask DescriptorJob DescriptorKept
@@ -53,23 +50,6 @@ EndsSo (Ends w r) s new = (ended_of s ≡ r) × (new ≡ w)
 -- a row is said to end, and ends so, however the numbers are read
 abbrev pub EndsAs : (Reading → PlainWorld → Said) → World → World → Result Answer Fault → Type 0
 EndsAs said old new r = (t : Reading) → Reads t new → Reads t old × EndsSo (said t (plain t old)) r (plain t new)
-
--- a step that keeps nothing asks a task and ends as that does, or ends
-abbrev pub step_said : Reading → World → Step Unit → Said
-step_said t new (Ask asked kept) = Asks (plain t new) [] (task_of t asked)
-step_said t new (End r) = Ends (plain t new) (ended_of r)
-
--- the step is what is said, however the numbers are read
-abbrev pub StepsAs : (Reading → PlainWorld → Said) → World → World → Step Unit → Type 0
-StepsAs said old new step = (t : Reading) → Reads t new → Reads t old × (said t (plain t old) ≡ step_said t new step)
-
-abbrev pub nothing_held : Unit {0} → List Claim
-nothing_held kept = []
-
--- such a step among those of descriptors
-abbrev pub passed : Step Unit → Step DescriptorKept
-passed (Ask asked kept) = Ask asked Pass
-passed (End r) = End r
 
 -- a class by its number
 abbrev pub number : Option PyTypeRef → Option ℕ

@@ -1,23 +1,20 @@
 -- What the rows of descriptors say.
-use Rattle.std.specs.Prelude.{ℕ, Bool, cond, not, eqb, ◌&&◌, false, List, [], ◌∷◌, Option, Some, None, Ok, Err}
+use Rattle.std.specs.Prelude.{ℕ, Bool, cond, not, eqb, ◌&&◌, false, [], ◌∷◌, Option, Some, None}
 use Rattle.py_node.specs.declared.refs.PyObjectRef.{PyObjectRef}
-use Rattle.py_node.specs.declared.raised.Cause.TheVariants.{NeedsType, NoGetter}
+use Rattle.py_node.specs.declared.raised.Cause.TheVariants.{NeedsType}
 use Rattle.py_node.specs.declared.entry.SlotId.TheVariants.{DescrGet}
 use Rattle.py_node.specs.declared.entry.SlotEntry.{SlotEntry}
 use Rattle.py_node.specs.declared.entry.SlotEntry.TheVariants.{Native, Wrapper}
 use Rattle.py_node.specs.declared.entry.NativeEntry.{NativeEntry}
-use Rattle.py_node.specs.declared.entry.NativeEntry.TheVariants.{OfCallable, OfDescriptor, OfWrapper}
+use Rattle.py_node.specs.declared.entry.NativeEntry.TheVariants.{OfCallable}
 use Rattle.py_node.specs.declared.entry.CallableNative.TheVariants as callable
-use Rattle.py_node.specs.declared.entry.DescriptorNative.TheVariants as descriptor
-use Rattle.py_node.specs.declared.entry.WrapperNative.TheVariants as wrapper
 use Rattle.py_node.specs.Tree.{Text}
 use Rattle.py_node.specs.declared.known.Known.TheVariants as known
 use Rattle.py_node.specs.Known.{known_text}
-use Rattle.plain_machine.specs.Plain.{Datum, AMethod, ABuiltinMethod, AMethodDescriptor, AGetSet, AClassMethod, AStaticMethod, PlainWorld, DescriptorJob, DoDescrGet, DoSpecial, DoGetAttr, DoCall, ToAttribute, ToCall, AsValue, Ended, Answered, ReadObjects, Said, Asks, Ends}
+use Rattle.plain_machine.specs.Plain.{Datum, AMethod, ABuiltinMethod, AMethodDescriptor, PlainWorld, DescriptorJob, DoDescrGet, DoSpecial, ToAttribute, Said, Ends}
 use Rattle.plain_machine.specs.World.{datum_at, slot_at, with_node, next_node}
-use Rattle.plain_machine.specs.Objects.{type_object, class_object, class_number, for_objects, for_classes}
+use Rattle.plain_machine.specs.Objects.{type_object, class_number, for_objects, for_classes}
 use Rattle.plain_machine.specs.Known.{the_none_type, the_method, the_builtin_method}
-use Rattle.plain_machine.specs.Native.{native_task}
 use Rattle.plain_machine.specs.Row.{Row, start, pass, end, value, fault, not_yet, none}
 
 abbrev pub or_none : Option PyObjectRef → PyObjectRef
@@ -67,61 +64,16 @@ native_get w (Some (AMethodDescriptor k x n flags doc)) m o c =
     cond (for_objects flags) (object_get w m bound o (class_of_option w c)) (cond (for_classes flags) (class_get w bound o c) (static_get w m o))
 native_get w _ m o c = Ends w (value m)
 
--- what reads an attribute of objects is asked of the object alone, where there is one
-abbrev pub read_by : PlainWorld → Option NativeEntry → PyObjectRef → Said
-read_by w None o = Ends w (fault NoGetter)
-read_by w (Some n) o = pass w (native_task n (o ∷ []) [])
-
-abbrev pub getset_get : PlainWorld → Option Datum → PyObjectRef → Option PyObjectRef → Said
-getset_get w (Some (AGetSet k x get set)) m (Some o) = read_by w get o
-getset_get w _ m o = Ends w (value m)
-
--- the class that a class method is for: the one that is given, or else the object's, or else None's
-abbrev pub class_for : PlainWorld → Option PyObjectRef → Option PyObjectRef → PyObjectRef
-class_for w o (Some c) = c
-class_for w (Some o) None = type_object w o
-class_for w None None = class_object w the_none_type
-
--- what a class method wraps is asked for its own `__get__`
-abbrev pub class_method_get : PlainWorld → Option Datum → PyObjectRef → PyObjectRef → Said
-class_method_get w (Some (AClassMethod f)) m k = Asks w (ReadObjects (k ∷ f ∷ []) ∷ []) (ToAttribute (DoGetAttr f (known_text known.Get)))
-class_method_get w _ m k = Ends w (value m)
-
--- this is called with the class as object and as class. Where there is none, what is wrapped is a method of the class
-abbrev pub class_method_by : PlainWorld → PyObjectRef → PyObjectRef → Ended → Said
-class_method_by w k f (Ok (AsValue g)) = pass w (ToCall (DoCall g (k ∷ k ∷ []) []))
-class_method_by w k f (Ok a) = Ends w (Ok a)
-class_method_by w k f (Err x) = Ends (with_node w the_method (AMethod k f)) (value (next_node w the_method))
-
--- a static method gives what it wraps
-abbrev pub static_method_get : PlainWorld → Option Datum → PyObjectRef → Said
-static_method_get w (Some (AStaticMethod f)) m = Ends w (value f)
-static_method_get w _ m = Ends w (value m)
-
 -- what a descriptor gives, as its class's entry for that says. Others are not there yet
 abbrev pub descr_get_by : PlainWorld → Option SlotEntry → PyObjectRef → Option PyObjectRef → Option PyObjectRef → Said
 descr_get_by w None m o c = Ends w (value m)
 descr_get_by w (Some (Wrapper s)) m o c = pass w (ToAttribute (DoSpecial m (known_text known.Get) (or_none o ∷ or_none c ∷ []) []))
 descr_get_by w (Some (Native (OfCallable callable.GetFunction))) m o c = function_get w m o (class_of_option w c)
 descr_get_by w (Some (Native (OfCallable callable.GetMethodDescriptor))) m o c = native_get w (datum_at w m) m o c
-descr_get_by w (Some (Native (OfDescriptor descriptor.GetSetGet))) m o c = getset_get w (datum_at w m) m o
-descr_get_by w (Some (Native (OfWrapper wrapper.ClassGet))) m o c = class_method_get w (datum_at w m) m (class_for w o c)
-descr_get_by w (Some (Native (OfWrapper wrapper.StaticGet))) m o c = static_method_get w (datum_at w m) m
 descr_get_by w (Some e) m o c = Ends w not_yet
 
--- does this, and goes on with the answer to what it asked, and with the objects that it read before, if any
-abbrev pub start_with : Said → (List PyObjectRef → Ended → Row) → Row
-start_with said go (Answered r ∷ more) = go [] r more
-start_with said go (ReadObjects rs ∷ (Answered r ∷ more)) = go rs r more
-start_with said go _ = said
-
--- a class method goes on with its class and what it wraps
-abbrev pub descr_get_rest : PlainWorld → List PyObjectRef → Ended → Row
-descr_get_rest w (k ∷ f ∷ []) r = start (class_method_by w k f r) (end w)
-descr_get_rest w _ r = end w r
-
 abbrev pub descr_get_say : PlainWorld → PyObjectRef → Option PyObjectRef → Option PyObjectRef → Row
-descr_get_say w m o c = start_with (descr_get_by w (slot_at w m DescrGet) m o c) (descr_get_rest w)
+descr_get_say w m o c = start (descr_get_by w (slot_at w m DescrGet) m o c) (end w)
 
 unfoldable pub descriptor_say : PlainWorld → DescriptorJob → Row
 descriptor_say w (DoDescrGet m o c) told = descr_get_say w m o c told

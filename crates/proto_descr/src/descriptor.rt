@@ -15,14 +15,13 @@ ghost use Rattle.proto_descr.specs.Say.{descr_get_by, function_get, is_object_no
 ghost use Rattle.proto_descr.specs.Rows.{Begins, Starts, EndsAs, number, described, native_of, bound_as, of_descriptor_kept};
 
 use crate::DescriptorKept;
-use crate::wrapped::{get_of_class_method, get_of_getset, static_method_get};
 use bitflags::Flags;
 use class_world::args::both;
 use class_world::{Fixed, World};
 use py_node::{
-    Answer, AttributeTask, BoundMethod, BuiltIn, BuiltinMethod, CallableNative, Cause,
-    DescriptorNative, Known, MethodDescriptor, NativeEntry, OutOfMemory, Payload, PyMethodFlags,
-    PyObjectRef, PyTypeRef, Raised, SlotEntry, SlotId, Step, Task, WrapperNative,
+    Answer, AttributeTask, BoundMethod, BuiltIn, BuiltinMethod, CallableNative, Cause, Known,
+    MethodDescriptor, NativeEntry, OutOfMemory, Payload, PyMethodFlags, PyObjectRef, PyTypeRef,
+    Raised, SlotEntry, SlotId, Step, Task,
 };
 
 /// How a row ends.
@@ -49,16 +48,6 @@ pub(crate) fn descr_get(
         }
         Some(SlotEntry::Native(NativeEntry::OfCallable(CallableNative::GetMethodDescriptor))) => {
             get_of_native(world, m, o, class)
-        }
-        Some(SlotEntry::Native(NativeEntry::OfDescriptor(DescriptorNative::GetSetGet))) => {
-            get_of_getset(world, m, o, class)
-        }
-        Some(SlotEntry::Native(NativeEntry::OfWrapper(WrapperNative::ClassGet))) => {
-            Ok(get_of_class_method(world, m, o, class))
-        }
-        Some(SlotEntry::Native(NativeEntry::OfWrapper(WrapperNative::StaticGet))) => {
-            let value = static_method_get(world, m);
-            Ok(Step::End(Ok(Answer::Value(value))))
         }
         Some(_) => Ok(Step::not_yet()),
     }

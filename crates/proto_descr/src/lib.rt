@@ -7,21 +7,16 @@ ghost use Rattle.class_world.specs.Claims.{of_descriptor_task, of_ended, Leaves}
 ghost use Rattle.proto_descr.specs.Rows.{Begins, Resumes, of_descriptor_kept};
 
 mod descriptor;
-mod wrapped;
 
 use class_world::World;
 pub use descriptor::{bind_function, bind_native};
-use py_node::{Answer, DescriptorTask, OutOfMemory, PyObjectRef, Raised, Step};
-use wrapped::resume_class_method;
-pub use wrapped::{bind_class_method, bind_getset, class_for, get_of, static_method_get};
+use py_node::{Answer, DescriptorTask, OutOfMemory, Raised, Step};
 
 /// What a row of a descriptor keeps while it waits for an answer.
 #[derive(Drop)]
 pub enum DescriptorKept {
     /// The answer is passed on.
     Pass,
-    /// A class method asked for `__get__` of what it wraps: the class, and what it wraps.
-    AfterGet(PyObjectRef, PyObjectRef),
 }
 
 /// Begins a task.
@@ -49,6 +44,5 @@ pub fn resume(
 {
     match kept {
         DescriptorKept::Pass => Ok(Step::End(answer)),
-        DescriptorKept::AfterGet(class, func) => resume_class_method(world, class, func, answer),
     }
 }

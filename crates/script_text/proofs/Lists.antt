@@ -1,13 +1,13 @@
 -- Lists that are read item by item.
-use Rattle.std.proofs.Common.{◌≡◌, ℕ, zero, suc, ◌+◌, ◌<◌, ◌≤◌, List, [], ◌∷◌, ◌++◌, length, get_or, drop, map, Option, Some, None, option_map, String, string_bytes, Vec, Box, Global, refl, ap, sym, ◌∙◌, append_assoc, add-one, arith, rules}
+use Rattle.std.proofs.Common.{◌≡◌, ℕ, zero, suc, ◌+◌, ◌<◌, ◌≤◌, List, [], ◌∷◌, ◌++◌, length, get_or, drop, map, Option, Some, None, option_map, String, string_bytes, Vec, Global, refl, ap, sym, ◌∙◌, append_assoc, add-one, arith, rules}
 use Rattle.std.proofs.Math.Seq.{drop-cons}
 use Rattle.std.proofs.lemmas.List.{map-append}
 use Rattle.serde_json.specs.Data.{depth, items_depth}
 use Rattle.serde_json.specs.View.{view, items_view}
 use Rattle.serde_json.specs.declared.value.Value.{Value}
-use Rattle.py_node.specs.declared.expr.Expr.{Expr, Call, Class, the_lemmas}
-use Rattle.py_node.specs.Tree.{TCall, TClass, entry, entries_of, trees_of, tree_of, pair_of}
-use Rattle.script_text.specs.Forms.{of_two, expr_of, exprs_of, pair_in, pairs_in, entry_of, entries_in, named, named_entries, call, class}
+use Rattle.py_node.specs.declared.expr.Expr.{Expr, Class, the_lemmas}
+use Rattle.py_node.specs.Tree.{TClass, Entries, no_entries, entry, entries_of, trees_of, tree_of, pair_of}
+use Rattle.script_text.specs.Forms.{of_two, expr_of, exprs_of, pair_in, pairs_in, entry_of, entries_in, named, named_entries, class}
 
 -- what is left, with what was found before it
 abbrev pub onto : {A : Type 0} → List A → Option (List A) → Option (List A)
@@ -63,21 +63,13 @@ entries-named : (fs : List (String Global × Expr)) → entries_of (map (λ e. (
 entries-named [] = refl
 entries-named (f ∷ fs) = ap (entry (string_bytes f.0) (tree_of f.1)) (entries-named fs)
 
--- a call that was read
-pub call-tree : (callee : Box Expr Global) (args : Vec Expr Global) (keywords : Vec (String Global × Expr) Global)
-    → tree_of (Call callee args keywords) ≡ call (tree_of callee.value) (map tree_of args.items) (map named keywords.items)
-call-tree callee args keywords =
-    let seen : tree_of (Call callee args keywords) ≡ TCall (tree_of callee.value) (trees_of (map tree_of args.items))
-    (entries_of (map (λ (e : String Global × Expr). (e.0, tree_of e.1)) keywords.items)) =
-    search (rules, the_lemmas) in
-    seen ∙ ap (TCall (tree_of callee.value) (trees_of (map tree_of args.items))) (entries-named keywords.items)
-
--- a class that was read
-pub class-tree : (text : String Global) (bases : Vec Expr Global) (keywords entries : Vec (String Global × Expr) Global)
-    → tree_of (Class text bases keywords entries) ≡ class (string_bytes text) (map tree_of bases.items) (map named entries.items) (map named keywords.items)
-class-tree text bases keywords entries =
+-- a class that was read, whose list of keywords is empty
+pub class-tree : (text : String Global) (bases : Vec Expr Global) (keywords entries : Vec (String Global × Expr) Global) → keywords.items ≡ []
+    → tree_of (Class text bases keywords entries) ≡ class (string_bytes text) (map tree_of bases.items) (map named entries.items)
+class-tree text bases keywords entries none =
     let seen : tree_of (Class text bases keywords entries) ≡ TClass (string_bytes text) (trees_of (map tree_of bases.items))
     (entries_of (map (λ (e : String Global × Expr). (e.0, tree_of e.1)) keywords.items)) (entries_of (map (λ (e : String Global × Expr). (e.0, tree_of e.1)) entries.items)) =
     search (rules, the_lemmas) in
-    seen ∙ ap (λ ks. TClass (string_bytes text) (trees_of (map tree_of bases.items)) ks (entries_of (map (λ (e : String Global × Expr). (e.0, tree_of e.1)) entries.items))) (entries-named keywords.items)
-    ∙ ap (TClass (string_bytes text) (trees_of (map tree_of bases.items)) (named_entries (map named keywords.items))) (entries-named entries.items)
+    let body : Entries = entries_of (map (λ (e : String Global × Expr). (e.0, tree_of e.1)) entries.items) in
+    seen ∙ ap (λ ks. TClass (string_bytes text) (trees_of (map tree_of bases.items)) (entries_of (map (λ (e : String Global × Expr). (e.0, tree_of e.1)) ks)) body) none
+    ∙ ap (TClass (string_bytes text) (trees_of (map tree_of bases.items)) no_entries) (entries-named entries.items)

@@ -1,6 +1,6 @@
 -- Which expression a JSON value spells.
-use Rattle.std.specs.Prelude.{ℕ, ◌&&◌, ◌==◌, List, [], ◌∷◌, length, codes, bytes_eq, Bool, true, false, not, if◌then◌else◌, Option, Some, None, option_map, option_and_then, String, string_bytes}
-use Rattle.std.specs.List.{find, list_any}
+use Rattle.std.specs.Prelude.{⊤, ℕ, ◌&&◌, ◌==◌, List, [], ◌∷◌, length, codes, bytes_eq, Bool, true, false, not, if◌then◌else◌, Option, Some, None, option_map, option_and_then, String, string_bytes}
+use Rattle.std.specs.List.{list_any}
 use Rattle.serde_json.specs.Data.{Data, null, boolean, number, string, array, object, Items, no_items, item}
 use Rattle.serde_json.specs.Find.{as_i64, as_str}
 use Rattle.std.specs.declared.alloc.Global.{Global}
@@ -8,10 +8,8 @@ use Rattle.py_node.specs.declared.expr.Expr.{Expr}
 use Rattle.py_node.specs.declared.expr.Word.{Word}
 use Rattle.py_node.specs.declared.expr.Word.TheVariants.{Binary, Object}
 use Rattle.py_node.specs.declared.expr.ObjectWord.TheVariants.{Is, TypeOf, Callable}
-use Rattle.py_node.specs.declared.raised.Kind.{Kind}
-use Rattle.py_node.specs.declared.raised.TheConstants.{KINDS}
 use Rattle.py_node.specs.declared.task.PyNumberBinaryOp.TheVariants.{Add}
-use Rattle.py_node.specs.Tree.{Text, LNone, LFalse, LTrue, LInt, LText, Tree, TConst, TName, TBind, TTuple, TList, TDict, TFunc, TAttr, TSetAttr, TCall, TOp, TRaise, TClass, Entries, no_entries, entry, keyed_of, trees_of, tree_of}
+use Rattle.py_node.specs.Tree.{Text, LNone, LFalse, LTrue, LInt, LText, Tree, TConst, TName, TBind, TTuple, TList, TDict, TFunc, TAttr, TSetAttr, TCall, TOp, TClass, Entries, no_entries, entry, keyed_of, trees_of, tree_of}
 
 -- f of two parts, where both are there
 abbrev pub of_two : {A B C : Type 0} → (A → B → C) → Option A → Option B → Option C
@@ -22,11 +20,6 @@ of_two f None b = None
 abbrev pub of_three : {A B C D : Type 0} → (A → B → C → D) → Option A → Option B → Option C → Option D
 of_three f (Some a) b c = of_two (f a) b c
 of_three f None b c = None
-
--- f of four parts, where all are there
-abbrev pub of_four : {A B C D E : Type 0} → (A → B → C → D → E) → Option A → Option B → Option C → Option D → Option E
-of_four f (Some a) b c d = of_three (f a) b c d
-of_four f None b c d = None
 
 -- the operation that a word stands for
 abbrev pub word_of : Text → Option Word
@@ -39,10 +32,6 @@ word_of text =
 
 abbrev pub operation_of : Data → Option Word
 operation_of d = option_and_then word_of (as_str d)
-
--- the kind of faults that a word stands for
-abbrev pub kind_named : Text → Option Kind
-kind_named text = option_map (λ row. row.0) (find (λ row. bytes_eq text row.1.now) KINDS)
 
 -- the strings of a list
 abbrev pub texts_in : Items → Option (List Text)
@@ -58,15 +47,16 @@ all_differ (t ∷ ts) = not (list_any (bytes_eq t) ts) && all_differ ts
 abbrev pub differing : Items → Option (List Text)
 differing ds = option_and_then (λ texts. if all_differ texts then Some texts else None) (texts_in ds)
 
--- where one of them is to take the rest of the arguments, there is one at least
-abbrev pub enough : Bool → List Text → Option (List Text)
-enough true [] = None
-enough rest params = Some params
-
 -- the parameters of a function: a list of strings that all differ
-abbrev pub params_of : Bool → Data → Option (List Text)
-params_of rest (array ds) = option_and_then (enough rest) (differing ds)
-params_of rest _ = None
+abbrev pub params_of : Data → Option (List Text)
+params_of (array ds) = differing ds
+params_of _ = None
+
+-- nothing more, or an empty list: where keywords could stand
+abbrev pub nothing_in : Items → Option ⊤
+nothing_in no_items = Some tt
+nothing_in (item (array no_items) no_items) = Some tt
+nothing_in _ = None
 
 abbrev pub Named : Type 0
 Named = Text × Tree
@@ -102,14 +92,19 @@ list ts = TList (trees_of ts)
 abbrev pub dict : List (Tree × Tree) → Tree
 dict ps = TDict (keyed_of ps)
 
-abbrev pub func : Bool → Text → List Text → Tree → Tree
-func rest name params body = TFunc name params rest body
+-- no parameter takes the rest of the arguments yet
+abbrev pub func : Text → List Text → Tree → Tree
+func name params body = TFunc name params false body
 
-abbrev pub call : Tree → List Tree → List Named → Tree
-call callee args keywords = TCall callee (trees_of args) (named_entries keywords)
+abbrev pub call : Tree → List Tree → Tree
+call callee args = TCall callee (trees_of args) no_entries
 
-abbrev pub class : Text → List Tree → List Named → List Named → Tree
-class name bases body keywords = TClass name (trees_of bases) (named_entries keywords) (named_entries body)
+abbrev pub class : Text → List Tree → List Named → Tree
+class name bases body = TClass name (trees_of bases) no_entries (named_entries body)
+
+-- t, where nothing follows that could hold keywords: none is read yet
+abbrev pub unless_keywords : Items → Option Tree → Option Tree
+unless_keywords rest t = option_and_then (λ _. t) (nothing_in rest)
 
 unfoldable mutual
   -- the expression that a value spells
@@ -131,15 +126,13 @@ unfoldable mutual
       else (if bytes_eq word (codes "tuple") then option_map tuple (exprs_of ds)
       else (if bytes_eq word (codes "list") then option_map list (exprs_of ds)
       else (if bytes_eq word (codes "dict") then option_map dict (pairs_in ds)
-      else (if bytes_eq word (codes "func") then func_of false ds
-      else (if bytes_eq word (codes "func*") then func_of true ds
+      else (if bytes_eq word (codes "func") then func_of ds
       else (if bytes_eq word (codes "attr") then attr_of ds
       else (if bytes_eq word (codes "setattr") then setattr_of ds
       else (if bytes_eq word (codes "call") then call_of ds
       else (if bytes_eq word (codes "op") then op_of ds
-      else (if bytes_eq word (codes "raise") then raise_of ds
       else (if bytes_eq word (codes "class") then class_of ds
-      else None))))))))))))) (as_str head)
+      else None))))))))))) (as_str head)
 
   -- a name
   pub name_of : Items → Option Tree
@@ -151,10 +144,10 @@ unfoldable mutual
   bind_of (item n (item e no_items)) = of_two TBind (as_str n) (expr_of e)
   bind_of _ = None
 
-  -- a name, the parameters, of which the last one may take the rest of the arguments, and the body
-  pub func_of : Bool → Items → Option Tree
-  func_of rest (item n (item ps (item e no_items))) = of_three (func rest) (as_str n) (params_of rest ps) (expr_of e)
-  func_of rest _ = None
+  -- a name, the parameters and the body
+  pub func_of : Items → Option Tree
+  func_of (item n (item ps (item e no_items))) = of_three func (as_str n) (params_of ps) (expr_of e)
+  func_of _ = None
 
   -- an object, and the name of an attribute
   pub attr_of : Items → Option Tree
@@ -166,9 +159,9 @@ unfoldable mutual
   setattr_of (item o (item n (item e no_items))) = of_three TSetAttr (expr_of o) (as_str n) (expr_of e)
   setattr_of _ = None
 
-  -- what is called, the arguments, and the keywords
+  -- what is called, and the arguments
   pub call_of : Items → Option Tree
-  call_of (item f (item list rest)) = of_three call (expr_of f) (list_of list) (keywords_of rest)
+  call_of (item f (item list rest)) = unless_keywords rest (of_two call (expr_of f) (list_of list))
   call_of _ = None
 
   -- the word of an operation, and its operands
@@ -176,21 +169,10 @@ unfoldable mutual
   op_of (item w es) = operation (operation_of w) (exprs_of es)
   op_of no_items = None
 
-  -- the kind of the fault
-  pub raise_of : Items → Option Tree
-  raise_of (item k no_items) = option_map TRaise (option_and_then kind_named (as_str k))
-  raise_of _ = None
-
-  -- a name, the bases, the entries of the body, and the keywords
+  -- a name, the bases, and the entries of the body
   pub class_of : Items → Option Tree
-  class_of (item n (item bs (item es rest))) = of_four class (as_str n) (list_of bs) (body_of es) (keywords_of rest)
+  class_of (item n (item bs (item es rest))) = unless_keywords rest (of_three class (as_str n) (list_of bs) (body_of es))
   class_of _ = None
-
-  -- nothing more, or a list of keywords
-  pub keywords_of : Items → Option (List Named)
-  keywords_of no_items = Some []
-  keywords_of (item d no_items) = body_of d
-  keywords_of _ = None
 
   -- a list of expressions
   pub list_of : Data → Option (List Tree)

@@ -1,17 +1,44 @@
 //! The forms of expressions.
 
-ghost use Rattle.std.specs.Prelude.{◌≡◌, Some, None, Err, IfOk, IfErr, map, option_map, string_bytes};
+ghost use Rattle.std.specs.Prelude.{◌≡◌, Some, None, Err, IfOk, IfErr, ok_or, is_ok, nat_le, length, map, option_map, string_bytes};
 ghost use Rattle.serde_json.specs.Find.{as_str};
 ghost use Rattle.serde_json.specs.View.{view, items_view};
 ghost use Rattle.py_node.specs.Tree.{tree_of, pair_of, texts_of};
-ghost use Rattle.script_text.specs.Forms.{tuple, list, dict, pairs_in, pair_in, paired_of, texts_in, all_differ, params_of, expr_of, array_of, name_of, bind_of, func_of, attr_of, setattr_of, call_of, op_of, raise_of, class_of, keywords_of, list_of, exprs_of, body_of, entries_in, entry_of, named_of, differing, named};
+ghost use Rattle.script_text.specs.Forms.{word_of, operation_of, takes, tuple, list, dict, pairs_in, pair_in, paired_of, texts_in, all_differ, params_of, nothing_in, expr_of, array_of, name_of, bind_of, func_of, attr_of, setattr_of, call_of, op_of, class_of, list_of, exprs_of, body_of, entries_in, entry_of, named_of, differing, named};
 
 use crate::parts::{Unread, next, no_more, one, three, three_and_rest, two, two_and_rest};
-use crate::words::{read_kind, read_word, takes};
-use py_node::{Constant, Expr};
+use py_node::{Constant, Expr, ObjectWord, PyNumberBinaryOp, Word};
 use serde_json::Value;
 use std::alloc::{AllocError, Global};
 use std::collections::BTreeSet;
+
+// The word of an operation.
+fn find_word(text: &str) -> Option<Word>
+    ensures { result ≡ word_of text.now }
+{
+    if text == "+" {
+        Some(Word::Binary(PyNumberBinaryOp::Add))
+    } else if text == "is" {
+        Some(Word::Object(ObjectWord::Is))
+    } else if text == "typeof" {
+        Some(Word::Object(ObjectWord::TypeOf))
+    } else if text == "callable" {
+        Some(Word::Object(ObjectWord::Callable))
+    } else {
+        None
+    }
+}
+
+// Whether a word takes so many operands.
+fn takes(word: Word, count: usize) -> bool
+    ensures { result ≡ takes word count }
+{
+    match word {
+        Word::Object(ObjectWord::TypeOf) => count == 1,
+        Word::Object(ObjectWord::Callable) => count == 1,
+        _ => count == 2,
+    }
+}
 
 // A copy of a string.
 fn read_text(alloc: Global, value: &Value) -> Result<String, Unread>
@@ -22,21 +49,36 @@ fn read_text(alloc: Global, value: &Value) -> Result<String, Unread>
     Ok(String::from_str(alloc, text)?)
 }
 
-// The parameters of a function: strings that all differ. Where the last is to take the rest of the arguments, there is
-// one at least.
-fn read_params(alloc: Global, rest: bool, value: &Value) -> Result<Vec<String>, Unread>
-    ensures ok { IfOk result (λ v. params_of rest (view value.now) ≡ Some (texts_of v.items)) }
-    ensures shape { result ≡ Err Unread.Shape → params_of rest (view value.now) ≡ None }
+// The operation that a value names.
+fn read_word(value: &Value) -> Result<Word, Unread>
+    ensures { result ≡ ok_or (operation_of (view value.now)) Unread.Shape }
+{
+    let text = value.as_str().ok_or(Unread::Shape)?;
+    find_word(text).ok_or(Unread::Shape)
+}
+
+// Nothing more, or an empty list.
+fn read_nothing(items: &[Value]) -> Result<(), Unread>
+    ensures ok { IfOk result (λ u. nothing_in (items_view items.now) ≡ Some tt) }
+    ensures shape { IfErr result (λ e. nothing_in (items_view items.now) ≡ None) }
+{
+    let Some((first, rest)) = items.split_first() else {
+        return Ok(());
+    };
+    no_more(rest)?;
+    match first {
+        Value::Array(none) => no_more(none.as_slice()),
+        _ => Err(Unread::Shape),
+    }
+}
+
+// The parameters of a function: strings that all differ.
+fn read_params(alloc: Global, value: &Value) -> Result<Vec<String>, Unread>
+    ensures ok { IfOk result (λ v. params_of (view value.now) ≡ Some (texts_of v.items)) }
+    ensures shape { result ≡ Err Unread.Shape → params_of (view value.now) ≡ None }
 {
     match value {
-        Value::Array(items) => {
-            let names = read_names(alloc, items.as_slice())?;
-            if rest && names.is_empty() {
-                Err(Unread::Shape)
-            } else {
-                Ok(names)
-            }
-        }
+        Value::Array(items) => read_names(alloc, items.as_slice()),
         _ => Err(Unread::Shape),
     }
 }
@@ -121,9 +163,7 @@ fn read_array(alloc: Global, items: &[Value]) -> Result<Expr, Unread>
     } else if word == "dict" {
         read_dict(alloc, rest)
     } else if word == "func" {
-        read_func(alloc, false, rest)
-    } else if word == "func*" {
-        read_func(alloc, true, rest)
+        read_func(alloc, rest)
     } else if word == "attr" {
         read_attr(alloc, rest)
     } else if word == "setattr" {
@@ -132,8 +172,6 @@ fn read_array(alloc: Global, items: &[Value]) -> Result<Expr, Unread>
         read_call(alloc, rest)
     } else if word == "op" {
         read_op(alloc, rest)
-    } else if word == "raise" {
-        read_raise(rest)
     } else if word == "class" {
         read_class(alloc, rest)
     } else {
@@ -195,18 +233,18 @@ fn read_dict(alloc: Global, items: &[Value]) -> Result<Expr, Unread>
     Ok(Expr::Dict(pairs))
 }
 
-// A name, the parameters, of which the last one may take the rest of the arguments, and the body.
+// A name, the parameters, which all differ, and the body.
 #[tactic(auto, unfolding(crate::specs::Forms::func_of))]
 #[cycle(forms)]
-fn read_func(alloc: Global, rest: bool, items: &[Value]) -> Result<Expr, Unread>
-    ensures ok { IfOk result (λ e. func_of rest (items_view items.now) ≡ Some (tree_of e)) }
-    ensures shape { result ≡ Err Unread.Shape → func_of rest (items_view items.now) ≡ None }
+fn read_func(alloc: Global, items: &[Value]) -> Result<Expr, Unread>
+    ensures ok { IfOk result (λ e. func_of (items_view items.now) ≡ Some (tree_of e)) }
+    ensures shape { result ≡ Err Unread.Shape → func_of (items_view items.now) ≡ None }
 {
     let (name, params, body) = three(items)?;
     let text = read_text(alloc, name)?;
-    let texts = read_params(alloc, rest, params)?;
+    let texts = read_params(alloc, params)?;
     let expr = read_expr(alloc, body)?;
-    Ok(Expr::Func(text, texts, rest, Box::new(alloc, expr)?))
+    Ok(Expr::Func(text, texts, false, Box::new(alloc, expr)?))
 }
 
 // An object, and the name of an attribute.
@@ -236,7 +274,7 @@ fn read_setattr(alloc: Global, items: &[Value]) -> Result<Expr, Unread>
     Ok(Expr::SetAttr(Box::new(alloc, target)?, text, Box::new(alloc, expr)?))
 }
 
-// What is called, the arguments, and the keywords.
+// What is called, and the arguments.
 #[tactic(auto, unfolding(crate::specs::Forms::call_of))]
 #[cycle(forms)]
 fn read_call(alloc: Global, items: &[Value]) -> Result<Expr, Unread>
@@ -244,10 +282,10 @@ fn read_call(alloc: Global, items: &[Value]) -> Result<Expr, Unread>
     ensures shape { result ≡ Err Unread.Shape → call_of (items_view items.now) ≡ None }
 {
     let (callee, list, rest) = two_and_rest(items)?;
+    read_nothing(rest)?;
     let function = read_expr(alloc, callee)?;
     let args = read_list(alloc, list)?;
-    let keywords = read_keywords(alloc, rest)?;
-    Ok(Expr::Call(Box::new(alloc, function)?, args, keywords))
+    Ok(Expr::Call(Box::new(alloc, function)?, args, Vec::new(alloc)))
 }
 
 // The word of an operation, and its operands.
@@ -267,18 +305,7 @@ fn read_op(alloc: Global, items: &[Value]) -> Result<Expr, Unread>
     }
 }
 
-// The kind of the fault.
-#[tactic(auto, unfolding(crate::specs::Forms::raise_of))]
-fn read_raise(items: &[Value]) -> Result<Expr, Unread>
-    ensures ok { IfOk result (λ e. raise_of (items_view items.now) ≡ Some (tree_of e)) }
-    ensures shape { result ≡ Err Unread.Shape → raise_of (items_view items.now) ≡ None }
-{
-    let word = one(items)?;
-    let kind = read_kind(word)?;
-    Ok(Expr::Raise(kind))
-}
-
-// A name, the bases, the entries of the body, and the keywords.
+// A name, the bases, and the entries of the body.
 #[tactic(auto, unfolding(crate::specs::Forms::class_of))]
 #[cycle(forms)]
 fn read_class(alloc: Global, items: &[Value]) -> Result<Expr, Unread>
@@ -286,25 +313,11 @@ fn read_class(alloc: Global, items: &[Value]) -> Result<Expr, Unread>
     ensures shape { result ≡ Err Unread.Shape → class_of (items_view items.now) ≡ None }
 {
     let (name, base_list, entry_list, rest) = three_and_rest(items)?;
+    read_nothing(rest)?;
     let text = read_text(alloc, name)?;
     let bases = read_list(alloc, base_list)?;
     let entries = read_body(alloc, entry_list)?;
-    let keywords = read_keywords(alloc, rest)?;
-    Ok(Expr::Class(text, bases, keywords, entries))
-}
-
-// Nothing more, or a list of keywords.
-#[tactic(auto, unfolding(crate::specs::Forms::keywords_of))]
-#[cycle(forms)]
-fn read_keywords(alloc: Global, items: &[Value]) -> Result<Vec<(String, Expr)>, Unread>
-    ensures ok { IfOk result (λ v. keywords_of (items_view items.now) ≡ Some (map named v.items)) }
-    ensures shape { result ≡ Err Unread.Shape → keywords_of (items_view items.now) ≡ None }
-{
-    let Some((list, rest)) = items.split_first() else {
-        return Ok(Vec::new(alloc));
-    };
-    no_more(rest)?;
-    read_body(alloc, list)
+    Ok(Expr::Class(text, bases, Vec::new(alloc), entries))
 }
 
 // A list of expressions.

@@ -25,8 +25,9 @@ use Rattle.proto_ops.specs.Say.{operator_say}
 use Rattle.proto_ops.specs.Rows.{operator_stands}
 use Rattle.class_world.specs.Rows.{EndsAs}
 use Rattle.vm_eval.specs.declared.stack.Kept.{Kept}
-use Rattle.vm_eval.specs.declared.stack.Kept.TheVariants.{ForEval, ForAttribute, ForDescriptor, ForCall, ForClass, ForOperator}
-use Rattle.vm_eval.specs.Say.{say, stands, among, step_among, Begins, Resumes}
+use Rattle.vm_eval.specs.declared.stack.Kept.TheVariants.{ForEval, ForAttribute, ForDescriptor, ForCall, ForClass, ForOperator, ForNative}
+use Rattle.native_calls.specs.Asks.{StepsAs}
+use Rattle.vm_eval.specs.Say.{say, stands, among, step_among, asked_among, Begins, Resumes}
 
 -- a group of rows, among all
 pub record Among {J K : Type 0} (group : Saying J) (held : Reading → K → Pending J) (to : J → PlainTask) (for : K → Kept) : Type 0 where
@@ -98,5 +99,14 @@ not-yet-begins full w h = λ t r. (r, subst (λ said. Steps say (stands t) t (ta
 -- a task that ends at once does so among all
 pub ending-begins : (full : Task) (said : Reading → PlainWorld → Said) (old new : World) (r : Result Answer Fault) → ((t : Reading) (u : PlainWorld) → say u (task_of t full) [] ≡ said t u) → EndsAs said old new r → Begins full old new (End r)
 ending-begins full said old new r row h = λ t reads.
+    let ends = h t reads in
+    (ends.0, subst (λ s. Steps say (stands t) t (task_of t full) [] s (End r) new) (sym (row t (plain t old) ∙ ends.1)) (refl, refl))
+
+-- a native that asks a task, or ends at once, does so among all
+pub asking-begins : (full : Task) (said : Reading → PlainWorld → Said) (old new : World) (step : Step Unit) → ((t : Reading) (u : PlainWorld) → say u (task_of t full) [] ≡ said t u) → ((t : Reading) → Alike say (record { task = task_of t full; told = [] }) (stands t ForNative)) → StepsAs said old new step → Begins full old new (asked_among step)
+asking-begins full said old new (Ask asked kept) row alike h = λ t reads.
+    let steps = h t reads in
+    (steps.0, subst (λ s. Steps say (stands t) t (task_of t full) [] s (Ask asked ForNative) new) (sym (row t (plain t old) ∙ steps.1)) (refl, refl, alike t))
+asking-begins full said old new (End r) row alike h = λ t reads.
     let ends = h t reads in
     (ends.0, subst (λ s. Steps say (stands t) t (task_of t full) [] s (End r) new) (sym (row t (plain t old) ∙ ends.1)) (refl, refl))

@@ -3,14 +3,15 @@ use Rattle.std.specs.Prelude.{ℕ, cond, List, [], Result}
 use Rattle.py_node.specs.declared.refs.PyObjectRef.{PyObjectRef}
 use Rattle.py_node.specs.declared.built_in.BuiltIn.TheVariants.{Int, Str}
 use Rattle.py_node.specs.declared.entry.NativeEntry.{NativeEntry}
-use Rattle.py_node.specs.declared.entry.NativeEntry.TheVariants.{OfFixed, OfNumber, OfArithmetic, OfBits, OfStr, Compare, OfTuple, OfList, OfDict, OfIterator, OfCallable, OfDescriptor, OfProperty, OfWrapper, OfSuper, NewOf, Getter, GetterOf}
+use Rattle.py_node.specs.declared.entry.NativeEntry.TheVariants.{OfFixed, OfNumber, OfArithmetic, OfBits, OfStr, Compare, NewWrapper, OfTuple, OfList, OfDict, OfIterator, OfCallable, OfDescriptor, OfProperty, OfWrapper, OfSuper, NewOf}
 use Rattle.py_node.specs.declared.raised.Raised.{Raised as Fault}
 use Rattle.py_node.specs.declared.task.Answer.{Answer}
 use Rattle.py_node.specs.declared.task.Task.{Task}
 use Rattle.py_node.specs.declared.task.Step.{Step}
 use Rattle.py_node.specs.declared.task.Step.TheVariants.{Ask, End}
 use Rattle.plain_machine.specs.Plain.{PlainWorld, Bindings, Said, Ends, PlainTask, ToEval, ToAttribute, ToDescriptor, ToCall, ToClass, ToOperator, ToCompare, ToProtocol, ToObject, ToNative, Saying}
-use Rattle.plain_machine.specs.Row.{Row, end, not_yet}
+use Rattle.plain_machine.specs.Row.{Row, start, end, not_yet}
+use Rattle.plain_machine.specs.Takes.{native_end}
 use Rattle.plain_machine.specs.Rows.{Pending, fresh, given}
 use Rattle.class_world.specs.declared.world.World.{World}
 use Rattle.class_world.specs.Reading.{Reading, task_of, ended_of}
@@ -20,7 +21,7 @@ use Rattle.eval_forms.specs.Say.{eval_say}
 use Rattle.eval_forms.specs.Rows.{eval_stands, of_eval_kept}
 use Rattle.proto_attr.specs.Say.{attribute_say}
 use Rattle.proto_attr.specs.Rows.{attribute_stands, of_attribute_kept}
-use Rattle.proto_descr.specs.Say.{descriptor_say, start_with}
+use Rattle.proto_descr.specs.Say.{descriptor_say}
 use Rattle.proto_descr.specs.Rows.{descriptor_stands, of_descriptor_kept}
 use Rattle.proto_call.specs.Say.{call_job_say}
 use Rattle.proto_call.specs.Rows.{call_stands, of_call_kept, bodies_of}
@@ -30,13 +31,10 @@ use Rattle.proto_ops.specs.Say.{operator_say}
 use Rattle.proto_ops.specs.Rows.{operator_stands, of_operator_kept}
 use Rattle.native_containers.specs.Say.{tuple_say, list_say, dict_say, iterator_say}
 use Rattle.native_numbers.specs.Say.{fixed_say, number_say, arithmetic_say, bits_say, compare_say}
-use Rattle.native_calls.specs.Say.{asks, asking_by, asking_rest}
-use Rattle.native_calls.specs.Asks.{asking_stands, of_native_kept}
+use Rattle.native_calls.specs.Say.{asks, asking_say}
 use Rattle.native_texts.specs.Say.{text_say, compare_text_say}
 use Rattle.native_objects.specs.Descriptors.{callable_say, descriptor_native_say, property_say, wrapper_say, super_say}
 use Rattle.native_objects.specs.Makers.{maker_say}
-use Rattle.native_objects.specs.Getters.{getter_say}
-use Rattle.native_objects.specs.Details.{getter_of_say}
 use Rattle.vm_eval.specs.declared.stack.Kept.{Kept}
 use Rattle.vm_eval.specs.declared.stack.Kept.TheVariants.{ForEval, ForAttribute, ForDescriptor, ForCall, ForClass, ForOperator, ForNative}
 
@@ -59,13 +57,15 @@ native_by w (OfProperty n) args kw = property_say w n args kw
 native_by w (OfWrapper n) args kw = wrapper_say w n args kw
 native_by w (OfSuper n) args kw = super_say w n args kw
 native_by w (NewOf b) args kw = maker_say w b args
-native_by w (Getter p) args kw = getter_say w p args kw
-native_by w (GetterOf b d) args kw = getter_of_say w b d args kw
 native_by w _ args kw = Ends w not_yet
 
--- a native asks a task, or ends at once
+-- what it says that may ask one task
+abbrev pub begin_by : PlainWorld → NativeEntry → List PyObjectRef → Bindings → Said
+begin_by w n args kw = cond (asks n) (asking_say w n args kw) (native_by w n args kw)
+
+-- it ends, or asks one task and then ends as that did
 abbrev pub native_say : PlainWorld → NativeEntry → List PyObjectRef → Bindings → Row
-native_say w n args kw = start_with (cond (asks n) (asking_by w n args kw) (native_by w n args kw)) (asking_rest w n)
+native_say w n args kw = start (begin_by w n args kw) (native_end w)
 
 -- what a task's row says, by the group that the task is in. A group without rows is not there yet
 unfoldable pub say : Saying PlainTask
@@ -89,6 +89,11 @@ abbrev pub step_among : {K : Type 0} → (K → Kept) → Step K → Step Kept
 step_among for (Ask task kept) = Ask task (for kept)
 step_among for (End r) = End r
 
+-- the same of a native, which keeps nothing
+abbrev pub asked_among : {K : Type 0} → Step K → Step Kept
+asked_among (Ask task kept) = Ask task ForNative
+asked_among (End r) = End r
+
 unfoldable pub stands : Reading → Kept → Pending PlainTask
 stands t (ForEval kept) = among ToEval (eval_stands t kept)
 stands t (ForAttribute kept) = among ToAttribute (attribute_stands t kept)
@@ -96,7 +101,7 @@ stands t (ForDescriptor kept) = among ToDescriptor (descriptor_stands t kept)
 stands t (ForCall kept) = among ToCall (call_stands t kept)
 stands t (ForClass kept) = among ToClass (class_stands t kept)
 stands t (ForOperator kept) = among ToOperator (operator_stands t kept)
-stands t (ForNative kept) = asking_stands t kept
+stands t ForNative = record { task = ToNative NewWrapper [] []; told = [] }
 
 abbrev pub Begins : Task → World → World → Step Kept → Type 0
 Begins task = Goes say stands (λ t. fresh (task_of t task))
@@ -111,7 +116,7 @@ of_kept (ForDescriptor kept) = of_descriptor_kept kept
 of_kept (ForCall kept) = of_call_kept kept
 of_kept (ForClass kept) = of_class_kept kept
 of_kept (ForOperator kept) = of_operator_kept kept
-of_kept (ForNative kept) = of_native_kept kept
+of_kept ForNative = []
 
 -- how many bodies are open in what is kept: only a call opens one
 abbrev pub bodies_in : Kept → ℕ

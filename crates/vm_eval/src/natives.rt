@@ -1,24 +1,23 @@
-//! The natives of no group of rows. Most end at once, and the others ask tasks.
+//! The natives of no group of rows. Most end at once, and the others ask one task and end as that did.
 
 ghost use Rattle.std.specs.Prelude.{◌≡◌, IfOk};
-ghost use Rattle.class_world.specs.Claims.{of_args, of_step, left_open, LeavesOpen};
+ghost use Rattle.class_world.specs.Claims.{of_args, of_ended, of_step, left_open, LeavesOpen};
 ghost use Rattle.class_world.specs.Reading.{Reading, bindings};
 ghost use Rattle.class_world.specs.Sound.{AllHold};
 ghost use Rattle.class_world.specs.Rows.{EndsAs, LeavesEnd};
-ghost use Rattle.native_calls.specs.Asks.{of_native_kept};
+ghost use Rattle.native_calls.specs.Asks.{nothing_held};
 ghost use Rattle.py_node.specs.declared.task.Task.TheVariants as task;
-ghost use Rattle.vm_eval.specs.Say.{Begins, step_among, native_by, of_kept, bodies_in};
+ghost use Rattle.vm_eval.specs.Say.{Begins, Resumes, asked_among, native_by, of_kept, bodies_in};
 
 use crate::stack::Kept;
-use class_world::World;
-use native_calls::{NativeKept, asks};
+use class_world::{Fixed, World};
+use native_calls::{asking_native, asks};
 use native_containers::{dict_native, iterator_native, list_native, tuple_native};
 use native_numbers::{arithmetic_native, bits_native, compare_native, fixed_native, number_native};
-use native_objects::{
-    callable_native, descriptor_native, getter_native, getter_of_native, maker_native,
-    property_native, super_native, wrapper_native,
-};
 use native_texts::{compare_text, text_native};
+use native_objects::{
+    callable_native, descriptor_native, maker_native, property_native, super_native, wrapper_native,
+};
 use py_node::task::{Args, Keywords};
 use py_node::{
     Answer, BuiltIn, Cause, NativeEntry, OutOfMemory, PyObjectRef, PyStrInterned, Raised, Step,
@@ -36,7 +35,7 @@ pub(crate) fn begin_native(
     ensures safe { LeavesOpen of_kept bodies_in 0 world.old world.new result }
 {
     if asks(entry) {
-        let step = native_calls::begin(world, entry, args, kw)?;
+        let step = asking_native(world, entry, args, kw)?;
         Ok(of_native(step))
     } else {
         let answer = native(world, entry, &args, &kw)?;
@@ -44,15 +43,28 @@ pub(crate) fn begin_native(
     }
 }
 
-// A step of a native that asks, among all steps.
-pub(crate) fn of_native(step: Step<NativeKept>) -> Step<Kept>
-    ensures step { result ≡ step_among Kept.ForNative step }
-    ensures says { of_step of_kept result ≡ of_step of_native_kept step }
+// A step of a native that may ask a task, among all steps.
+fn of_native(step: Step<()>) -> Step<Kept>
+    ensures step { result ≡ asked_among step }
+    ensures says { of_step of_kept result ≡ of_step nothing_held step }
     ensures opens { left_open bodies_in result ≡ 0 }
 {
     match step {
-        Step::Ask(task, kept) => Step::Ask(task, Kept::ForNative(kept)),
+        Step::Ask(task, _) => Step::Ask(task, Kept::ForNative),
         Step::End(answer) => Step::End(answer),
+    }
+}
+
+// How a native ends that asked a task: as that did, or with None where that gave no object.
+pub(crate) fn native_end(world: &World, answer: Result<Answer, Raised>) -> Step<Kept>
+    requires { AllHold world.now (of_ended answer) }
+    ensures goes { Resumes Kept.ForNative answer world.now world.now result }
+    ensures safe { AllHold world.now (of_step of_kept result) }
+    ensures opens { left_open bodies_in result ≡ 0 }
+{
+    match answer {
+        Ok(Answer::Done) => Step::End(Ok(Answer::Value(world.fixed(Fixed::None)))),
+        other => Step::End(other),
     }
 }
 
@@ -86,8 +98,6 @@ fn native(
         NativeEntry::OfWrapper(native) => wrapper_native(world, native, args, kw),
         NativeEntry::OfSuper(native) => super_native(world, native, args, kw),
         NativeEntry::NewOf(class) => maker_native(world, class, args),
-        NativeEntry::Getter(property) => getter_native(world, property, args, kw),
-        NativeEntry::GetterOf(class, detail) => getter_of_native(world, class, detail, args, kw),
         _ => Ok(Err(Raised::new(Cause::NotYet))),
     }
 }

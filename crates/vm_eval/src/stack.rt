@@ -12,11 +12,10 @@ ghost use Rattle.proto_ops.specs.Rows.{of_operator_kept};
 ghost use Rattle.vm_eval.specs.Say.{Begins, Resumes, step_among, of_kept, bodies_in};
 ghost use Rattle.vm_eval.specs.Stack.{Answers, Reaches, Keeps, RunsAbove, AsDeep, EndsDeep, turns_left, of_turn, of_end};
 
-use crate::natives::{begin_native, of_native};
+use crate::natives::{begin_native, native_end};
 use class_make::ClassKept;
 use class_world::World;
 use eval_forms::EvalKept;
-use native_calls::NativeKept;
 use proto_attr::AttributeKept;
 use proto_call::CallKept;
 use proto_descr::DescriptorKept;
@@ -35,7 +34,8 @@ pub enum Kept {
     ForCall(CallKept),
     ForClass(ClassKept),
     ForOperator(OperatorKept),
-    ForNative(NativeKept),
+    /// A native asked a task, and ends as that did.
+    ForNative,
 }
 
 /// How a command ended: its row ended, or its units were used up.
@@ -122,10 +122,7 @@ fn resume(
             let step = proto_ops::resume(world, kept, answer)?;
             Ok(of_operator(step))
         }
-        Kept::ForNative(kept) => {
-            let step = native_calls::resume(world, kept, answer)?;
-            Ok(of_native(step))
-        }
+        Kept::ForNative => Ok(native_end(world, answer)),
     }
 }
 

@@ -1,12 +1,14 @@
-use Rattle.std.specs.Prelude.{IfOk}
 use Rattle.std.proofs.Common.{length, map, refl, ap, sym, subst, ◌∙◌}
+use Rattle.py_node.specs.declared.refs.PyStrInterned.{PyStrInterned}
+use Rattle.py_node.specs.Tree.{list_of}
 use Rattle.plain_machine.specs.Plain.{PlainWorld}
-use Rattle.class_world.specs.Reading.{Reading, spelled}
+use Rattle.class_world.specs.Reading.{Reading}
 use Rattle.class_world.proofs.Stored.{ok-map}
-use Rattle.eval_forms.specs.Say.{one_of, attr_say, set_attr_say, called_say, op_say, raise_say, class_say}
+use Rattle.eval_forms.specs.Say.{one_of, attr_say, set_attr_say, called_say, op_say, class_say}
 use Rattle.plain_machine.specs.Args.{two_of}
-use Rattle.eval_forms.specs.Rows.{IsOwn, Takes, Continues, operands_at, args_of, keywords_of}
-use Rattle.eval_forms.proofs.Operands.{own-closes, own-takes, own-takes-read, says-attr, says-set, says-call, says-raise, attr-name, call-func, says-op, says-class, class-long, class-names, set-name, one-holds, own-func, own-later, own-tuple, own-list}
+use Rattle.eval_forms.specs.Rows.{IsOwn, Takes, Continues, operands_at, args_of}
+use Rattle.eval_forms.proofs.ClassForm.{takes-same}
+use Rattle.eval_forms.proofs.Operands.{own-takes, own-takes-read, says-attr, says-set, says-call, attr-name, call-func, says-op, says-class, class-long, class-names, set-name, one-holds, own-func, own-later, own-tuple, own-list}
 use Rattle.eval_forms.proofs.DictForm.{no-pairs, own-dict}
 use Rattle.class_world.proofs.Growth.{grows-itself}
 use Rattle.eval_forms.proofs.own_step.Goals as goal
@@ -48,14 +50,14 @@ returns-in-Attr-clause-safe c =
     let safe = rw is at c.attr_step-step.ensures.safe in
     (grows-itself w, safe w (attr-name w c.in-Attr.name f own c.form.ensures.holds) (one-holds w c.args.values.items c.requires.values))
 
-pub call_step-requires-clause-func : goal.call_step-requires-clause-func
-call_step-requires-clause-func c =
+pub call_step-step-requires-clause-func : goal.call_step-step-requires-clause-func
+call_step-step-requires-clause-func c =
     let f = c.form.result.now in
     let own = subst (λ o. IsOwn o f) c.in-Call.is c.in_ok-constant.ensures in
     call-func c.args.world.now c.in-Call.func f own c.form.ensures.holds
 
-pub call_step-requires-clause-value : goal.call_step-requires-clause-value
-call_step-requires-clause-value c =
+pub call_step-step-requires-clause-value : goal.call_step-step-requires-clause-value
+call_step-step-requires-clause-value c =
     let is = rw c.deref-in-Call.ensures.value at c.one_of-in-Call.ensures in
     rw is (one-holds c.args.world.now c.args.values.items c.requires.values)
 
@@ -69,26 +71,11 @@ returns-in-Call-clause-goes c =
     let own = subst (λ o. IsOwn o f) c.in-Call.is c.in_ok-constant.ensures in
     let long = ap (λ o. length (operands_at o)) (sym c.form.ensures.stored) ∙ c.requires.all in
     let is = rw c.deref-in-Call.ensures.value at c.one_of-in-Call.ensures in
-    let goes = rw is at c.call_step.ensures.goes in
-    let row = λ (t : Reading) (u : PlainWorld). called_say u (t.tree g) (args_of (t.tree e)) (keywords_of (t.tree e)) (one_of vs) in
-    ok-map (λ step. Takes row w w step) (λ step. Continues e vs w w step) c.call_step.result (λ step k. own-takes-read w w e f vs row step c.form.ensures.stored long (λ t r u more.
+    let goes = rw is at c.call_step-step.ensures.goes in
+    let row = λ (t : Reading) (u : PlainWorld). called_say u (t.tree g) (list_of (args_of (t.tree e))) (one_of vs) in
+    own-takes-read w w e f vs row c.call_step-step.result c.form.ensures.stored long (λ t r u more.
     says-call g vs f own t u more
-    ∙ ap (λ x. called_say u (t.tree g) (args_of x) (keywords_of x) (one_of vs) more) (sym (r.trees e f c.form.ensures.stored))) k) goes
-
-pub returns-in-Raise-clause-goes : goal.returns-in-Raise-clause-goes
-returns-in-Raise-clause-goes c =
-    let w = c.args.world.now in
-    let f = c.form.result.now in
-    let vs = c.args.values.items in
-    let kind = c.in-Raise.kind in
-    let own = subst (λ o. IsOwn o f) c.in-Raise.is c.in_ok-constant.ensures in
-    let long = ap (λ o. length (operands_at o)) (sym c.form.ensures.stored) ∙ c.requires.all in
-    own-closes w w c.args.e f vs (λ t u. raise_say u kind) c.raise_step.result c.form.ensures.stored long (says-raise kind vs f own) (c.raise_step.ensures.goes w)
-
-pub returns-in-Raise-clause-safe : goal.returns-in-Raise-clause-safe
-returns-in-Raise-clause-safe c =
-    let w = c.args.world.now in
-    (grows-itself w, c.raise_step.ensures.safe w)
+    ∙ ap (λ x. called_say u (t.tree g) (list_of (args_of x)) (one_of vs) more) (sym (r.trees e f c.form.ensures.stored))) goes
 
 pub returns-in-Op-clause-goes : goal.returns-in-Op-clause-goes
 returns-in-Op-clause-goes c =
@@ -145,26 +132,20 @@ pub class_step-requires-clause-name : goal.class_step-requires-clause-name
 class_step-requires-clause-name c =
     let f = c.form.result.now in
     let own = subst (λ o. IsOwn o f) c.in-Class.is c.in_ok-constant.ensures in
-    (class-names c.args.world.now c.in-Class.name c.in-Class.bases c.in-Class.keys c.in-Class.names f own c.form.ensures.holds).0
-
-pub class_step-requires-clause-keys : goal.class_step-requires-clause-keys
-class_step-requires-clause-keys c =
-    let f = c.form.result.now in
-    let own = subst (λ o. IsOwn o f) c.in-Class.is c.in_ok-constant.ensures in
-    rw c.deref-in-Class.ensures.value (class-names c.args.world.now c.in-Class.name c.in-Class.bases c.in-Class.keys c.in-Class.names f own c.form.ensures.holds).1
+    (class-names c.args.world.now c.in-Class.name c.in-Class.bases c.in-Class.names f own c.form.ensures.holds).0
 
 pub class_step-requires-clause-names : goal.class_step-requires-clause-names
 class_step-requires-clause-names c =
     let f = c.form.result.now in
     let own = subst (λ o. IsOwn o f) c.in-Class.is c.in_ok-constant.ensures in
-    rw c.deref-in-Class-2.ensures.value (class-names c.args.world.now c.in-Class.name c.in-Class.bases c.in-Class.keys c.in-Class.names f own c.form.ensures.holds).2
+    rw c.deref-in-Class.ensures.value (class-names c.args.world.now c.in-Class.name c.in-Class.bases c.in-Class.names f own c.form.ensures.holds).1
 
 pub class_step-requires-clause-all : goal.class_step-requires-clause-all
 class_step-requires-clause-all c =
     let f = c.form.result.now in
     let own = subst (λ o. IsOwn o f) c.in-Class.is c.in_ok-constant.ensures in
     let long = ap (λ o. length (operands_at o)) (sym c.form.ensures.stored) ∙ c.requires.all in
-    rw (c.deref-in-Class-3.ensures.value, c.deref-in-Class-2.ensures.value, c.deref-in-Class.ensures.value) (sym long ∙ class-long c.in-Class.name c.in-Class.bases c.in-Class.keys c.in-Class.names f own)
+    rw (c.deref-in-Class-2.ensures.value, c.deref-in-Class.ensures.value) (sym long ∙ class-long c.in-Class.name c.in-Class.bases c.in-Class.names f own)
 
 pub returns-in-Class-clause-goes : goal.returns-in-Class-clause-goes
 returns-in-Class-clause-goes c =
@@ -174,14 +155,14 @@ returns-in-Class-clause-goes c =
     let vs = c.args.values.items in
     let x = c.in-Class.name in
     let n = c.in-Class.bases in
-    let ks = c.in-Class.keys in
     let xs = c.in-Class.names in
     let own = subst (λ o. IsOwn o f) c.in-Class.is c.in_ok-constant.ensures in
     let long = ap (λ o. length (operands_at o)) (sym c.form.ensures.stored) ∙ c.requires.all in
-    let row = λ (t : Reading) (u : PlainWorld). class_say u (t.text x.0) n (map (spelled t) ks.items) (map (spelled t) xs.items) vs in
-    let goes : IfOk c.class_step.result (λ step. Takes row w new step) =
-    rw (← c.deref-in-Class.ensures.value, ← c.deref-in-Class-2.ensures.value, ← c.deref-in-Class-3.ensures.value) c.class_step.ensures.goes in
-    ok-map (λ step. Takes row w new step) (λ step. Continues c.args.e vs w new step) c.class_step.result (λ step k. own-takes w new c.args.e f vs row step c.form.ensures.stored long (says-class x n ks xs vs f own) k) goes
+    let row = λ (t : Reading) (u : PlainWorld). class_say u (t.text x.0) n (map (λ (y : PyStrInterned). t.text y.0) xs.items) vs in
+    let goes = takes-same (λ t u. class_say u (t.text x.0) n (map (λ y. t.text y.0) c.deref-in-Class.result.now) c.deref-in-Class-2.result.now) row w new c.class_step.result (λ t.
+    ap (λ ys. λ u. class_say u (t.text x.0) n (map (λ y. t.text y.0) ys) c.deref-in-Class-2.result.now) c.deref-in-Class.ensures.value
+    ∙ ap (λ zs. λ u. class_say u (t.text x.0) n (map (λ y. t.text y.0) xs.items) zs) c.deref-in-Class-2.ensures.value) c.class_step.ensures.goes in
+    ok-map (λ step. Takes row w new step) (λ step. Continues c.args.e vs w new step) c.class_step.result (λ step k. own-takes w new c.args.e f vs row step c.form.ensures.stored long (says-class x n xs vs f own) k) goes
 
 pub bind_step-requires-clause-value : goal.bind_step-requires-clause-value
 bind_step-requires-clause-value c =

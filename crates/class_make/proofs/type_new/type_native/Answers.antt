@@ -15,13 +15,3 @@ pub returns-in-SetAttr-clause-goes : goal.returns-in-SetAttr-clause-goes
 returns-in-SetAttr-clause-goes c =
     let f = c.type_set_attr in
     types-begin c.args.native type.SetAttr c.args.args.items c.args.kw.items c.args.world.now f.new.world f.result c.in-SetAttr.is f.ensures.goes
-
-pub returns-in-DelAttr-clause-goes : goal.returns-in-DelAttr-clause-goes
-returns-in-DelAttr-clause-goes c =
-    let f = c.type_del_attr in
-    types-begin c.args.native type.DelAttr c.args.args.items c.args.kw.items c.args.world.now f.new.world f.result c.in-DelAttr.is f.ensures.goes
-
-pub returns-in-Call-clause-goes : goal.returns-in-Call-clause-goes
-returns-in-Call-clause-goes c =
-    let f = c.type_call in
-    types-begin c.args.native type.Call c.args.args.items c.args.kw.items c.args.world.now f.new.world f.result c.in-Call.is f.ensures.goes

@@ -1,4 +1,4 @@
-use Rattle.std.proofs.Common.{◌≡◌, take, fold}
+use Rattle.std.proofs.Common.{◌≡◌, map, take, fold}
 use Rattle.plain_machine.specs.Start.{with_attrs}
 use Rattle.class_world.specs.Reading.{Reading, Reads, plain}
 use Rattle.class_world.proofs.attributes_of_built_ins.add_own_attrs.Given as goal

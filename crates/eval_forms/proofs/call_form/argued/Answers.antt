@@ -9,15 +9,15 @@ use Rattle.eval_forms.specs.Rows.{Resumes, arguments, arguments_at}
 use Rattle.eval_forms.proofs.Arguments.{argument-other}
 use Rattle.eval_forms.proofs.call_form.argued.Goals as goal
 
-pub next_argument-requires-clause-values : goal.next_argument-requires-clause-values
-next_argument-requires-clause-values c =
+pub next_argument-step-requires-clause-values : goal.next_argument-step-requires-clause-values
+next_argument-step-requires-clause-values c =
     let w = c.args.world.now in
     let answer = subst (λ a. AllHold w (of_ended a)) c.in-Ok.ensures.object c.requires.answer in
     rw c.in_ok-values-in-Ok.ensures (more-nodes w c.args.values.items c.in-Ok.value c.requires.kept.1.1.0 answer.0)
 
-pub next_argument-requires-clause-fits : goal.next_argument-requires-clause-fits
+pub next_argument-step-requires-clause-fits : goal.next_argument-step-requires-clause-fits
 unfolding Holds
-next_argument-requires-clause-fits c =
+next_argument-step-requires-clause-fits c =
     let l = length-append c.args.values.items (c.in-Ok.value ∷ []) in
     let h = c.requires.kept.1.0 in
     let within = ltb-true (length c.args.values.items) (length (arguments h.0)) h.2 in

@@ -1,12 +1,10 @@
-use Rattle.std.proofs.Common.{None, ap, sym, ◌∙◌}
+use Rattle.std.proofs.Common.{ap, sym, ◌∙◌}
 use Rattle.py_node.specs.BuiltIns.{place_of}
 use Rattle.plain_machine.specs.World.{ref}
 use Rattle.class_world.specs.Reading.{plain}
 use Rattle.eval_forms.specs.Say.{metaclass}
 use Rattle.eval_forms.proofs.class_form.metaclass.Goals as goal
 
-pub returns-in-None-None-clause-meta : goal.returns-in-None-None-clause-meta
+pub returns-in-None-clause-meta : goal.returns-in-None-clause-meta
 unfolding place_of
-returns-in-None-None-clause-meta c = λ t.
-    let w = plain t c.args.world.now in
-    ap (λ o. metaclass w o c.args.first) c.in-None-None.is-0 ∙ ap (metaclass w None) c.in-None-None.is-1 ∙ ap ref (sym c.built_in-class.ensures.place) ∙ c.class_object.ensures.object t
+returns-in-None-clause-meta c = λ t. ap (metaclass (plain t c.args.world.now)) c.in-None.is ∙ ap ref (sym c.built_in-class.ensures.place) ∙ c.class_object.ensures.object t

@@ -1,20 +1,10 @@
-use Rattle.std.proofs.Common.{Some, Option}
-use Rattle.py_node.specs.declared.refs.PyObjectRef.{PyObjectRef}
-use Rattle.plain_machine.specs.Plain.{PlainWorld, Said}
-use Rattle.class_world.specs.Reading.{bindings, plain}
-use Rattle.proto_descr.specs.Say.{class_of_option, function_get}
-use Rattle.native_calls.specs.Say.{function_get_by_name}
-use Rattle.native_calls.proofs.Steps.{taken-descriptor}
+use Rattle.std.proofs.Common.{arith}
+use Rattle.class_world.proofs.Items.{item_holds}
+use Rattle.native_calls.proofs.Lists.{rest-hold}
 use Rattle.native_calls.proofs.bind.function_get_by_name.Goals as goal
 
-abbrev go : PlainWorld → PyObjectRef → PyObjectRef → Option PyObjectRef → Said
-go u m o k = function_get u m (Some o) (class_of_option u k)
-
-pub returns-in-Err-clause-ends : goal.returns-in-Err-clause-ends
-returns-in-Err-clause-ends c = λ t q. (q, c.in-Err.ensures.refused t (go (plain t c.args.world.now)))
-
-pub returns-in-Ok-clause-ends : goal.returns-in-Ok-clause-ends
-returns-in-Ok-clause-ends c =
-    let a = c.args in
-    let p = c.in-Ok in
-    taken-descriptor (λ t u. function_get_by_name u a.args.now (bindings t a.kw.now)) (λ t u. function_get u p.m (Some p.o) (class_of_option u p.class)) a.world.now c.bind_function.new.world c.bind_function.result (λ t. p.ensures.given t (go (plain t a.world.now))) c.bind_function.ensures.goes
+pub bind_function-requires : goal.bind_function-requires
+bind_function-requires c =
+    let w = c.args.world.now in
+    let rest = rest-hold w c.args.args.now c.requires in
+    (item_holds w c.args.args.now 0 (record { 0 = 0 }) (omega (arith, c.in-len1-up.len_at_least)) c.requires, (c.in-Ok.ensures.object w rest, c.in-Ok.ensures.class w rest))

@@ -7,15 +7,9 @@ use Rattle.native_calls.proofs.create.new_by_name.Goals as goal
 pub returns-in_ok-rest-in-Some-Some-clause-safe : goal.returns-in_ok-rest-in-Some-Some-clause-safe
 returns-in_ok-rest-in-Some-Some-clause-safe c =
     let w = c.args.world.now in (
-      grows-itself w,
-      (
-        c.in-Some-Some.ensures.class,
-        (
-          c.in-Some-Some.ensures'.class,
-          (
+        grows-itself w,
+        (c.in-Some-Some.ensures.class, (c.in-Some-Some.ensures'.class, (
             subst (λ rs. Holds w (AreNodes rs)) (sym c.in_ok-rest-in-Some-Some.ensures) (after-two-hold w c.args.args.now c.requires.0),
             subst (AllHold w) (sym (without-more _)) c.requires.1,
-          ),
-        ),
-      ),
+        ))),
     )

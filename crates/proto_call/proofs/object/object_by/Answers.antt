@@ -32,8 +32,3 @@ pub returns-in-SetAttr-clause-goes : goal.returns-in-SetAttr-clause-goes
 returns-in-SetAttr-clause-goes c =
     let f = c.object_set_attr in
     subst (λ n. IfOk f.result (λ step. Does (λ t u. object_by u n c.args.args.now (bindings t c.args.kw.now)) c.args.world.now f.new.world step)) (sym c.in-SetAttr.is) f.ensures.goes
-
-pub returns-in-DelAttr-clause-goes : goal.returns-in-DelAttr-clause-goes
-returns-in-DelAttr-clause-goes c =
-    let f = c.object_del_attr in
-    subst (λ n. IfOk f.result (λ step. Does (λ t u. object_by u n c.args.args.now (bindings t c.args.kw.now)) c.args.world.now f.new.world step)) (sym c.in-DelAttr.is) f.ensures.goes

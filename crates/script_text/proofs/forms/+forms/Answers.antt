@@ -2,35 +2,9 @@ use Rattle.std.proofs.Common.{◌≡◌, ◌∷◌, [], ◌++◌, Some, map, str
 use Rattle.serde_json.specs.Find.{as_str}
 use Rattle.serde_json.specs.View.{view, items_view}
 use Rattle.py_node.specs.Tree.{tree_of}
-use Rattle.script_text.specs.Forms.{call_of, class_of, expr_of, list_of, body_of, keywords_of, named}
-use Rattle.script_text.proofs.Lists.{depth-here, exprs-turn, entries-turn, pairs-turn, call-tree, class-tree}
+use Rattle.script_text.specs.Forms.{class_of, list_of, body_of, nothing_in, named}
+use Rattle.script_text.proofs.Lists.{depth-here, exprs-turn, entries-turn, pairs-turn, class-tree}
 use Rattle.script_text.proofs.forms.+forms.Goals as goal
-
-pub read_call-returns-clause-ok : goal.read_call-returns-clause-ok
-unfolding call_of
-read_call-returns-clause-ok t c =
-    let p = c.in_ok-callee in
-    let callee = c.in_ok-function.function in
-    let args = c.in_ok-args.args in
-    let keywords = c.in_ok-keywords.keywords in
-    let parts : c.args.items.now ≡ p.callee.now ∷ p.list.now ∷ p.rest.now = grind arith in
-    let called : expr_of (view p.callee.now) ≡ Some (tree_of callee) = grind arith in
-    let given : list_of (view p.list.now) ≡ Some (map tree_of args.items) = grind arith in
-    let named_ones : keywords_of (items_view p.rest.now) ≡ Some (map named keywords.items) = grind arith in
-    let boxed : c.in_ok-new.field-0.value ≡ callee = grind arith in
-    rw (parts, called, given, named_ones, call-tree c.in_ok-new.field-0 args keywords, boxed)
-
-pub read_keywords-returns-clause-ok : goal.read_keywords-returns-clause-ok
-unfolding keywords_of
-read_keywords-returns-clause-ok t c =
-    let parts : c.args.items.now ≡ c.in-Some.list.now ∷ [] = grind arith in
-    rw parts c.read_body.ensures.ok
-
-pub read_keywords-returns-clause-shape : goal.read_keywords-returns-clause-shape
-unfolding keywords_of
-read_keywords-returns-clause-shape t c =
-    let parts : c.args.items.now ≡ c.in-Some.list.now ∷ [] = grind arith in
-    rw parts c.read_body.ensures.shape
 
 pub read_class-returns-clause-ok : goal.read_class-returns-clause-ok
 unfolding class_of
@@ -38,13 +12,12 @@ read_class-returns-clause-ok t c =
     let p = c.in_ok-name in
     let bases = c.in_ok-bases.bases in
     let entries = c.in_ok-entries.entries in
-    let keywords = c.in_ok-keywords.keywords in
     let parts : c.args.items.now ≡ p.name.now ∷ p.base_list.now ∷ p.entry_list.now ∷ p.rest.now = grind arith in
+    let none : nothing_in (items_view p.rest.now) ≡ Some tt = grind arith in
     let text : as_str (view p.name.now) ≡ Some (string_bytes c.in_ok-text.text) = grind arith in
     let base : list_of (view p.base_list.now) ≡ Some (map tree_of bases.items) = grind arith in
     let body : body_of (view p.entry_list.now) ≡ Some (map named entries.items) = grind arith in
-    let named_ones : keywords_of (items_view p.rest.now) ≡ Some (map named keywords.items) = grind arith in
-    rw (parts, text, base, body, named_ones, class-tree c.in_ok-text.text bases keywords entries)
+    rw (parts, none, text, base, body, class-tree c.in_ok-text.text bases c.new.result entries c.new.ensures.items)
 
 pub read_exprs-read_expr-requires : goal.read_exprs-read_expr-requires
 read_exprs-read_expr-requires t c =

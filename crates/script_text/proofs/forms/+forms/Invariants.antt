@@ -57,11 +57,8 @@ decreases-read_list l = 4 * depth (view l.value.now) + 1
 abbrev pub decreases-read_exprs : goal.decreases-read_exprs
 decreases-read_exprs l = 4 * items_depth (items_view l.items.now) + 1
 
-abbrev pub decreases-read_keywords : goal.decreases-read_keywords
-decreases-read_keywords l = 4 * items_depth (items_view l.items.now) + 1
-
 abbrev pub decreases-read_body : goal.decreases-read_body
-decreases-read_body l = 4 * depth (view l.value.now)
+decreases-read_body l = 4 * depth (view l.value.now) + 1
 
 abbrev pub decreases-read_entries : goal.decreases-read_entries
 decreases-read_entries l = 4 * items_depth (items_view l.items.now) + 1

@@ -1,4 +1,4 @@
-use Rattle.std.proofs.Common.{◌≡◌, Some, [], ◌∷◌, ap, subst, arith, length, ◌∙◌}
+use Rattle.std.proofs.Common.{◌≡◌, Some, [], ◌∷◌, sym, ap, subst, arith, length, ◌∙◌}
 use Rattle.class_model.specs.Layout.{best_of}
 use Rattle.class_model.specs.Sound.{AreSound}
 use Rattle.py_node.specs.declared.built_in.BuiltIn.TheVariants.{TypeType}
