@@ -2,5 +2,3 @@ pub mod Spaces
 pub mod Making
 pub mod Parts
 pub mod EachBase
-pub mod Telling
-pub mod Descriptors

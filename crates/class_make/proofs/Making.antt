@@ -1,39 +1,41 @@
 -- The steps of the making of a class.
 use Rattle.std.proofs.Common.{◌≡◌, ℕ, zero, suc, ◌<◌, Bool, true, false, cond, List, [], ◌∷◌, ◌++◌, length, take, get_or, Option, Some, None, Result, Ok, Err, IfOk, refl, sym, ap, ◌∙◌, subst, arith, map, filter, not}
-use Rattle.std.specs.Prelude.{option_map, slice_get}
-use Rattle.std.specs.Option.{option_or}
+use Rattle.std.specs.Prelude.{slice_get}
 use Rattle.py_node.specs.declared.memory.OutOfMemory.{OutOfMemory}
+use Rattle.py_node.specs.declared.raised.Cause.TheVariants.{NotYet}
 use Rattle.py_node.specs.declared.raised.Cause.{Cause}
 use Rattle.py_node.specs.declared.refs.PyObjectRef.{PyObjectRef}
 use Rattle.py_node.specs.declared.refs.PyStrInterned.{PyStrInterned}
 use Rattle.py_node.specs.declared.refs.PyTypeRef.{PyTypeRef}
 use Rattle.py_node.specs.declared.task.Step.{Step}
-use Rattle.py_node.specs.Attributes.{is_same_name, value_of}
+use Rattle.py_node.specs.Attributes.{is_same_name}
 use Rattle.py_node.specs.BuiltIns.{heap_flags}
 use Rattle.py_node.specs.Tree.{Text}
+use Rattle.class_model.specs.Class.{found_past}
 use Rattle.py_node.specs.declared.known.Known.TheVariants as known
 use Rattle.py_node.specs.Known.{known_text}
-use Rattle.class_model.specs.Class.{Class}
-use Rattle.class_table.specs.Refused.{refused_layout, refused_order}
-use Rattle.plain_machine.specs.Plain.{PlainWorld, Bindings, DoMakeClass, Made, Said, Ends}
-use Rattle.plain_machine.specs.Row.{fault, noting}
+use Rattle.plain_machine.specs.Plain.{PlainWorld, Bindings, DoMakeClass, Said, Ends}
+use Rattle.plain_machine.specs.Row.{fault}
 use Rattle.plain_machine.specs.World.{ref, is_text, with_new_class}
+use Rattle.plain_machine.specs.Objects.{with_definers}
 use Rattle.class_world.specs.Held.{Held}
 use Rattle.class_world.specs.declared.world.World.{World}
 use Rattle.class_world.specs.Reading.{Reading, Reads, bindings, plain}
 use Rattle.class_world.specs.Rows.{Steps}
 use Rattle.class_world.specs.NewHeap.{qualified, refused_name, refused_heap}
+use Rattle.class_table.specs.Refused.{refused_layout, refused_order}
+use Rattle.std.specs.Option.{option_or}
 use Rattle.class_world.specs.Sound.{IsNode, AreNodes, Holds, AllHold, Grows, of_binding, of_each}
 use Rattle.class_world.specs.Claims.{Leaves}
 use Rattle.class_world.proofs.Claims.{no-nodes}
 use Rattle.class_world.proofs.Growth.{grows-on}
 use Rattle.class_make.specs.declared.ClassKept.{ClassKept}
-use Rattle.class_make.specs.Say.{Space, attrs_in, class_job_say, made, made_unless, member_names, new_class, refusal, tell, values_of, whole_class, with_functions, with_names, with_own_members}
+use Rattle.class_make.specs.Say.{Space, class_job_say, has_name, hook, made, made_unless, new_class, refusal, some_has, told_of, values_of}
 use Rattle.class_make.specs.Rows.{Bound, Makes, class_stands, of_class_kept}
 
 -- functions are defined by a class, one after another
 pub record Defining (old now : World) (class : PyTypeRef) (rest all : List PyObjectRef) : Type 0 where
-  pub set : (t : Reading) → with_functions class.0 (plain t now) rest ≡ with_functions class.0 (plain t old) all
+  pub set : (t : Reading) → with_definers (plain t now) class.0 rest ≡ with_definers (plain t old) class.0 all
   pub reads : (t : Reading) → Reads t now → Reads t old
   pub grows : Grows old now
 
@@ -103,35 +105,36 @@ map-got f [] i x e = cc
 map-got f (y ∷ xs) zero x e = let same : y ≡ x = cc in ap (λ z. f z ∷ []) same
 map-got f (y ∷ xs) (suc i) x e = ap (λ zs. f y ∷ zs) (map-got f xs i x e)
 
-pub take-got : {A : Type 0} (xs : List A) (i : ℕ) (x : A) → slice_get xs i ≡ Some x → take (suc i) xs ≡ take i xs ++ x ∷ []
-take-got [] i x e = cc
-take-got (y ∷ xs) zero x e = let same : y ≡ x = cc in ap (λ z. z ∷ []) same
-take-got (y ∷ xs) (suc i) x e = ap (λ zs. y ∷ zs) (take-got xs i x e)
-
--- a class's own attributes
-pub attrs-read : (o : Option (Class Text)) (bs : Bindings) → option_map (λ k. k.attrs) o ≡ Some bs → attrs_in o ≡ bs
-attrs-read None bs e = cc
-attrs-read (Some k) bs e = cc
-
 -- bases that are allowed together are refused for their order alone
 pub refused-next : (u : PlainWorld) (bases : List ℕ) (bs : Bindings) (o : Option Cause) → refused_layout u.classes bases ≡ None → o ≡ refused_heap u bases bs → refusal u bases bs ≡ o
 refused-next u bases bs o e f =
     sym (ap (λ l. option_or (option_or l (refused_order u.classes bases)) (refused_name u (qualified bs))) e) ∙ sym f
 
--- the names of the members of a class to be
-pub made-names : (meta : ℕ) (name : Text) (bases : List ℕ) (kw : Bindings) (s : Space) (o : Option (List Text)) → member_names s.0 (value_of (λ y. is_text y (known_text known.Slots)) s.1) ≡ o → with_names o meta name bases kw s ≡ made meta name bases kw s
+-- a class that has members of its own, or has none
+pub made-slots : (meta : ℕ) (name : Text) (bases : List ℕ) (s : Space) → has_name s.1 (known_text known.Slots) ≡ true → Ends s.0 (fault NotYet) ≡ made meta name bases s
 unfolding made
-made-names meta name bases kw s o e = ap (λ o. with_names o meta name bases kw s) (sym e)
+made-slots meta name bases s e = sym (ap (λ b. cond b (Ends s.0 (fault NotYet)) (made_unless (refusal s.0 bases s.1) meta name bases s)) e)
 
-pub made-refused : (u : PlainWorld) (cause : Cause) (why : Option Cause) (meta : ℕ) (name : Text) (bases : List ℕ) (names : List Text) (kw bs : Bindings) → why ≡ Some cause → Ends u (fault cause) ≡ made_unless why meta name bases names kw (u, bs)
+pub made-on : (meta : ℕ) (name : Text) (bases : List ℕ) (s : Space) → has_name s.1 (known_text known.Slots) ≡ false → made_unless (refusal s.0 bases s.1) meta name bases s ≡ made meta name bases s
+unfolding made
+made-on meta name bases s e = sym (ap (λ b. cond b (Ends s.0 (fault NotYet)) (made_unless (refusal s.0 bases s.1) meta name bases s)) e)
+
+pub made-refused : (u : PlainWorld) (cause : Cause) (why : Option Cause) (meta : ℕ) (name : Text) (bases : List ℕ) (bs : Bindings) → why ≡ Some cause → Ends u (fault cause) ≡ made_unless why meta name bases (u, bs)
 unfolding made_unless
-made-refused u cause why meta name bases names kw bs e = ap (λ o. made_unless o meta name bases names kw (u, bs)) (sym e)
+made-refused u cause why meta name bases bs e = ap (λ o. made_unless o meta name bases (u, bs)) (sym e)
 
 -- a class that is made and told of
-pub made-new : (u v f w : PlainWorld) (why : Option Cause) (meta : ℕ) (name : Text) (bases : List ℕ) (names : List Text) (kw bs : Bindings) (c : ℕ) (vs : List PyObjectRef) → why ≡ None → v ≡ with_new_class u meta (record { name = name; number = length u.nodes; bases = bases; attrs = bs; members = names; flags = heap_flags }) → f ≡ with_functions c v vs → w ≡ with_own_members c names f → vs ≡ values_of bs → c ≡ length u.nodes → noting (Made (ref c)) (tell w (ref c) kw []) ≡ made_unless why meta name bases names kw (u, bs)
-unfolding made_unless whole_class
-made-new u v f w why meta name bases names kw bs c vs none made functions members ev ec =
-    let new : v ≡ new_class u meta name bases bs names = made in
-    let defines : f ≡ with_functions (length u.nodes) (new_class u meta name bases bs names) (values_of bs) = functions ∙ (λ i. with_functions (ec i) (new i) (ev i)) in
-    let all : w ≡ whole_class u meta name bases bs names = members ∙ (λ i. with_own_members (ec i) names (defines i)) in
-    (λ i. noting (Made (ref (ec i))) (tell (all i) (ref (ec i)) kw [])) ∙ ap (λ o. made_unless o meta name bases names kw (u, bs)) (sym none)
+pub made-new : (u v w : PlainWorld) (why : Option Cause) (meta : ℕ) (name : Text) (bases : List ℕ) (bs : Bindings) (c : ℕ) (node : PyObjectRef) (us vs : List PyObjectRef) → why ≡ None → v ≡ with_new_class u meta (record { name = name; number = length u.nodes; bases = bases; attrs = bs; members = []; flags = heap_flags }) → w ≡ with_definers v c us → us ≡ values_of bs → vs ≡ values_of bs → c ≡ length u.nodes → node ≡ ref (length u.nodes) → told_of w c node vs ≡ made_unless why meta name bases (u, bs)
+unfolding made_unless
+made-new u v w why meta name bases bs c node us vs none made set eu ev ec en =
+    let new : v ≡ new_class u meta name bases bs = made in
+    let all : w ≡ with_definers (new_class u meta name bases bs) (length u.nodes) (values_of bs) = set ∙ (λ i. with_definers (new i) (ec i) (eu i)) in
+    (λ i. told_of (all i) (ec i) (en i) (ev i)) ∙ ap (λ o. made_unless o meta name bases (u, bs)) (sym none)
+
+-- no value wants to know its name, and this is what those past the class have for it
+pub told-hook : (u v w : PlainWorld) (c : ℕ) (node : PyObjectRef) (values : List PyObjectRef) (x y : Text) (m : Option PyObjectRef) → v ≡ u → w ≡ v → x ≡ known_text known.SetName → y ≡ known_text known.InitSubclass → some_has v x values ≡ false → found_past is_text w.classes c y ≡ m → hook w node m ≡ told_of u c node values
+told-hook u v w c node values x y m e f g h k l =
+    let here : w ≡ u = f ∙ e in
+    let wants : some_has u (known_text known.SetName) values ≡ false = (λ i. some_has (sym e i) (sym g i) values) ∙ k in
+    let past : found_past is_text u.classes c (known_text known.InitSubclass) ≡ m = (λ i. found_past is_text (sym here i).classes c (sym h i)) ∙ l in
+    (λ i. hook (here i) node (sym past i)) ∙ sym (ap (λ b. cond b (Ends u (fault NotYet)) (hook u node (found_past is_text u.classes c (known_text known.InitSubclass)))) wants)

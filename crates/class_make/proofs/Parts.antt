@@ -36,21 +36,21 @@ use Rattle.class_make.specs.Say.{Entries, class_job_say, by_bases, by_classes, b
 use Rattle.class_make.specs.Rows.{Bound, Makes, Types, class_stands}
 
 -- the bases: allowed together, or not
-pub bases-read : (u v : PlainWorld) (meta : ℕ) (name : Text) (bases : List ℕ) (es ds : Entries) (kw : Bindings) (o : Option Bindings) → v ≡ u → refused_layout u.classes bases ≡ None → namespace u ds ≡ o → ds ≡ es → with_namespace v meta name bases o kw ≡ on_bases u meta name bases es kw
-bases-read u v meta name bases es ds kw o e f g h =
+pub bases-read : (u v : PlainWorld) (meta : ℕ) (name : Text) (bases : List ℕ) (es ds : Entries) (o : Option Bindings) → v ≡ u → refused_layout u.classes bases ≡ None → namespace u ds ≡ o → ds ≡ es → with_namespace v meta name bases o ≡ on_bases u meta name bases es
+bases-read u v meta name bases es ds o e f g h =
     let o-is : o ≡ namespace u es = sym g ∙ ap (namespace u) h in
-    (λ i. with_namespace (e i) meta name bases (o-is i) kw) ∙ ap (λ r. on_layout u r meta name bases es kw) (sym f)
+    (λ i. with_namespace (e i) meta name bases (o-is i)) ∙ ap (λ r. on_layout u r meta name bases es) (sym f)
 
-pub bases-refused : (u : PlainWorld) (meta : ℕ) (name : Text) (bases : List ℕ) (es : Entries) (kw : Bindings) (cause : Cause) → refused_layout u.classes bases ≡ Some cause → Ends u (fault cause) ≡ on_bases u meta name bases es kw
-bases-refused u meta name bases es kw cause e = ap (λ r. on_layout u r meta name bases es kw) (sym e)
+pub bases-refused : (u : PlainWorld) (meta : ℕ) (name : Text) (bases : List ℕ) (es : Entries) (cause : Cause) → refused_layout u.classes bases ≡ Some cause → Ends u (fault cause) ≡ on_bases u meta name bases es
+bases-refused u meta name bases es cause e = ap (λ r. on_layout u r meta name bases es) (sym e)
 
-pub winner-goes : (u : PlainWorld) (meta : ℕ) (o : Option ℕ) (c : ℕ) (name : Text) (bases : List ℕ) (es : Entries) (args : List PyObjectRef) (kw : Bindings) → o ≡ Some c → not (eqb c meta) && is_some (entry text_keys natives_of u.classes c New) ≡ false → on_bases u c name bases es kw ≡ by_winner u meta o name bases es args kw
+pub winner-goes : (u : PlainWorld) (meta : ℕ) (o : Option ℕ) (c : ℕ) (name : Text) (bases : List ℕ) (es : Entries) (args : List PyObjectRef) (kw : Bindings) → o ≡ Some c → not (eqb c meta) && is_some (entry text_keys natives_of u.classes c New) ≡ false → on_bases u c name bases es ≡ by_winner u meta o name bases es args kw
 winner-goes u meta o c name bases es args kw e f =
-    sym (ap (λ b. cond b (pass u (ToCall (DoNew c c args kw))) (on_bases u c name bases es kw)) f) ∙ ap (λ o. by_winner u meta o name bases es args kw) (sym e)
+    sym (ap (λ b. cond b (pass u (ToCall (DoNew c c args kw))) (on_bases u c name bases es)) f) ∙ ap (λ o. by_winner u meta o name bases es args kw) (sym e)
 
 -- none, some one of which is no class, or classes
-pub none-goes : (u : PlainWorld) (meta : ℕ) (name : Text) (bs : List PyObjectRef) (cs : List PyTypeRef) (c : PyTypeRef) (es : Entries) (args : List PyObjectRef) (kw : Bindings) → eqb (length bs) 0 ≡ true → cs ≡ c ∷ [] → c.0 ≡ 0 → on_bases u meta name (numbers cs) es kw ≡ by_bases u meta name bs es args kw
-none-goes u meta name [] cs c es args kw l e f = ap (λ (cs : List PyTypeRef). on_bases u meta name (numbers cs) es kw) e ∙ ap (λ c. on_bases u meta name (c ∷ []) es kw) f
+pub none-goes : (u : PlainWorld) (meta : ℕ) (name : Text) (bs : List PyObjectRef) (cs : List PyTypeRef) (c : PyTypeRef) (es : Entries) (args : List PyObjectRef) (kw : Bindings) → eqb (length bs) 0 ≡ true → cs ≡ c ∷ [] → c.0 ≡ 0 → on_bases u meta name (numbers cs) es ≡ by_bases u meta name bs es args kw
+none-goes u meta name [] cs c es args kw l e f = ap (λ (cs : List PyTypeRef). on_bases u meta name (numbers cs) es) e ∙ ap (λ c. on_bases u meta name (c ∷ []) es) f
 none-goes u meta name (b ∷ bs) cs c es args kw l e f = let no : length (b ∷ bs) ≡ 0 = eqb-true (length (b ∷ bs)) 0 l in absurd (omega (arith, no))
 
 pub other-goes : (u : PlainWorld) (meta : ℕ) (name : Text) (bs : List PyObjectRef) (b : PyObjectRef) (es : Entries) (args : List PyObjectRef) (kw : Bindings) → eqb (length bs) 0 ≡ false → classes_of u bs ≡ Err b → Asks u (Chose 0 ∷ []) (ToAttribute (DoGetAttr b (known_text MroEntries))) ≡ by_bases u meta name bs es args kw

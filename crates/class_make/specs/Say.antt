@@ -1,36 +1,31 @@
 -- What the rows of the creation of classes say.
 use Rattle.std.specs.Option.{option_or}
-use Rattle.std.specs.Prelude.{ℕ, ◌+◌, ◌-◌, Bool, false, cond, not, eqb, ◌&&◌, ◌||◌, List, [], ◌∷◌, ◌++◌, Option, Some, None, is_some, option_and_then, map, length, filter, Result, Ok, Err}
+use Rattle.std.specs.Prelude.{ℕ, Bool, false, cond, not, eqb, ◌&&◌, ◌||◌, List, [], ◌∷◌, Option, Some, None, is_some, option_and_then, map, length, filter, Result, Ok, Err}
 use Rattle.py_node.specs.declared.refs.PyObjectRef.{PyObjectRef}
 use Rattle.py_node.specs.declared.raised.Cause.{Cause}
-use Rattle.py_node.specs.declared.raised.Cause.TheVariants.{ArgCount, BasesNotTypes, MetaclassConflict, MroEntries, NamespaceKey, NullInName, SelfType, SetNameCalled, SlotsType, TypeArgs, TypeArgTypes, UnsafeNew}
+use Rattle.py_node.specs.declared.raised.Cause.TheVariants.{ArgCount, BasesNotTypes, MetaclassConflict, MroEntries, NamespaceKey, NullInName, SelfType, TypeArgs, TypeArgTypes, UnsafeNew}
 use Rattle.py_node.specs.declared.entry.SlotId.TheVariants.{New}
 use Rattle.py_node.specs.declared.entry.NativeEntry.TheVariants.{Getter, Setter}
 use Rattle.py_node.specs.declared.entry.Property.TheVariants as property
 use Rattle.py_node.specs.declared.entry.TypeNative.{TypeNative}
 use Rattle.py_node.specs.declared.entry.TypeNative.TheVariants as type
-use Rattle.py_node.specs.declared.payload.MemberKind.TheVariants.{ObjectEx}
-use Rattle.py_node.specs.declared.payload.MemberGetter.TheVariants as getter
-use Rattle.py_node.specs.declared.payload.MemberSetter.TheVariants as setter
 use Rattle.py_node.specs.Attributes.{value_of, with_value}
 use Rattle.py_node.specs.BuiltIns.{heap_flags}
 use Rattle.py_node.specs.Tree.{Text}
 use Rattle.py_node.specs.declared.known.Known.TheVariants as known
 use Rattle.py_node.specs.Known.{known_text}
-use Rattle.class_model.specs.Class.{class_at as class_numbered, Class, found, found_past, is_sub}
-use Rattle.class_model.specs.Layout.{place_count}
-use Rattle.class_model.specs.Order.{all_some}
+use Rattle.class_model.specs.Class.{found_past, is_sub}
 use Rattle.class_model.specs.Slot.{entry}
 use Rattle.class_model.specs.BuiltIn.{natives_of}
 use Rattle.class_table.specs.Refused.{refused_layout, refused_order}
 use Rattle.class_world.specs.NewHeap.{qualified, refused_name}
-use Rattle.plain_machine.specs.Plain.{Datum, AText, ATuple, AList, ADict, AClassMethod, AStaticMethod, AProperty, AGetSet, AMember, PlainWorld, Bindings, ClassJob, DoMakeClass, DoType, DoBind, DoCall, DoGetAttr, DoTypeCall, DoTypeGet, DoTypeSet, DoNew, ToAttribute, ToCall, ToClass, Answered, Chose, Made, Ended, Said, Asks, Ends}
-use Rattle.plain_machine.specs.World.{ref, is_text, datum_at, class_at, text_keys, with_node, next_node, with_new_class, with_own_attr}
-use Rattle.plain_machine.specs.Objects.{type_object, class_number, special_at, nearest_built_in, with_definer}
-use Rattle.plain_machine.specs.Known.{the_object, the_type, the_str, the_tuple, the_list, the_function, the_getset, the_class_method}
+use Rattle.plain_machine.specs.Plain.{Datum, AText, ATuple, ADict, AClassMethod, AGetSet, PlainWorld, Bindings, ClassJob, DoMakeClass, DoType, DoBind, DoCall, DoGetAttr, DoTypeCall, DoTypeGet, DoTypeSet, DoNew, ToAttribute, ToCall, ToClass, Answered, Chose, Made, Ended, Said, Asks, Ends}
+use Rattle.plain_machine.specs.World.{ref, is_text, datum_at, class_at, text_keys, with_node, next_node, with_new_class}
+use Rattle.plain_machine.specs.Objects.{type_object, class_number, special_at, nearest_built_in, with_definers}
+use Rattle.plain_machine.specs.Known.{the_object, the_type, the_str, the_function, the_getset, the_class_method}
 use Rattle.plain_machine.specs.Takes.{with_two, with_three, with_text, native_end}
 use Rattle.native_objects.specs.Objects.{type_native_say}
-use Rattle.plain_machine.specs.Row.{Row, start, ask, noting, read_names, read_objects, pass, end, value, fault, none, is_attribute_error, on_value, on_done}
+use Rattle.plain_machine.specs.Row.{Row, start, build, pass, end, value, fault, not_yet, none, is_attribute_error, on_value, on_done}
 
 -- the entries of a dict
 abbrev pub Entries : Type 0
@@ -39,15 +34,6 @@ Entries = List (PyObjectRef × PyObjectRef)
 abbrev pub is_class : Option ℕ → ℕ → Bool
 is_class None d = false
 is_class (Some c) d = eqb c d
-
--- what there is, as a list
-abbrev pub there : {A : Type 0} → Option A → List A
-there None = []
-there (Some x) = x ∷ []
-
--- the class of the descriptors of members
-abbrev pub the_member : ℕ
-the_member = 16
 
 -- the attributes of a namespace
 
@@ -108,168 +94,58 @@ give_dict s =
 unfoldable pub completed : Text → Space → Space
 completed name s = give_dict (unhash (qualify name (wrap (known_text known.ClassGetitem) (wrap (known_text known.InitSubclass) s))))
 
--- the functions of a class, which it defines
+-- the class is made, and then told of
 
--- the functions that a value of a namespace is or wraps: the callable of a class method or a static method, the parts of a property
-abbrev pub functions_of : PyObjectRef → Option Datum → List PyObjectRef
-functions_of r (Some (AClassMethod f)) = f ∷ []
-functions_of r (Some (AStaticMethod f)) = f ∷ []
-functions_of r (Some (AProperty p)) = there p.fget ++ (there p.fset ++ there p.fdel)
-functions_of r _ = r ∷ []
+-- whether the class of one of some values has a name
+abbrev pub some_has : PlainWorld → Text → List PyObjectRef → Bool
+some_has w x [] = false
+some_has w x (r ∷ rs) = is_some (special_at w r x) || some_has w x rs
 
--- each of some functions that no class defines yet is defined by this one
-abbrev pub defined : ℕ → PlainWorld → List PyObjectRef → PlainWorld
-defined c w [] = w
-defined c w (f ∷ fs) = defined c (with_definer w c f) fs
-
-abbrev pub with_functions : ℕ → PlainWorld → List PyObjectRef → PlainWorld
-with_functions c w [] = w
-with_functions c w (v ∷ vs) = with_functions c (defined c w (functions_of v (datum_at w v))) vs
+-- whether a value wants to know the name under which its class has it
+abbrev pub wants_name : PlainWorld → List PyObjectRef → Bool
+wants_name w rs = some_has w (known_text known.SetName) rs
 
 abbrev pub values_of : {K : Type 0} → List (K × PyObjectRef) → List PyObjectRef
 values_of attrs = map (λ a. a.1) attrs
 
--- the members of a class
-
--- the objects that `__slots__` names: a text, or the items of a tuple or a list. An object of a class derived from theirs will not do
-abbrev pub slots_in : PyObjectRef → Option ℕ → Option Datum → Option (List PyObjectRef)
-slots_in r c (Some (AText x)) = cond (is_class c the_str) (Some (r ∷ [])) None
-slots_in r c (Some (ATuple rs)) = cond (is_class c the_tuple) (Some rs) None
-slots_in r c (Some (AList rs)) = cond (is_class c the_list) (Some rs) None
-slots_in r c _ = None
-
-abbrev pub texts_of : PlainWorld → List PyObjectRef → Option (List Text)
-texts_of w rs = all_some (map (λ r. text_of (datum_at w r)) rs)
-
--- the names of the members, all of which must be texts. Where a namespace has no `__slots__`, there are none
-abbrev pub member_names : PlainWorld → Option PyObjectRef → Option (List Text)
-member_names w None = Some []
-member_names w (Some r) = option_and_then (texts_of w) (slots_in r (class_at w r) (datum_at w r))
-
--- a member at this place of the objects of a class
-abbrev pub a_member : ℕ → ℕ → Text → Datum
-a_member c n x = AMember c x ObjectEx (getter.Offset n) (setter.Offset n) None None
-
--- the descriptor of a member, as an attribute of its class
-unfoldable pub put_member : ℕ → ℕ → Text → PlainWorld → PlainWorld
-put_member c n x w = with_own_attr (with_node w the_member (a_member c n x)) c x (next_node w the_member)
-
--- a name that the class has an attribute of, itself or by inheritance, gets none
-unfoldable pub with_member : ℕ → ℕ → Text → PlainWorld → PlainWorld
-with_member c n x w = cond (is_some (found is_text w.classes c x)) w (put_member c n x w)
-
-abbrev pub with_members : ℕ → ℕ → List Text → PlainWorld → PlainWorld
-with_members c n [] w = w
-with_members c n (x ∷ xs) w = with_members c (n + 1) xs (with_member c n x w)
-
-abbrev pub or_zero : Option ℕ → ℕ
-or_zero None = 0
-or_zero (Some n) = n
-
--- where the places begin that a class gives its objects itself: they are the last ones
-abbrev pub places_from : PlainWorld → ℕ → List Text → ℕ
-places_from w c names = or_zero (place_count w.classes c) - length names
-
-abbrev pub with_own_members : ℕ → List Text → PlainWorld → PlainWorld
-with_own_members c names w = with_members c (places_from w c names) names w
-
--- a class that is made is told of
-
--- what a value is told its name by, if by anything
-abbrev pub name_hook : PlainWorld → PyObjectRef → List PyObjectRef
-name_hook w v = there (special_at w v (known_text known.SetName))
-
-abbrev pub bind_hook : PlainWorld → Text → PyObjectRef → List PyObjectRef → ((Bindings → Row) → Row) → (Bindings → Row) → Row
-bind_hook w x v [] rest go = rest go
-bind_hook w x v (m ∷ ms) rest go =
-    ask w (ToAttribute (DoBind m (Some v) (type_object w v))) (λ r. on_value w r (λ b. rest (λ bs. go ((x, b) ∷ bs))))
-
--- goes on with the names of those values that want to know them, and with what each is told its name by, bound to it: each is looked up in its turn
-abbrev pub bind_hooks : PlainWorld → Bindings → (Bindings → Row) → Row
-bind_hooks w [] go = go []
-bind_hooks w (a ∷ more) go = read_objects (name_hook w a.1) (λ ms. bind_hook w a.0 a.1 ms (bind_hooks w more) go)
-
--- a value is told the class and its name, a new text
-abbrev pub call_hook : PlainWorld → PyObjectRef → Text → PyObjectRef → Said
-call_hook w class x b =
-    Asks (with_node w the_str (AText x)) [] (ToCall (DoCall b (class ∷ next_node w the_str ∷ []) []))
-
--- goes on unless there was a fault, whose place another takes
-abbrev pub unless_raised : PlainWorld → Ended → Row → Row
-unless_raised w (Ok a) go = go
-unless_raised w (Err x) go = end w (fault SetNameCalled)
-
-abbrev pub call_hooks : PlainWorld → PyObjectRef → Bindings → Row → Row
-call_hooks w class [] go = go
-call_hooks w class (b ∷ bs) go = start (call_hook w class b.0 b.1) (λ r. unless_raised w r (call_hooks w class bs go))
-
--- the class is known to those past it along its linearisation by `__init_subclass__`
+-- the class that is made last is known to those past it along its linearisation by `__init_subclass__`
 abbrev pub hook : PlainWorld → PyObjectRef → Option PyObjectRef → Said
 hook w class None = Ends w (value class)
-hook w class (Some m) = Asks w [] (ToAttribute (DoBind m None class))
+hook w class (Some m) = Asks w (Made class ∷ []) (ToAttribute (DoBind m None class))
 
--- the metaclass of a class is no keyword of the hook
-abbrev pub without_metaclass : Bindings → Bindings
-without_metaclass kw = filter (λ k. not (is_text k.0 (known_text known.Metaclass))) kw
+abbrev pub told_of : PlainWorld → ℕ → PyObjectRef → List PyObjectRef → Said
+told_of w c class values =
+    cond (wants_name w values) (Ends w not_yet) (hook w class (found_past is_text w.classes c (known_text known.InitSubclass)))
 
--- the bound hook is called, and then the class is the answer
-abbrev pub init_subclass : PlainWorld → PyObjectRef → Bindings → Row
-init_subclass w class kw =
-    start (hook w class (found_past is_text w.classes class.0 (known_text known.InitSubclass))) (λ r. on_value w r (λ b.
-    start (pass w (ToCall (DoCall b [] (without_metaclass kw)))) (λ s. on_done w s (end w (value class)))))
-
-abbrev pub attrs_in : Option (Class Text) → Bindings
-attrs_in None = []
-attrs_in (Some k) = k.attrs
-
-abbrev pub own_values : PlainWorld → ℕ → Bindings
-own_values w c = attrs_in (class_numbered w.classes c)
-
--- first all values that want to know their names, as they are then, and then the classes past this one
-abbrev pub tell : PlainWorld → PyObjectRef → Bindings → Row
-tell w class kw =
-    read_names (own_values w class.0) (λ values. bind_hooks w values (λ bs. call_hooks w class bs (init_subclass w class kw)))
-
--- the class is made
-
-abbrev pub new_class : PlainWorld → ℕ → Text → List ℕ → Bindings → List Text → PlainWorld
-new_class w meta name bases attrs names =
-    with_new_class w meta (record { name = name; number = length w.nodes; bases = bases; attrs = attrs; members = names; flags = heap_flags })
-
--- the class with the descriptors of its members, and with its functions
-unfoldable pub whole_class : PlainWorld → ℕ → Text → List ℕ → Bindings → List Text → PlainWorld
-whole_class w meta name bases attrs names =
-    with_own_members (length w.nodes) names (with_functions (length w.nodes) (new_class w meta name bases attrs names) (values_of attrs))
+abbrev pub new_class : PlainWorld → ℕ → Text → List ℕ → Bindings → PlainWorld
+new_class w meta name bases attrs =
+    with_new_class w meta (record { name = name; number = length w.nodes; bases = bases; attrs = attrs; members = []; flags = heap_flags })
 
 -- why bases that may be bases together have no order, or a qualified name is no text
 abbrev pub refusal : PlainWorld → List ℕ → Bindings → Option Cause
 refusal w bases attrs = option_or (refused_order w.classes bases) (refused_name w (qualified attrs))
 
-unfoldable pub made_unless : Option Cause → ℕ → Text → List ℕ → List Text → Bindings → Space → Said
-made_unless (Some cause) meta name bases names kw s = Ends s.0 (fault cause)
-made_unless None meta name bases names kw s =
-    let class = ref (length s.0.nodes) in
-    noting (Made class) (tell (whole_class s.0 meta name bases s.1 names) class kw [])
+unfoldable pub made_unless : Option Cause → ℕ → Text → List ℕ → Space → Said
+made_unless (Some cause) meta name bases s = Ends s.0 (fault cause)
+made_unless None meta name bases s =
+    told_of (with_definers (new_class s.0 meta name bases s.1) (length s.0.nodes) (values_of s.1)) (length s.0.nodes) (ref (length s.0.nodes)) (values_of s.1)
 
-abbrev pub with_names : Option (List Text) → ℕ → Text → List ℕ → Bindings → Space → Said
-with_names None meta name bases kw s = Ends s.0 (fault SlotsType)
-with_names (Some names) meta name bases kw s = made_unless (refusal s.0 bases s.1) meta name bases names kw s
+-- a class with members of its own is for later
+unfoldable pub made : ℕ → Text → List ℕ → Space → Said
+made meta name bases s =
+    cond (has_name s.1 (known_text known.Slots)) (Ends s.0 not_yet) (made_unless (refusal s.0 bases s.1) meta name bases s)
 
-unfoldable pub made : ℕ → Text → List ℕ → Bindings → Space → Said
-made meta name bases kw s =
-    with_names (member_names s.0 (value_of (λ y. is_text y (known_text known.Slots)) s.1)) meta name bases kw s
-
-abbrev pub with_namespace : PlainWorld → ℕ → Text → List ℕ → Option Bindings → Bindings → Said
-with_namespace w meta name bases None kw = Ends w (fault NamespaceKey)
-with_namespace w meta name bases (Some attrs) kw = made meta name bases kw (completed name (w, attrs))
+abbrev pub with_namespace : PlainWorld → ℕ → Text → List ℕ → Option Bindings → Said
+with_namespace w meta name bases None = Ends w (fault NamespaceKey)
+with_namespace w meta name bases (Some attrs) = made meta name bases (completed name (w, attrs))
 
 -- classes that may not be bases together are refused before the namespace is read
-abbrev pub on_layout : PlainWorld → Option Cause → ℕ → Text → List ℕ → Entries → Bindings → Said
-on_layout w (Some cause) meta name bases es kw = Ends w (fault cause)
-on_layout w None meta name bases es kw = with_namespace w meta name bases (namespace w es) kw
+abbrev pub on_layout : PlainWorld → Option Cause → ℕ → Text → List ℕ → Entries → Said
+on_layout w (Some cause) meta name bases es = Ends w (fault cause)
+on_layout w None meta name bases es = with_namespace w meta name bases (namespace w es)
 
-abbrev pub on_bases : PlainWorld → ℕ → Text → List ℕ → Entries → Bindings → Said
-on_bases w meta name bases es kw = on_layout w (refused_layout w.classes bases) meta name bases es kw
+abbrev pub on_bases : PlainWorld → ℕ → Text → List ℕ → Entries → Said
+on_bases w meta name bases es = on_layout w (refused_layout w.classes bases) meta name bases es
 
 -- of two metaclasses the one that derives from the other
 abbrev pub derived : PlainWorld → ℕ → Option ℕ → Option ℕ
@@ -285,7 +161,7 @@ winner w meta (b ∷ bs) = option_and_then (λ c. winner w c bs) (derived w meta
 abbrev pub by_winner : PlainWorld → ℕ → Option ℕ → Text → List ℕ → Entries → List PyObjectRef → Bindings → Said
 by_winner w meta None name bases es args kw = Ends w (fault MetaclassConflict)
 by_winner w meta (Some c) name bases es args kw =
-    cond (not (eqb c meta) && is_some (entry text_keys natives_of w.classes c New)) (pass w (ToCall (DoNew c c args kw))) (on_bases w c name bases es kw)
+    cond (not (eqb c meta) && is_some (entry text_keys natives_of w.classes c New)) (pass w (ToCall (DoNew c c args kw))) (on_bases w c name bases es)
 
 abbrev pub with_class : PyObjectRef → Option ℕ → Result (List ℕ) PyObjectRef → Result (List ℕ) PyObjectRef
 with_class b None rest = Err b
@@ -304,7 +180,7 @@ by_classes w meta name bs (Ok cs) es args kw = by_winner w meta (winner w meta b
 
 -- no bases stand for `object`
 abbrev pub by_bases : PlainWorld → ℕ → Text → List PyObjectRef → Entries → List PyObjectRef → Bindings → Said
-by_bases w meta name [] es args kw = on_bases w meta name (the_object ∷ []) es kw
+by_bases w meta name [] es args kw = on_bases w meta name (the_object ∷ []) es
 by_bases w meta name (b ∷ bs) es args kw = by_classes w meta name (b ∷ bs) (classes_of w (b ∷ bs)) es args kw
 
 abbrev pub has_null : Text → Bool
@@ -345,6 +221,10 @@ by_one w meta None args kw = from_three w meta (three_of args) args kw
 abbrev pub make_class_by : PlainWorld → ℕ → List PyObjectRef → Bindings → Said
 make_class_by w meta args kw = by_one w meta (one_of args kw) args kw
 
+-- the metaclass of a class is no keyword of the hook
+abbrev pub without_metaclass : Bindings → Bindings
+without_metaclass kw = filter (λ k. not (is_text k.0 (known_text known.Metaclass))) kw
+
 -- a base that is no class and names others is refused, and so is one that does not
 abbrev pub no_class : PlainWorld → Ended → Row
 no_class w (Ok a) = end w (fault MroEntries)
@@ -354,14 +234,11 @@ abbrev pub or_no_class : PlainWorld → Row → Row
 or_no_class w row (Chose way ∷ (Answered r ∷ more)) = no_class w r more
 or_no_class w row told = row told
 
--- goes on with a class that was made
-abbrev pub or_made : (PyObjectRef → Row) → Row → Row
-or_made go row (Made class ∷ more) = go class more
-or_made go row told = row told
-
+-- the bound hook is called, and then the class is the answer
 abbrev pub make_class_say : PlainWorld → ℕ → List PyObjectRef → Bindings → Row
 make_class_say w meta args kw =
-    or_made (λ class. tell w class kw) (or_no_class w (start (make_class_by w meta args kw) (end w)))
+    or_no_class w (build w (make_class_by w meta args kw) (λ class r. on_value w r (λ b.
+    start (pass w (ToCall (DoCall b [] (without_metaclass kw)))) (λ s. on_done w s (end w (value class))))))
 
 -- the native that makes the objects of `type`
 

@@ -19,7 +19,7 @@ ghost use Rattle.class_make.specs.Rows.{Makes, of_class_kept, of_class_node};
 
 use crate::ClassKept;
 use crate::attributes::completed;
-use crate::creation::{Plan, made};
+use crate::hook::{Plan, made};
 use crate::make::{Body, Call};
 use crate::namespace::namespace;
 use class_world::World;
@@ -202,7 +202,7 @@ fn on_bases(
     requires values { Holds world.old (AreNodes (map (λ e. e.1) body.entries.items)) }
     requires kw { AllHold world.old (of_each of_binding kw.items) }
     ensures goes { IfOk result (λ step. Makes kw.items (λ t u.
-        on_bases u meta.0 (string_bytes body.name) (numbers bases.items) body.entries.items (bindings t kw.items))
+        on_bases u meta.0 (string_bytes body.name) (numbers bases.items) body.entries.items)
         world.old world.new step) }
     ensures safe { Leaves of_class_kept world.old world.new result }
 {
@@ -231,8 +231,8 @@ fn with_namespace(
     requires attrs { IfSome attrs (λ a. AllHold world.old (of_each of_binding a)) }
     requires kw { AllHold world.old (of_each of_binding kw.items) }
     ensures goes { IfOk result (λ step. Makes kw.items (λ t u.
-        with_namespace u meta.0 (string_bytes name) (numbers bases.items) (option_map (λ a. bindings t a) attrs)
-        (bindings t kw.items)) world.old world.new step) }
+        with_namespace u meta.0 (string_bytes name) (numbers bases.items) (option_map (λ a. bindings t a) attrs))
+        world.old world.new step) }
     ensures safe { Leaves of_class_kept world.old world.new result }
 {
     match attrs {

@@ -8,24 +8,19 @@ ghost use Rattle.class_make.specs.Rows.{Begins, Resumes, of_class_kept};
 
 mod attributes;
 mod bases;
-mod creation;
 mod hook;
 mod make;
-mod members;
 mod namespace;
-mod slots;
-mod tell;
 mod type_attributes;
 mod type_new;
 
 use crate::hook::{bound, called};
 use crate::make::{make_class, no_class};
-use crate::tell::{Telling, hook_bound, hook_called};
 use crate::type_attributes::native_end;
 use crate::type_new::type_native;
 use class_world::World;
 use py_node::task::Keywords;
-use py_node::{Answer, ClassTask, OutOfMemory, PyObjectRef, PyStrInterned, Raised, Step};
+use py_node::{Answer, ClassTask, OutOfMemory, PyObjectRef, Raised, Step};
 
 /// What a row of the creation of classes keeps while it waits for an answer.
 #[derive(Drop)]
@@ -36,10 +31,6 @@ pub enum ClassKept {
     Native,
     /// A base that is no class is asked for others.
     NoClass,
-    /// What is told, the hooks that are bound, and the name of a value: its `__set_name__` is being bound to it.
-    Binding(Telling, Keywords, PyStrInterned),
-    /// What is told, by the bound hooks with their names: one of them is being called.
-    Calling(Telling),
     /// The class, and the keywords that it was made with: `__init_subclass__` is being bound to it.
     AfterBind(PyObjectRef, Keywords),
     /// The class: `__init_subclass__` is being called.
@@ -73,8 +64,6 @@ pub fn resume(
         ClassKept::Pass => Ok(Step::End(answer)),
         ClassKept::Native => Ok(native_end(world, answer)),
         ClassKept::NoClass => Ok(no_class(world, answer)),
-        ClassKept::Binding(telling, hooks, name) => hook_bound(world, telling, hooks, name, answer),
-        ClassKept::Calling(telling) => hook_called(world, telling, answer),
         ClassKept::AfterBind(class, kw) => bound(world, class, kw, answer),
         ClassKept::AfterHook(class) => {
             let step = called(world, class, answer);

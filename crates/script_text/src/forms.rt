@@ -1,17 +1,44 @@
 //! The forms of expressions.
 
-ghost use Rattle.std.specs.Prelude.{◌≡◌, Some, None, Err, IfOk, IfErr, map, option_map, string_bytes};
+ghost use Rattle.std.specs.Prelude.{◌≡◌, Some, None, Err, IfOk, IfErr, ok_or, is_ok, nat_le, length, map, option_map, option_and_then, string_bytes};
 ghost use Rattle.serde_json.specs.Find.{as_str};
 ghost use Rattle.serde_json.specs.View.{view, items_view};
 ghost use Rattle.py_node.specs.Tree.{tree_of, pair_of, texts_of};
-ghost use Rattle.script_text.specs.Forms.{tuple, list, dict, pairs_in, pair_in, paired_of, texts_in, all_differ, params_of, expr_of, array_of, name_of, bind_of, func_of, attr_of, setattr_of, call_of, op_of, raise_of, class_of, keywords_of, list_of, exprs_of, body_of, entries_in, entry_of, named_of, differing, named};
+ghost use Rattle.script_text.specs.Forms.{word_of, operation_of, takes, tuple, list, dict, pairs_in, pair_in, paired_of, texts_in, all_differ, enough, params_of, kind_named, expr_of, array_of, name_of, bind_of, func_of, attr_of, setattr_of, call_of, op_of, raise_of, class_of, keywords_of, list_of, exprs_of, body_of, entries_in, entry_of, named_of, differing, named};
 
 use crate::parts::{Unread, next, no_more, one, three, three_and_rest, two, two_and_rest};
-use crate::words::{read_kind, read_word, takes};
-use py_node::{Constant, Expr};
+use py_node::{Constant, Expr, Kind, ObjectWord, PyNumberBinaryOp, Word};
 use serde_json::Value;
 use std::alloc::{AllocError, Global};
 use std::collections::BTreeSet;
+
+// The word of an operation.
+fn find_word(text: &str) -> Option<Word>
+    ensures { result ≡ word_of text.now }
+{
+    if text == "+" {
+        Some(Word::Binary(PyNumberBinaryOp::Add))
+    } else if text == "is" {
+        Some(Word::Object(ObjectWord::Is))
+    } else if text == "typeof" {
+        Some(Word::Object(ObjectWord::TypeOf))
+    } else if text == "callable" {
+        Some(Word::Object(ObjectWord::Callable))
+    } else {
+        None
+    }
+}
+
+// Whether a word takes so many operands.
+fn takes(word: Word, count: usize) -> bool
+    ensures { result ≡ takes word count }
+{
+    match word {
+        Word::Object(ObjectWord::TypeOf) => count == 1,
+        Word::Object(ObjectWord::Callable) => count == 1,
+        _ => count == 2,
+    }
+}
 
 // A copy of a string.
 fn read_text(alloc: Global, value: &Value) -> Result<String, Unread>
@@ -20,6 +47,55 @@ fn read_text(alloc: Global, value: &Value) -> Result<String, Unread>
 {
     let text = value.as_str().ok_or(Unread::Shape)?;
     Ok(String::from_str(alloc, text)?)
+}
+
+// The operation that a value names.
+fn read_word(value: &Value) -> Result<Word, Unread>
+    ensures { result ≡ ok_or (operation_of (view value.now)) Unread.Shape }
+{
+    let text = value.as_str().ok_or(Unread::Shape)?;
+    find_word(text).ok_or(Unread::Shape)
+}
+
+// The kind of faults that a word stands for.
+fn find_kind(text: &str) -> Option<Kind>
+    ensures { result ≡ kind_named text.now }
+{
+    if text == "TypeError" {
+        Some(Kind::TypeError)
+    } else if text == "AttributeError" {
+        Some(Kind::AttributeError)
+    } else if text == "OverflowError" {
+        Some(Kind::OverflowError)
+    } else if text == "ZeroDivisionError" {
+        Some(Kind::ZeroDivisionError)
+    } else if text == "ValueError" {
+        Some(Kind::ValueError)
+    } else if text == "KeyError" {
+        Some(Kind::KeyError)
+    } else if text == "IndexError" {
+        Some(Kind::IndexError)
+    } else if text == "StopIteration" {
+        Some(Kind::StopIteration)
+    } else if text == "NotImplementedError" {
+        Some(Kind::NotImplementedError)
+    } else if text == "NameError" {
+        Some(Kind::NameError)
+    } else if text == "RuntimeError" {
+        Some(Kind::RuntimeError)
+    } else if text == "RecursionError" {
+        Some(Kind::RecursionError)
+    } else {
+        None
+    }
+}
+
+// The kind of faults that a value names.
+fn read_kind(value: &Value) -> Result<Kind, Unread>
+    ensures { result ≡ ok_or (option_and_then kind_named (as_str (view value.now))) Unread.Shape }
+{
+    let text = value.as_str().ok_or(Unread::Shape)?;
+    find_kind(text).ok_or(Unread::Shape)
 }
 
 // The parameters of a function: strings that all differ. Where the last is to take the rest of the arguments, there is

@@ -4,6 +4,5 @@
 mod forms;
 mod parts;
 pub mod read;
-mod words;
 
 pub use read::{ScriptError, ScriptFault};

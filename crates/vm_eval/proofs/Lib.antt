@@ -1,5 +1,5 @@
 pub mod Groups
-pub mod Asking
+pub mod Natives
 pub mod Turns
 pub mod Commands
 pub mod Rests

@@ -14,11 +14,11 @@ use class_world::World;
 use native_calls::{NativeKept, asks};
 use native_containers::{dict_native, iterator_native, list_native, tuple_native};
 use native_numbers::{arithmetic_native, bits_native, compare_native, fixed_native, number_native};
+use native_texts::{compare_text, text_native};
 use native_objects::{
     callable_native, descriptor_native, getter_native, getter_of_native, maker_native,
     property_native, super_native, wrapper_native,
 };
-use native_texts::{compare_text, text_native};
 use py_node::task::{Args, Keywords};
 use py_node::{
     Answer, BuiltIn, Cause, NativeEntry, OutOfMemory, PyObjectRef, PyStrInterned, Raised, Step,

@@ -9,3 +9,5 @@ mod objects;
 mod payloads;
 #[cfg(test)]
 mod tables;
+#[cfg(test)]
+mod worlds;

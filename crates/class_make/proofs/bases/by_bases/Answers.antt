@@ -21,7 +21,7 @@ returns-then-is_empty-clause-goes c =
     let es = c.args.body.entries.items in
     let args = c.args.call.args.items in
     let only = c.in_ok-only.only.items in
-    goes-from c.args.call.kw.items (λ t u. by_bases u m n bs es args (bindings t c.args.call.kw.items)) (λ t u. on_bases u m n (numbers only) es (bindings t c.args.call.kw.items)) w w c.on_bases.new.world c.on_bases.result (λ t r.
+    goes-from c.args.call.kw.items (λ t u. by_bases u m n bs es args (bindings t c.args.call.kw.items)) (λ t u. on_bases u m n (numbers only) es) w w c.on_bases.new.world c.on_bases.result (λ t r.
     (r, none-goes (plain t w) m n bs only c.built_in-object.result es args (bindings t c.args.call.kw.items) (ap (λ n. eqb n 0) (sym c.args.bases.ok.0) ∙ sym c.is_empty.ensures ∙ c.if-is_empty.true) c.in_ok-only.ensures.items c.built_in-object.ensures.place))
     c.on_bases.ensures.goes
 

@@ -14,6 +14,6 @@ returns-else-makes_itself-clause-goes c =
     let n = string_bytes c.args.body.name in
     let bs = numbers c.args.bases.items in
     let o = option_map (λ d. d.0) c.args.winner in
-    goes-from c.args.call.kw.items (λ t u. by_winner u m o n bs c.args.body.entries.items c.args.call.args.items (bindings t c.args.call.kw.items)) (λ t u. on_bases u c.in-Some.class.0 n bs c.args.body.entries.items (bindings t c.args.call.kw.items)) old old c.on_bases.new.world c.on_bases.result (λ t r.
+    goes-from c.args.call.kw.items (λ t u. by_winner u m o n bs c.args.body.entries.items c.args.call.args.items (bindings t c.args.call.kw.items)) (λ t u. on_bases u c.in-Some.class.0 n bs c.args.body.entries.items) old old c.on_bases.new.world c.on_bases.result (λ t r.
     (r, winner-goes (plain t old) m o c.in-Some.class.0 n bs c.args.body.entries.items c.args.call.args.items (bindings t c.args.call.kw.items) (ap (option_map (λ d. d.0)) c.in-Some.is) (c.makes_itself.ensures t r ∙ c.if-makes_itself.false)))
     c.on_bases.ensures.goes

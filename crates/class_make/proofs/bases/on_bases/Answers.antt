@@ -29,8 +29,8 @@ returns-in-Some-clause-goes c =
     let n = string_bytes c.args.body.name in
     let b = numbers c.args.bases.items in
     rw c.raise.ensures (
-    makes-from c.args.kw.items (λ t u. on_bases u m n b c.args.body.entries.items (bindings t c.args.kw.items)) (λ t u. Ends u (fault c.in-Some.cause)) w w w _ (λ t r.
-    (r, bases-refused (plain t w) m n b c.args.body.entries.items (bindings t c.args.kw.items) c.in-Some.cause (ap (λ bs. refused_layout (plain t w).classes (numbers bs)) (sym c.deref.ensures.value) ∙ c.in-Some.ensures t)))
+    makes-from c.args.kw.items (λ t u. on_bases u m n b c.args.body.entries.items) (λ t u. Ends u (fault c.in-Some.cause)) w w w _ (λ t r.
+    (r, bases-refused (plain t w) m n b c.args.body.entries.items c.in-Some.cause (ap (λ bs. refused_layout (plain t w).classes (numbers bs)) (sym c.deref.ensures.value) ∙ c.in-Some.ensures t)))
     (λ meta args t r. (r, (refl, refl))))
 
 pub returns-clause-goes : goal.returns-clause-goes
@@ -40,6 +40,6 @@ returns-clause-goes c =
     let m = c.args.meta.0 in
     let n = string_bytes c.args.body.name in
     let b = numbers c.args.bases.items in
-    goes-from c.args.kw.items (λ t u. on_bases u m n b c.args.body.entries.items (bindings t c.args.kw.items)) (λ t u. with_namespace u m n b (option_map (λ a. bindings t a) c.in_ok-attrs.attrs) (bindings t c.args.kw.items)) old c.namespace.new.world c.with_namespace.new.world c.with_namespace.result (λ t r.
-    (e.reads t r, bases-read (plain t old) (plain t c.namespace.new.world) m n b c.args.body.entries.items c.deref-2.result.now (bindings t c.args.kw.items) (option_map (λ a. bindings t a) c.in_ok-attrs.attrs) (e.same t) (ap (λ bs. refused_layout (plain t old).classes (numbers bs)) (sym c.deref.ensures.value) ∙ c.in-None.ensures t) (e.named t r) c.deref-2.ensures.value))
+    goes-from c.args.kw.items (λ t u. on_bases u m n b c.args.body.entries.items) (λ t u. with_namespace u m n b (option_map (λ a. bindings t a) c.in_ok-attrs.attrs)) old c.namespace.new.world c.with_namespace.new.world c.with_namespace.result (λ t r.
+    (e.reads t r, bases-read (plain t old) (plain t c.namespace.new.world) m n b c.args.body.entries.items c.deref-2.result.now (option_map (λ a. bindings t a) c.in_ok-attrs.attrs) (e.same t) (ap (λ bs. refused_layout (plain t old).classes (numbers bs)) (sym c.deref.ensures.value) ∙ c.in-None.ensures t) (e.named t r) c.deref-2.ensures.value))
     c.with_namespace.ensures.goes

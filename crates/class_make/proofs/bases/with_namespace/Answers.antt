@@ -30,6 +30,6 @@ returns-in_ok-attrs-in-Some-clause-goes c =
     let m = c.args.meta.0 in
     let n = string_bytes c.args.name in
     let b = numbers c.args.bases.items in
-    goes-from c.args.kw.items (λ t u. with_namespace u m n b (option_map (λ a. bindings t a) c.args.attrs) (bindings t c.args.kw.items)) (λ t u. made m n b (bindings t c.args.kw.items) (u, bindings t c.in_ok-attrs-in-Some.attrs)) old c.completed.new.world c.made.new.world c.made.result (λ t r.
-    (e.reads t r, ap (made m n b (bindings t c.args.kw.items)) (e.becomes t r) ∙ ap (λ x. made m n b (bindings t c.args.kw.items) (completed x (plain t old, bindings t c.in-Some.attrs))) c.as_str.ensures.value ∙ ap (λ o. with_namespace (plain t old) m n b (option_map (λ a. bindings t a) o) (bindings t c.args.kw.items)) (sym c.in-Some.is)))
+    goes-from c.args.kw.items (λ t u. with_namespace u m n b (option_map (λ a. bindings t a) c.args.attrs)) (λ t u. made m n b (u, bindings t c.in_ok-attrs-in-Some.attrs)) old c.completed.new.world c.made.new.world c.made.result (λ t r.
+    (e.reads t r, ap (made m n b) (e.becomes t r) ∙ ap (λ x. made m n b (completed x (plain t old, bindings t c.in-Some.attrs))) c.as_str.ensures.value ∙ ap (λ o. with_namespace (plain t old) m n b (option_map (λ a. bindings t a) o)) (sym c.in-Some.is)))
     c.made.ensures.goes

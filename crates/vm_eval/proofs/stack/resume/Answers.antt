@@ -15,7 +15,6 @@ use Rattle.proto_ops.specs.Rows.{operator_stands, of_operator_kept}
 use Rattle.plain_machine.specs.Plain.{ToEval, ToAttribute, ToDescriptor, ToCall, ToClass, ToOperator}
 use Rattle.vm_eval.specs.declared.stack.Kept.TheVariants.{ForEval, ForAttribute, ForDescriptor, ForCall, ForClass, ForOperator}
 use Rattle.vm_eval.specs.Say.{of_kept, bodies_in}
-use Rattle.vm_eval.proofs.Asking.{native-resumes}
 use Rattle.vm_eval.proofs.Groups.{resumes-among, eval-group, attribute-group, descriptor-group, call-group, class-group, operator-group}
 use Rattle.vm_eval.proofs.stack.resume.Goals as goal
 
@@ -72,8 +71,3 @@ returns-in_ok-step-in-ForOperator-clause-safe c =
 pub returns-in_ok-step-in-ForCall-clause-safe : goal.returns-in_ok-step-in-ForCall-clause-safe
 returns-in_ok-step-in-ForCall-clause-safe c =
     leaves-open of_kept bodies_in of_call_kept bodies_of (bodies_in c.args.kept) (bodies_of c.in-ForCall.kept) _ _ c.in_ok-step-in-ForCall.step c.of_call.result (ap bodies_in c.in-ForCall.is) c.of_call.ensures.says c.of_call.ensures.opens c.in_ok-step-in-ForCall.ensures.safe
-
-pub returns-in_ok-step-in-ForNative-clause-goes : goal.returns-in_ok-step-in-ForNative-clause-goes
-returns-in_ok-step-in-ForNative-clause-goes c =
-    let step = c.in_ok-step-in-ForNative in
-    native-resumes c.args.kept c.in-ForNative.kept c.args.answer _ _ step.step c.of_native.result c.in-ForNative.is c.of_native.ensures.step step.ensures.goes
