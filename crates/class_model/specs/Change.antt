@@ -1,7 +1,7 @@
 -- How classes are changed, and the class that is to blame where new bases leave no order.
 use Rattle.std.specs.Prelude.{ℕ, Bool, false, cond, eqb, ◌&&◌, ◌||◌, List, [], ◌∷◌, ◌++◌, map, Option, Some, None, is_some, is_none, option_map, option_and_then}
 use Rattle.py_node.specs.declared.refs.PyObjectRef.{PyObjectRef}
-use Rattle.py_node.specs.Attributes.{with_value}
+use Rattle.py_node.specs.Attributes.{with_value, without_key}
 use Rattle.py_node.specs.declared.raised.Cause.{Cause}
 use Rattle.py_node.specs.declared.raised.Cause.TheVariants.{LocalPrecedence, MroConflict}
 use Rattle.py_node.specs.Tree.{Text}
@@ -20,11 +20,6 @@ with_changed f (k ∷ t) c = cond (eqb k.number c) (f k ∷ t) (k ∷ with_chang
 -- an own attribute set: in its place, or last
 abbrev pub with_class_attr : {K : Type 0} → (K → K → Bool) → Classes K → ℕ → K → PyObjectRef → Classes K
 with_class_attr same t c n v = with_changed (λ k. record k { attrs = with_value same k.attrs n v }) t c
-
--- what stands under another key than this one
-abbrev pub without_key : {K V : Type 0} → (K → K → Bool) → List (K × V) → K → List (K × V)
-without_key same [] n = []
-without_key same (a ∷ attrs) n = cond (same a.0 n) (without_key same attrs n) (a ∷ without_key same attrs n)
 
 -- an own attribute taken out
 abbrev pub without_class_attr : {K : Type 0} → (K → K → Bool) → Classes K → ℕ → K → Classes K

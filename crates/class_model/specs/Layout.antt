@@ -1,5 +1,5 @@
 -- Solid classes, the best base of a class, and its layout.
-use Rattle.std.specs.Prelude.{ℕ, zero, suc, ◌+◌, Bool, true, false, cond, eqb, not, ◌&&◌, ◌||◌, nat_lt, List, [], ◌∷◌, ◌++◌, map, length, Option, Some, None, option_map, option_and_then}
+use Rattle.std.specs.Prelude.{ℕ, zero, suc, ◌+◌, ◌-◌, Bool, true, false, cond, eqb, not, ◌&&◌, ◌||◌, nat_lt, List, [], ◌∷◌, ◌++◌, map, length, Option, Some, None, option_map, option_and_then}
 use Rattle.py_node.specs.BuiltIns.{built_in_count}
 use Rattle.class_model.specs.Class.{Class, Classes, class_at, is_along, is_sub, lin, bases_of}
 
@@ -82,3 +82,14 @@ place_count t c = option_map (members_in t) (layout t c)
 -- where the places begin that a class of the layout gives: after those of the classes before it
 abbrev pub first_place : {K : Type 0} → Classes K → ℕ → ℕ → Option ℕ
 first_place t c d = option_map (λ line. members_in t (before d line)) (layout t c)
+
+-- the place that so many others come before, along some classes: a class, and an index among its members
+abbrev pub place_along : {K : Type 0} → Classes K → List ℕ → ℕ → Option (ℕ × ℕ)
+place_along t [] n = None
+place_along t (c ∷ cs) n =
+    let count = member_count (class_at t c) in
+    cond (nat_lt n count) (Some (c, n)) (place_along t cs (n - count))
+
+-- the place that an offset stands for in the objects of a class: the places of its layout's classes follow one another
+abbrev pub place_at : {K : Type 0} → Classes K → ℕ → ℕ → Option (ℕ × ℕ)
+place_at t c n = option_and_then (λ line. place_along t line n) (layout t c)

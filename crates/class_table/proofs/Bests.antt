@@ -161,3 +161,13 @@ module _ {K : Type 0} (t : Classes K) where
     pub told-some : (b : PyTypeRef) (bs : List ℕ) → AreThere t bs → number_best (Ok (Some b)) ≡ best_along t None bs → (best_of t bs ≡ Some b.0) × (None ≡ refused_layout t bs)
     unfolding Told
     told-some b bs l e = let h = told (Ok (Some b)) bs l e in (h.0, sym h.1)
+
+    -- bases that may be bases together have a best
+    pub best-there : (bs : List ℕ) → AreThere t bs → refused_layout t bs ≡ None → (d : ℕ) × (best_of t bs ≡ Some d)
+    unfolding Told
+    best-there bs l e = go (best_along t None bs) (told-along bs l)
+      where
+        go : (r : Result (Option ℕ) Cause) → Told r bs → (d : ℕ) × (best_of t bs ≡ Some d)
+        go (Ok None) h = let z : Some EmptyBases ≡ None = sym h ∙ e in cc
+        go (Ok (Some d)) h = (d, h.0)
+        go (Err c) h = let z : Some c ≡ None = sym h ∙ e in cc

@@ -1,15 +1,14 @@
--- An attribute that is set, and the slots that are found anew.
-use Rattle.std.proofs.Common.{◌≡◌, ℕ, zero, suc, ◌<◌, List, [], ◌∷◌, length, get_or, set, Some, Bool, true, false, cond, eqb, inl, inr, refl, sym, ap, subst, ◌∙◌, arith}
-use Rattle.std.specs.Prelude.{slice_get, option_map, leb}
-use Rattle.std.proofs.lemmas.List.{map-set}
+-- Own attributes of a class that are changed, and the slots that are found anew.
+use Rattle.std.proofs.Common.{◌≡◌, ℕ, zero, suc, ◌<◌, List, [], ◌∷◌, length, get_or, set, Option, Some, None, Bool, true, false, cond, inl, inr, refl, sym, ap, subst, ◌∙◌, arith}
+use Rattle.std.specs.Prelude.{slice_get, option_map, leb, is_some}
+use Rattle.std.proofs.lemmas.List.{map-set, set-get_or}
 use Rattle.std.proofs.lemmas.Option.{slice_get-map, slice_get-get_or, slice_get_within}
-use Rattle.std.proofs.lemmas.Bool.{eqb-true, eq-eqb, ne_eqb, and_parts}
+use Rattle.std.proofs.lemmas.Bool.{eq-eqb, ne_eqb, and_parts}
 use Rattle.py_node.specs.declared.refs.PyStrInterned.{PyStrInterned}
-use Rattle.py_node.specs.declared.refs.PyObjectRef.{PyObjectRef}
-use Rattle.py_node.specs.Attributes.{with_value, is_same_name}
 use Rattle.py_node.specs.Slots.{place_of}
 use Rattle.std.specs.List.{All}
-use Rattle.py_node.specs.Attributes.{AreNamesDistinct}
+use Rattle.py_node.specs.declared.refs.PyObjectRef.{PyObjectRef}
+use Rattle.py_node.specs.Attributes.{value_of, without_key, is_same_name, AreNamesDistinct}
 use Rattle.class_model.specs.Order.{has}
 use Rattle.class_model.specs.Class.{Class, Classes, lin, subclasses}
 use Rattle.class_model.specs.Numbers.{numbers_of, ascend_from, is_ascending}
@@ -17,20 +16,13 @@ use Rattle.class_model.specs.Layout.{base, solid, place_count}
 use Rattle.class_model.specs.Slot.{entries}
 use Rattle.class_model.specs.Sound.{AreSound}
 use Rattle.class_model.specs.BuiltIn.{natives_of}
-use Rattle.class_model.specs.Change.{with_changed, with_class_attr}
+use Rattle.class_model.specs.Change.{with_changed}
 use Rattle.class_model.proofs.Numbers.{no-less}
-use Rattle.class_model.proofs.Changed.{lin-attr}
-use Rattle.class_model.proofs.Subclasses.{subclasses-attr}
-use Rattle.class_model.proofs.Slots.{entry-attr-away, entry-attr-other}
-use Rattle.class_model.proofs.Solid.{base-attr, solid-attr}
-use Rattle.class_model.proofs.Sound.{sound-attr}
-use Rattle.class_model.proofs.Kept.{member_count-kept}
 use Rattle.class_table.specs.Keys.{table_keys}
 use Rattle.class_table.specs.Stored.{StoredClass, class_of, classes_of}
 use Rattle.class_table.specs.Coherent.{HasLines, IsCoherent}
 use Rattle.class_table.specs.Patch.{IsNear, AreNear, IsRefreshed, settled, refreshed_one}
-use Rattle.class_table.proofs.Distinct.{all-set}
-use Rattle.class_table.proofs.Counts.{count-agrees}
+use Rattle.class_table.proofs.Edited.{Attrs, taken-absent, TouchesOnly, edited, lin-edited, solid-edited, base-edited, sound-edited, count-edited, entries-away, entry-other, all-edited, subclasses-edited}
 use Rattle.py_node.proofs.SlotTables.{slot-at_place}
 use Rattle.class_table.proofs.Places.{get-set_cases}
 use Rattle.class_table.proofs.Refreshed.{there, entries-at, plain-refreshed, length-entries}
@@ -45,21 +37,18 @@ with_changed-set f n (j ∷ t) (suc i) k up e =
     let l = no-less (suc j.number) t i k q.1 e in
     ap (λ b. cond b (f j ∷ t) (j ∷ with_changed f t k.number)) (ne_eqb j.number k.number (λ z. omega arith)) ∙ ap (λ ys. j ∷ ys) (with_changed-set f (suc j.number) t i k q.1 e)
 
-alike : (a b x : PyStrInterned) → is_same_name a b ≡ true → is_same_name a x ≡ is_same_name b x
-alike a b x e = ap (λ n. eqb n x.0) (eqb-true a.0 b.0 e)
-
-module _ (kept : List StoredClass) (ok : IsCoherent kept) (c : ℕ) (k : StoredClass) (within : c < length kept) (at : k ≡ get_or kept c k) (n : PyStrInterned) (v : PyObjectRef) where
+module _ (kept : List StoredClass) (ok : IsCoherent kept) (c : ℕ) (k : StoredClass) (within : c < length kept) (at : k ≡ get_or kept c k) (n : PyStrInterned) (g : Attrs → Attrs) (touches : TouchesOnly n g) where
   changed : StoredClass
-  changed = record k { attrs = with_value is_same_name k.attrs n v }
+  changed = record k { attrs = g k.attrs }
 
   new : Classes PyStrInterned
-  new = with_class_attr is_same_name (classes_of kept) k.number n v
+  new = with_changed (edited g) (classes_of kept) k.number
 
-  plain-changed : classes_of (set kept c changed) ≡ new
+  pub plain-changed : classes_of (set kept c (record k { attrs = g k.attrs })) ≡ with_changed (edited g) (classes_of kept) k.number
   unfolding changed new
   plain-changed =
       map-set class_of kept c changed
-      ∙ sym (with_changed-set (λ k. record k { attrs = with_value is_same_name k.attrs n v }) 0 (classes_of kept) c (class_of k) ok.sound.ascending (slice_get-map class_of kept c ∙ ap (option_map class_of) (there kept c k within at)))
+      ∙ sym (with_changed-set (edited g) 0 (classes_of kept) c (class_of k) ok.sound.ascending (slice_get-map class_of kept c ∙ ap (option_map class_of) (there kept c k within at)))
 
   -- what the table had at a place
   record Was (d : ℕ) (y : StoredClass) : Type 0 where
@@ -95,14 +84,14 @@ module _ (kept : List StoredClass) (ok : IsCoherent kept) (c : ℕ) (k : StoredC
 
   new-lin : (d : ℕ) (y : StoredClass) (w : Was d y) → lin new y.number ≡ Some y.mro
   unfolding new
-  new-lin d y w = lin-attr is_same_name (classes_of kept) k.number n v y.number ∙ old-lin d y w
+  new-lin d y w = lin-edited g (classes_of kept) k.number y.number ∙ old-lin d y w
 
   old-slots : (d : ℕ) (y : StoredClass) (w : Was d y) → y.slots ≡ entries table_keys natives_of (classes_of kept) y.number
   old-slots d y w = sym w.slots ∙ ok.slots d w.old w.there ∙ ap (entries table_keys natives_of (classes_of kept)) w.number
 
-  pub lines-changed : HasLines (set kept c (record k { attrs = with_value is_same_name k.attrs n v }))
+  pub lines-changed : HasLines (set kept c (record k { attrs = g k.attrs }))
   unfolding changed new
-  lines-changed = record { ascending = ap is_ascending plain-changed ∙ (sound-attr is_same_name (classes_of kept) k.number n v ok.sound).ascending; mro = λ d y e. ap (λ t. lin t y.number) plain-changed ∙ new-lin d y (was d y e) }
+  lines-changed = record { ascending = ap is_ascending plain-changed ∙ (sound-edited g (classes_of kept) k.number ok.sound).ascending; mro = λ d y e. ap (λ t. lin t y.number) plain-changed ∙ new-lin d y (was d y e) }
 
   near-one : (d : ℕ) (y : StoredClass) (w : Was d y) → IsNear new n y
   unfolding new
@@ -111,15 +100,15 @@ module _ (kept : List StoredClass) (ok : IsCoherent kept) (c : ℕ) (k : StoredC
     others = λ s h.
         ap (λ ys. slice_get ys (place_of s)) (old-slots d y w)
         ∙ entries-at (classes_of kept) y.number (place_of s) s (slot-at_place s)
-        ∙ ap Some (sym (entry-attr-other table_keys natives_of (classes_of kept) k.number n v y.number s alike h));
+        ∙ ap Some (sym (entry-other g (classes_of kept) k.number n touches y.number s h));
   }
 
-  pub near-changed : AreNear n k.number (set kept c (record k { attrs = with_value is_same_name k.attrs n v }))
-  unfolding changed
+  pub near-changed : AreNear n k.number (set kept c (record k { attrs = g k.attrs }))
+  unfolding changed new
   near-changed = λ d y e h. let P : Classes PyStrInterned → Type 0 = λ t. IsNear t n y in subst P (sym plain-changed) (near-one d y (was d y e))
 
-  module _ (final : List StoredClass) (r : IsRefreshed k.number (set kept c (record k { attrs = with_value is_same_name k.attrs n v })) final) where
-    pub plain-final : classes_of final ≡ with_class_attr is_same_name (classes_of kept) k.number n v
+  module _ (final : List StoredClass) (r : IsRefreshed k.number (set kept c (record k { attrs = g k.attrs })) final) where
+    pub plain-final : classes_of final ≡ with_changed (edited g) (classes_of kept) k.number
     unfolding changed new
     plain-final = plain-refreshed k.number (set kept c changed) final r ∙ plain-changed
 
@@ -139,12 +128,12 @@ module _ (kept : List StoredClass) (ok : IsCoherent kept) (c : ℕ) (k : StoredC
         record {
           mro = ap (lin new) (sym i) ∙ new-lin d y w ∙ ap Some m;
           slots = h;
-          base = base-attr is_same_name (classes_of kept) k.number n v x.number ∙ ap (base (classes_of kept)) (sym e) ∙ ok.base d w.old w.there ∙ w.base ∙ b;
-          solid = solid-attr is_same_name (classes_of kept) k.number n v x.number ∙ ap (solid (classes_of kept)) (sym e) ∙ ok.solid d w.old w.there ∙ w.solid ∙ s;
-          subclasses = sym c' ∙ sym w.subclasses ∙ ok.subclasses d w.old w.there ∙ ap (subclasses (classes_of kept)) e ∙ sym (subclasses-attr is_same_name (classes_of kept) k.number n v x.number);
+          base = base-edited g (classes_of kept) k.number x.number ∙ ap (base (classes_of kept)) (sym e) ∙ ok.base d w.old w.there ∙ w.base ∙ b;
+          solid = solid-edited g (classes_of kept) k.number x.number ∙ ap (solid (classes_of kept)) (sym e) ∙ ok.solid d w.old w.there ∙ w.solid ∙ s;
+          subclasses = sym c' ∙ sym w.subclasses ∙ ok.subclasses d w.old w.there ∙ ap (subclasses (classes_of kept)) e ∙ sym (subclasses-edited g (classes_of kept) k.number x.number);
           places =
               ap (place_count new) (sym i)
-              ∙ count-agrees new (classes_of kept) y.number y.mro (new-lin d y w) (old-lin d y w) (λ z q. member_count-kept (λ k. record k { attrs = with_value is_same_name k.attrs n v }) (λ k. refl) (classes_of kept) k.number (λ k. refl) z)
+              ∙ count-edited g (classes_of kept) k.number y.number y.mro (old-lin d y w)
               ∙ ap (place_count (classes_of kept)) (sym w.number)
               ∙ ok.places d w.old w.there
               ∙ ap Some (w.places ∙ p);
@@ -158,12 +147,12 @@ module _ (kept : List StoredClass) (ok : IsCoherent kept) (c : ℕ) (k : StoredC
         common d y x w (ap (λ (z : StoredClass). z.number) e) (ap (λ (z : StoredClass). z.mro) e) (ap (λ (z : StoredClass). z.base) e) (ap (λ (z : StoredClass). z.solid) e) (ap (λ (z : StoredClass). z.subclasses) e) (ap (λ (z : StoredClass). z.places) e) (
         ap (λ (z : StoredClass). z.slots) (sym e)
         ∙ old-slots d y w
-        ∙ sym (entry-attr-away table_keys natives_of (classes_of kept) k.number n v y.number y.mro (old-lin d y w) test)
+        ∙ sym (entries-away g (classes_of kept) k.number y.number y.mro (old-lin d y w) test)
         ∙ ap (λ (z : StoredClass). entries table_keys natives_of new z.number) e
         )
 
     all : (d : ℕ) (x : StoredClass) → slice_get final d ≡ Some x → IsNow x
-    unfolding changed
+    unfolding changed new
     all d x e =
         let mid = set kept c changed in
         let l : d < length mid = let a = slice_get_within final d x e in let b = r.count in omega arith in
@@ -181,6 +170,17 @@ module _ (kept : List StoredClass) (ok : IsCoherent kept) (c : ℕ) (k : StoredC
       solid = λ d x e. ap (λ t. solid t x.number) plain-final ∙ (all d x e).solid;
       subclasses = λ d x e. (all d x e).subclasses ∙ ap (λ t. subclasses t x.number) (sym plain-final);
       places = λ d x e. ap (λ t. place_count t x.number) plain-final ∙ (all d x e).places;
-      sound = subst AreSound (sym plain-final) (sound-attr is_same_name (classes_of kept) k.number n v ok.sound);
-      attrs = subst (λ t. All (λ k. AreNamesDistinct k.attrs) t) (sym plain-final) (all-set (classes_of kept) k.number n v ok.attrs);
+      sound = subst AreSound (sym plain-final) (sound-edited g (classes_of kept) k.number ok.sound);
+      attrs = subst (λ t. All (λ k. AreNamesDistinct k.attrs) t) (sym plain-final) (all-edited g (classes_of kept) k.number n touches ok.attrs);
     }
+
+none-of : (o : Option PyObjectRef) → is_some o ≡ false → o ≡ None
+none-of None e = refl
+none-of (Some v) e = cc
+
+-- a name that is not there is not taken out
+pub untaken : (kept : List StoredClass) (c : ℕ) (k : StoredClass) → k ≡ get_or kept c k → (n : PyStrInterned) → is_some (value_of (λ j. is_same_name j n) k.attrs) ≡ false → set kept c (record k { attrs = without_key is_same_name k.attrs n }) ≡ kept
+untaken kept c k at n e =
+    ap (λ (ys : Attrs). set kept c (record k { attrs = ys })) (taken-absent n k.attrs (none-of (value_of (λ j. is_same_name j n) k.attrs) e))
+    ∙ ap (set kept c) at
+    ∙ set-get_or kept c k

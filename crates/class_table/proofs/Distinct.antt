@@ -8,7 +8,7 @@ use Rattle.py_node.specs.declared.refs.PyObjectRef.{PyObjectRef}
 use Rattle.py_node.specs.declared.refs.PyStrInterned.{PyStrInterned}
 use Rattle.py_node.specs.Attributes.{with_value, is_same_name, AreNamesDistinct}
 use Rattle.class_model.specs.Class.{Class, Classes}
-use Rattle.class_model.specs.Change.{with_class, with_changed, with_class_attr}
+use Rattle.class_model.specs.Change.{with_class, with_changed}
 
 abbrev Attrs : Type 0
 Attrs = List (PyStrInterned × PyObjectRef)
@@ -26,7 +26,7 @@ differs-set x (a ∷ attrs) n v all h = go (is_same_name a.0 n) (differs-set x a
     go true more = all
     go false more = (all.0, more)
 
-distinct-set : (attrs : Attrs) (n : PyStrInterned) (v : PyObjectRef) → AreNamesDistinct attrs → AreNamesDistinct (with_value is_same_name attrs n v)
+pub distinct-set : (attrs : Attrs) (n : PyStrInterned) (v : PyObjectRef) → AreNamesDistinct attrs → AreNamesDistinct (with_value is_same_name attrs n v)
 unfolding Differs IsDistinct
 distinct-set [] n v d = (tt, tt)
 distinct-set (a ∷ attrs) n v d = go (is_same_name a.0 n) refl (distinct-set attrs n v d.1)
@@ -38,7 +38,7 @@ distinct-set (a ∷ attrs) n v d = go (is_same_name a.0 n) refl (distinct-set at
 all-tail : {X : Type 0} (P : X → Type 0) (x : X) (xs : List X) → All P (x ∷ xs) → All P xs
 all-tail P x xs all = λ i d l. all (suc i) d (omega arith)
 
-all-changed : (P : Class PyStrInterned → Type 0) (f : Class PyStrInterned → Class PyStrInterned) → ((k : Class PyStrInterned) → P k → P (f k)) → (t : Classes PyStrInterned) (c : ℕ) → All P t → All P (with_changed f t c)
+pub all-changed : (P : Class PyStrInterned → Type 0) (f : Class PyStrInterned → Class PyStrInterned) → ((k : Class PyStrInterned) → P k → P (f k)) → (t : Classes PyStrInterned) (c : ℕ) → All P t → All P (with_changed f t c)
 all-changed P f keeps [] c all = all
 all-changed P f keeps (k ∷ t) c all = go (eqb k.number c) (all-changed P f keeps t c (all-tail P k t all))
   where
@@ -48,10 +48,6 @@ all-changed P f keeps (k ∷ t) c all = go (eqb k.number c) (all-changed P f kee
     go : (b : Bool) → All P (with_changed f t c) → All P (cond b (f k ∷ t) (k ∷ with_changed f t c))
     go true more = All-cons P (f k) t (keeps k here) (all-tail P k t all)
     go false more = All-cons P k (with_changed f t c) here more
-
-pub all-set : (t : Classes PyStrInterned) (c : ℕ) (n : PyStrInterned) (v : PyObjectRef) → All (λ k. AreNamesDistinct k.attrs) t → All (λ k. AreNamesDistinct k.attrs) (with_class_attr is_same_name t c n v)
-all-set t c n v all =
-    all-changed (λ k. AreNamesDistinct k.attrs) (λ k. record k { attrs = with_value is_same_name k.attrs n v }) (λ k d. distinct-set k.attrs n v d) t c all
 
 pub all-added : (t : Classes PyStrInterned) (k : Class PyStrInterned) → All (λ k. AreNamesDistinct k.attrs) t → AreNamesDistinct k.attrs → All (λ k. AreNamesDistinct k.attrs) (with_class t k)
 all-added t k all d =

@@ -5,8 +5,12 @@ pub mod Along
 pub mod Refreshed
 pub mod Distinct
 pub mod Counts
+pub mod Edited
+pub mod Rebased
+pub mod Rebases
 pub mod Changed
 pub mod Bests
+pub mod Passed
 pub mod Orders
 pub mod Noted
 pub mod Single

@@ -12,3 +12,4 @@ pub mod Table
 pub mod Given
 pub mod OneBase
 pub mod Name
+pub mod Rebase

@@ -28,7 +28,13 @@ WithMemory (Ok x) P = P
 WithMemory (Err (Refused cause)) P = P
 WithMemory (Err OutOfMemory) P = Unit {0}
 
--- the same of a call that takes no memory
+-- the answer is never want of memory
+abbrev pub NeedsNoMemory : {T : Type 0} → Result T ClassFault → Type 0
+NeedsNoMemory (Ok x) = Unit {0}
+NeedsNoMemory (Err (Refused cause)) = Unit {0}
+NeedsNoMemory (Err OutOfMemory) = ⊥
+
+-- the cause of a call that takes no memory
 abbrev pub cause_of : {T : Type 0} → Result T Cause → Option Cause
 cause_of (Ok x) = None
 cause_of (Err cause) = Some cause

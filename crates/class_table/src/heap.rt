@@ -1,16 +1,16 @@
 //! Classes as scripts make and change them.
 
-ghost use Rattle.std.specs.Prelude.{◌≡◌, true, ◌≤◌, OnOk, OnErr, IfOk};
+ghost use Rattle.std.specs.Prelude.{◌≡◌, true, false, ◌≤◌, Ok, OnOk, OnErr, IfOk, is_some};
 ghost use Rattle.py_node.specs.Attributes.{is_same_name};
-ghost use Rattle.class_model.specs.Class.{class_at, is_class};
+ghost use Rattle.class_model.specs.Class.{class_at, is_class, own_of};
 ghost use Rattle.class_model.specs.Numbers.{is_ascending, limit};
-ghost use Rattle.class_model.specs.Change.{with_class, with_class_attr};
+ghost use Rattle.class_model.specs.Change.{with_class, with_class_attr, without_class_attr};
 ghost use Rattle.class_model.specs.Slot.{is_heap_at};
 ghost use Rattle.class_table.specs.Keys.{numbers};
 ghost use Rattle.class_table.specs.New.{class_of_new};
 ghost use Rattle.class_table.specs.Stored.{classes_of};
 ghost use Rattle.class_table.specs.Coherent.{IsCoherent};
-ghost use Rattle.class_table.specs.Refused.{refusal, WithMemory, IsEarly, refused_bases, refused_attr, AreThere, heap_class};
+ghost use Rattle.class_table.specs.Refused.{refusal, WithMemory, NeedsNoMemory, IsEarly, refused_bases, refused_attr, AreThere, heap_class};
 
 use crate::add::add;
 use crate::fault::ClassFault;
@@ -18,6 +18,7 @@ use crate::inherit::best_base;
 use crate::place::find;
 use crate::put::put_in;
 use crate::stored::{NewClass, Stored};
+use crate::take::take_from;
 use py_node::{
     Cause, OutOfMemory, PyAttributes, PyObjectRef, PyStrInterned, PyTypeFlags, PyTypeRef,
 };
@@ -113,4 +114,28 @@ pub(crate) fn set_heap(
         Ok(()) => Ok(()),
         Err(_) => Err(ClassFault::OutOfMemory),
     }
+}
+
+// Takes an attribute out of a class that a script made.
+pub(crate) fn take_heap(
+    classes: &mut Vec<Stored>,
+    class: PyTypeRef,
+    name: PyStrInterned,
+) -> Result<bool, ClassFault>
+    requires coherent { IsCoherent classes.old.items }
+    requires there { is_class (classes_of classes.old.items) class.0 ≡ true }
+    ensures coherent { IsCoherent classes.new.items }
+    ensures immutable { refusal result ≡ refused_attr (classes_of classes.old.items) class.0 }
+    ensures memory { NeedsNoMemory result }
+    ensures there { IfOk result (λ b. b ≡
+        is_some (own_of (λ k. is_same_name k name) (class_at (classes_of classes.old.items) class.0))) }
+    ensures taken { OnOk result (classes_of classes.new.items ≡
+        without_class_attr is_same_name (classes_of classes.old.items) class.0 name) }
+    ensures absent { result ≡ Ok false → classes.new.items ≡ classes.old.items }
+    ensures err { OnErr result (classes.new.items ≡ classes.old.items) }
+{
+    if !is_heap(classes, class) {
+        return Err(ClassFault::Refused(Cause::ImmutableType));
+    }
+    Ok(take_from(classes, class, name))
 }

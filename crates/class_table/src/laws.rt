@@ -1,9 +1,16 @@
 //! What is so of every table of classes, and is the result of no call.
 
-ghost use Rattle.std.specs.Prelude.{◌≡◌, ◌↔◌, ℕ, List, true, Some};
+ghost use Rattle.std.specs.Prelude.{◌≡◌, ◌↔◌, ℕ, List, true, Some, None};
 ghost use Rattle.class_model.specs.Order.{Distinct, Includes, Subsequence};
-ghost use Rattle.class_model.specs.Class.{is_class, bases_of, lin, is_sub};
+ghost use Rattle.py_node.specs.declared.refs.PyObjectRef.{PyObjectRef};
+ghost use Rattle.py_node.specs.declared.refs.PyStrInterned.{PyStrInterned};
+ghost use Rattle.py_node.specs.Attributes.{is_same_name};
+ghost use Rattle.class_model.specs.Class.{class_at, is_class, own_of, bases_of, lin, is_sub};
+ghost use Rattle.class_model.specs.Change.{with_class_attr, without_class_attr, with_bases};
+ghost use Rattle.class_model.specs.Sound.{AreSound};
 ghost use Rattle.class_model.specs.Failing.{FailsAsSaid, PassesAsSaid};
+ghost use Rattle.class_table.specs.Refused.{AreThere};
+ghost use Rattle.class_table.specs.Rebase.{refused_rebase};
 
 use crate::table::ClassTable;
 
@@ -37,6 +44,24 @@ pub fn deriving_is_an_order(classes: &ClassTable)
         is_sub classes.now a c ≡ true }
     ensures along { (c d : ℕ) (line : List ℕ) → lin classes.now c ≡ Some line →
         (is_sub classes.now c d ≡ true) ↔ Includes line d }
+{
+    classes.sound();
+}
+
+/// An attribute that a class doesn't have, set and taken out again, leaves the table as it was.
+pub fn set_and_taken_out(classes: &ClassTable)
+    ensures { (c : ℕ) (n : PyStrInterned) (v : PyObjectRef) →
+        own_of (λ k. is_same_name k n) (class_at classes.now c) ≡ None →
+        without_class_attr is_same_name (with_class_attr is_same_name classes.now c n v) c n ≡ classes.now }
+{
+    classes.sound();
+}
+
+/// Other bases for a class that pass every test leave the classes sound: each has an order, a solid class and, but for
+/// `object`, a best base, and none derives from a class that derives from it.
+pub fn bases_that_pass_keep_classes_sound(classes: &ClassTable)
+    ensures { (c : ℕ) (bs : List ℕ) → is_class classes.now c ≡ true → AreThere classes.now bs →
+        refused_rebase classes.now c bs ≡ None → AreSound (with_bases classes.now c bs) }
 {
     classes.sound();
 }

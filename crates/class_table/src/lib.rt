@@ -21,6 +21,7 @@ pub mod refresh;
 pub mod start;
 pub mod stored;
 pub mod table;
+pub mod take;
 
 pub use candidates::Candidates;
 pub use chain::BaseChain;

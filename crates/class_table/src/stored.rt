@@ -1,7 +1,7 @@
 //! What the table keeps of a class.
 
-ghost use Rattle.std.specs.Prelude.{◌≡◌, ℕ, List, ◌++◌, ◌∷◌, [], OnOk, OnErr, option_and_then, length, slice_get, slice_set};
-ghost use Rattle.py_node.specs.Attributes.{value_of, with_value, is_same_name};
+ghost use Rattle.std.specs.Prelude.{◌≡◌, ℕ, List, ◌++◌, ◌∷◌, [], OnOk, OnErr, is_some, option_and_then, length, slice_get, slice_set};
+ghost use Rattle.py_node.specs.Attributes.{value_of, with_value, without_key, is_same_name};
 ghost use Rattle.py_node.specs.Slots.{place_of};
 ghost use Rattle.class_model.specs.Order.{has};
 ghost use Rattle.class_model.specs.Class.{is_heap};
@@ -220,6 +220,14 @@ impl Stored {
         ensures err { OnErr result (self.new ≡ self.old) }
     {
         self.attrs.insert(name, value)
+    }
+
+    // Takes an own attribute out, if it is there.
+    pub(crate) fn remove_attr(&mut self, name: PyStrInterned) -> bool
+        ensures there { result ≡ is_some (value_of (λ k. is_same_name k name) self.old.attrs) }
+        ensures left { self.new ≡ record self.old { attrs = without_key is_same_name self.old.attrs name } }
+    {
+        self.attrs.remove(name)
     }
 }
 

@@ -1,6 +1,6 @@
 //! The table of classes.
 
-ghost use Rattle.std.specs.Prelude.{◌≡◌, ◌<◌, ◌≤◌, [], true, length, OnOk, OnErr, IfOk, ◌↔◌, IsTrue, Some, is_some, leb, option_map, slice_get, None, IfSome};
+ghost use Rattle.std.specs.Prelude.{◌≡◌, ◌<◌, ◌≤◌, [], true, false, length, Ok, OnOk, OnErr, IfOk, ◌↔◌, IsTrue, Some, is_some, leb, option_map, slice_get, None, IfSome};
 ghost use Rattle.std.specs.List.{All};
 ghost use Rattle.py_node.specs.declared.raised.Cause.TheVariants.{EmptyBases, NotBaseType, LayoutConflict, DuplicateBase, LocalPrecedence, MroConflict};
 ghost use Rattle.py_node.specs.Attributes.{is_same_name, AreNamesDistinct};
@@ -13,11 +13,11 @@ ghost use Rattle.class_model.specs.Sound.{AreSound};
 ghost use Rattle.class_model.specs.Slot.{entry, slot as slot_read, candidates_of, is_heap_at};
 ghost use Rattle.class_model.specs.BuiltIn.{natives_of};
 ghost use Rattle.class_model.specs.Start.{built_in_classes};
-ghost use Rattle.class_model.specs.Change.{with_class, with_class_attr};
+ghost use Rattle.class_model.specs.Change.{with_class, with_class_attr, without_class_attr};
 ghost use Rattle.class_table.specs.Keys.{numbers, number_of, table_keys};
 ghost use Rattle.class_table.specs.Stored.{classes_of};
 ghost use Rattle.class_table.specs.New.{IsBelow, class_of_new};
-ghost use Rattle.class_table.specs.Refused.{refusal, cause_of, refused_layout, refused_bases, refused_attr, WithMemory, IsEarly, AreThere, heap_class};
+ghost use Rattle.class_table.specs.Refused.{refusal, cause_of, refused_layout, refused_bases, refused_attr, WithMemory, NeedsNoMemory, IsEarly, AreThere, heap_class};
 ghost use Rattle.class_table.specs.Causes.{LacksBase, HasLayoutConflict, HasDuplicate, BreaksOrder, HasNoLine};
 ghost use Rattle.class_table.specs.Turn.{list_of};
 ghost use Rattle.class_table.specs.Given.{AreGiven};
@@ -28,7 +28,7 @@ use crate::chain::{BaseChain, base_of, chain};
 use crate::collect::{attributes_along, map_along};
 use crate::count::count_at;
 use crate::fault::ClassFault;
-use crate::heap::{add_heap, set_heap};
+use crate::heap::{add_heap, set_heap, take_heap};
 use crate::inherit::{best_base, may_derive, only, solid_class};
 use crate::place::{find, number_in, stored_at, takes};
 use crate::put::put_in;
@@ -227,6 +227,25 @@ impl ClassTable {
         ensures err { OnErr result (self.new ≡ self.old) }
     {
         set_heap(&mut self.classes, class, name, value)
+    }
+
+    /// Takes an own attribute out of a class that a script made, and says whether it was there. It takes no memory. The
+    /// slots of the class, and of each class that derives from it, are those that a fresh search finds.
+    pub fn del_attr_direct(
+        &mut self,
+        class: PyTypeRef,
+        name: PyStrInterned,
+    ) -> Result<bool, ClassFault>
+        requires { is_class self.old class.0 ≡ true }
+        ensures immutable { refusal result ≡ refused_attr self.old class.0 }
+        ensures memory { NeedsNoMemory result }
+        ensures there { IfOk result (λ b. b ≡
+            is_some (own_of (λ k. is_same_name k name) (class_at self.old class.0))) }
+        ensures taken { OnOk result (self.new ≡ without_class_attr is_same_name self.old class.0 name) }
+        ensures absent { result ≡ Ok false → self.new ≡ self.old }
+        ensures err { OnErr result (self.new ≡ self.old) }
+    {
+        take_heap(&mut self.classes, class, name)
     }
 
     /// Gives a built-in class an own attribute, while a world is set up. What a script sets goes by

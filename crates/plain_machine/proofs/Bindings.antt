@@ -4,8 +4,7 @@ use Rattle.std.specs.Prelude.{is_some}
 use Rattle.std.specs.List.{All, AllByRecursion, IsDistinct}
 use Rattle.std.specs.Map.{keys_of}
 use Rattle.std.proofs.lemmas.List.Elements.{All-cons, All-head, All-tail}
-use Rattle.py_node.specs.Attributes.{value_of, with_value}
-use Rattle.class_model.specs.Change.{without_key}
+use Rattle.py_node.specs.Attributes.{value_of, with_value, without_key}
 
 module _ {K V : Type 0} (same : K → K → Bool) (x : K) where
   -- what is so of each name and of this one

@@ -9,12 +9,12 @@ use Rattle.py_node.specs.declared.refs.PyObjectRef.{PyObjectRef}
 use Rattle.py_node.specs.declared.built_in.BuiltIn.{BuiltIn}
 use Rattle.py_node.specs.declared.built_in.BuiltIn.TheVariants.{TypeType}
 use Rattle.py_node.specs.BuiltIns.{all_built_ins}
-use Rattle.py_node.specs.Attributes.{with_value}
+use Rattle.py_node.specs.Attributes.{with_value, without_key}
 use Rattle.py_node.specs.Tree.{Text}
 use Rattle.class_model.specs.Order.{Includes}
 use Rattle.class_model.specs.Class.{Class, Classes, is_class, lin}
 use Rattle.class_model.specs.Numbers.{limit}
-use Rattle.class_model.specs.Change.{with_class, with_changed, with_bases, without_key}
+use Rattle.class_model.specs.Change.{with_class, with_changed, with_bases}
 use Rattle.class_model.specs.Layout.{built_ins, is_empty}
 use Rattle.class_model.specs.Slot.{first_with}
 use Rattle.class_model.specs.Sound.{AreSound}

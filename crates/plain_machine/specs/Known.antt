@@ -45,3 +45,6 @@ the_getset = 15
 
 abbrev pub the_class_method : ℕ
 the_class_method = 18
+
+abbrev pub the_super : ℕ
+the_super = 20

@@ -10,6 +10,7 @@ pub mod Rows
 pub mod Start
 pub mod Objects
 pub mod Change
+pub mod Members
 pub mod Conditions
 pub mod Native
 pub mod Sound

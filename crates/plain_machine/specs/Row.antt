@@ -5,13 +5,13 @@ use Rattle.py_node.specs.declared.raised.Raised.{Raised as Fault}
 use Rattle.py_node.specs.declared.raised.Kind.{Kind}
 use Rattle.py_node.specs.declared.raised.Kind.TheVariants.{AttributeError}
 use Rattle.py_node.specs.declared.raised.Cause.{Cause}
-use Rattle.py_node.specs.declared.raised.Cause.TheVariants.{NotYet, TooLong}
+use Rattle.py_node.specs.declared.raised.Cause.TheVariants.{NotYet, SelfType, TooLong}
 use Rattle.py_node.specs.declared.entry.SlotEntry.{SlotEntry}
 use Rattle.py_node.specs.BuiltIns.{fixed_none, fixed_not_implemented, fixed_false, fixed_true}
 use Rattle.py_node.specs.Tree.{Tree}
 use Rattle.py_node.specs.Faults.{raised}
-use Rattle.plain_machine.specs.Plain.{Datum, Bindings, PlainWorld, DoEval, PlainTask, ToEval, AsValue, AsDone, Ended, Fact, Answered, Made, Read, ReadObjects, ReadNames, Chose, Told, Said, Asks, Ends}
-use Rattle.plain_machine.specs.World.{ref, with_node, next_node}
+use Rattle.plain_machine.specs.Plain.{Datum, Bindings, PlainWorld, DoEval, PlainTask, ToEval, AsValue, AsDone, AsNumber, AsTruth, AsMaybe, Ended, Fact, Answered, Made, Read, ReadObjects, ReadNames, Chose, Told, Said, Asks, Ends}
+use Rattle.plain_machine.specs.World.{ref, datum_at, number_of, with_node, next_node}
 
 -- a row, at a point where it has learnt nothing that follows
 abbrev pub Row : Type 0
@@ -71,6 +71,21 @@ abbrev pub on_value : PlainWorld → Ended → (PyObjectRef → Row) → Row
 on_value w (Ok (AsValue r)) go = go r
 on_value w other go = end w other
 
+-- goes on with a truth value
+abbrev pub on_truth : PlainWorld → Ended → (Bool → Row) → Row
+on_truth w (Ok (AsTruth b)) go = go b
+on_truth w other go = end w other
+
+-- goes on with a number
+abbrev pub on_number : PlainWorld → Ended → (ℤ → Row) → Row
+on_number w (Ok (AsNumber z)) go = go z
+on_number w other go = end w other
+
+-- goes on with an object, or that there is none
+abbrev pub on_maybe : PlainWorld → Ended → (Option PyObjectRef → Row) → Row
+on_maybe w (Ok (AsMaybe o)) go = go o
+on_maybe w other go = end w other
+
 -- goes on unless there was a fault
 abbrev pub on_done : PlainWorld → Ended → Row → Row
 on_done w (Ok a) go = go
@@ -99,10 +114,28 @@ not_implemented = ref fixed_not_implemented
 abbrev pub is_not_implemented : PyObjectRef → Bool
 is_not_implemented r = eqb r.0 fixed_not_implemented
 
+-- goes on where what was asked is not for its operands. Any other object is the answer
+abbrev pub or_else : PlainWorld → Ended → Row → Row
+or_else w r go = on_value w r (λ x. cond (is_not_implemented x) go (end w (value x)))
+
 -- a number has at most 128 bits, with its sign
 abbrev pub fits : ℤ → Bool
 fits (pos n) = nat_lt n (2 ^ 127)
 fits (negsuc n) = nat_lt n (2 ^ 127)
+
+-- a number that counts, or that is an index, has at most 64 bits with its sign
+abbrev pub fits_index : ℤ → Bool
+fits_index (pos n) = nat_lt n (2 ^ 63)
+fits_index (negsuc n) = nat_lt n (2 ^ 63)
+
+-- goes on with a number of no more bits. Another one is refused with this cause
+abbrev pub within_index : PlainWorld → Cause → Option ℤ → (ℤ → Row) → Row
+within_index w cause None go = end w (fault SelfType)
+within_index w cause (Some z) go = cond (fits_index z) (go z) (end w (fault cause))
+
+-- goes on with the number of an index
+abbrev pub on_index : PlainWorld → Cause → Ended → (ℤ → Row) → Row
+on_index w cause r go = on_value w r (λ i. within_index w cause (number_of (datum_at w i)) go)
 
 -- keeps a fact in mind
 abbrev pub noting : Fact → Said → Said

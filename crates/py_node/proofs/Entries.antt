@@ -1,10 +1,11 @@
 -- Names with values: the words of the map are those of the attributes.
-use Rattle.std.proofs.Common.{subst, arith, ◌≡◌, ℕ, zero, suc, false, cond, List, [], ◌∷◌, take, slice_get, Some, refl, ap, ◌∙◌}
+use Rattle.std.proofs.Common.{subst, arith, ◌≡◌, ℕ, zero, suc, Bool, true, false, cond, eqb, List, [], ◌∷◌, take, slice_get, Some, refl, sym, ap, ◌∙◌}
+use Rattle.std.proofs.lemmas.Bool.{eqb-true}
 use Rattle.std.specs.List.{AllByRecursion, IsDistinct}
 use Rattle.std.specs.Map.{keys_of}
-use Rattle.indexmap.specs.IndexMap.{insert_entry}
+use Rattle.indexmap.specs.IndexMap.{insert_entry, shift_remove_entry}
 use Rattle.py_node.specs.declared.refs.PyStrInterned.{PyStrInterned}
-use Rattle.py_node.specs.Attributes.{with_value, is_same_name, AreNamesDistinct}
+use Rattle.py_node.specs.Attributes.{with_value, without_key, is_same_name, AreNamesDistinct}
 
 same_turned : (a b : PyStrInterned) → is_same_name a b ≡ is_same_name b a
 same_turned a b = grind arith
@@ -31,3 +32,23 @@ module _ {V : Type 0} where
   with_value-next (a ∷ attrs) (suc i) e apart at =
       ap (λ b. cond b ((a.0, e.1) ∷ take i attrs) (a ∷ with_value is_same_name (take i attrs) e.0 e.1)) (name_at (λ k. is_same_name a.0 k ≡ false) attrs i e apart.0 at)
       ∙ ap (λ r. a ∷ r) (with_value-next attrs i e apart.1 at)
+
+  -- a name that is not there is not taken out
+  without-absent : (n : PyStrInterned) (attrs : List (PyStrInterned × V)) → AllByRecursion (λ k. is_same_name n k ≡ false) (keys_of attrs) → without_key is_same_name attrs n ≡ attrs
+  without-absent n [] h = refl
+  without-absent n (a ∷ attrs) h =
+      ap (λ b. cond b (without_key is_same_name attrs n) (a ∷ without_key is_same_name attrs n)) (same_turned a.0 n ∙ h.0) ∙ ap (λ r. a ∷ r) (without-absent n attrs h.1)
+
+  -- where no name stands twice, the first that is taken out is the only one
+  pub removed-without : (attrs : List (PyStrInterned × V)) (n : PyStrInterned) → AreNamesDistinct attrs → shift_remove_entry (is_same_name n) attrs ≡ without_key is_same_name attrs n
+  unfolding IsDistinct
+  removed-without [] n d = refl
+  removed-without (a ∷ attrs) n d = go (is_same_name n a.0) refl (removed-without attrs n d.1)
+    where
+      go : (b : Bool) → is_same_name n a.0 ≡ b → shift_remove_entry (is_same_name n) attrs ≡ without_key is_same_name attrs n → cond b attrs (a ∷ shift_remove_entry (is_same_name n) attrs) ≡ cond (is_same_name a.0 n) (without_key is_same_name attrs n) (a ∷ without_key is_same_name attrs n)
+      go true e more =
+          let same : n.0 ≡ a.0.0 = eqb-true n.0 a.0.0 e in
+          let apart : AllByRecursion (λ k. is_same_name n k ≡ false) (keys_of attrs) =
+          subst (λ (m : ℕ). AllByRecursion (λ k. eqb m k.0 ≡ false) (keys_of attrs)) (sym same) d.0 in
+          sym (without-absent n attrs apart) ∙ ap (λ b. cond b (without_key is_same_name attrs n) (a ∷ without_key is_same_name attrs n)) (sym (same_turned a.0 n ∙ e))
+      go false e more = ap (λ r. a ∷ r) more ∙ ap (λ b. cond b (without_key is_same_name attrs n) (a ∷ without_key is_same_name attrs n)) (sym (same_turned a.0 n ∙ e))

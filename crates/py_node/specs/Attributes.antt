@@ -14,6 +14,11 @@ abbrev pub with_value : {K V : Type 0} → (K → K → Bool) → List (K × V) 
 with_value same [] n v = (n, v) ∷ []
 with_value same (a ∷ attrs) n v = cond (same a.0 n) ((a.0, v) ∷ attrs) (a ∷ with_value same attrs n v)
 
+-- what stands under another name than this one
+abbrev pub without_key : {K V : Type 0} → (K → K → Bool) → List (K × V) → K → List (K × V)
+without_key same [] n = []
+without_key same (a ∷ attrs) n = cond (same a.0 n) (without_key same attrs n) (a ∷ without_key same attrs n)
+
 -- whether two names have one number
 abbrev pub is_same_name : PyStrInterned → PyStrInterned → Bool
 is_same_name a b = eqb a.0 b.0

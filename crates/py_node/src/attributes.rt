@@ -1,7 +1,7 @@
 //! The attributes of an object or a class: names with values, in the order in which they came.
 
 ghost use Rattle.std.specs.Prelude.{◌≡◌, ◌<◌, [], length, is_some, Some, slice_get, IfOk, OnOk, OnErr};
-ghost use Rattle.py_node.specs.Attributes.{value_of, with_value, is_same_name, AreNamesDistinct};
+ghost use Rattle.py_node.specs.Attributes.{value_of, with_value, without_key, is_same_name, AreNamesDistinct};
 
 use crate::memory::OutOfMemory;
 use crate::refs::{PyObjectRef, PyStrInterned};
@@ -73,6 +73,17 @@ impl PyAttributes {
     {
         self.entries.insert(name, value)?;
         Ok(())
+    }
+
+    /// Takes a name out, and says whether it was there. The names after it keep their order.
+    pub fn remove(&mut self, name: PyStrInterned) -> bool
+        ensures there { result ≡ is_some (value_of (λ k. is_same_name k name) self.old) }
+        ensures left { self.new ≡ without_key is_same_name self.old name }
+    {
+        let there = self.contains(name);
+        let _count = self.len();
+        self.entries.shift_remove(&name);
+        there
     }
 
     /// The same names with the same values, unless memory runs out.

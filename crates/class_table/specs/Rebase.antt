@@ -1,0 +1,44 @@
+-- Other bases for a class, and why they are refused.
+use Rattle.std.specs.Prelude.{ℕ, Bool, true, false, cond, ◌||◌, eqb, List, [], ◌∷◌, Option, Some, None, option_map, option_and_then}
+use Rattle.std.specs.Option.{option_or}
+use Rattle.py_node.specs.declared.raised.Cause.{Cause}
+use Rattle.py_node.specs.declared.raised.Cause.TheVariants.{EmptyBases, InheritanceCycle, LayoutDiffers, DuplicateBase}
+use Rattle.class_model.specs.Order.{is_distinct}
+use Rattle.class_model.specs.Class.{Classes, is_sub}
+use Rattle.class_model.specs.Layout.{is_empty, solid, base}
+use Rattle.class_model.specs.Change.{failing}
+use Rattle.class_table.specs.Refused.{refused_attr, refused_layout, most_derived}
+
+-- whether one of some classes is the class or derives from it
+abbrev pub any_derives : {K : Type 0} → Classes K → List ℕ → ℕ → Bool
+any_derives t [] c = false
+any_derives t (b ∷ bs) c = is_sub t b c || any_derives t bs c
+
+abbrev pub is_same : Option ℕ → Option ℕ → Bool
+is_same None None = true
+is_same None (Some b) = false
+is_same (Some a) None = false
+is_same (Some a) (Some b) = eqb a b
+
+-- a cause, where a test fails
+abbrev pub unless : Bool → Cause → Option Cause
+unless passed cause = cond passed None (Some cause)
+
+-- the tests that need no order, one after the other: a script made the class; it gets bases; none of them is the class or derives from it; base by base, it may have subclasses and its layout goes with those before it; the solid class of the best of them is that of the best base of now; none stands twice
+abbrev pub refused_change : {K : Type 0} → Classes K → ℕ → List ℕ → Option Cause
+refused_change t c bs =
+    option_or (refused_attr t c) (
+    option_or (cond (is_empty bs) (Some EmptyBases) None) (
+    option_or (cond (any_derives t bs c) (Some InheritanceCycle) None) (
+    option_or (refused_layout t bs) (
+    option_or (unless (is_same (most_derived t bs) (option_and_then (solid t) (base t c))) LayoutDiffers) (
+    unless (is_distinct bs) DuplicateBase)))))
+
+-- a refusal: its cause, and for a lost order the class that has none
+abbrev pub Refusal : Type 0
+Refusal = Cause × Option ℕ
+
+-- why a class may not have other bases: a test that needs no order fails, or a class would have no order while all its bases have one. Of these it is the least-numbered
+abbrev pub refused_rebase : {K : Type 0} → Classes K → ℕ → List ℕ → Option Refusal
+refused_rebase t c bs =
+    option_or (option_map (λ cause. (cause, None)) (refused_change t c bs)) (option_map (λ r. (r.1, Some r.0)) (failing t c bs))
