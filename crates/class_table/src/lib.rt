@@ -11,6 +11,7 @@ pub mod fault;
 pub mod heap;
 pub mod inherit;
 pub mod laws;
+pub mod member_place;
 pub mod name;
 pub mod natives;
 pub mod one_base;
