@@ -9,6 +9,8 @@ pub mod Edited
 pub mod Rebased
 pub mod Rebases
 pub mod Changed
+pub mod Each
+pub mod Named
 pub mod Bests
 pub mod Passed
 pub mod Orders

@@ -18,6 +18,7 @@ pub mod place;
 pub mod put;
 pub mod read;
 pub mod refresh;
+pub mod rename;
 pub mod start;
 pub mod stored;
 pub mod table;

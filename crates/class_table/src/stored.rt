@@ -1,6 +1,6 @@
 //! What the table keeps of a class.
 
-ghost use Rattle.std.specs.Prelude.{◌≡◌, ℕ, List, ◌++◌, ◌∷◌, [], OnOk, OnErr, is_some, option_and_then, length, slice_get, slice_set};
+ghost use Rattle.std.specs.Prelude.{◌≡◌, ℕ, List, ◌++◌, ◌∷◌, [], OnOk, OnErr, is_some, option_and_then, length, slice_get, slice_set, string_bytes};
 ghost use Rattle.py_node.specs.Attributes.{value_of, with_value, without_key, is_same_name};
 ghost use Rattle.py_node.specs.Slots.{place_of};
 ghost use Rattle.class_model.specs.Order.{has};
@@ -207,6 +207,13 @@ impl Stored {
             record self.old { subclasses = subclasses } }
     {
         self.subclasses.pop();
+    }
+
+    // Gives the class another name.
+    pub(crate) fn set_name(&mut self, name: String)
+        ensures { self.new ≡ record self.old { name = string_bytes name } }
+    {
+        self.name = name;
     }
 
     // Gives an own attribute a value.

@@ -13,7 +13,7 @@ ghost use Rattle.class_model.specs.Sound.{AreSound};
 ghost use Rattle.class_model.specs.Slot.{entry, slot as slot_read, candidates_of, is_heap_at};
 ghost use Rattle.class_model.specs.BuiltIn.{natives_of};
 ghost use Rattle.class_model.specs.Start.{built_in_classes};
-ghost use Rattle.class_model.specs.Change.{with_class, with_class_attr, without_class_attr};
+ghost use Rattle.class_model.specs.Change.{with_class, with_class_attr, without_class_attr, with_class_name};
 ghost use Rattle.class_table.specs.Keys.{numbers, number_of, table_keys};
 ghost use Rattle.class_table.specs.Stored.{classes_of};
 ghost use Rattle.class_table.specs.New.{IsBelow, class_of_new};
@@ -33,6 +33,7 @@ use crate::inherit::{best_base, may_derive, only, solid_class};
 use crate::place::{find, number_in, stored_at, takes};
 use crate::put::put_in;
 use crate::read::{own_entry, read, value_along, value_past};
+use crate::rename::rename_in;
 use crate::start::new_class;
 use crate::stored::{NewClass, Stored};
 use py_node::built_in::built_ins;
@@ -246,6 +247,16 @@ impl ClassTable {
         ensures err { OnErr result (self.new ≡ self.old) }
     {
         take_heap(&mut self.classes, class, name)
+    }
+
+    /// Gives a class another name. Where memory runs out, the table stays as it was.
+    pub fn set_name(&mut self, class: PyTypeRef, name: &str) -> Result<(), OutOfMemory>
+        requires { is_class self.old class.0 ≡ true }
+        ensures named { OnOk result (self.new ≡ with_class_name self.old class.0 name.now) }
+        ensures err { OnErr result (self.new ≡ self.old) }
+    {
+        let alloc = self.alloc;
+        rename_in(&mut self.classes, alloc, class, name)
     }
 
     /// Gives a built-in class an own attribute, while a world is set up. What a script sets goes by
