@@ -34,4 +34,5 @@ pub mod ChangedClass
 pub mod NodeChanges
 pub mod Placed
 pub mod SameLayout
+pub mod NewBases
 pub mod NodeMembers
