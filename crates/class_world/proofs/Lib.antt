@@ -7,6 +7,7 @@ pub mod Changes
 pub mod Apart
 pub mod Added
 pub mod Bound
+pub mod Bodies
 pub mod Filled
 pub mod OfClasses
 pub mod Attributes

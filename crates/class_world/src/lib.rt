@@ -19,6 +19,7 @@ mod numbers;
 pub mod objects;
 mod of_classes;
 mod one_base;
+mod running;
 pub mod scope;
 mod scopes;
 pub mod show;
