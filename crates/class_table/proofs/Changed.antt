@@ -27,7 +27,7 @@ use Rattle.py_node.proofs.SlotTables.{slot-at_place}
 use Rattle.class_table.proofs.Places.{get-set_cases}
 use Rattle.class_table.proofs.Refreshed.{there, entries-at, plain-refreshed, length-entries}
 
-with_changed-set : (f : Class PyStrInterned → Class PyStrInterned) (n : ℕ) (t : Classes PyStrInterned) (i : ℕ) (k : Class PyStrInterned) → ascend_from n (numbers_of t) ≡ true → slice_get t i ≡ Some k → with_changed f t k.number ≡ set t i (f k)
+pub with_changed-set : (f : Class PyStrInterned → Class PyStrInterned) (n : ℕ) (t : Classes PyStrInterned) (i : ℕ) (k : Class PyStrInterned) → ascend_from n (numbers_of t) ≡ true → slice_get t i ≡ Some k → with_changed f t k.number ≡ set t i (f k)
 with_changed-set f n [] i k up e = cc
 with_changed-set f n (j ∷ t) zero k up e =
     let s : j ≡ k = cc in

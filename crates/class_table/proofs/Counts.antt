@@ -1,10 +1,11 @@
 -- How many places the objects of a class have: the members of the classes along its linearisation, since only solid classes have any.
-use Rattle.std.proofs.Common.{◌≡◌, ℕ, ◌+◌, ◌≤◌, Bool, true, false, cond, ◌||◌, List, [], ◌∷◌, ◌++◌, length, Option, Some, None, inl, inr, refl, sym, ap, ◌∙◌, arith}
+use Rattle.std.proofs.Common.{◌≡◌, ℕ, ◌+◌, ◌-◌, ◌<◌, ◌≤◌, Bool, true, false, cond, ◌||◌, List, [], ◌∷◌, ◌++◌, length, Option, Some, None, inl, inr, refl, sym, ap, ◌∙◌, arith}
 use Rattle.std.specs.Prelude.{nat_lt, option_map, option_and_then}
+use Rattle.std.proofs.lemmas.Bool.{ltb-true, ltb-false, lt-ltb}
 use Rattle.class_model.specs.Order.{Includes}
 use Rattle.class_model.specs.Class.{Class, Classes, class_at, lin}
 use Rattle.class_model.specs.Numbers.{limit}
-use Rattle.class_model.specs.Layout.{built_ins, has_members, is_solid, layout_along, member_count, members_in, place_count}
+use Rattle.class_model.specs.Layout.{built_ins, has_members, is_solid, layout_along, member_count, members_in, place_along, place_count}
 use Rattle.class_model.specs.Change.{with_class}
 use Rattle.class_model.proofs.Held.{Includes-equal}
 use Rattle.class_model.proofs.Numbers.{at-before, at-last, old-or-last}
@@ -65,3 +66,51 @@ module _ {K : Type 0} where
         | inr q ↦ absurd (once.0 (Includes-equal rest x k.number q h))
       ])) in
       count-line (with_class t k) k.number (k.number ∷ rest) e ∙ ap Some (omega (arith, own, others))
+
+  -- the place that an offset stands for, along lists that follow one another
+  along-first : (t : Classes K) (xs ys : List ℕ) (n : ℕ) → n < members_in t xs → place_along t (xs ++ ys) n ≡ place_along t xs n
+  along-first t [] ys n l = absurd (omega arith)
+  along-first t (x ∷ xs) ys n l = go (nat_lt n (member_count (class_at t x))) refl (along-first t xs ys (n - member_count (class_at t x)))
+    where
+      go : (b : Bool) → nat_lt n (member_count (class_at t x)) ≡ b → (n - member_count (class_at t x) < members_in t xs → place_along t (xs ++ ys) (n - member_count (class_at t x)) ≡ place_along t xs (n - member_count (class_at t x))) → cond b (Some (x, n)) (place_along t (xs ++ ys) (n - member_count (class_at t x))) ≡ cond b (Some (x, n)) (place_along t xs (n - member_count (class_at t x)))
+      go true e more = refl
+      go false e more = let past = ltb-false n (member_count (class_at t x)) e in more (omega (arith, l, past))
+
+  along-rest : (t : Classes K) (xs ys : List ℕ) (n : ℕ) → members_in t xs ≤ n → place_along t (xs ++ ys) n ≡ place_along t ys (n - members_in t xs)
+  along-rest t [] ys n l = ap (place_along t ys) (omega arith)
+  along-rest t (x ∷ xs) ys n l = go (nat_lt n (member_count (class_at t x))) refl (along-rest t xs ys (n - member_count (class_at t x)))
+    where
+      go : (b : Bool) → nat_lt n (member_count (class_at t x)) ≡ b → (members_in t xs ≤ n - member_count (class_at t x) → place_along t (xs ++ ys) (n - member_count (class_at t x)) ≡ place_along t ys ((n - member_count (class_at t x)) - members_in t xs)) → cond b (Some (x, n)) (place_along t (xs ++ ys) (n - member_count (class_at t x))) ≡ place_along t ys (n - (member_count (class_at t x) + members_in t xs))
+      go true e more = let below = ltb-true n (member_count (class_at t x)) e in absurd (omega (arith, l, below))
+      go false e more =
+          let past = ltb-false n (member_count (class_at t x)) e in more (omega (arith, l, past)) ∙ ap (place_along t ys) (omega (arith, l, past))
+
+  -- no place is past the last
+  pub along-none : (t : Classes K) (xs : List ℕ) (n : ℕ) → members_in t xs ≤ n → place_along t xs n ≡ None
+  along-none t [] n l = refl
+  along-none t (x ∷ xs) n l = go (nat_lt n (member_count (class_at t x))) refl (along-none t xs (n - member_count (class_at t x)))
+    where
+      go : (b : Bool) → nat_lt n (member_count (class_at t x)) ≡ b → (members_in t xs ≤ n - member_count (class_at t x) → place_along t xs (n - member_count (class_at t x)) ≡ None) → cond b (Some (x, n)) (place_along t xs (n - member_count (class_at t x))) ≡ None
+      go true e more = let below = ltb-true n (member_count (class_at t x)) e in absurd (omega (arith, l, below))
+      go false e more = let past = ltb-false n (member_count (class_at t x)) e in more (omega (arith, l, past))
+
+  pub layout-none : (t : Classes K) (line : List ℕ) (n : ℕ) → members_in t line ≤ n → place_along t (layout_along t line) n ≡ None
+  layout-none t line n l = let same = members-layout t line in along-none t (layout_along t line) n (omega (arith, l, same))
+
+  -- the first class of a linearisation has the last places
+  pub layout-below : (t : Classes K) (c : ℕ) (cs : List ℕ) (n : ℕ) → n < members_in t cs → place_along t (layout_along t (c ∷ cs)) n ≡ place_along t (layout_along t cs) n
+  layout-below t c cs n l = let same = members-layout t cs in along-first t (layout_along t cs) (cond (is_solid t c) (c ∷ []) []) n (omega (arith, l, same))
+
+  pub layout-own : (t : Classes K) (c : ℕ) (cs : List ℕ) (n : ℕ) → members_in t cs ≤ n → n < members_in t (c ∷ cs) → place_along t (layout_along t (c ∷ cs)) n ≡ Some (c, n - members_in t cs)
+  layout-own t c cs n l m =
+      let same = members-layout t cs in
+      along-rest t (layout_along t cs) (cond (is_solid t c) (c ∷ []) []) n (omega (arith, l, same))
+      ∙ ap (λ k. place_along t (cond (is_solid t c) (c ∷ []) []) (n - k)) same
+      ∙ go (is_solid t c) refl
+    where
+      own : nat_lt (n - members_in t cs) (member_count (class_at t c)) ≡ true
+      own = lt-ltb (n - members_in t cs) (member_count (class_at t c)) (omega (arith, l, m))
+
+      go : (w : Bool) → is_solid t c ≡ w → place_along t (cond w (c ∷ []) []) (n - members_in t cs) ≡ Some (c, n - members_in t cs)
+      go true e = ap (λ b. cond b (Some (c, n - members_in t cs)) None) own
+      go false e = let none = none-of (class_at t c) (nat_lt c built_ins) e in absurd (omega (arith, l, m, none))

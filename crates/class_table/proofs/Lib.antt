@@ -8,7 +8,13 @@ pub mod Counts
 pub mod Edited
 pub mod Rebased
 pub mod Rebases
+pub mod Trials
+pub mod Blames
+pub mod Swapped
+pub mod Renewing
 pub mod Changed
+pub mod Each
+pub mod Named
 pub mod Bests
 pub mod Passed
 pub mod Orders

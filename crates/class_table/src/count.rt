@@ -32,7 +32,7 @@ pub(crate) fn count_along(
 }
 
 // How many members a class itself has, where there is such a class.
-fn members_at(classes: &[Stored], class: PyTypeRef) -> usize
+pub(crate) fn members_at(classes: &[Stored], class: PyTypeRef) -> usize
     requires { is_ascending (classes_of classes.now) ≡ true }
     ensures { result ≡ member_count (class_at (classes_of classes.now) class.0) }
 {

@@ -2,6 +2,7 @@
 #![tactic(auto)]
 
 pub mod add;
+pub mod blame;
 pub mod candidates;
 pub mod chain;
 pub mod collect;
@@ -11,20 +12,27 @@ pub mod fault;
 pub mod heap;
 pub mod inherit;
 pub mod laws;
+pub mod member_place;
 pub mod name;
 pub mod natives;
 pub mod one_base;
 pub mod place;
 pub mod put;
 pub mod read;
+pub mod rebase;
 pub mod refresh;
+pub mod rename;
+pub mod renew;
 pub mod start;
+pub mod steps;
 pub mod stored;
 pub mod table;
 pub mod take;
+pub mod trial;
 
 pub use candidates::Candidates;
 pub use chain::BaseChain;
 pub use fault::ClassFault;
 pub use name::last_part;
+pub use steps::Steps;
 pub use table::ClassTable;

@@ -1,6 +1,6 @@
 //! Slots that are found anew after an attribute was set.
 
-ghost use Rattle.std.specs.Prelude.{◌≡◌, ◌<◌, length, slice_set, slice_index_or};
+ghost use Rattle.std.specs.Prelude.{◌≡◌, ◌<◌, ℕ, Some, length, slice_get, slice_set, slice_index_or};
 ghost use Rattle.py_node.specs.Slots.{place_of, slot_count};
 ghost use Rattle.class_model.specs.Slot.{is_name_of, entry};
 ghost use Rattle.class_model.specs.BuiltIn.{natives_of};
@@ -92,5 +92,18 @@ pub(crate) fn refresh(classes: &mut [Stored], class: PyTypeRef, name: PyStrInter
 {
     if name.0 < SPECIAL_NAMES {
         patch_all(classes, class, name);
+    }
+}
+
+// Finds every slot anew in each class that has a class along its linearisation.
+pub(crate) fn settle_all(classes: &mut [Stored], class: PyTypeRef)
+    requires lines { HasLines classes.old }
+    requires full { (i : ℕ) (k : StoredClass) → slice_get classes.old i ≡ Some k → length k.slots ≡ slot_count }
+    ensures { IsRefreshed class.0 classes.old classes.new }
+{
+    for at in 0..classes.len() {
+        if classes[at].derives(class) {
+            settle(classes, at);
+        }
     }
 }

@@ -1,18 +1,21 @@
 //! What the table keeps of a class.
 
-ghost use Rattle.std.specs.Prelude.{◌≡◌, ℕ, List, ◌++◌, ◌∷◌, [], OnOk, OnErr, is_some, option_and_then, length, slice_get, slice_set};
+ghost use Rattle.std.specs.Prelude.{◌≡◌, ℕ, List, ◌++◌, ◌∷◌, [], OnOk, OnErr, is_some, option_and_then, length, slice_get, slice_set, string_bytes};
 ghost use Rattle.py_node.specs.Attributes.{value_of, with_value, without_key, is_same_name};
 ghost use Rattle.py_node.specs.Slots.{place_of};
 ghost use Rattle.class_model.specs.Order.{has};
 ghost use Rattle.class_model.specs.Class.{is_heap};
 ghost use Rattle.class_table.specs.Stored.{StoredClass, class_of};
 ghost use Rattle.class_table.specs.Keys.{numbers, number_of};
+ghost use Rattle.class_table.specs.Renewed.{with_renewed};
 
+use crate::renew::Renewed;
 use py_node::{
     OutOfMemory, PyAttributes, PyObjectRef, PyStrInterned, PyTypeFlags, PyTypeRef, SlotEntry,
     SlotId,
 };
 use std::marker::Model;
+use std::mem::swap;
 
 /// How many slots a class has.
 pub(crate) const SLOTS: usize = 73;
@@ -128,6 +131,13 @@ impl Stored {
         &self.mro
     }
 
+    // How many classes the linearisation has.
+    pub(crate) fn line_length(&self) -> usize
+        ensures { result ≡ length self.now.mro }
+    {
+        self.mro.len()
+    }
+
     // The class's direct bases, in order.
     pub(crate) fn bases(&self) -> &[PyTypeRef]
         ensures { numbers result.now ≡ self.now.bases }
@@ -209,6 +219,31 @@ impl Stored {
         self.subclasses.pop();
     }
 
+    // Gives the class other bases, and leaves what follows from them.
+    pub(crate) fn set_bases(&mut self, bases: Vec<PyTypeRef>)
+        ensures { self.new ≡ record self.old { bases = numbers bases.items } }
+    {
+        self.bases = bases;
+    }
+
+    // Gives the class what follows from other bases, but for its slots, and takes back what it had.
+    pub(crate) fn renew(&mut self, renewed: &mut Renewed)
+        ensures { self.new ≡ with_renewed renewed.old self.old }
+    {
+        swap(&mut self.mro, &mut renewed.mro);
+        swap(&mut self.near, &mut renewed.near);
+        swap(&mut self.subclasses, &mut renewed.subclasses);
+        self.base = renewed.base;
+        self.places = renewed.places;
+    }
+
+    // Gives the class another name.
+    pub(crate) fn set_name(&mut self, name: String)
+        ensures { self.new ≡ record self.old { name = string_bytes name } }
+    {
+        self.name = name;
+    }
+
     // Gives an own attribute a value.
     pub(crate) fn set_attr(
         &mut self,
@@ -232,7 +267,7 @@ impl Stored {
 }
 
 // Whether a class is among some.
-fn has(classes: &[PyTypeRef], class: PyTypeRef) -> bool
+pub(crate) fn has(classes: &[PyTypeRef], class: PyTypeRef) -> bool
     ensures { result ≡ has (numbers classes.now) class.0 }
 {
     for other in classes {

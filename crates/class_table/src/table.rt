@@ -6,18 +6,19 @@ ghost use Rattle.py_node.specs.declared.raised.Cause.TheVariants.{EmptyBases, No
 ghost use Rattle.py_node.specs.Attributes.{is_same_name, AreNamesDistinct};
 ghost use Rattle.class_model.specs.Class.{class_at, is_class, bases_of, lin, IsLeastLine, is_sub, is_heap, found, found_past, own_of, subclasses};
 ghost use Rattle.class_model.specs.Numbers.{limit, numbers_of};
-ghost use Rattle.class_model.specs.Layout.{base, best_of, solid, built_ins, place_count};
+ghost use Rattle.class_model.specs.Layout.{base, best_of, solid, built_ins, place_count, place_at};
 ghost use Rattle.class_model.specs.Chain.{base_chain, IsChain};
 ghost use Rattle.class_model.specs.Collect.{all_attributes};
 ghost use Rattle.class_model.specs.Sound.{AreSound};
 ghost use Rattle.class_model.specs.Slot.{entry, slot as slot_read, candidates_of, is_heap_at};
 ghost use Rattle.class_model.specs.BuiltIn.{natives_of};
 ghost use Rattle.class_model.specs.Start.{built_in_classes};
-ghost use Rattle.class_model.specs.Change.{with_class, with_class_attr, without_class_attr};
+ghost use Rattle.class_model.specs.Change.{with_class, with_class_attr, without_class_attr, with_class_name, with_bases};
 ghost use Rattle.class_table.specs.Keys.{numbers, number_of, table_keys};
 ghost use Rattle.class_table.specs.Stored.{classes_of};
 ghost use Rattle.class_table.specs.New.{IsBelow, class_of_new};
 ghost use Rattle.class_table.specs.Refused.{refusal, cause_of, refused_layout, refused_bases, refused_attr, WithMemory, NeedsNoMemory, IsEarly, AreThere, heap_class};
+ghost use Rattle.class_table.specs.Rebase.{refused_rebase, told, IsToldFirst};
 ghost use Rattle.class_table.specs.Causes.{LacksBase, HasLayoutConflict, HasDuplicate, BreaksOrder, HasNoLine};
 ghost use Rattle.class_table.specs.Turn.{list_of};
 ghost use Rattle.class_table.specs.Given.{AreGiven};
@@ -30,18 +31,23 @@ use crate::count::count_at;
 use crate::fault::ClassFault;
 use crate::heap::{add_heap, set_heap, take_heap};
 use crate::inherit::{best_base, may_derive, only, solid_class};
+use crate::member_place::place_at;
 use crate::place::{find, number_in, stored_at, takes};
 use crate::put::put_in;
 use crate::read::{own_entry, read, value_along, value_past};
+use crate::rebase::rebase;
+use crate::rename::rename_in;
 use crate::start::new_class;
+use crate::steps::Steps;
 use crate::stored::{NewClass, Stored};
 use py_node::built_in::built_ins;
 use py_node::{
-    Cause, OutOfMemory, PyAttributes, PyObjectRef, PyStrInterned, PyTypeFlags, PyTypeRef,
-    SlotEntry, SlotId,
+    Cause, MemberPlace, OutOfMemory, PyAttributes, PyObjectRef, PyStrInterned, PyTypeFlags,
+    PyTypeRef, SlotEntry, SlotId,
 };
 use std::alloc::Global;
 use std::marker::Model;
+use std::sync::ledger::Ledger;
 
 /// Classes, in the order of their numbers. The names of their attributes are numbers too: those that are
 /// known, by which slots are read, have the numbers of `known_names`.
@@ -146,7 +152,7 @@ impl ClassTable {
         match add(&mut self.classes, alloc, new, best) {
             Ok(number) => Ok(number),
             Err(ClassFault::OutOfMemory) => Err(OutOfMemory),
-            Err(ClassFault::Refused(_)) => unreachable!(),
+            Err(ClassFault::Refused(_) | ClassFault::RefusedAt(_, _)) => unreachable!(),
         }
     }
 
@@ -246,6 +252,40 @@ impl ClassTable {
         ensures err { OnErr result (self.new ≡ self.old) }
     {
         take_heap(&mut self.classes, class, name)
+    }
+
+    /// Gives a class another name. Where memory runs out, the table stays as it was.
+    pub fn set_name(&mut self, class: PyTypeRef, name: &str) -> Result<(), OutOfMemory>
+        requires { is_class self.old class.0 ≡ true }
+        ensures named { OnOk result (self.new ≡ with_class_name self.old class.0 name.now) }
+        ensures err { OnErr result (self.new ≡ self.old) }
+    {
+        let alloc = self.alloc;
+        rename_in(&mut self.classes, alloc, class, name)
+    }
+
+    /// Other bases for a class that a script made. They are refused for the first of these causes: a script did not make
+    /// the class; there are none; one is the class or derives from it; base by base, one may have no subclasses or its
+    /// layout conflicts with those before it; the solid class of the best of them is not that of the best base of now;
+    /// one stands twice; and then at the least-numbered class that they leave without an order while all its bases have
+    /// one. Where they are refused or memory runs out, the table stays as it was. `steps` counts each merge and probe.
+    pub fn set_bases<L: Ledger>(
+        &mut self,
+        class: PyTypeRef,
+        bases: Vec<PyTypeRef>,
+        steps: &mut Steps<L>,
+    ) -> Result<(), ClassFault>
+        requires own { is_class self.old class.0 ≡ true }
+        requires there { AreThere self.old (numbers bases.items) }
+        ensures early { IsToldFirst self.old class.0 (numbers bases.items) (told result) }
+        ensures refused { WithMemory result (told result ≡ refused_rebase self.old class.0 (numbers bases.items)) }
+        ensures set { OnOk result (self.new ≡ with_bases self.old class.0 (numbers bases.items)) }
+        ensures err { OnErr result (self.new ≡ self.old) }
+        ensures merges { steps.old.merges ≤ steps.new.merges }
+        ensures probes { steps.old.probes ≤ steps.new.probes }
+    {
+        let alloc = self.alloc;
+        rebase(&mut self.classes, alloc, class, bases, steps)
     }
 
     /// Gives a built-in class an own attribute, while a world is set up. What a script sets goes by
@@ -434,6 +474,15 @@ impl ClassTable {
         ensures { place_count self.now class.0 ≡ Some result }
     {
         count_at(&self.classes, class)
+    }
+
+    /// The place that an offset stands for in the objects of a class: that which so many others come before, where the
+    /// places of the classes of its layout follow one another from `object` on. There is none past the last.
+    pub fn place_at(&self, class: PyTypeRef, offset: usize) -> Option<MemberPlace>
+        requires { is_class self.now class.0 ≡ true }
+        ensures { option_map (λ p. (p.class.0, p.index)) result ≡ place_at self.now class.0 offset }
+    {
+        place_at(&self.classes, class, offset)
     }
 
     /// A class's own attributes.

@@ -13,7 +13,7 @@ use Rattle.plain_machine.specs.Plain.{ADict, no_members, Node as PlainNode}
 use Rattle.plain_machine.specs.World.{ref, has_dict, push_node, with_node, next_node}
 use Rattle.class_world.specs.Held.{Held}
 use Rattle.class_world.specs.Added.{with_object, number_of_object, HasNoEntries, IsEmptyDict}
-use Rattle.class_world.specs.Reading.{Reading, datum, node_of, plain}
+use Rattle.class_world.specs.Reading.{Reading, places_of, datum, node_of, plain}
 use Rattle.class_world.specs.Sound.{IsNode, IsClass, IsOf, Holding, Holds, AllHold, Grows, Sound, home_of, home_at, class_in, of_node, of_option, of_payload}
 use Rattle.class_world.proofs.Claims.{all-grow, get-end}
 use Rattle.class_world.proofs.Growth.{grows-itself, grows-on, node-grows}
@@ -87,11 +87,11 @@ dict-datum t (payload.Iterator i) h = absurd h
 dict-datum t (payload.Slice s) h = absurd h
 
 dict-read : (t : Reading) (d : Node) → IsEmptyDict d → node_of t d ≡ record { class = the_dict; dict = None; members = no_members; datum = ADict [] }
-dict-read t d e = let class = e.0 in let dict = e.1 in let datum = dict-datum t d.payload e.2 in λ i. record { class = class i; dict = dict i; members = no_members; datum = datum i }
+dict-read t d e = let class = e.0 in let dict = e.1 in let members = e.2 in let datum = dict-datum t d.payload e.3 in λ i. record { class = class i; dict = dict i; members = places_of (members i); datum = datum i }
 
 module _ (w : Held) (c : PyTypeRef) (p : Payload) where
   abbrev stored : Option PyObjectRef → Node
-  stored d = record { class = c; dict = d; payload = p }
+  stored d = record { class = c; dict = d; members = []; payload = p }
 
   abbrev after : Node → Held
   after d = record w { nodes = w.nodes ++ d ∷ [] }
@@ -109,12 +109,12 @@ module _ (w : Held) (c : PyTypeRef) (p : Payload) where
 
   object-sound : (o : Option Node) → IfSome o IsEmptyDict → AllHold w (of_option of_node o) → Holds w (IsClass c.0) → Holds w (IsOf c.0 (home_of p)) → class_in p ≡ None → AllHold w (of_payload p) → Sound w → Sound (made o)
   unfolding Holds
-  object-sound None e h class of q held s = node-sound w s (stored None) q (class, (of, held))
+  object-sound None e h class of q held s = node-sound w s (stored None) q (class, (of, (tt, held)))
   object-sound (Some d) e h class of q held s =
       let more = node-grows w d in
       let l = length-append w.nodes (d ∷ []) in
-      node-sound (after d) (node-sound w s d (dict-other d.payload e.2) h) (stored (Some (ref (length w.nodes)))) q
-      (more.still (IsClass c.0) class, (more.still (IsOf c.0 (home_of p)) of, (omega (arith, l), (dict-holding d e.2, all-grow w (after d) more (of_payload p) held))))
+      node-sound (after d) (node-sound w s d (dict-other d.payload e.3) h) (stored (Some (ref (length w.nodes)))) q
+      (more.still (IsClass c.0) class, (more.still (IsOf c.0 (home_of p)) of, (tt, (omega (arith, l), (dict-holding d e.3, all-grow w (after d) more (of_payload p) held)))))
 
   pub object-there : (o : Option Node) (r : PyObjectRef) → r ≡ number_of_object w.nodes o → Holds (made o) (IsNode r)
   unfolding Holds

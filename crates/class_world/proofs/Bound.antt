@@ -3,7 +3,7 @@ use Rattle.std.proofs.Common.{◌≡◌, ℕ, zero, suc, ◌-◌, Bool, true, fa
 use Rattle.py_node.specs.declared.refs.PyObjectRef.{PyObjectRef}
 use Rattle.py_node.specs.declared.refs.PyStrInterned.{PyStrInterned}
 use Rattle.std.specs.List.{All}
-use Rattle.py_node.specs.Attributes.{value_of, with_value, is_same_name, AreNamesDistinct}
+use Rattle.py_node.specs.Attributes.{value_of, with_value, without_key, is_same_name, AreNamesDistinct}
 use Rattle.py_node.specs.Replies.{Started}
 use Rattle.plain_machine.specs.World.{is_text, or_else_var, bound, bound_last, in_last, variable, with_binding, with_scope, without_scope}
 use Rattle.class_world.specs.declared.scope.Scope.{Scope}
@@ -50,6 +50,13 @@ module _ (t : Reading) where
       cond-bindings (is_same_name b.0 x) ((b.0, r) ∷ bs) (b ∷ with_value is_same_name bs x r)
       ∙ ap (λ cs. cond (is_same_name b.0 x) ((spelled t b.0, r) ∷ bindings t bs) ((spelled t b.0, b.1) ∷ cs)) (with_value-read bs x r)
       ∙ ap (λ q. cond q ((spelled t b.0, r) ∷ bindings t bs) ((spelled t b.0, b.1) ∷ with_value is_text (bindings t bs) (spelled t x) r)) (sym (t.same b.0.0 x.0))
+
+  pub without_key-read : (bs : Bound) (x : PyStrInterned) → bindings t (without_key is_same_name bs x) ≡ without_key is_text (bindings t bs) (spelled t x)
+  without_key-read [] x = refl
+  without_key-read (b ∷ bs) x =
+      cond-bindings (is_same_name b.0 x) (without_key is_same_name bs x) (b ∷ without_key is_same_name bs x)
+      ∙ ap (λ cs. cond (is_same_name b.0 x) cs ((spelled t b.0, b.1) ∷ cs)) (without_key-read bs x)
+      ∙ ap (λ q. cond q (without_key is_text (bindings t bs) (spelled t x)) ((spelled t b.0, b.1) ∷ without_key is_text (bindings t bs) (spelled t x))) (sym (t.same b.0.0 x.0))
 
   pub last-read : (ss : List Scope) (x : PyStrInterned) → in_last (map (scope_of t) ss) (spelled t x) ≡ last_value ss x
   last-read [] x = refl
@@ -117,6 +124,14 @@ module _ (w : Held) where
     where
       go : (q : Bool) → AllHold w (of_each of_binding (with_value is_same_name bs x r)) → AllHold w (of_each of_binding (cond q ((b.0, r) ∷ bs) (b ∷ with_value is_same_name bs x r)))
       go true rest = (h.0, (k, h.1.1))
+      go false rest = (h.0, (h.1.0, rest))
+
+  pub without_key-holds : (bs : Bound) (x : PyStrInterned) → AllHold w (of_each of_binding bs) → AllHold w (of_each of_binding (without_key is_same_name bs x))
+  without_key-holds [] x h = tt
+  without_key-holds (b ∷ bs) x h = go (is_same_name b.0 x) (without_key-holds bs x h.1.1)
+    where
+      go : (q : Bool) → AllHold w (of_each of_binding (without_key is_same_name bs x)) → AllHold w (of_each of_binding (cond q (without_key is_same_name bs x) (b ∷ without_key is_same_name bs x)))
+      go true rest = rest
       go false rest = (h.0, (h.1.0, rest))
 
   pub last-holds : (ss : List Scope) (x : PyStrInterned) → AllHold w (of_each of_scope ss) → IfSome (last_value ss x) (λ r. Holds w (IsNode r))

@@ -15,6 +15,7 @@ use Rattle.class_model.specs.Sound.{AreSound}
 use Rattle.class_table.proofs.Pushed.{each-there}
 use Rattle.class_model.specs.Change.{with_class_attr}
 use Rattle.class_model.proofs.Numbers.{at-changed, at-last, old-or-last}
+use Rattle.class_model.proofs.Kept.{is_place-kept}
 use Rattle.class_table.specs.Refused.{AreThere}
 use Rattle.class_table.specs.Keys.{numbers}
 use Rattle.plain_machine.specs.World.{is_text, with_own_attr, with_new_class}
@@ -22,6 +23,7 @@ use Rattle.class_world.specs.Held.{Held}
 use Rattle.class_world.specs.Reading.{Reading, spelled, node_of, plain}
 use Rattle.class_world.specs.Sound.{IsName, IsNode, IsClass, IsOf, Standing, AreNames, class_in, held_class, Holds, AllHold, Grows, Sound, of_binding, of_class, of_class_ref, of_dict, of_node, of_each}
 use Rattle.class_world.proofs.Claims.{all-grow, all-append, all-first, all-rest, each-push, get-end}
+use Rattle.class_world.proofs.MemberPlaces.{no-members}
 use Rattle.py_node.specs.declared.built_in.BuiltIn.{BuiltIn}
 use Rattle.py_node.specs.declared.built_in.BuiltIn.TheVariants.{TypeType}
 use Rattle.plain_machine.specs.Known.{the_dict}
@@ -64,10 +66,10 @@ attr-there ks c d x r = at-changed (λ (k : Class PyStrInterned). record k { att
 pub classes-grow : (w : Held) (ks : HeldClasses) → Like w.classes ks → Grows w (record w { classes = ks })
 classes-grow w ks k = grows w (record w { classes = ks }) refl (omega arith) (omega arith) (λ m f h. h) (omega arith) (keep-itself w.nodes) k
 
-abbrev AreStanding : Held → HeldClasses → Type 0
+abbrev pub AreStanding : Held → HeldClasses → Type 0
 AreStanding w ks = (c : ℕ) → is_class ks c ≡ true → Holds w (Standing c (record { 0 = c }))
 
-classes-sound : (w : Held) (ks : HeldClasses) → Like w.classes ks → AllHold w (of_each of_class ks) → AreStanding w ks → Sound w → Sound (record w { classes = ks })
+pub classes-sound : (w : Held) (ks : HeldClasses) → Like w.classes ks → AllHold w (of_each of_class ks) → AreStanding w ks → Sound w → Sound (record w { classes = ks })
 classes-sound w ks k h a s =
     let new = record w { classes = ks } in
     let more = classes-grow w ks k in
@@ -80,6 +82,7 @@ module _ {A E : Type 0} (w : Held) (c : ℕ) (x : PyStrInterned) (r : PyObjectRe
   set-like (Ok a) p f = subst (Like w.classes) (sym p) (record {
     held = λ d b h. held_by-attr is_same_name w.classes c x r d ∙ h;
     there = λ d h. attr-there w.classes c d x r ∙ h;
+    places = λ d y i h. is_place-kept (λ (k : Class PyStrInterned). record k { attrs = with_value is_same_name k.attrs x r }) (λ k. refl) w.classes c (λ k. refl) (λ k. refl) d y i ∙ h;
   })
   set-like (Err e) p f = subst (Like w.classes) (sym f) (like-itself w.classes)
 
@@ -114,16 +117,16 @@ bases-there w (b ∷ bs) h = (h.0, bases-there w bs h.1)
 -- a class with its node
 module _ (w : Held) (meta : PyTypeRef) (k : Class PyStrInterned) where
   abbrev class_made : PyTypeRef → Held
-  class_made c = record w { nodes = w.nodes ++ record { class = meta; dict = None; payload = payload.Class c } ∷ []; classes = w.classes ++ k ∷ [] }
+  class_made c = record w { nodes = w.nodes ++ record { class = meta; dict = None; members = []; payload = payload.Class c } ∷ []; classes = w.classes ++ k ∷ [] }
 
   pub made-grows : (c : PyTypeRef) → Grows w (class_made c)
   made-grows c =
-      let n = length-append w.nodes (record { class = meta; dict = None; payload = payload.Class c } ∷ []) in
-      grows w (class_made c) refl (omega arith) (omega arith) (λ m f h. h) (omega arith) (keep-push w.nodes (record { class = meta; dict = None; payload = payload.Class c })) (like-push w.classes k)
+      let n = length-append w.nodes (record { class = meta; dict = None; members = []; payload = payload.Class c } ∷ []) in
+      grows w (class_made c) refl (omega arith) (omega arith) (λ m f h. h) (omega arith) (keep-push w.nodes (record { class = meta; dict = None; members = []; payload = payload.Class c })) (like-push w.classes k)
 
   pub node-made : (c : PyTypeRef) (r : PyObjectRef) → r.0 ≡ length w.nodes → Holds (class_made c) (IsNode r)
   unfolding Holds
-  node-made c r e = let l = length-append w.nodes (record { class = meta; dict = None; payload = payload.Class c } ∷ []) in omega (arith, l, e)
+  node-made c r e = let l = length-append w.nodes (record { class = meta; dict = None; members = []; payload = payload.Class c } ∷ []) in omega (arith, l, e)
 
   dict-made : (new : Held) (b : Bool) → ((c : ℕ) → c < 23 → is_class new.classes c ≡ true) → AllHold new (of_dict b)
   unfolding Holds
@@ -148,7 +151,7 @@ module _ (w : Held) (meta : PyTypeRef) (k : Class PyStrInterned) where
     class-stands : Holds (class_made c) (Standing k.number (record { 0 = k.number }))
     unfolding Holds
     class-stands =
-        let node : Node = record { class = meta; dict = None; payload = payload.Class c } in
+        let node : Node = record { class = meta; dict = None; members = []; payload = payload.Class c } in
         ap (λ n. held_class (w.nodes ++ node ∷ []) (record { 0 = n })) i ∙ ap (option_and_then (λ (x : Node). class_in x.payload)) (get-end w.nodes node) ∙ ap Some (e ∙ sym i)
 
     stands : (d : ℕ) → is_class (w.classes ++ k ∷ []) d ≡ true → Holds (class_made c) (Standing d (record { 0 = d }))
@@ -156,7 +159,7 @@ module _ (w : Held) (meta : PyTypeRef) (k : Class PyStrInterned) where
 
     itself : (n d : ℕ) → held_class (class_made c).nodes (record { 0 = n }) ≡ Some d → n ≡ d
     itself n d q =
-        let at = itself-push 0 w.nodes (record { class = meta; dict = None; payload = payload.Class c }) (λ d p. let same : c.0 ≡ d = cc in omega arith) (λ m d p. let r = s.itself m d p in omega arith) n d q in
+        let at = itself-push 0 w.nodes (record { class = meta; dict = None; members = []; payload = payload.Class c }) (λ d p. let same : c.0 ≡ d = cc in omega arith) (λ m d p. let r = s.itself m d p in omega arith) n d q in
         omega arith
 
     pub made-sound : Holds w (AreNames k.members) → Holds w (IsClass meta.0) → Holds w (IsOf meta.0 TypeType) → AllHold w (of_each of_binding k.attrs) → Sound (class_made c)
@@ -171,7 +174,7 @@ module _ (w : Held) (meta : PyTypeRef) (k : Class PyStrInterned) where
         record {
           forms = go _ s.forms;
           below = s.below;
-          nodes = each-push new of_node w.nodes (record { class = meta; dict = None; payload = payload.Class c }) (go _ s.nodes) (more.still (IsClass meta.0) m, (more.still (IsOf meta.0 TypeType) p, (class-made, tt)));
+          nodes = each-push new of_node w.nodes (record { class = meta; dict = None; members = []; payload = payload.Class c }) (go _ s.nodes) (more.still (IsClass meta.0) m, (more.still (IsOf meta.0 TypeType) p, (no-members new meta.0, (class-made, tt))));
           classes = each-push new of_class w.classes k (go _ s.classes) (node, (members, rest));
           vars = go _ s.vars;
           scopes = go _ s.scopes;
@@ -191,6 +194,6 @@ module _ (w : Held) (meta : PyTypeRef) (k : Class PyStrInterned) where
     where
       at : plain t (class_made c) ≡ with_new_class (plain t w) meta.0 (rekeyed (spelled t) k)
       at =
-          let a = map-push (node_of t) w.nodes (record { class = meta; dict = None; payload = payload.Class c }) in
+          let a = map-push (node_of t) w.nodes (record { class = meta; dict = None; members = []; payload = payload.Class c }) in
           let b = map-push (rekeyed (spelled t)) w.classes k in
           cc (a, b, e)

@@ -78,7 +78,7 @@ lasting-stays c (payload.Slice s) = refl
 node-holds : (w : Held) (c : PyTypeRef) (n : StoredNode) → Holds w (IsClass c.0) → AllHold w (of_node n) → AllHold w (of_node (defined_node c n))
 node-holds w c n k h =
     let dict = of_option of_dict_ref n.dict in
-    (h.0, (subst (λ b. Holds w (IsOf n.class.0 b)) (ap (λ (l : Lasting). l.home) (sym (lasting-stays c n.payload))) h.1.0, all-append w dict _ (all-first w dict _ h.1.1) (payload-holds w c n.payload k (all-rest w dict _ h.1.1))))
+    (h.0, (subst (λ b. Holds w (IsOf n.class.0 b)) (ap (λ (l : Lasting). l.home) (sym (lasting-stays c n.payload))) h.1.0, (h.1.1.0, all-append w dict _ (all-first w dict _ h.1.1.1) (payload-holds w c n.payload k (all-rest w dict _ h.1.1.1)))))
 
 payload-read : (t : Reading) (c : PyTypeRef) (p : Payload) → datum t (defined_payload c p) ≡ defined_by c.0 (datum t p)
 payload-read t c payload.Object = refl

@@ -12,8 +12,8 @@ use Rattle.plain_machine.specs.Objects.{with_datum_in}
 use Rattle.plain_machine.specs.Dicts.{Entries, with_entries}
 use Rattle.class_world.specs.Held.{Held}
 use Rattle.class_world.specs.Keyed.{entries_of, held_entries, entries_at, of_entries, HasEntries, HasOther, put_at}
-use Rattle.class_world.specs.Reading.{Reading, datum, node_of, plain}
-use Rattle.class_world.specs.Sound.{IsNode, IsOf, AreNodes, KeysDiffer, Holding, home_of, class_in, held_key, Holds, AllHold, Grows, Sound, of_class_ref, of_option, of_dict_ref, of_payload, of_node}
+use Rattle.class_world.specs.Reading.{Reading, places_of, datum, node_of, plain}
+use Rattle.class_world.specs.Sound.{AreMembers, IsNode, IsOf, AreNodes, KeysDiffer, Holding, home_of, class_in, held_key, Holds, AllHold, Grows, Sound, of_class_ref, of_option, of_dict_ref, of_payload, of_node}
 use Rattle.class_world.proofs.Claims.{opened-one, seen, all-grow, all-append, all-first, all-rest, each-get, got, no-nodes}
 use Rattle.class_world.proofs.Growth.{Lasting, lasting, like-itself, grows, grows-lasts}
 use Rattle.class_world.proofs.Changes.{fixed-grow, built_in-grow}
@@ -171,7 +171,7 @@ module _ (w now : Held) (r : PyObjectRef) (n : StoredNode) (v : w ≡ now) where
   pub held-hold : slice_get w.nodes r.0 ≡ Some n → Sound w → AllHold now (of_entries (held_entries now.nodes r))
   held-hold e s =
       let all = each-get w of_node w.nodes r.0 n e s.nodes in
-      let here = payload-entries w n.payload (all-rest w (of_option of_dict_ref n.dict) _ all.1.1) in
+      let here = payload-entries w n.payload (all-rest w (of_option of_dict_ref n.dict) _ all.1.1.1) in
       subst (λ es. AllHold now (of_entries es)) (sym (entries-seen e)) (seen w now (of_entries (entries_of n.payload)) v here)
 
   -- a dict by its number
@@ -192,7 +192,7 @@ module _ (w now : Held) (r : PyObjectRef) (n : StoredNode) (v : w ≡ now) where
         below = here;
         home = cc;
         same = entries-seen at;
-        holds = payload-entries w n.payload (all-rest w (of_option of_dict_ref n.dict) _ all.1.1);
+        holds = payload-entries w n.payload (all-rest w (of_option of_dict_ref n.dict) _ all.1.1.1);
       }
 
 module _ (w : Held) (r : PyObjectRef) (n new : StoredNode) where
@@ -200,7 +200,7 @@ module _ (w : Held) (r : PyObjectRef) (n new : StoredNode) where
   changed = record w { nodes = slice_set w.nodes r.0 new }
 
   same-lasting : (es : Entries) → home_of n.payload ≡ Dict → HasOther n new es → lasting new.payload ≡ lasting n.payload
-  same-lasting es d o = has-lasting es new.payload o.2 ∙ sym (dict-lasting n.payload d)
+  same-lasting es d o = has-lasting es new.payload o.3 ∙ sym (dict-lasting n.payload d)
 
   pub other-grows : (es : Entries) → n ≡ get_or w.nodes r.0 n → home_of n.payload ≡ Dict → HasOther n new es → Grows w changed
   other-grows es e d o =
@@ -216,8 +216,9 @@ module _ (w : Held) (r : PyObjectRef) (n new : StoredNode) where
       let class : AllHold w (of_class_ref new.class) = subst (λ c. AllHold w (of_class_ref c)) (sym o.0) (all.0, tt) in
       let of = subst (λ c. Holds w (IsOf c.0 (home_of n.payload))) (sym o.0) all.1.0 in
       let like = subst (λ b. Holds w (IsOf new.class.0 b)) (ap (λ (l : Lasting). l.home) (sym q)) of in
-      let dict = subst (λ d. AllHold w (of_option of_dict_ref d)) (sym o.1) (all-first w (of_option of_dict_ref n.dict) _ all.1.1) in
-      let there : AllHold w (of_node new) = (class.0, (like, all-append w (of_option of_dict_ref new.dict) _ dict (has-holds es w new.payload o.2 h))) in
+      let dict = subst (λ d. AllHold w (of_option of_dict_ref d)) (sym o.1) (all-first w (of_option of_dict_ref n.dict) _ all.1.1.1) in
+      let members : Holds w (AreMembers new.class.0 new.members) = subst (λ c. Holds w (AreMembers c.0 new.members)) (sym o.0) (subst (λ ms. Holds w (AreMembers n.class.0 ms)) (sym o.2) all.1.1.0) in
+      let there : AllHold w (of_node new) = (class.0, (like, (members, all-append w (of_option of_dict_ref new.dict) _ dict (has-holds es w new.payload o.3 h)))) in
       let same : class_in new.payload ≡ class_in n.payload = ap (λ (l : Lasting). l.class) q in
       record { forms = go _ s.forms; below = s.below; nodes = go _ (each-set w of_node w.nodes r.0 new s.nodes there); classes = go _ s.classes; vars = go _ s.vars; scopes = go _ s.scopes; fixed = fixed-grow w changed s.fixed (grows-lasts w changed more); built_in = built_in-grow w changed s.built_in (grows-lasts w changed more); own = λ b. more.still _ (s.own b); standing = λ c e. more.still _ (s.standing c e); itself = λ m c q. s.itself m c (class-set w.nodes r.0 n new e same m c q); apart = s.apart; scopes_apart = s.scopes_apart; known = s.known }
 
@@ -225,8 +226,9 @@ module _ (w : Held) (r : PyObjectRef) (n new : StoredNode) where
   node-read t es o =
       let class = o.0 in
       let dict = o.1 in
-      let datum = has-datum es t new.payload o.2 in
-      λ i. record { class = (class i).0; dict = dict i; members = no_members; datum = datum i }
+      let members = o.2 in
+      let datum = has-datum es t new.payload o.3 in
+      λ i. record { class = (class i).0; dict = dict i; members = places_of (members i); datum = datum i }
 
   nodes-read : (t : Reading) (es : Entries) (ns : List StoredNode) (i : ℕ) → i < length ns → n ≡ get_or ns i n → HasOther n new es → map (node_of t) (slice_set ns i new) ≡ with_datum_in (λ m. ADict es) (map (node_of t) ns) i
   nodes-read t es [] i l e o = absurd (omega arith)

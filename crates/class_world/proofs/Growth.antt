@@ -1,17 +1,25 @@
 -- Worlds that have grown, and claims that hold still.
-use Rattle.std.proofs.Common.{◌≡◌, ℕ, ◌≤◌, List, [], ◌∷◌, ◌++◌, length, Option, Some, None, refl, sym, ap, ◌∙◌, subst, arith, length-append}
-use Rattle.std.specs.Prelude.{slice_get, is_some, true, option_map, option_and_then}
+use Rattle.std.proofs.Common.{◌≡◌, ℕ, suc, ◌≤◌, List, [], ◌∷◌, ◌++◌, length, Option, Some, None, refl, sym, ap, ◌∙◌, subst, arith, length-append}
+use Rattle.std.specs.Prelude.{nat_lt, slice_get, is_some, true, option_map, option_and_then}
 use Rattle.py_node.specs.declared.built_in.BuiltIn.{BuiltIn}
 use Rattle.py_node.specs.declared.refs.PyStrInterned.{PyStrInterned}
-use Rattle.class_model.specs.Class.{Class, is_class}
+use Rattle.class_model.specs.Class.{Class, class_at, is_class, is_along, lin}
+use Rattle.class_model.specs.Layout.{is_place, layout, layout_along, member_count}
 use Rattle.class_model.proofs.Numbers.{at-before}
+use Rattle.std.proofs.lemmas.Bool.{and_parts, ltb-true}
+use Rattle.class_model.proofs.Rule.{lin-classes}
+use Rattle.class_model.proofs.Changed.{lin-push}
+use Rattle.class_model.proofs.Kept.{layout-agrees, is_place-agrees}
+use Rattle.class_model.proofs.Solid.{is_solid-push}
 use Rattle.plain_machine.specs.Sound.{held_by, Key, AreKeys}
 use Rattle.py_node.specs.declared.refs.PyObjectRef.{PyObjectRef}
+use Rattle.std.specs.List.{AllByRecursion}
+use Rattle.py_node.specs.declared.members.MemberPlace.{MemberPlace}
 use Rattle.py_node.specs.declared.payload.Node.{Node}
 use Rattle.py_node.specs.declared.payload.Payload.{Payload}
 use Rattle.py_node.specs.declared.payload.Form.{Form}
 use Rattle.class_world.specs.Held.{Held}
-use Rattle.class_world.specs.Sound.{Claim, IsNode, AreNodes, IsExpression, AreExpressions, IsName, AreNames, IsClass, IsOf, Holding, Standing, CanBeKeys, KeysDiffer, HasForm, HasParams, HasValues, params_in, held_params, AreFilled, home_of, home_at, key_in, held_key, class_in, held_class, Holds, Lasts, Grows}
+use Rattle.class_world.specs.Sound.{Claim, IsNode, AreNodes, IsExpression, AreExpressions, IsName, AreNames, IsClass, IsOf, Holding, Standing, CanBeKeys, KeysDiffer, HasForm, HasParams, HasValues, AreMembers, StandsThere, IsMember, params_in, held_params, AreFilled, home_of, home_at, key_in, held_key, class_in, held_class, Holds, Lasts, Grows}
 use Rattle.class_world.proofs.Claims.{get-pushed}
 use Rattle.class_world.proofs.Homes.{held_by-push}
 
@@ -36,9 +44,10 @@ pub record Keep (old new : List Node) : Type 0 where
 pub record Like (old new : List (Class PyStrInterned)) : Type 0 where
   pub held : (c : ℕ) (b : BuiltIn) → held_by old c ≡ Some b → held_by new c ≡ Some b
   pub there : (c : ℕ) → is_class old c ≡ true → is_class new c ≡ true
+  pub places : (c d i : ℕ) → is_place old c d i ≡ true → is_place new c d i ≡ true
 
 pub like-itself : (ks : List (Class PyStrInterned)) → Like ks ks
-like-itself ks = record { held = λ c b h. h; there = λ c h. h }
+like-itself ks = record { held = λ c b h. h; there = λ c h. h; places = λ c d i h. h }
 
 pub keep-itself : (ns : List Node) → Keep ns ns
 keep-itself ns = record { stays = λ n x e. (x, e, refl) }
@@ -46,8 +55,24 @@ keep-itself ns = record { stays = λ n x e. (x, e, refl) }
 there-push : (ks : List (Class PyStrInterned)) (k : Class PyStrInterned) (c : ℕ) → is_class ks c ≡ true → is_class (ks ++ k ∷ []) c ≡ true
 there-push ks k c e = ap is_some (at-before ks k c e) ∙ e
 
+-- a place of a class is one still
+place-push : (ks : List (Class PyStrInterned)) (k : Class PyStrInterned) (c d i : ℕ) → is_place ks c d i ≡ true → is_place (ks ++ k ∷ []) c d i ≡ true
+place-push ks k c d i h =
+    let both = and_parts (is_along d (layout ks c)) (nat_lt i (member_count (class_at ks d))) h in
+    let few = ltb-true i (member_count (class_at ks d)) both.1 in
+    is_place-agrees (ks ++ k ∷ []) ks c d i (go (lin ks c) refl both.0) (ap member_count (at-before ks k d (some (class_at ks d) few))) ∙ h
+  where
+    some : (o : Option (Class PyStrInterned)) → suc i ≤ member_count o → is_some o ≡ true
+    some None l = absurd (omega arith)
+    some (Some j) l = refl
+
+    go : (o : Option (List ℕ)) → lin ks c ≡ o → is_along d (option_and_then (λ line. Some (layout_along ks line)) o) ≡ true → layout (ks ++ k ∷ []) c ≡ layout ks c
+    go None e l = cc
+    go (Some line) e l =
+        sym (layout-agrees ks (ks ++ k ∷ []) c (e ∙ sym (lin-push ks k c line e)) (λ ls x q m. sym (is_solid-push ks k x (lin-classes ks c ls x q m))))
+
 pub like-push : (ks : List (Class PyStrInterned)) (k : Class PyStrInterned) → Like ks (ks ++ k ∷ [])
-like-push ks k = record { held = held_by-push ks k; there = there-push ks k }
+like-push ks k = record { held = held_by-push ks k; there = there-push ks k; places = place-push ks k }
 
 pub keep-push : (ns : List Node) (x : Node) → Keep ns (ns ++ x ∷ [])
 keep-push ns x = record { stays = λ n y e. (y, get-pushed ns x n y e, refl) }
@@ -96,6 +121,15 @@ keys-keep old new g rs h = record {
       h.apart i j r s e f same;
 }
 
+stands-still : (n m : ℕ) → n ≤ m → (o : Option PyObjectRef) → StandsThere n o → StandsThere m o
+stands-still n m l None h = h
+stands-still n m l (Some r) h = omega arith
+
+members-still : (old new : Held) → length old.nodes ≤ length new.nodes → Like old.classes new.classes → (c : ℕ) (ms : List (MemberPlace × Option PyObjectRef)) → AllByRecursion (IsMember old c) ms → AllByRecursion (IsMember new c) ms
+members-still old new l k c [] h = h
+members-still old new l k c (m ∷ ms) h =
+    ((k.places c m.0.class.0 m.0.index h.0.0, stands-still (length old.nodes) (length new.nodes) l m.1 h.0.1), members-still old new l k c ms h.1)
+
 grows-at : (old new : Held) → length old.names ≤ length new.names → length old.forms ≤ length new.forms → Stays old.forms new.forms → length old.nodes ≤ length new.nodes → Keep old.nodes new.nodes → Like old.classes new.classes → (c : Claim) → Holds old c → Holds new c
 unfolding Holds
 grows-at old new x e s n p l (IsNode r) h = omega arith
@@ -113,6 +147,7 @@ grows-at old new x e s n p l (KeysDiffer rs) h = keys-keep old.nodes new.nodes p
 grows-at old new x e s n p l (HasForm m test) h = (h.0, s m h.0 h.1, h.2)
 grows-at old new x e s n p l (HasParams r ps) h = params-still old.nodes new.nodes p r ps h
 grows-at old new x e s n p l (HasValues r vars) h = values-still old.nodes new.nodes p r vars h
+grows-at old new x e s n p l (AreMembers c ms) h = members-still old new n l c ms h
 
 -- where no table is shorter
 lasts : (old new : Held) → length old.names ≤ length new.names → length old.forms ≤ length new.forms → Stays old.forms new.forms → length old.nodes ≤ length new.nodes → Keep old.nodes new.nodes → Like old.classes new.classes → Lasts old new

@@ -1,4 +1,5 @@
 pub mod Claims
+pub mod MemberPlaces
 pub mod Homes
 pub mod Growth
 pub mod Leaves
@@ -30,3 +31,8 @@ pub mod DictReads
 pub mod KeyEntries
 pub mod Items
 pub mod OneBase
+pub mod ChangedClass
+pub mod NodeChanges
+pub mod Placed
+pub mod SameLayout
+pub mod NodeMembers

@@ -14,7 +14,7 @@ use Rattle.py_node.specs.Attributes.{value_of, AreNamesDistinct}
 use Rattle.class_model.specs.Class.{Classes, is_class, has_flag, rekeyed, renamed}
 use Rattle.class_model.specs.Sound.{AreSound}
 use Rattle.class_model.proofs.Sound.{sound-renamed}
-use Rattle.class_model.proofs.Renamed.{at-renamed, lin-renamed}
+use Rattle.class_model.proofs.Renamed.{at-renamed, lin-renamed, is_place-renamed}
 use Rattle.plain_machine.specs.Plain.{AClass, Node}
 use Rattle.plain_machine.specs.World.{is_text, datum_at}
 use Rattle.plain_machine.specs.Sound.{home, optional_class, optional, all_optional, super_object, super_start, nodes_in, classes_in, Key, key_of, key_at, keys_in, AreKeys, AreApart, params_in as params_of, IsSoundNode, IsSoundScope, IsSound}
@@ -24,6 +24,7 @@ use Rattle.class_world.specs.Reading.{Reading, bindings, datum, node_of, scope_o
 use Rattle.class_world.specs.Sound.{Holding, Standing, KeysDiffer, key_in, held_key, class_in, held_class, params_in, held_params, has_value, AreFilled, Holds, AllHold, Sound, home_of, home_at, of_option, of_class_ref, of_node_ref, of_name_ref, of_optional, of_start, of_dict_ref, of_payload, of_node, of_binding, of_scope, of_class, of_dict, of_each}
 use Rattle.class_world.proofs.Claims.{all-first, all-rest, each-get}
 use Rattle.class_world.proofs.Homes.{by_line}
+use Rattle.class_world.proofs.MemberPlaces.{member-is}
 use Rattle.class_world.proofs.Apart.{apart-read}
 use Rattle.class_world.proofs.Bound.{value-read}
 
@@ -430,12 +431,12 @@ module _ (w : Held) (t : Reading) where
   unfolding Holds plain
   node-is x h =
       let dict = of_option of_dict_ref x.dict in
-      let held = all-rest w dict (of_payload x.payload) h.1.1 in
+      let held = all-rest w dict (of_payload x.payload) h.1.1.1 in
       record {
         class = there-read x.class.0 ∙ h.0;
         like = ap by_line (lin-renamed (spelled t) w.classes x.class.0) ∙ h.1.0 ∙ ap Some (sym (home-read t x.payload));
-        dict = λ r e. dict-is x r (all-first w dict (of_payload x.payload) h.1.1) e;
-        members = λ c i r e. cc;
+        dict = λ r e. dict-is x r (all-first w dict (of_payload x.payload) h.1.1.1) e;
+        members = λ c i r e. let m = member-is w x.class.0 (record { class = record { 0 = c }; index = i }) r x.members h.1.1.0 e in (is_place-renamed (spelled t) w.classes x.class.0 c i ∙ m.0, subst (λ n. r.0 < n) (sym (length-map w.nodes (node_of t))) m.1);
         nodes = subst (λ n. Below n (nodes_in (datum t x.payload))) (sym (length-map w.nodes (node_of t))) (nodes-there x.payload held);
         keys = keys-there x.payload held;
         classes = all-read (classes_in (datum t x.payload)) (classes-there x.payload held);

@@ -36,11 +36,11 @@ module _ (w : Held) where
   nodes-hold n (b ∷ bs) h l o m =
       let both = split (ltb (place_of b) n) (places_below n bs) h in
       let below = ltb-true (place_of b) n both.0 in
-      (l 1 o, (m, (l (place_of b) below, nodes-hold n bs both.1 l o m)))
+      (l 1 o, (m, (tt, (l (place_of b) below, nodes-hold n bs both.1 l o m))))
 
   fixed-hold : ((c : ℕ) → c < 23 → is_class w.classes c ≡ true) → held_by w.classes 2 ≡ Some built_in.Object → held_by w.classes 3 ≡ Some built_in.Object → held_by w.classes 5 ≡ Some built_in.Int → AllHold w (of_each of_node fixed_nodes)
   unfolding Holds
-  fixed-hold l a b c = (l 2 (omega arith), (a, (l 3 (omega arith), (b, (l 5 (omega arith), (c, (l 5 (omega arith), (c, tt))))))))
+  fixed-hold l a b c = (l 2 (omega arith), (a, (tt, (l 3 (omega arith), (b, (tt, (l 5 (omega arith), (c, (tt, (l 5 (omega arith), (c, (tt, tt))))))))))))
 
   dict-holds : (b : Bool) → is_class w.classes the_dict ≡ true → AllHold w (of_dict b)
   unfolding Holds

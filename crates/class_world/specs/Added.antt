@@ -10,8 +10,8 @@ use Rattle.plain_machine.specs.World.{ref}
 
 -- an object, after the node that is its dict
 abbrev pub with_object : List Node → Option Node → PyTypeRef → Payload → List Node
-with_object ns None c p = ns ++ record { class = c; dict = None; payload = p } ∷ []
-with_object ns (Some d) c p = (ns ++ d ∷ []) ++ record { class = c; dict = Some (ref (length ns)); payload = p } ∷ []
+with_object ns None c p = ns ++ record { class = c; dict = None; members = []; payload = p } ∷ []
+with_object ns (Some d) c p = (ns ++ d ∷ []) ++ record { class = c; dict = Some (ref (length ns)); members = []; payload = p } ∷ []
 
 -- the number of the object
 abbrev pub number_of_object : List Node → Option Node → PyObjectRef
@@ -24,4 +24,4 @@ HasNoEntries _ = ⊥
 
 -- a new dict
 abbrev pub IsEmptyDict : Node → Type 0
-IsEmptyDict d = (d.class.0 ≡ the_dict) × (d.dict ≡ None) × HasNoEntries d.payload
+IsEmptyDict d = (d.class.0 ≡ the_dict) × (d.dict ≡ None) × (d.members ≡ []) × HasNoEntries d.payload

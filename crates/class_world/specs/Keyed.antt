@@ -54,7 +54,7 @@ HasEntries _ xs = ⊥
 
 -- a dict that has other entries, and else is the same
 abbrev pub HasOther : Node → Node → Entries → Type 0
-HasOther old new es = (new.class ≡ old.class) × (new.dict ≡ old.dict) × HasEntries new.payload es
+HasOther old new es = (new.class ≡ old.class) × (new.dict ≡ old.dict) × (new.members ≡ old.members) × HasEntries new.payload es
 
 abbrev pub put_first : Entries → PyObjectRef → Entries
 put_first [] v = []

@@ -1,9 +1,10 @@
 -- What is said of numbers, and that all that a world says of them is so.
 use Rattle.std.specs.Prelude.{◌≡◌, ℕ, ◌<◌, ◌≤◌, Bool, true, false, List, [], ◌∷◌, ◌++◌, Option, Some, None, is_some, length, map, slice_get, option_map, option_and_then, string_bytes}
-use Rattle.std.specs.List.{All}
+use Rattle.std.specs.List.{All, AllByRecursion}
 use Rattle.py_node.specs.declared.refs.PyObjectRef.{PyObjectRef}
 use Rattle.py_node.specs.declared.refs.PyStrInterned.{PyStrInterned}
 use Rattle.py_node.specs.declared.refs.PyTypeRef.{PyTypeRef}
+use Rattle.py_node.specs.declared.members.MemberPlace.{MemberPlace}
 use Rattle.py_node.specs.declared.payload.Node.{Node}
 use Rattle.py_node.specs.declared.payload.Payload.{Payload}
 use Rattle.py_node.specs.declared.payload.Payload.TheVariants as payload
@@ -15,6 +16,7 @@ use Rattle.py_node.specs.declared.built_in.BuiltIn.{BuiltIn}
 use Rattle.py_node.specs.declared.built_in.BuiltIn.TheVariants as built_in
 use Rattle.py_node.specs.BuiltIns.{place_of, built_in_count, fixed_node_count, has_dict as dict_flag}
 use Rattle.class_model.specs.Class.{Class, is_class, has_flag}
+use Rattle.class_model.specs.Layout.{is_place}
 use Rattle.plain_machine.specs.Known.{the_dict}
 use Rattle.plain_machine.specs.Sound.{holds_as, held_by, Key, NumberKey, TextKey, AreKeys}
 use Rattle.class_world.specs.declared.scope.Scope.{Scope}
@@ -46,6 +48,8 @@ pub data Claim : Type 0 where
   HasParams : PyObjectRef → List PyStrInterned → Claim
   -- the object is a function, and each of its parameters has a value among these
   HasValues : PyObjectRef → List (PyStrInterned × PyObjectRef) → Claim
+  -- these stand in places of the class's objects
+  AreMembers : ℕ → List (MemberPlace × Option PyObjectRef) → Claim
 
 -- the built-in class whose objects hold such
 abbrev pub home_of : Payload → BuiltIn
@@ -81,6 +85,10 @@ is_lasting b = false
 -- a node with other contents
 abbrev pub with_payload : Node → Payload → Node
 with_payload n p = record n { payload = p }
+
+-- a node with other members
+abbrev pub with_members : Node → List (MemberPlace × Option PyObjectRef) → Node
+with_members n ms = record n { members = ms }
 
 abbrev pub home_at : List Node → ℕ → Option BuiltIn
 home_at ns n = option_map (λ x. home_of x.payload) (slice_get ns n)
@@ -118,6 +126,15 @@ abbrev pub AreFilled : List (PyStrInterned × PyObjectRef) → Option (List PySt
 AreFilled vars None = ⊥
 AreFilled vars (Some ps) = All (λ x. has_value vars x ≡ true) ps
 
+-- an object that is there, or an empty place
+abbrev pub StandsThere : ℕ → Option PyObjectRef → Type 0
+StandsThere n None = Unit {0}
+StandsThere n (Some r) = r.0 < n
+
+-- a place of a class's objects, in which nothing stands or an object that is there
+abbrev pub IsMember : Held → ℕ → MemberPlace × Option PyObjectRef → Type 0
+IsMember w c m = (is_place w.classes c m.0.class.0 m.0.index ≡ true) × StandsThere (length w.nodes) m.1
+
 unfoldable pub Holds : Held → Claim → Type 0
 Holds w (IsNode r) = r.0 < length w.nodes
 Holds w (AreNodes rs) = All (λ r. r.0 < length w.nodes) rs
@@ -134,6 +151,7 @@ Holds w (KeysDiffer rs) = AreKeys (held_key w.nodes) rs
 Holds w (HasForm e test) = (f : Form) × (slice_get w.forms e ≡ Some f) × (test f ≡ true)
 Holds w (HasParams r ps) = held_params w.nodes r ≡ Some ps
 Holds w (HasValues r vars) = AreFilled vars (held_params w.nodes r)
+Holds w (AreMembers c ms) = AllByRecursion (IsMember w c) ms
 
 abbrev pub AllHold : Held → List Claim → Type 0
 AllHold w [] = Unit {0}
@@ -199,7 +217,7 @@ abbrev pub of_dict_ref : PyObjectRef → List Claim
 of_dict_ref r = IsNode r ∷ Holding r built_in.Dict ∷ []
 
 abbrev pub of_node : Node → List Claim
-of_node n = IsClass n.class.0 ∷ IsOf n.class.0 (home_of n.payload) ∷ of_option of_dict_ref n.dict ++ of_payload n.payload
+of_node n = IsClass n.class.0 ∷ IsOf n.class.0 (home_of n.payload) ∷ AreMembers n.class.0 n.members ∷ of_option of_dict_ref n.dict ++ of_payload n.payload
 
 -- names with expressions
 abbrev pub of_stored : List (PyStrInterned × ℕ) → List Claim

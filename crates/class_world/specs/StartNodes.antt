@@ -13,7 +13,7 @@ type_ref = record { 0 = the_type }
 
 -- an object that has no dict
 abbrev pub plain_node : PyTypeRef → Payload → Node
-plain_node c p = record { class = c; dict = None; payload = p }
+plain_node c p = record { class = c; dict = None; members = []; payload = p }
 
 abbrev pub class_node : BuiltIn → Node
 class_node b = plain_node type_ref (Class (record { 0 = place_of b }))

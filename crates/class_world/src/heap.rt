@@ -17,7 +17,8 @@ use crate::definer::define;
 use crate::world::World;
 use class_table::ClassFault;
 use py_node::{
-    Cause, Known, Node, OutOfMemory, Payload, PyAttributes, PyObjectRef, PyStrInterned, PyTypeRef,
+    Cause, Known, Node, OutOfMemory, Payload, PyAttributes, PyMembers, PyObjectRef, PyStrInterned,
+    PyTypeRef,
 };
 
 #[tactic(auto, unfolding(crate::specs::Reading::plain))]
@@ -207,6 +208,7 @@ impl World {
                 self.nodes.push_reserved(Node {
                     class: metaclass,
                     dict: None,
+                    members: PyMembers::new(self.alloc),
                     payload: Payload::Class(class),
                 });
                 Ok(class)

@@ -10,7 +10,10 @@ ghost use Rattle.class_world.specs.Added.{IsEmptyDict, with_object, number_of_ob
 ghost use Rattle.plain_machine.specs.Objects.{with_datum};
 
 use crate::world::World;
-use py_node::{BuiltIn, Node, OutOfMemory, Payload, PyObjectRef, PyTypeFlags, PyTypeRef};
+use py_node::{
+    BuiltIn, Node, OutOfMemory, Payload, PyMembers, PyObjectRef, PyTypeFlags, PyTypeRef,
+};
+use std::alloc::Global;
 
 #[tactic(auto, unfolding(crate::specs::Reading::plain))]
 impl World {
@@ -77,7 +80,7 @@ impl World {
         ensures holding { IfOk result (λ r. Holds self.new (Holding r (home_of payload))) }
     {
         let dict = self.new_dict(class);
-        add_object(&mut self.nodes, dict, class, payload)
+        add_object(&mut self.nodes, self.alloc, dict, class, payload)
     }
 
     // A new dict, where a class gives its objects one.
@@ -92,6 +95,7 @@ impl World {
             Some(Node {
                 class: self.class_of_dicts(),
                 dict: None,
+                members: PyMembers::new(alloc),
                 payload: Payload::Dict(Vec::new(alloc)),
             })
         } else {
@@ -136,6 +140,7 @@ impl World {
 // neither.
 fn add_object(
     nodes: &mut Vec<Node>,
+    alloc: Global,
     dict: Option<Node>,
     class: PyTypeRef,
     payload: Payload,
@@ -146,11 +151,17 @@ fn add_object(
 {
     nodes.reserve(2)?;
     match dict {
-        None => Ok(push(nodes, class, None, payload)),
+        None => Ok(push(nodes, alloc, class, None, payload)),
         Some(dict) => {
             let number = nodes.len();
             nodes.push_reserved(dict);
-            Ok(push(nodes, class, Some(PyObjectRef(number as u64)), payload))
+            Ok(push(
+                nodes,
+                alloc,
+                class,
+                Some(PyObjectRef(number as u64)),
+                payload,
+            ))
         }
     }
 }
@@ -158,19 +169,21 @@ fn add_object(
 // One more node, for which there is room.
 fn push(
     nodes: &mut Vec<Node>,
+    alloc: Global,
     class: PyTypeRef,
     dict: Option<PyObjectRef>,
     payload: Payload,
 ) -> PyObjectRef
     requires { vec_len nodes.old < vec_capacity nodes.old }
-    ensures pushed { nodes.new.items ≡ nodes.old.items ++ record { class = class; dict = dict; payload = payload } ∷
-        [] }
+    ensures pushed { nodes.new.items ≡ nodes.old.items ++
+        record { class = class; dict = dict; members = []; payload = payload } ∷ [] }
     ensures number { result ≡ ref (length nodes.old.items) }
 {
     let number = nodes.len();
     nodes.push_reserved(Node {
         class,
         dict,
+        members: PyMembers::new(alloc),
         payload,
     });
     PyObjectRef(number as u64)

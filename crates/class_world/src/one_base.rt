@@ -15,7 +15,9 @@ ghost use Rattle.class_world.specs.Sound.{IsNode, IsClass, IsOf, Holds, AllHold,
 use crate::world::World;
 use class_table::ClassFault;
 use class_table::one_base::flags_of_static;
-use py_node::{BuiltIn, Cause, Node, Payload, PyAttributes, PyObjectRef, PyTypeFlags, PyTypeRef};
+use py_node::{
+    BuiltIn, Cause, Node, Payload, PyAttributes, PyMembers, PyObjectRef, PyTypeFlags, PyTypeRef,
+};
 
 #[tactic(auto, unfolding(crate::specs::Reading::plain))]
 impl World {
@@ -60,6 +62,7 @@ impl World {
                 self.nodes.push_reserved(Node {
                     class: metaclass,
                     dict: None,
+                    members: PyMembers::new(self.alloc),
                     payload: Payload::Class(class),
                 });
                 Ok(class)

@@ -5,7 +5,7 @@ ghost use Rattle.py_node.specs.BuiltIns.{all_built_ins, place_of};
 ghost use Rattle.class_world.specs.StartNodes.{plain_node as stored, class_node as stored_class, start_nodes as the_start_nodes};
 
 use py_node::built_in::built_ins;
-use py_node::{BuiltIn, Node, OutOfMemory, Payload};
+use py_node::{BuiltIn, Node, OutOfMemory, Payload, PyMembers};
 use std::alloc::Global;
 
 /// The nodes of the built-in classes, and then None, NotImplemented, False and True.
@@ -14,10 +14,10 @@ pub(crate) fn start_nodes(alloc: Global) -> Result<Vec<Node>, OutOfMemory>
     ensures { IfOk result (λ v. v.items ≡ the_start_nodes) }
 {
     let mut nodes = class_nodes(alloc)?;
-    nodes.push(plain_node(BuiltIn::NoneType, Payload::Object))?;
-    nodes.push(plain_node(BuiltIn::NotImplementedType, Payload::Object))?;
-    nodes.push(plain_node(BuiltIn::Bool, Payload::Number(0)))?;
-    nodes.push(plain_node(BuiltIn::Bool, Payload::Number(1)))?;
+    nodes.push(plain_node(alloc, BuiltIn::NoneType, Payload::Object))?;
+    nodes.push(plain_node(alloc, BuiltIn::NotImplementedType, Payload::Object))?;
+    nodes.push(plain_node(alloc, BuiltIn::Bool, Payload::Number(0)))?;
+    nodes.push(plain_node(alloc, BuiltIn::Bool, Payload::Number(1)))?;
     Ok(nodes)
 }
 
@@ -27,26 +27,27 @@ fn class_nodes(alloc: Global) -> Result<Vec<Node>, OutOfMemory>
 {
     let mut nodes = Vec::new(alloc);
     for row in built_ins() {
-        nodes.push(class_node(row.0))?;
+        nodes.push(class_node(alloc, row.0))?;
     }
     Ok(nodes)
 }
 
 // The node of a built-in class.
 #[tactic(auto, unfolding(py_node::specs::BuiltIns::place_of))]
-fn class_node(class: BuiltIn) -> Node
+fn class_node(alloc: Global, class: BuiltIn) -> Node
     ensures { result ≡ stored_class class }
 {
-    plain_node(BuiltIn::TypeType, Payload::Class(class.class()))
+    plain_node(alloc, BuiltIn::TypeType, Payload::Class(class.class()))
 }
 
 // An object of a built-in class that has no dict.
-fn plain_node(class: BuiltIn, payload: Payload) -> Node
+fn plain_node(alloc: Global, class: BuiltIn, payload: Payload) -> Node
     ensures { result ≡ stored (record { 0 = place_of class }) payload }
 {
     Node {
         class: class.class(),
         dict: None,
+        members: PyMembers::new(alloc),
         payload,
     }
 }

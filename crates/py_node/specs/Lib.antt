@@ -5,6 +5,7 @@ pub mod Tree
 pub mod BuiltIns
 pub mod Replies
 pub mod Attributes
+pub mod Places
 pub mod Texts
 pub mod Known
 pub mod Operators

@@ -11,6 +11,7 @@ pub mod entry;
 pub mod expr;
 pub mod flags;
 pub mod known;
+pub mod members;
 pub mod memory;
 pub mod names;
 pub mod operator;
@@ -35,6 +36,7 @@ pub use entry::{
 pub use expr::{Command, Constant, Expr, ObjectWord, SequenceWord, Word};
 pub use flags::{PyMethodFlags, PyTypeFlags};
 pub use known::Known;
+pub use members::{MemberPlace, PyMembers};
 pub use memory::OutOfMemory;
 pub use names::Names;
 pub use payload::{

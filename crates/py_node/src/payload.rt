@@ -1,6 +1,7 @@
 //! What the nodes of the machine hold.
 
 use crate::entry::NativeEntry;
+use crate::members::PyMembers;
 use crate::refs::{PyObjectRef, PyStrInterned, PyTypeRef};
 
 /// What a node holds beside its class and its dict.
@@ -166,11 +167,12 @@ pub struct PySlice {
     pub step: Option<PyObjectRef>,
 }
 
-/// A node: an object's class, its dict if it has one, and what it holds.
+/// A node: an object's class, its dict if it has one, what stands in its places, and what it holds.
 #[derive(Drop)]
 pub struct Node {
     pub class: PyTypeRef,
     pub dict: Option<PyObjectRef>,
+    pub members: PyMembers,
     pub payload: Payload,
 }
 

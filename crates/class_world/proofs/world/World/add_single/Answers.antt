@@ -34,19 +34,19 @@ invariant_of-self-in-Ok-new_single c =
     let attrs = opened w c.args.self.now (of_each of_binding c.args.attrs) c.self.view_is c.requires.attrs in
     let k = single_class c.args.name.now c.len.result c.args.base.0 c.args.attrs c.args.flags.0 in
     let size : c.len.result ≡ length w.nodes = omega (arith, c.len.ensures, c.in-Ok.ensures.len, c.self.inside.nodes.ok.0) in
-    rw (c.push_reserved.ensures.items, c.in-Ok.ensures.items, c.in-Ok-new_single.ensures.added)
+    rw (c.push_reserved.ensures.items, c.new.ensures, c.in-Ok.ensures.items, c.in-Ok-new_single.ensures.added)
     (made-sound w c.args.metaclass k c.in-Ok-new_single.class (ap (λ (n : PyTypeRef). n.0) c.in-Ok-new_single.ensures.number ∙ size) size c.self.invariant (no-names w) meta of attrs)
 
 pub returns-in-Ok-new_single-clause-grows : goal.returns-in-Ok-new_single-clause-grows
 returns-in-Ok-new_single-clause-grows c =
-    rw (c.push_reserved.ensures.items, c.in-Ok.ensures.items, c.in-Ok-new_single.ensures.added) (grows-seen (the_view c.self.inside) _ _ c.self.view_is (made-grows (the_view c.self.inside) c.args.metaclass _ c.in-Ok-new_single.class))
+    rw (c.push_reserved.ensures.items, c.new.ensures, c.in-Ok.ensures.items, c.in-Ok-new_single.ensures.added) (grows-seen (the_view c.self.inside) _ _ c.self.view_is (made-grows (the_view c.self.inside) c.args.metaclass _ c.in-Ok-new_single.class))
 
 pub returns-in-Ok-new_single-clause-class : goal.returns-in-Ok-new_single-clause-class
 returns-in-Ok-new_single-clause-class c =
     let w = the_view c.self.inside in
     let size : c.len.result ≡ length w.nodes = omega (arith, c.len.ensures, c.in-Ok.ensures.len, c.self.inside.nodes.ok.0) in
     let k = single_class c.args.name.now c.len.result c.args.base.0 c.args.attrs c.args.flags.0 in
-    rw (c.push_reserved.ensures.items, c.in-Ok.ensures.items, c.in-Ok-new_single.ensures.added) (class-made w c.args.metaclass k c.in-Ok-new_single.class (ap (λ (n : PyTypeRef). n.0) c.in-Ok-new_single.ensures.number ∙ size) size c.self.invariant)
+    rw (c.push_reserved.ensures.items, c.new.ensures, c.in-Ok.ensures.items, c.in-Ok-new_single.ensures.added) (class-made w c.args.metaclass k c.in-Ok-new_single.class (ap (λ (n : PyTypeRef). n.0) c.in-Ok-new_single.ensures.number ∙ size) size c.self.invariant)
 
 pub returns-in-Ok-new_single-clause-of : goal.returns-in-Ok-new_single-clause-of
 returns-in-Ok-new_single-clause-of c = λ b h.
@@ -57,10 +57,10 @@ returns-in-Ok-new_single-clause-of c = λ b h.
     let base = class-there w d (opened-one w c.args.self.now (IsClass d) c.self.view_is c.requires.base) in
     let more = subst AreSound c.in-Ok-new_single.ensures.added c.sound-in-Ok-new_single.ensures.sound in
     let best : best_of w.classes (d ∷ []) ≡ Some d = only-best w.classes (found w.classes c.sound.ensures.sound) (c.args.base ∷ []) (omega arith) (base, tt) (omega arith) in
-    rw (c.push_reserved.ensures.items, c.in-Ok.ensures.items, c.in-Ok-new_single.ensures.added)
+    rw (c.push_reserved.ensures.items, c.new.ensures, c.in-Ok.ensures.items, c.in-Ok-new_single.ensures.added)
     (class-made-of w c.args.metaclass k c.in-Ok-new_single.class (ap (λ (n : PyTypeRef). n.0) c.in-Ok-new_single.ensures.number ∙ size) size c.self.invariant d b c.sound.ensures.sound more (base, tt) best (opened-one w c.args.self.now (IsOf d b) c.self.view_is h))
 
 pub returns-in-Ok-new_single-clause-node : goal.returns-in-Ok-new_single-clause-node
 returns-in-Ok-new_single-clause-node c =
     let size : c.len.result ≡ length (the_view c.self.inside).nodes = omega (arith, c.len.ensures, c.in-Ok.ensures.len, c.self.inside.nodes.ok.0) in
-    rw (c.push_reserved.ensures.items, c.in-Ok.ensures.items, c.in-Ok-new_single.ensures.added) (node-made (the_view c.self.inside) c.args.metaclass _ c.in-Ok-new_single.class _ (ap (λ (n : PyTypeRef). n.0) c.in-Ok-new_single.ensures.number ∙ size))
+    rw (c.push_reserved.ensures.items, c.new.ensures, c.in-Ok.ensures.items, c.in-Ok-new_single.ensures.added) (node-made (the_view c.self.inside) c.args.metaclass _ c.in-Ok-new_single.class _ (ap (λ (n : PyTypeRef). n.0) c.in-Ok-new_single.ensures.number ∙ size))

@@ -1,0 +1,12 @@
+use Rattle.std.proofs.Common.{◌≡◌, drop}
+use Rattle.class_model.specs.Layout.{layout_along, members_in, place_along}
+use Rattle.class_table.specs.Keys.{numbers}
+use Rattle.class_table.specs.Stored.{classes_of}
+use Rattle.class_table.proofs.member_place.place_along.Given as goal
+
+-- so many places are still before those that were passed, and the offset stands for one of them, if for any
+abbrev pub invariant-loop-owner : goal.invariant-loop-owner
+invariant-loop-owner l =
+    let t = classes_of l.classes in
+    let rest = numbers (drop l.owner-index l.line) in
+    (l.before ≡ members_in t rest) × (place_along t (layout_along t (numbers l.line)) l.offset ≡ place_along t (layout_along t rest) l.offset)

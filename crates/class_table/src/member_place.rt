@@ -1,0 +1,52 @@
+//! The place that an offset stands for in the objects of a class.
+
+ghost use Rattle.std.specs.Prelude.{◌≡◌, true, option_map};
+ghost use Rattle.class_model.specs.Class.{is_class};
+ghost use Rattle.class_model.specs.Numbers.{is_ascending};
+ghost use Rattle.class_model.specs.Layout.{layout_along, members_in, place_along, place_at};
+ghost use Rattle.class_table.specs.Keys.{numbers};
+ghost use Rattle.class_table.specs.Stored.{classes_of};
+ghost use Rattle.class_table.specs.Coherent.{IsCoherent};
+
+use crate::count::members_at;
+use crate::place::stored_at;
+use crate::stored::Stored;
+use py_node::{MemberPlace, PyTypeRef};
+
+// The place that so many others come before in the objects of a class.
+pub(crate) fn place_at(classes: &[Stored], class: PyTypeRef, offset: usize) -> Option<MemberPlace>
+    requires coherent { IsCoherent classes.now }
+    requires there { is_class (classes_of classes.now) class.0 ≡ true }
+    ensures { option_map (λ p. (p.class.0, p.index)) result ≡ place_at (classes_of classes.now) class.0 offset }
+{
+    let stored = stored_at(classes, class);
+    place_along(classes, stored.mro(), stored.places(), offset)
+}
+
+// The same along a linearisation, whose classes have so many places. Those of its end come first.
+fn place_along(
+    classes: &[Stored],
+    line: &[PyTypeRef],
+    count: usize,
+    offset: usize,
+) -> Option<MemberPlace>
+    requires ascending { is_ascending (classes_of classes.now) ≡ true }
+    requires count { count ≡ members_in (classes_of classes.now) (numbers line.now) }
+    ensures { option_map (λ p. (p.class.0, p.index)) result ≡
+        place_along (classes_of classes.now) (layout_along (classes_of classes.now) (numbers line.now)) offset }
+{
+    let mut before = count;
+    for owner in line {
+        if before <= offset {
+            return None;
+        }
+        before -= members_at(classes, *owner);
+        if before <= offset {
+            return Some(MemberPlace {
+                class: *owner,
+                index: offset - before,
+            });
+        }
+    }
+    None
+}

@@ -1,0 +1,84 @@
+-- One class that is changed, and keeps its number, its bases and its members.
+use Rattle.std.proofs.Common.{◌≡◌, ℕ, ◌^◌, true, false, cond, eqb, List, [], ◌∷◌, ◌++◌, Result, Ok, Err, OnOk, OnErr, IfOk, refl, sym, ap, ◌∙◌, subst}
+use Rattle.std.specs.Prelude.{Bool, is_some}
+use Rattle.py_node.specs.declared.refs.PyStrInterned.{PyStrInterned}
+use Rattle.py_node.specs.Attributes.{without_key, is_same_name}
+use Rattle.py_node.specs.Tree.{Text}
+use Rattle.class_model.specs.Class.{Class, Classes, class_at, is_class, own_of, has_flag, rekeyed, renamed}
+use Rattle.class_model.specs.Change.{with_changed, without_class_attr}
+use Rattle.class_model.proofs.Kept.{is_class-kept, lin-kept, is_place-kept}
+use Rattle.plain_machine.specs.World.{is_text}
+use Rattle.plain_machine.specs.Change.{without_own_attr}
+use Rattle.class_world.specs.Held.{Held}
+use Rattle.class_world.specs.Reading.{Reading, Reads, bindings, spelled, plain}
+use Rattle.class_world.specs.Sound.{Holds, AllHold, Sound, of_binding, of_class, of_dict, of_each}
+use Rattle.class_world.proofs.Claims.{all-append, all-first, all-rest}
+use Rattle.class_world.proofs.Homes.{by_line}
+use Rattle.class_world.proofs.Growth.{Like, like-itself}
+use Rattle.class_world.proofs.Bound.{without_key-read, without_key-holds}
+use Rattle.class_world.proofs.ClassChanges.{AreStanding, classes-sound}
+use Rattle.class_world.proofs.OfClasses.{own-seen}
+
+abbrev HeldClass : Type 0
+HeldClass = Class PyStrInterned
+
+-- a class that is changed under its numbers is changed so under its texts
+pub changed-read : (t : Reading) (f : HeldClass → HeldClass) (g : Class Text → Class Text) → ((k : HeldClass) → rekeyed (spelled t) (f k) ≡ g (rekeyed (spelled t) k)) → (ks : List HeldClass) (c : ℕ) → renamed (spelled t) (with_changed f ks c) ≡ with_changed g (renamed (spelled t) ks) c
+changed-read t f g same [] c = refl
+changed-read t f g same (k ∷ ks) c =
+    elim (eqb k.number c) as (λ b. renamed (spelled t) (cond b (f k ∷ ks) (k ∷ with_changed f ks c)) ≡ cond b (g (rekeyed (spelled t) k) ∷ renamed (spelled t) ks) (rekeyed (spelled t) k ∷ with_changed g (renamed (spelled t) ks) c)) [
+      | true ↦ ap (λ k. k ∷ renamed (spelled t) ks) (same k)
+      | false ↦ ap (λ ks. rekeyed (spelled t) k ∷ ks) (changed-read t f g same ks c)
+    ]
+
+pub changed-holds : (w : Held) (f : HeldClass → HeldClass) → ((k : HeldClass) → AllHold w (of_class k) → AllHold w (of_class (f k))) → (ks : List HeldClass) (c : ℕ) → AllHold w (of_each of_class ks) → AllHold w (of_each of_class (with_changed f ks c))
+changed-holds w f keep [] c h = tt
+changed-holds w f keep (k ∷ ks) c h =
+    let here = all-first w (of_class k) (of_each of_class ks) h in
+    let rest = all-rest w (of_class k) (of_each of_class ks) h in
+    elim (eqb k.number c) as (λ b. AllHold w (of_each of_class (cond b (f k ∷ ks) (k ∷ with_changed f ks c)))) [
+      | true ↦ all-append w (of_class (f k)) (of_each of_class ks) (keep k here) rest
+      | false ↦ all-append w (of_class k) _ here (changed-holds w f keep ks c rest)
+    ]
+
+module _ (f : HeldClass → HeldClass) (number : (k : HeldClass) → (f k).number ≡ k.number) (bases : (k : HeldClass) → (f k).bases ≡ k.bases) (members : (k : HeldClass) → (f k).members ≡ k.members) where
+  changed-like : (ks : List HeldClass) (c : ℕ) → Like ks (with_changed f ks c)
+  changed-like ks c = record {
+    held = λ d b h. ap by_line (lin-kept f number ks c bases members d) ∙ h;
+    there = λ d h. is_class-kept f number ks c d ∙ h;
+    places = λ d y i h. is_place-kept f number ks c bases members d y i ∙ h;
+  }
+
+  -- it was changed, or the change was refused
+  module _ {A E : Type 0} (w : Held) (c : ℕ) (ks : List HeldClass) where
+    pub change-like : (o : Result A E) → OnOk o (ks ≡ with_changed f w.classes c) → OnErr o (ks ≡ w.classes) → Like w.classes ks
+    change-like (Ok a) p q = subst (Like w.classes) (sym p) (changed-like w.classes c)
+    change-like (Err e) p q = subst (Like w.classes) (sym q) (like-itself w.classes)
+
+    pub change-sound : (o : Result A E) → OnOk o (ks ≡ with_changed f w.classes c) → OnErr o (ks ≡ w.classes) → ((k : HeldClass) → AllHold w (of_class k) → AllHold w (of_class (f k))) → Sound w → Sound (record w { classes = ks })
+    change-sound (Ok a) p q keep s =
+        classes-sound w ks (change-like (Ok a) p q) (subst (λ ks. AllHold w (of_each of_class ks)) (sym p) (changed-holds w f keep w.classes c s.classes))
+        (subst (AreStanding w) (sym p) (λ d e. s.standing d (sym (is_class-kept f number w.classes c d) ∙ e))) s
+    change-sound (Err e) p q keep s =
+        classes-sound w ks (change-like (Err e) p q) (subst (λ ks. AllHold w (of_each of_class ks)) (sym q) s.classes) (subst (AreStanding w) (sym q) s.standing) s
+
+-- a class without one of its own attributes
+abbrev pub without : PyStrInterned → HeldClass → HeldClass
+without x k = record k { attrs = without_key is_same_name k.attrs x }
+
+pub without-holds : (w : Held) (x : PyStrInterned) (k : HeldClass) → AllHold w (of_class k) → AllHold w (of_class (without x k))
+without-holds w x k h =
+    let dict = of_dict (has_flag (2 ^ 40) k) in
+    (h.0, (h.1.0, all-append w dict (of_each of_binding (without_key is_same_name k.attrs x)) (all-first w dict _ h.1.1) (without_key-holds w k.attrs x (all-rest w dict _ h.1.1))))
+
+pub without-read : {A E : Type 0} (w now : Held) (c : ℕ) (x : PyStrInterned) (ks : List HeldClass) (o : Result A E) → OnOk o (ks ≡ without_class_attr is_same_name w.classes c x) → w ≡ now → OnOk o ((t : Reading) → plain t (record w { classes = ks }) ≡ without_own_attr (plain t now) c (t.text x.0))
+unfolding plain
+without-read w now c x ks (Ok a) p v = λ t.
+    subst (λ n. plain t (record w { classes = ks }) ≡ without_own_attr (plain t n) c (t.text x.0)) v
+    (ap (λ ks. record (plain t w) { classes = ks }) (ap (renamed (spelled t)) p ∙ changed-read t (without x) (λ k. record k { attrs = without_key is_text k.attrs (spelled t x) }) (λ k. ap (λ bs. record (rekeyed (spelled t) k) { attrs = bs }) (without_key-read t k.attrs x)) w.classes c))
+without-read w now c x ks (Err e) p v = tt
+
+-- whether it was there
+pub own-told : {E : Type 0} (w now : Held) (v : w ≡ now) (c : ℕ) (x : PyStrInterned) (o : Result Bool E) → IfOk o (λ b. b ≡ is_some (own_of (λ k. is_same_name k x) (class_at w.classes c))) → IfOk o (λ b. (t : Reading) → Reads t now → b ≡ is_some (own_of (λ y. is_text y (t.text x.0)) (class_at (plain t now).classes c)))
+own-told w now v c x (Ok b) h = λ t r. h ∙ ap is_some (sym (own-seen w now v t c x))
+own-told w now v c x (Err e) h = tt

@@ -1,0 +1,43 @@
+-- One node that is changed, and tells for ever what it told.
+use Rattle.std.proofs.Common.{◌≡◌, ℕ, zero, suc, ◌<◌, List, [], ◌∷◌, length, map, get_or, refl, ap, ◌∙◌, subst, arith}
+use Rattle.std.specs.Prelude.{slice_set}
+use Rattle.py_node.specs.declared.refs.PyObjectRef.{PyObjectRef}
+use Rattle.py_node.specs.declared.payload.Node.{Node as StoredNode}
+use Rattle.plain_machine.specs.Plain.{Node}
+use Rattle.plain_machine.specs.World.{with_node_changed}
+use Rattle.plain_machine.specs.Change.{with_object_changed}
+use Rattle.class_world.specs.Held.{Held}
+use Rattle.class_world.specs.Reading.{Reading, node_of, plain}
+use Rattle.class_world.specs.Sound.{class_in, Holds, AllHold, Grows, Sound, of_node}
+use Rattle.class_world.proofs.Claims.{all-grow}
+use Rattle.class_world.proofs.Growth.{Lasting, lasting, like-itself, grows, grows-lasts}
+use Rattle.class_world.proofs.Changes.{fixed-grow, built_in-grow}
+use Rattle.class_world.proofs.Defined.{set-length, each-set, stays-set, class-set}
+
+module _ (w : Held) (r : PyObjectRef) (n new : StoredNode) (is : n ≡ get_or w.nodes r.0 n) (same : lasting new.payload ≡ lasting n.payload) where
+  abbrev pub changed : Held
+  changed = record w { nodes = slice_set w.nodes r.0 new }
+
+  pub change-grows : Grows w changed
+  change-grows =
+      let l = set-length w.nodes r.0 new in
+      grows w changed refl (omega arith) (omega arith) (λ m f h. h) (omega arith) (record { stays = stays-set w.nodes r.0 n new is same }) (like-itself w.classes)
+
+  pub change-sound : AllHold w (of_node new) → Sound w → Sound changed
+  change-sound there s =
+      let more = change-grows in
+      let go = all-grow w changed more in
+      let class : class_in new.payload ≡ class_in n.payload = ap (λ (l : Lasting). l.class) same in
+      record { forms = go _ s.forms; below = s.below; nodes = go _ (each-set w of_node w.nodes r.0 new s.nodes there); classes = go _ s.classes; vars = go _ s.vars; scopes = go _ s.scopes; fixed = fixed-grow w changed s.fixed (grows-lasts w changed more); built_in = built_in-grow w changed s.built_in (grows-lasts w changed more); own = λ b. more.still _ (s.own b); standing = λ c e. more.still _ (s.standing c e); itself = λ m c q. s.itself m c (class-set w.nodes r.0 n new is class m c q); apart = s.apart; scopes_apart = s.scopes_apart; known = s.known }
+
+nodes-read : (t : Reading) (f : Node → Node) (n new : StoredNode) → node_of t new ≡ f (node_of t n) → (ns : List StoredNode) (i : ℕ) → i < length ns → n ≡ get_or ns i n → map (node_of t) (slice_set ns i new) ≡ with_node_changed f (map (node_of t) ns) i
+nodes-read t f n new e [] i l is = absurd (omega arith)
+nodes-read t f n new e (m ∷ ns) zero l is =
+    ap (λ x. x ∷ map (node_of t) ns) e ∙ ap (λ (n : StoredNode). f (node_of t n) ∷ map (node_of t) ns) is
+nodes-read t f n new e (m ∷ ns) (suc i) l is = ap (λ ms. node_of t m ∷ ms) (nodes-read t f n new e ns i (omega arith) is)
+
+pub change-read : (w now : Held) (v : w ≡ now) (r : PyObjectRef) (n new : StoredNode) (f : Node → Node) (t : Reading) → r.0 < length w.nodes → n ≡ get_or w.nodes r.0 n → node_of t new ≡ f (node_of t n) → plain t (record w { nodes = slice_set w.nodes r.0 new }) ≡ with_object_changed (plain t now) f r
+unfolding plain
+change-read w now v r n new f t l is e =
+    subst (λ u. plain t (record w { nodes = slice_set w.nodes r.0 new }) ≡ with_object_changed (plain t u) f r) v
+    (ap (λ (ns : List Node). record (plain t w) { nodes = ns }) (nodes-read t f n new e w.nodes r.0 l is))

@@ -1,0 +1,33 @@
+use Rattle.std.proofs.Common.{sym, ◌∙◌, refl}
+use Rattle.class_world.specs.contracts.world.World.{the_view}
+use Rattle.class_world.specs.Sound.{Holds, IsClass}
+use Rattle.class_world.proofs.Claims.{opened-one}
+use Rattle.class_world.proofs.Growth.{grows-seen}
+use Rattle.class_world.proofs.ClassChanges.{classes-grow}
+use Rattle.class_world.proofs.ChangedClass.{without, change-like, change-sound, without-holds, without-read, own-told}
+use Rattle.class_world.proofs.OfClasses.{refused-seen}
+use Rattle.class_world.proofs.world.World.del_attr_direct.Goals as goal
+
+pub del_attr_direct-requires : goal.del_attr_direct-requires
+unfolding Holds
+del_attr_direct-requires c = opened-one (the_view c.self.inside) c.args.self.now (IsClass c.args.class.0) c.self.view_is c.requires.class
+
+pub invariant_of-self : goal.invariant_of-self
+invariant_of-self c =
+    let w = the_view c.self.inside in
+    change-sound (without c.args.name) (λ k. refl) (λ k. refl) (λ k. refl) w c.args.class.0 c.del_attr_direct.new.self c.del_attr_direct.result c.del_attr_direct.ensures.taken c.del_attr_direct.ensures.err (without-holds w c.args.name) c.self.invariant
+
+pub returns-clause-taken : goal.returns-clause-taken
+returns-clause-taken c =
+    without-read (the_view c.self.inside) c.args.self.now c.args.class.0 c.args.name c.del_attr_direct.new.self c.del_attr_direct.result c.del_attr_direct.ensures.taken c.self.view_is
+
+pub returns-clause-there : goal.returns-clause-there
+returns-clause-there c = own-told (the_view c.self.inside) c.args.self.now c.self.view_is c.args.class.0 c.args.name c.del_attr_direct.result c.del_attr_direct.ensures.there
+
+pub returns-clause-grows : goal.returns-clause-grows
+returns-clause-grows c =
+    let w = the_view c.self.inside in
+    grows-seen w _ _ c.self.view_is (classes-grow w c.del_attr_direct.new.self (change-like (without c.args.name) (λ k. refl) (λ k. refl) (λ k. refl) w c.args.class.0 c.del_attr_direct.new.self c.del_attr_direct.result c.del_attr_direct.ensures.taken c.del_attr_direct.ensures.err))
+
+pub returns-clause-refused : goal.returns-clause-refused
+returns-clause-refused c = λ t. c.del_attr_direct.ensures.immutable ∙ sym (refused-seen (the_view c.self.inside) c.args.self.now c.self.view_is t c.args.class.0)

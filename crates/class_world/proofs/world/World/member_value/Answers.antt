@@ -1,0 +1,21 @@
+use Rattle.std.proofs.Common.{Some, sym, ap, ◌∙◌}
+use Rattle.std.specs.Prelude.{option_map}
+use Rattle.plain_machine.specs.Members.{value_at_place}
+use Rattle.class_world.specs.contracts.world.World.{the_view}
+use Rattle.class_world.specs.Reading.{plain}
+use Rattle.class_world.specs.Sound.{Holds, IsClass}
+use Rattle.class_world.proofs.Claims.{opened-one}
+use Rattle.class_world.proofs.NodeMembers.{place-seen, place-told}
+use Rattle.class_world.proofs.world.World.member_value.Goals as goal
+
+pub place_at-requires : goal.place_at-requires
+unfolding Holds
+place_at-requires c = opened-one (the_view c.self.inside) c.args.self.now (IsClass c.args.class.0) c.self.view_is c.requires.class
+
+pub returns-in-None-clause-value : goal.returns-in-None-clause-value
+returns-in-None-clause-value c = λ t.
+    ap (value_at_place (plain t c.args.self.now) c.args.object) (place-seen (the_view c.self.inside) c.args.self.now c.self.view_is t c.args.class.0 c.args.offset ∙ sym c.place_at.ensures ∙ ap place-told c.in-None.is)
+
+pub returns-in-Some-clause-value : goal.returns-in-Some-clause-value
+returns-in-Some-clause-value c = λ t.
+    ap (value_at_place (plain t c.args.self.now) c.args.object) (place-seen (the_view c.self.inside) c.args.self.now c.self.view_is t c.args.class.0 c.args.offset ∙ sym c.place_at.ensures ∙ ap place-told c.in-Some.is) ∙ c.member.ensures.value t
