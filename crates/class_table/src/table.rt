@@ -18,7 +18,7 @@ ghost use Rattle.class_table.specs.Keys.{numbers, number_of, table_keys};
 ghost use Rattle.class_table.specs.Stored.{classes_of};
 ghost use Rattle.class_table.specs.New.{IsBelow, class_of_new};
 ghost use Rattle.class_table.specs.Refused.{refusal, cause_of, refused_layout, refused_bases, refused_attr, WithMemory, NeedsNoMemory, IsEarly, AreThere, heap_class};
-ghost use Rattle.class_table.specs.Rebase.{refused_rebase, told, IsToldFirst};
+ghost use Rattle.class_table.specs.Rebase.{refused_rebase, told, IsToldFirst, refused_class};
 ghost use Rattle.class_table.specs.Causes.{LacksBase, HasLayoutConflict, HasDuplicate, BreaksOrder, HasNoLine};
 ghost use Rattle.class_table.specs.Turn.{list_of};
 ghost use Rattle.class_table.specs.Given.{AreGiven};
@@ -36,6 +36,7 @@ use crate::place::{find, number_in, stored_at, takes};
 use crate::put::put_in;
 use crate::read::{own_entry, read, value_along, value_past};
 use crate::rebase::rebase;
+use crate::reclass::may_become;
 use crate::rename::rename_in;
 use crate::start::new_class;
 use crate::steps::Steps;
@@ -499,6 +500,15 @@ impl ClassTable {
         ensures { option_map (λ k. k.flags) (class_at self.now class.0) ≡ Some result.0 }
     {
         stored_at(&self.classes, class).flags()
+    }
+    /// Why the objects of a class may not become those of another one, if they may not: scripts must have made both, and
+    /// their solid classes must be the same.
+    pub fn may_become(&self, class: PyTypeRef, other: PyTypeRef) -> Result<(), Cause>
+        requires class { is_class self.now class.0 ≡ true }
+        requires other { is_class self.now other.0 ≡ true }
+        ensures { cause_of result ≡ refused_class self.now class.0 other.0 }
+    {
+        may_become(&self.classes, class, other)
     }
 
     /// Whether a class was made by a script.

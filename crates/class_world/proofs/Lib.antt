@@ -36,3 +36,4 @@ pub mod NodeChanges
 pub mod Placed
 pub mod SameLayout
 pub mod NodeMembers
+pub mod Reclassed

@@ -23,6 +23,7 @@ mod one_base;
 mod running;
 pub mod scope;
 mod scopes;
+mod reclass;
 mod setting;
 pub mod show;
 mod start;
