@@ -10,7 +10,7 @@ ghost use Rattle.class_model.specs.Layout.{base, best_of, solid, built_ins, plac
 ghost use Rattle.class_model.specs.Chain.{base_chain, IsChain};
 ghost use Rattle.class_model.specs.Collect.{all_attributes};
 ghost use Rattle.class_model.specs.Sound.{AreSound};
-ghost use Rattle.class_model.specs.Slot.{entry, slot as slot_read, candidates_of, is_heap_at};
+ghost use Rattle.class_model.specs.Slot.{entry, slot as slot_read, is_heap_at};
 ghost use Rattle.class_model.specs.BuiltIn.{natives_of};
 ghost use Rattle.class_model.specs.Start.{built_in_classes};
 ghost use Rattle.class_model.specs.Change.{with_class, with_class_attr, without_class_attr, with_class_name, with_bases};
@@ -20,11 +20,9 @@ ghost use Rattle.class_table.specs.New.{IsBelow, class_of_new};
 ghost use Rattle.class_table.specs.Refused.{refusal, cause_of, refused_layout, refused_bases, refused_attr, WithMemory, NeedsNoMemory, IsEarly, AreThere, heap_class};
 ghost use Rattle.class_table.specs.Rebase.{refused_rebase, told, IsToldFirst, refused_class};
 ghost use Rattle.class_table.specs.Causes.{LacksBase, HasLayoutConflict, HasDuplicate, BreaksOrder, HasNoLine};
-ghost use Rattle.class_table.specs.Turn.{list_of};
 ghost use Rattle.class_table.specs.Given.{AreGiven};
 
 use crate::add::add;
-use crate::candidates::{Candidates, in_turn, without_same};
 use crate::chain::{BaseChain, base_of, chain};
 use crate::collect::{attributes_along, map_along};
 use crate::count::count_at;
@@ -153,7 +151,8 @@ impl ClassTable {
         match add(&mut self.classes, alloc, new, best) {
             Ok(number) => Ok(number),
             Err(ClassFault::OutOfMemory) => Err(OutOfMemory),
-            Err(ClassFault::Refused(_) | ClassFault::RefusedAt(_, _)) => unreachable!(),
+            Err(ClassFault::Refused(_)) => unreachable!(),
+            Err(ClassFault::RefusedAt(_, _)) => unreachable!(),
         }
     }
 
@@ -361,21 +360,6 @@ impl ClassTable {
         ensures { result ≡ entry table_keys natives_of self.now class.0 slot }
     {
         own_entry(&self.classes, class, slot)
-    }
-
-    /// The candidates of an operator, from the slots of the classes of its operands.
-    pub fn candidates(&self, left: SlotId, right: SlotId, a: PyTypeRef, b: PyTypeRef) -> Candidates
-        requires a { is_class self.now a.0 ≡ true }
-        requires b { is_class self.now b.0 ≡ true }
-        ensures { list_of result ≡ candidates_of table_keys natives_of self.now left right a.0 b.0 }
-    {
-        let first = self.slot(a, left);
-        let second = if a.0 == b.0 {
-            None
-        } else {
-            without_same(first, self.slot(b, right))
-        };
-        in_turn(self.fast_issubclass(b, a), first, second)
     }
 
     /// The classes that have a class among their bases, in order.
