@@ -10,7 +10,20 @@ ghost use Rattle.class_table.specs.Stored.{classes_of};
 use crate::heap::is_heap;
 use crate::inherit::solid_class;
 use crate::stored::Stored;
+use crate::table::ClassTable;
 use py_node::{Cause, PyTypeRef};
+
+impl ClassTable {
+    /// Why the objects of a class may not become those of another one, if they may not: scripts must have made both, and
+    /// their solid classes must be the same.
+    pub fn may_become(&self, class: PyTypeRef, other: PyTypeRef) -> Result<(), Cause>
+        requires class { is_class self.now class.0 ≡ true }
+        requires other { is_class self.now other.0 ≡ true }
+        ensures { cause_of result ≡ refused_class self.now class.0 other.0 }
+    {
+        may_become(&self.classes, class, other)
+    }
+}
 
 // Why the objects of a class may not become those of another one, if they may not.
 pub(crate) fn may_become(
