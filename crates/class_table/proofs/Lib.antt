@@ -17,6 +17,7 @@ pub mod Each
 pub mod Named
 pub mod Bests
 pub mod Passed
+pub mod KeptLayouts
 pub mod Orders
 pub mod Noted
 pub mod Single

@@ -50,7 +50,7 @@ first-by u f g all (b ∷ ws) h within =
     ap (λ w. cond w (Some b) (first_best u f all ws)) (ap (λ o. derives_all u o (map f all)) (h b (within b (inl refl))) ∙ ap (derives_all u (g b)) (maps-same f g all h))
     ∙ ap (cond (derives_all u (g b) (map g all)) (Some b)) (first-by u f g all ws h (λ x k. within x (inr k)))
 
-held-some : (bs : List ℕ) (b : ℕ) → Includes bs b → is_empty bs ≡ false
+pub held-some : (bs : List ℕ) (b : ℕ) → Includes bs b → is_empty bs ≡ false
 held-some [] b h = absurd h
 held-some (x ∷ bs) b h = refl
 
@@ -62,15 +62,15 @@ class-of-bases t x ws e = go (class_at t x) e
     go (Some k) e = refl
 
 -- where a class of a linearisation comes from
-record IsOfBase {K : Type 0} (t : Classes K) (ds : List ℕ) (y : ℕ) : Type 0 where
-  base : ℕ
-  line : List ℕ
-  direct : Includes ds base
-  of_base : lin t base ≡ Some line
-  held : Includes line y
+pub record IsOfBase {K : Type 0} (t : Classes K) (ds : List ℕ) (y : ℕ) : Type 0 where
+  pub base : ℕ
+  pub line : List ℕ
+  pub direct : Includes ds base
+  pub of_base : lin t base ≡ Some line
+  pub held : Includes line y
 
 module _ {K : Type 0} (t : Classes K) where
-  came : (x : ℕ) (line ds : List ℕ) (y : ℕ) → lin t x ≡ Some line → bases_of t x ≡ Some ds → Includes line y → (x ≡ y) ⊎ IsOfBase t ds y
+  pub came : (x : ℕ) (line ds : List ℕ) (y : ℕ) → lin t x ≡ Some line → bases_of t x ≡ Some ds → Includes line y → (x ≡ y) ⊎ IsOfBase t ds y
   came x line ds y e f h =
       let least = lin-least t x line e in
       let s : least.bases ≡ ds = let q = least.of_class in cc in
@@ -86,6 +86,11 @@ module _ {K : Type 0} (t : Classes K) where
 
   goes : (x : ℕ) (line ds : List ℕ) (y : ℕ) → lin t x ≡ Some line → bases_of t x ≡ Some ds → IsOfBase t ds y → Includes line y
   goes x line ds y e f o = lin-inside t x line o.base o.line y e (lin-bases t x line ds o.base e f o.direct) o.of_base o.held
+
+-- a class is solid as before
+pub solid-kept : {K : Type 0} (t : Classes K) (c : ℕ) (bs : List ℕ) (x : ℕ) → is_solid (with_bases t c bs) x ≡ is_solid t x
+solid-kept t c bs x =
+    ap (λ w. nat_lt x built_ins || w) (at-changed (λ k. record k { bases = bs }) (λ k. refl) has_members (λ k. refl) t c x)
 
 module _ {K : Type 0} (t : Classes K) (c : ℕ) (bs : List ℕ) (none : NoneIsBlamed (with_bases t c bs)) (ok : AreSound t) (here : is_class t c ≡ true) (there : (b : ℕ) → Includes bs b → is_class t b ≡ true) (apart : (b : ℕ) → Includes bs b → is_sub t b c ≡ false) (d e s : ℕ) (best : best_of t bs ≡ Some d) (old : base t c ≡ Some e) (top-new : solid t d ≡ Some s) (top-old : solid t e ≡ Some s) where
   -- of bases whose best has that solid class, each solid class along their lines is along its line
@@ -191,9 +196,6 @@ module _ {K : Type 0} (t : Classes K) (c : ℕ) (bs : List ℕ) (none : NoneIsBl
       let q = Decides-has b.0 y in
       ap (is_along y) b.1 ∙ same-tests (has b.0 y) (has a.0 y) (λ h. p.1 (r.0 (q.0 h))) (λ h. q.1 (r.1 (p.0 h))) ∙ sym (ap (is_along y) a.1)
 
-  solid-kept : (x : ℕ) → is_solid (with_bases t c bs) x ≡ is_solid t x
-  solid-kept x = ap (λ w. nat_lt x built_ins || w) (at-changed (λ k. record k { bases = bs }) (λ k. refl) has_members (λ k. refl) t c x)
-
   derives-same : (f : ℕ → Option ℕ) (o : Option ℕ) (all : List ℕ) → ((x : ℕ) → o ≡ Some x → is_class t x ≡ true) → ((b x : ℕ) → Includes all b → f b ≡ Some x → is_solid t x ≡ true) → derives_all (with_bases t c bs) o (map f all) ≡ derives_all t o (map f all)
   derives-same f None all h k = refl
   derives-same f (Some x) [] h k = refl
@@ -241,7 +243,7 @@ module _ {K : Type 0} (t : Classes K) (c : ℕ) (bs : List ℕ) (none : NoneIsBl
         | inr n ↦ sym (ap (option_and_then (λ ws. option_and_then (solid t) (best_of t ws))) (sym (bases-away t c bs x n) ∙ made.of_class))
       ] in
       ap (cond (is_solid u x) (Some x)) (inner ∙ outer)
-      ∙ ap (λ w. cond w (Some x) (option_and_then (λ ws. option_and_then (solid t) (best_of t ws)) (bases_of t x))) (solid-kept x)
+      ∙ ap (λ w. cond w (Some x) (option_and_then (λ ws. option_and_then (solid t) (best_of t ws)) (bases_of t x))) (solid-kept t c bs x)
       ∙ sym (solid-rule t ok x line.0 line.1)
 
   solid-deep : (m x : ℕ) (lu : List ℕ) → linear (bases_of (with_bases t c bs)) m x ≡ Some lu → is_class t x ≡ true → solid_within (with_bases t c bs) m x ≡ solid t x

@@ -7,6 +7,7 @@ ghost use Rattle.py_node.specs.declared.refs.PyStrInterned.{PyStrInterned};
 ghost use Rattle.py_node.specs.Attributes.{is_same_name};
 ghost use Rattle.class_model.specs.Class.{class_at, is_class, own_of, bases_of, lin, is_sub};
 ghost use Rattle.class_model.specs.Change.{with_class_attr, without_class_attr, with_bases};
+ghost use Rattle.class_model.specs.Layout.{layout};
 ghost use Rattle.class_model.specs.Sound.{AreSound};
 ghost use Rattle.class_model.specs.Failing.{FailsAsSaid, PassesAsSaid};
 ghost use Rattle.class_table.specs.Refused.{AreThere};
@@ -62,6 +63,15 @@ pub fn set_and_taken_out(classes: &ClassTable)
 pub fn bases_that_pass_keep_classes_sound(classes: &ClassTable)
     ensures { (c : ℕ) (bs : List ℕ) → is_class classes.now c ≡ true → AreThere classes.now bs →
         refused_rebase classes.now c bs ≡ None → AreSound (with_bases classes.now c bs) }
+{
+    classes.sound();
+}
+
+/// Other bases for a class that pass every test leave each class its layout, so that what its objects keep in their
+/// places stays where it is.
+pub fn bases_that_pass_keep_layouts(classes: &ClassTable)
+    ensures { (c : ℕ) (bs : List ℕ) (d : ℕ) → is_class classes.now c ≡ true → AreThere classes.now bs →
+        refused_rebase classes.now c bs ≡ None → layout (with_bases classes.now c bs) d ≡ layout classes.now d }
 {
     classes.sound();
 }
