@@ -1,5 +1,5 @@
 -- The first class, in the order of numbers, that has no order under other bases while all its bases have one.
-use Rattle.std.proofs.Common.{◌≡◌, ℕ, suc, ◌<◌, ◌≤◌, ◌+◌, Bool, true, false, cond, not, ◌&&◌, eqb, List, [], ◌∷◌, map, length, drop, ◌⊎◌, Option, Some, None, inl, inr, refl, sym, ap, subst, ◌∙◌, arith}
+use Rattle.std.proofs.Common.{◌≡◌, ℕ, suc, ◌<◌, ◌≤◌, ◌+◌, Bool, true, false, cond, ◌&&◌, eqb, List, [], ◌∷◌, map, length, drop, ◌⊎◌, Some, None, inl, inr, refl, sym, ap, subst, ◌∙◌, arith}
 use Rattle.std.specs.Prelude.{slice_get, leb, is_some, is_none, option_map, option_and_then}
 use Rattle.std.proofs.lemmas.Bool.{eqb-true, ne_eqb, leb-true, and_parts}
 use Rattle.std.proofs.lemmas.List.{drop_more}
@@ -9,7 +9,7 @@ use Rattle.py_node.specs.declared.raised.Cause.{Cause}
 use Rattle.std.specs.Global.{Vec}
 use Rattle.py_node.specs.declared.refs.PyStrInterned.{PyStrInterned}
 use Rattle.py_node.specs.declared.refs.PyTypeRef.{PyTypeRef}
-use Rattle.class_model.specs.Order.{has, all_some}
+use Rattle.class_model.specs.Order.{all_some}
 use Rattle.class_model.specs.Class.{Class, Classes, bases_of, lin}
 use Rattle.class_model.specs.Numbers.{numbers_of, ascend_from, is_ascending}
 use Rattle.class_model.specs.Change.{with_bases, is_blamed, blamed_along, order_cause, caused, failing}
@@ -20,7 +20,6 @@ use Rattle.class_table.specs.Coherent.{IsCoherent}
 use Rattle.class_table.specs.declared.trial.Trial.{Trial}
 use Rattle.class_table.specs.declared.trial.Trial.TheVariants.{Line, Without}
 use Rattle.class_table.specs.Trial.{bases_under, IsTrial, IsToBlame}
-use Rattle.class_table.proofs.Trials.{bases-now, kept-away}
 
 -- the classes with the other bases, each looked at for itself
 abbrev pub under_one : ℕ → List ℕ → StoredClass → Class PyStrInterned

@@ -12,6 +12,7 @@ pub mod Trials
 pub mod Blames
 pub mod Swapped
 pub mod Renewing
+pub mod Counted
 pub mod Changed
 pub mod Each
 pub mod Named

@@ -1,5 +1,5 @@
 -- The trial of other bases, class by class.
-use Rattle.std.proofs.Common.{◌≡◌, ℕ, ◌+◌, ◌<◌, ◌≤◌, ◌⊎◌, Bool, true, false, cond, List, [], ◌∷◌, map, length, get_or, set, eqb, Result, Ok, Err, Option, Some, None, inl, inr, refl, sym, ap, subst, ◌∙◌, arith}
+use Rattle.std.proofs.Common.{◌≡◌, ℕ, ◌+◌, ◌<◌, ◌≤◌, ◌⊎◌, true, false, cond, List, [], ◌∷◌, map, length, get_or, set, eqb, Result, Ok, Err, Option, Some, None, inl, inr, refl, sym, ap, subst, ◌∙◌, arith}
 use Rattle.std.specs.Prelude.{slice_get, IfOk, is_some, option_map, option_and_then}
 use Rattle.std.proofs.lemmas.Bool.{false≢true, cases_eq, eq-eqb, ne_eqb}
 use Rattle.std.proofs.lemmas.Option.{get_or_from_slice_get, slice_get-get_or, slice_get_within}
@@ -7,7 +7,7 @@ use Rattle.std.proofs.lemmas.List.{length-map, length-set}
 use Rattle.py_node.specs.declared.raised.Cause.{Cause}
 use Rattle.py_node.specs.declared.refs.PyStrInterned.{PyStrInterned}
 use Rattle.class_model.specs.Order.{has, least_order, all_some, Includes, Distinct, BeginsWith}
-use Rattle.class_model.specs.Class.{Class, Classes, class_at, is_class, bases_of, lin, is_along, is_sub}
+use Rattle.class_model.specs.Class.{Class, Classes, class_at, is_class, bases_of, lin, is_along}
 use Rattle.class_model.specs.Change.{with_bases, order_cause}
 use Rattle.class_model.specs.Numbers.{numbers_of}
 use Rattle.class_model.proofs.Held.{Includes-equal, Subsequence-length, distinct-fewer}

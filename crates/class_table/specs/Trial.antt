@@ -11,12 +11,17 @@ use Rattle.class_model.specs.Change.{with_bases, order_cause}
 use Rattle.mro_merge.specs.Lists.{rows}
 use Rattle.class_table.specs.Keys.{numbers}
 use Rattle.class_table.specs.Stored.{StoredClass, classes_of}
+use Rattle.class_table.specs.declared.trial.Change.{Change}
 use Rattle.class_table.specs.declared.trial.Trial.{Trial}
 use Rattle.class_table.specs.declared.trial.Trial.TheVariants.{Line, Failed, Without}
 
 -- the bases of a class, where one class has others
 abbrev pub bases_under : ℕ → List ℕ → StoredClass → List ℕ
 bases_under c bs k = cond (eqb k.number c) bs k.bases
+
+-- the classes with the other bases
+abbrev pub changed : Change → Classes PyStrInterned
+changed change = with_bases (classes_of change.classes.now) change.class.0 (numbers change.bases.now)
 
 -- a class has no order while all its bases have one, for a cause
 pub record IsToBlame (t : Classes PyStrInterned) (x : ℕ) (cause : Cause) : Type 0 where

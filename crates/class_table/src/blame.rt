@@ -1,12 +1,12 @@
 //! The class that is to blame where other bases leave no order.
 
 ghost use Rattle.std.specs.Prelude.{◌≡◌, ◌<◌, ℕ, false, true, length, None, Some, IfSome, IfNone, option_map, slice_get};
-ghost use Rattle.class_model.specs.Change.{with_bases, is_blamed, caused, failing};
+ghost use Rattle.class_model.specs.Change.{is_blamed, caused, failing};
 ghost use Rattle.class_table.specs.Keys.{numbers};
 ghost use Rattle.class_table.specs.Stored.{StoredClass, classes_of};
 ghost use Rattle.class_table.specs.Coherent.{IsCoherent};
 ghost use Rattle.class_table.specs.Rebase.{told};
-ghost use Rattle.class_table.specs.Trial.{bases_under, AreKnown};
+ghost use Rattle.class_table.specs.Trial.{changed, bases_under, AreKnown};
 
 use crate::fault::ClassFault;
 use crate::trial::{Change, Trial};
@@ -18,13 +18,12 @@ fn cause_at(change: Change<'_>, trials: &[Trial], at: usize) -> Option<Cause>
     requires known { AreKnown change.classes.now change.class.0 (numbers change.bases.now) trials.now }
     requires inside { at < length change.classes.now }
     ensures blamed { IfSome result (λ cause. (k : StoredClass) → slice_get change.entry.classes.now at ≡ Some k →
-        is_blamed (with_bases (classes_of change.entry.classes.now) change.entry.class.0 (numbers change.entry.bases.now)) k.number
+        is_blamed (changed change.entry) k.number
         (bases_under change.entry.class.0 (numbers change.entry.bases.now) k) ≡ true) }
     ensures caused { IfSome result (λ cause. (k : StoredClass) → slice_get change.entry.classes.now at ≡ Some k →
-        caused (with_bases (classes_of change.entry.classes.now) change.entry.class.0 (numbers change.entry.bases.now)) k.number ≡
-        Some (k.number, cause)) }
+        caused (changed change.entry) k.number ≡ Some (k.number, cause)) }
     ensures none { IfNone result ((k : StoredClass) → slice_get change.entry.classes.now at ≡ Some k →
-        is_blamed (with_bases (classes_of change.entry.classes.now) change.entry.class.0 (numbers change.entry.bases.now)) k.number
+        is_blamed (changed change.entry) k.number
         (bases_under change.entry.class.0 (numbers change.entry.bases.now) k) ≡ false) }
 {
     if !change.classes[at].derives(change.class) {
@@ -36,7 +35,7 @@ fn cause_at(change: Change<'_>, trials: &[Trial], at: usize) -> Option<Cause>
     }
 }
 
-// The least-numbered class that has no order under the change while all its bases have one, where there is such a class.
+// The least-numbered class that has no order under the change while all its bases have one, if there is such a class.
 pub(crate) fn blamed(change: Change<'_>, trials: &[Trial]) -> Result<(), ClassFault>
     requires coherent { IsCoherent change.classes.now }
     requires known { AreKnown change.classes.now change.class.0 (numbers change.bases.now) trials.now }

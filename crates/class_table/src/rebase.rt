@@ -114,7 +114,7 @@ fn test_shape(classes: &[Stored], class: PyTypeRef, bases: &[PyTypeRef]) -> Resu
     Ok(best)
 }
 
-// What the change makes of each class, where it passes the tests that need no order, or why it leaves one without an order.
+// What the change makes of each class, where it passes the tests that need no order, or why one is left without an order.
 fn plan<L: Ledger>(
     change: Change<'_>,
     alloc: Global,
@@ -126,7 +126,8 @@ fn plan<L: Ledger>(
     requires there { AreThere (classes_of change.classes.now) (numbers change.bases.now) }
     requires early { refused_change (classes_of change.classes.now) change.class.0 (numbers change.bases.now) ≡ None }
     requires best { best_of (classes_of change.classes.now) (numbers change.bases.now) ≡ Some best.0 }
-    ensures renewed { IfOk result (λ v. AreRenewed change.entry.classes.now change.entry.class.0 (numbers change.entry.bases.now) v.items) }
+    ensures renewed { IfOk result (λ v.
+        AreRenewed change.entry.classes.now change.entry.class.0 (numbers change.entry.bases.now) v.items) }
     ensures refused { WithMemory result (told result ≡
         refused_rebase (classes_of change.entry.classes.now) change.entry.class.0 (numbers change.entry.bases.now)) }
     ensures steps { NoneFalls steps.old steps.new }
@@ -145,12 +146,13 @@ fn plan<L: Ledger>(
     }
 }
 
-// Changes the bases of a class, where they pass every test, and what follows from them in each class. It takes no memory.
-fn change_bases(
+// Changes the bases of a class, where they pass every test, and what follows in each class. It takes no memory.
+fn change_bases<L: Ledger>(
     classes: &mut [Stored],
     class: PyTypeRef,
     bases: Vec<PyTypeRef>,
     renewed: Vec<Renewed>,
+    steps: &mut Steps<L>,
 )
     requires coherent { IsCoherent classes.old }
     requires own { is_class (classes_of classes.old) class.0 ≡ true }
@@ -159,11 +161,12 @@ fn change_bases(
     requires renewed { AreRenewed classes.old class.0 (numbers bases.items) renewed.items }
     ensures coherent { IsCoherent classes.new }
     ensures set { classes_of classes.new ≡ with_bases (classes_of classes.old) class.0 (numbers bases.items) }
+    ensures steps { NoneFalls steps.old steps.new }
 {
     let at = place(classes, class);
     classes[at].set_bases(bases);
     swap_in(classes, renewed);
-    settle_all(classes, class);
+    settle_all(classes, class, steps);
 }
 
 // Gives a class other bases: first the tests, then all that takes memory, then the change.
@@ -199,6 +202,6 @@ pub(crate) fn rebase<L: Ledger>(
         Ok(renewed) => renewed,
         Err(fault) => return Err(fault),
     };
-    change_bases(classes, class, bases, renewed);
+    change_bases(classes, class, bases, renewed, steps);
     Ok(())
 }

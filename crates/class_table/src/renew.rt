@@ -1,16 +1,15 @@
-//! What other bases of a class make of what is kept of each class: made before anything is changed, and then put in place.
+//! What other bases of a class make of what is kept of each class: made before anything is changed, then put in place.
 
 ghost use Rattle.std.specs.Prelude.{◌≡◌, ◌<◌, ℕ, true, length, None, Some, IfOk, slice_get};
 ghost use Rattle.class_model.specs.Class.{is_class, lin, subclasses};
 ghost use Rattle.class_model.specs.Layout.{best_of, base};
 ghost use Rattle.class_model.specs.Numbers.{is_ascending};
-ghost use Rattle.class_model.specs.Change.{with_bases};
 ghost use Rattle.class_table.specs.Keys.{numbers, number_of};
 ghost use Rattle.class_table.specs.Stored.{StoredClass, classes_of};
 ghost use Rattle.class_table.specs.Coherent.{IsCoherent};
 ghost use Rattle.class_table.specs.Refused.{AreThere};
 ghost use Rattle.class_table.specs.Rebase.{refused_rebase};
-ghost use Rattle.class_table.specs.Trial.{AreKnown};
+ghost use Rattle.class_table.specs.Trial.{changed, AreKnown};
 ghost use Rattle.class_table.specs.Renewed.{IsRenewed, AreRenewed, AreSwapped};
 
 use crate::count::count_along;
@@ -37,8 +36,7 @@ fn subclasses_under(
     number: PyTypeRef,
 ) -> Result<Vec<PyTypeRef>, OutOfMemory>
     requires { is_ascending (classes_of change.classes.now) ≡ true }
-    ensures { IfOk result (λ v. numbers v.items ≡ subclasses
-        (with_bases (classes_of change.entry.classes.now) change.entry.class.0 (numbers change.entry.bases.now)) number.0) }
+    ensures { IfOk result (λ v. numbers v.items ≡ subclasses (changed change.entry) number.0) }
 {
     let mut found = Vec::new(alloc);
     for at in 0..change.classes.len() {
@@ -74,12 +72,9 @@ fn renew(
     best: Option<PyTypeRef>,
 ) -> Result<Renewed, OutOfMemory>
     requires coherent { IsCoherent change.classes.now }
-    requires line { lin (with_bases (classes_of change.classes.now) change.class.0 (numbers change.bases.now)) number.0 ≡
-        Some (numbers line.now) }
-    requires base { base (with_bases (classes_of change.classes.now) change.class.0 (numbers change.bases.now)) number.0 ≡
-        number_of best }
-    ensures { IfOk result (λ r. IsRenewed
-        (with_bases (classes_of change.entry.classes.now) change.entry.class.0 (numbers change.entry.bases.now)) number.0 r) }
+    requires line { lin (changed change) number.0 ≡ Some (numbers line.now) }
+    requires base { base (changed change) number.0 ≡ number_of best }
+    ensures { IfOk result (λ r. IsRenewed (changed change.entry) number.0 r) }
 {
     Ok(Renewed {
         mro: Vec::from_slice(alloc, line)?,
@@ -99,8 +94,7 @@ fn base_under(change: Change<'_>, best: PyTypeRef, at: usize) -> Option<PyTypeRe
     requires best { best_of (classes_of change.classes.now) (numbers change.bases.now) ≡ Some best.0 }
     requires inside { at < length change.classes.now }
     ensures { (k : StoredClass) → slice_get change.entry.classes.now at ≡ Some k →
-        base (with_bases (classes_of change.entry.classes.now) change.entry.class.0 (numbers change.entry.bases.now)) k.number ≡
-        number_of result }
+        base (changed change.entry) k.number ≡ number_of result }
 {
     let stored = &change.classes[at];
     if stored.number().0 == change.class.0 {
@@ -118,8 +112,7 @@ fn line_under<'a>(change: Change<'a>, trials: &'a [Trial], class: PyTypeRef) -> 
     requires passed { refused_rebase (classes_of change.classes.now) change.class.0 (numbers change.bases.now) ≡ None }
     requires known { AreKnown change.classes.now change.class.0 (numbers change.bases.now) trials.now }
     requires class { is_class (classes_of change.classes.now) class.0 ≡ true }
-    ensures { lin (with_bases (classes_of change.entry.classes.now) change.entry.class.0 (numbers change.entry.bases.now)) class.0 ≡
-        Some (numbers result.now) }
+    ensures { lin (changed change.entry) class.0 ≡ Some (numbers result.now) }
 {
     match line_of(change, trials, class) {
         None => unreachable!(),
@@ -140,7 +133,8 @@ pub(crate) fn renew_all(
     requires passed { refused_rebase (classes_of change.classes.now) change.class.0 (numbers change.bases.now) ≡ None }
     requires best { best_of (classes_of change.classes.now) (numbers change.bases.now) ≡ Some best.0 }
     requires known { AreKnown change.classes.now change.class.0 (numbers change.bases.now) trials.now }
-    ensures { IfOk result (λ v. AreRenewed change.entry.classes.now change.entry.class.0 (numbers change.entry.bases.now) v.items) }
+    ensures { IfOk result (λ v.
+        AreRenewed change.entry.classes.now change.entry.class.0 (numbers change.entry.bases.now) v.items) }
 {
     let mut all = Vec::new(alloc);
     for at in 0..change.classes.len() {

@@ -262,11 +262,12 @@ impl ClassTable {
         rename_in(&mut self.classes, alloc, class, name)
     }
 
-    /// Other bases for a class that a script made. They are refused for the first of these causes: a script did not make
+    /// Other bases for a class that a script made. They are refused for the first of these causes: no script made
     /// the class; there are none; one is the class or derives from it; base by base, one may have no subclasses or its
     /// layout conflicts with those before it; the solid class of the best of them is not that of the best base of now;
     /// one stands twice; and then at the least-numbered class that they leave without an order while all its bases have
-    /// one. Where they are refused or memory runs out, the table stays as it was. `steps` counts each merge and probe.
+    /// one. Where they are refused or memory runs out, the table stays as it was. `steps` counts the merges and the
+    /// classes whose slots are found anew.
     pub fn set_bases<L: Ledger>(
         &mut self,
         class: PyTypeRef,

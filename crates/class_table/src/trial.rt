@@ -3,7 +3,6 @@
 ghost use Rattle.std.specs.Prelude.{◌≡◌, ◌+◌, ℕ, ◌<◌, List, false, true, length, IfOk, OnOk, None, Some, slice_get};
 ghost use Rattle.class_model.specs.Order.{Includes, Distinct, has};
 ghost use Rattle.class_model.specs.Class.{is_class, bases_of, lin};
-ghost use Rattle.class_model.specs.Change.{with_bases};
 ghost use Rattle.class_table.specs.Keys.{numbers};
 ghost use Rattle.class_table.specs.Stored.{StoredClass, classes_of};
 ghost use Rattle.class_table.specs.Coherent.{IsCoherent};
@@ -11,7 +10,7 @@ ghost use Rattle.class_table.specs.Refused.{AreThere};
 ghost use Rattle.class_table.specs.Rebase.{any_derives};
 ghost use Rattle.class_table.specs.Steps.{NoneFalls};
 ghost use Rattle.class_table.specs.declared.trial.Trial.{Trial};
-ghost use Rattle.class_table.specs.Trial.{bases_under, IsTrial, IsKnown, AreKnown, AreTried, line_lent, AreLinesFor};
+ghost use Rattle.class_table.specs.Trial.{changed, bases_under, IsTrial, IsKnown, AreKnown, AreTried, line_lent, AreLinesFor};
 
 use crate::add::line;
 use crate::place::place;
@@ -53,18 +52,17 @@ pub(crate) fn bases_under<'a>(change: Change<'a>, stored: &'a Stored) -> &'a [Py
     }
 }
 
-// The linearisation that the class at a place has under the trial, if it has one: its own of now, where it does not derive
-// from the changed class.
+// The linearisation that the class at a place has under the trial, if it has one: its own of now, where it does not
+// derive from the changed class.
 fn line_at<'a>(change: Change<'a>, trials: &'a [Trial], at: usize) -> Option<&'a [PyTypeRef]>
     requires coherent { IsCoherent change.classes.now }
     requires inside { at < length change.classes.now }
     requires count { length trials.now ≡ length change.classes.now }
     requires known { (k : StoredClass) (r : Trial) → slice_get change.classes.now at ≡ Some k →
         slice_get trials.now at ≡ Some r → has k.mro change.class.0 ≡ true →
-        IsTrial (with_bases (classes_of change.classes.now) change.class.0 (numbers change.bases.now)) k.number r }
+        IsTrial (changed change) k.number r }
     ensures { (k : StoredClass) → slice_get change.entry.classes.now at ≡ Some k → line_lent result ≡
-        lin (with_bases (classes_of change.entry.classes.now) change.entry.class.0 (numbers change.entry.bases.now))
-        k.number }
+        lin (changed change.entry) k.number }
 {
     let stored = &change.classes[at];
     if !stored.derives(change.class) {
@@ -85,9 +83,7 @@ pub(crate) fn line_of<'a>(
     requires coherent { IsCoherent change.classes.now }
     requires there { is_class (classes_of change.classes.now) class.0 ≡ true }
     requires known { IsKnown change.classes.now change.class.0 (numbers change.bases.now) trials.now class.0 }
-    ensures { line_lent result ≡
-        lin (with_bases (classes_of change.entry.classes.now) change.entry.class.0 (numbers change.entry.bases.now))
-        class.0 }
+    ensures { line_lent result ≡ lin (changed change.entry) class.0 }
 {
     let at = place(change.classes, class);
     line_at(change, trials, at)
@@ -104,8 +100,7 @@ fn lines_of(
     requires there { (b : ℕ) → Includes (numbers bases.now) b → is_class (classes_of change.classes.now) b ≡ true }
     requires known { (b : ℕ) → Includes (numbers bases.now) b →
         IsKnown change.classes.now change.class.0 (numbers change.bases.now) trials.now b }
-    ensures { IfOk result (λ lines. AreLinesFor
-        (with_bases (classes_of change.entry.classes.now) change.entry.class.0 (numbers change.entry.bases.now)) (numbers bases.now) lines) }
+    ensures { IfOk result (λ lines. AreLinesFor (changed change.entry) (numbers bases.now) lines) }
 {
     let mut lines = Vec::new(alloc);
     for base in bases {
@@ -129,13 +124,9 @@ fn merged(
     lines: Vec<Vec<PyTypeRef>>,
 ) -> Result<Trial, OutOfMemory>
     requires distinct { Distinct (numbers bases.now) }
-    requires bases { bases_of (with_bases (classes_of change.classes.now) change.class.0 (numbers change.bases.now))
-        number.0 ≡ Some (numbers bases.now) }
-    requires lines { AreLinesFor
-        (with_bases (classes_of change.classes.now) change.class.0 (numbers change.bases.now)) (numbers bases.now)
-        (Some lines) }
-    ensures { IfOk result (λ r. IsTrial
-        (with_bases (classes_of change.entry.classes.now) change.entry.class.0 (numbers change.entry.bases.now)) number.0 r) }
+    requires bases { bases_of (changed change) number.0 ≡ Some (numbers bases.now) }
+    requires lines { AreLinesFor (changed change) (numbers bases.now) (Some lines) }
+    ensures { IfOk result (λ r. IsTrial (changed change.entry) number.0 r) }
 {
     match resolve_mro(alloc, bases, lines) {
         Err(MroFault::OutOfMemory) => Err(OutOfMemory),
@@ -161,8 +152,8 @@ fn attempt<L: Ledger>(
     requires inside { at < length change.classes.now }
     requires tried { (k : StoredClass) → slice_get change.classes.now at ≡ Some k →
         AreTried change.classes.now change.class.0 (numbers change.bases.now) (length k.mro) at trials.now }
-    ensures trial { IfOk result (λ r. (k : StoredClass) → slice_get change.entry.classes.now at ≡ Some k → IsTrial
-        (with_bases (classes_of change.entry.classes.now) change.entry.class.0 (numbers change.entry.bases.now)) k.number r) }
+    ensures trial { IfOk result (λ r. (k : StoredClass) → slice_get change.entry.classes.now at ≡ Some k →
+        IsTrial (changed change.entry) k.number r) }
     ensures steps { NoneFalls steps.old steps.new }
 {
     let stored = &change.classes[at];
@@ -236,8 +227,8 @@ fn untried(alloc: Global, count: usize) -> Result<Vec<Trial>, OutOfMemory>
     Ok(trials)
 }
 
-// The trials of all classes that derive from the changed one: those with shorter linearisations of now first, so that each
-// comes after its bases.
+// The trials of all classes that derive from the changed one: those with shorter linearisations of now first, so that
+// each comes after its bases.
 pub(crate) fn trials<L: Ledger>(
     change: Change<'_>,
     alloc: Global,
@@ -247,7 +238,8 @@ pub(crate) fn trials<L: Ledger>(
     requires there { AreThere (classes_of change.classes.now) (numbers change.bases.now) }
     requires apart { any_derives (classes_of change.classes.now) (numbers change.bases.now) change.class.0 ≡ false }
     requires distinct { Distinct (numbers change.bases.now) }
-    ensures known { IfOk result (λ v. AreKnown change.entry.classes.now change.entry.class.0 (numbers change.entry.bases.now) v.items) }
+    ensures known { IfOk result (λ v.
+        AreKnown change.entry.classes.now change.entry.class.0 (numbers change.entry.bases.now) v.items) }
     ensures steps { NoneFalls steps.old steps.new }
 {
     let mut trials = untried(alloc, change.classes.len())?;

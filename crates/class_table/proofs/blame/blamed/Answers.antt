@@ -1,14 +1,12 @@
-use Rattle.std.proofs.Common.{◌≡◌, get_or, Some, sym, ap, ◌∙◌}
+use Rattle.std.proofs.Common.{get_or, Some, sym, ap, ◌∙◌}
 use Rattle.std.specs.Prelude.{option_map}
-use Rattle.py_node.specs.declared.raised.Cause.{Cause}
-use Rattle.class_model.specs.Change.{with_bases, blamed_along}
 use Rattle.class_table.specs.Keys.{numbers}
-use Rattle.class_table.specs.Stored.{StoredClass, classes_of}
+use Rattle.class_table.specs.Stored.{StoredClass}
 use Rattle.class_table.specs.Rebase.{Refusal}
 use Rattle.class_table.proofs.Found.{element}
 use Rattle.std.proofs.lemmas.Option.{slice_get-get_or}
 use Rattle.class_table.proofs.Trials.{read-at}
-use Rattle.class_table.proofs.Blames.{under, blame-next, failing-here, failing-end}
+use Rattle.class_table.proofs.Blames.{blame-next, failing-here, failing-end}
 use Rattle.class_table.proofs.blame.blamed.Goals as goal
 
 pub returns-in-Some : goal.returns-in-Some

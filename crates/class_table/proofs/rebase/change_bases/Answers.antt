@@ -10,7 +10,7 @@ put : (kept : List StoredClass) (at : ℕ) (bs : List ℕ) (k new : StoredClass)
 put kept at bs k new is e = ap (set kept at) (e ∙ ap (λ (z : StoredClass). record z { bases = bs }) (sym is))
 
 pub settle_all-requires-clause-lines : goal.settle_all-requires-clause-lines
-settle_all-requires-clause-lines c =
+settle_all-requires-clause-lines g c =
     let kept = c.args.classes.now in
     let k = c.index-classes-at.result in
     let bs = numbers c.args.bases.items in
@@ -22,7 +22,7 @@ settle_all-requires-clause-lines c =
     lines-mid kept c.requires.coherent c.args.class.0 bs c.requires.own c.requires.there c.requires.passed renewed c.requires.renewed at c.place-at.ensures k c.index-classes-at.is c.swap_in.new.classes swapped
 
 pub settle_all-requires-clause-full : goal.settle_all-requires-clause-full
-settle_all-requires-clause-full c =
+settle_all-requires-clause-full g c =
     let kept = c.args.classes.now in
     let k = c.index-classes-at.result in
     let bs = numbers c.args.bases.items in
@@ -34,7 +34,7 @@ settle_all-requires-clause-full c =
     full-mid kept c.requires.coherent c.args.class.0 bs c.requires.own c.requires.there c.requires.passed renewed c.requires.renewed at c.place-at.ensures k c.index-classes-at.is c.swap_in.new.classes swapped
 
 pub returns-clause-coherent : goal.returns-clause-coherent
-returns-clause-coherent c =
+returns-clause-coherent g c =
     let kept = c.args.classes.now in
     let k = c.index-classes-at.result in
     let bs = numbers c.args.bases.items in
@@ -43,10 +43,10 @@ returns-clause-coherent c =
     let first = put kept at bs k c.set_bases.new.self c.index-classes-at.is c.set_bases.ensures in
     let P : List StoredClass → Type 0 = λ ys. AreSwapped renewed ys c.swap_in.new.classes in
     let swapped = subst P first c.swap_in.ensures in
-    coherent-final kept c.requires.coherent c.args.class.0 bs c.requires.own c.requires.there c.requires.passed renewed c.requires.renewed at c.place-at.ensures k c.index-classes-at.is c.swap_in.new.classes swapped c.settle_all.new.classes c.settle_all.ensures
+    coherent-final kept c.requires.coherent c.args.class.0 bs c.requires.own c.requires.there c.requires.passed renewed c.requires.renewed at c.place-at.ensures k c.index-classes-at.is c.swap_in.new.classes swapped c.settle_all.new.classes c.settle_all.ensures.refreshed
 
 pub returns-clause-set : goal.returns-clause-set
-returns-clause-set c =
+returns-clause-set g c =
     let kept = c.args.classes.now in
     let k = c.index-classes-at.result in
     let bs = numbers c.args.bases.items in
@@ -55,4 +55,4 @@ returns-clause-set c =
     let first = put kept at bs k c.set_bases.new.self c.index-classes-at.is c.set_bases.ensures in
     let P : List StoredClass → Type 0 = λ ys. AreSwapped renewed ys c.swap_in.new.classes in
     let swapped = subst P first c.swap_in.ensures in
-    plain-final kept c.requires.coherent c.args.class.0 bs c.requires.own c.requires.there c.requires.passed renewed c.requires.renewed at c.place-at.ensures k c.index-classes-at.is c.swap_in.new.classes swapped c.settle_all.new.classes c.settle_all.ensures
+    plain-final kept c.requires.coherent c.args.class.0 bs c.requires.own c.requires.there c.requires.passed renewed c.requires.renewed at c.place-at.ensures k c.index-classes-at.is c.swap_in.new.classes swapped c.settle_all.new.classes c.settle_all.ensures.refreshed

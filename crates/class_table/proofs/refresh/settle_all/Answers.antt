@@ -6,15 +6,17 @@ use Rattle.class_model.specs.Order.{has}
 use Rattle.class_table.specs.Stored.{StoredClass, classes_of}
 use Rattle.class_table.specs.Coherent.{HasLines}
 use Rattle.class_table.specs.Patch.{refreshed_one, settled}
+use Rattle.class_table.specs.Steps.{NoneFalls}
+use Rattle.class_table.proofs.Counted.{probed, none-falls}
 use Rattle.class_table.proofs.Refreshed.{plain-set, lines-set, refreshed-then, refreshed-else, stands}
 use Rattle.class_table.proofs.refresh.settle_all.Goals as goal
 use Rattle.class_table.proofs.refresh.settle_all.Goals.{then-derives, else-derives}
 
 pub loop-at-init : goal.loop-at-init
-loop-at-init c = record { lines = c.requires.lines; same = refl; at = λ i k e. e ∙ sym (ap (λ b. Some (cond b (refreshed_one (classes_of c.args.classes.now) c.args.class.0 k) k)) (le-ltb i 0 (omega arith))) }
+loop-at-init g c = record { lines = c.requires.lines; same = refl; at = λ i k e. e ∙ sym (ap (λ b. Some (cond b (refreshed_one (classes_of c.args.classes.now) c.args.class.0 k) k)) (le-ltb i 0 (omega arith))); steps = none-falls c.args.steps.now }
 
 pub loop-at-preserved : goal.loop-at-preserved
-loop-at-preserved c =
+loop-at-preserved g c =
     let orig = c.args.classes.now in
     let cur = c.loop-at.classes in
     let n = c.loop-at.at in
@@ -29,6 +31,7 @@ loop-at-preserved c =
             lines = subst P (sym is) (lines-set cur n x (settled (classes_of cur) x) c.loop-at.invariant.lines inside held refl refl);
             same = ap classes_of is ∙ plain-set cur n x (settled (classes_of cur) x) inside held refl ∙ c.loop-at.invariant.same;
             at = refreshed-then c.args.class.0 n orig cur c.if-derives.classes c.loop-at.invariant.same c.loop-at.invariant.at x inside held (ap (λ (z : StoredClass). has z.mro c.args.class.0) held ∙ sym c.derives.ensures ∙ w.if-derives.true) is;
+            steps = probed c.args.steps.now c.loop-at.steps c.if-derives.steps c.loop-at.invariant.steps (w.steps-is ∙ w.probe.ensures);
           }
       | else-derives w ↦
           let P : List StoredClass → Type 0 = λ ys. HasLines ys in
@@ -36,11 +39,12 @@ loop-at-preserved c =
             lines = subst P (sym w.classes-is) c.loop-at.invariant.lines;
             same = ap classes_of w.classes-is ∙ c.loop-at.invariant.same;
             at = refreshed-else c.args.class.0 n orig cur c.if-derives.classes c.loop-at.invariant.same c.loop-at.invariant.at x held (ap (λ (z : StoredClass). has z.mro c.args.class.0) held ∙ sym c.derives.ensures ∙ w.if-derives.false) w.classes-is;
+            steps = subst (NoneFalls c.args.steps.now) (sym w.steps-is) c.loop-at.invariant.steps;
           }
     ]
 
 pub settle-requires-clause-full : goal.settle-requires-clause-full
-settle-requires-clause-full c = λ d.
+settle-requires-clause-full g c = λ d.
     let orig = c.args.classes.now in
     let cur = c.loop-at.classes in
     let n = c.loop-at.at in
@@ -52,8 +56,8 @@ settle-requires-clause-full c = λ d.
     let s = get_or_from_slice_get cur n k d (stands c.args.class.0 n orig cur cur c.loop-at.invariant.same c.loop-at.invariant.at k e) in
     ap (λ (z : StoredClass). length z.slots) s ∙ c.requires.full n k e
 
-pub returns : goal.returns
-returns c = record {
+pub returns-clause-refreshed : goal.returns-clause-refreshed
+returns-clause-refreshed g c = record {
   count = c.loop-at.auto.classes;
   at = λ i k e.
       let l = slice_get_within c.args.classes.now i k e in

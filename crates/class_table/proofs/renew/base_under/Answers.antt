@@ -1,4 +1,4 @@
-use Rattle.std.proofs.Common.{◌≡◌, ℕ, sym, ap, ◌∙◌}
+use Rattle.std.proofs.Common.{◌≡◌, sym, ap, ◌∙◌}
 use Rattle.class_model.specs.Layout.{base}
 use Rattle.class_model.specs.Change.{with_bases}
 use Rattle.class_table.specs.Keys.{numbers}

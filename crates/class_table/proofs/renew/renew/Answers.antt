@@ -1,6 +1,5 @@
-use Rattle.std.proofs.Common.{◌≡◌, ◌+◌, Some, refl, sym, ap, ◌∙◌, arith}
-use Rattle.class_model.specs.Class.{lin}
-use Rattle.class_model.specs.Layout.{members_in, member_count}
+use Rattle.std.proofs.Common.{◌≡◌, Some, refl, sym, ap, ◌∙◌, arith}
+use Rattle.class_model.specs.Layout.{members_in}
 use Rattle.class_model.specs.Change.{with_bases}
 use Rattle.class_model.proofs.Kept.{member_count-kept}
 use Rattle.class_table.specs.Keys.{numbers}

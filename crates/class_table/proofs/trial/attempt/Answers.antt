@@ -4,7 +4,6 @@ use Rattle.class_model.specs.Class.{bases_of}
 use Rattle.class_model.specs.Change.{with_bases}
 use Rattle.class_table.specs.Keys.{numbers}
 use Rattle.class_table.specs.Stored.{StoredClass, classes_of}
-use Rattle.class_table.specs.declared.trial.Trial.{Trial}
 use Rattle.class_table.specs.Trial.{bases_under, IsTrial, IsWithout}
 use Rattle.class_table.proofs.Trials.{read-is, read-at, bases-now, distinct-now, there-now, known-now, if-ok}
 use Rattle.class_table.proofs.trial.attempt.Goals as goal

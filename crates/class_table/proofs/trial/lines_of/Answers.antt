@@ -1,9 +1,8 @@
 use Rattle.class_table.specs.Keys.{numbers}
-use Rattle.std.proofs.Common.{◌≡◌, None, sym, ap, ◌∙◌}
+use Rattle.std.proofs.Common.{sym}
 use Rattle.class_model.specs.Class.{lin}
 use Rattle.class_model.specs.Change.{with_bases}
 use Rattle.class_table.specs.Stored.{classes_of}
-use Rattle.class_table.specs.Trial.{line_lent}
 use Rattle.class_table.proofs.Trials.{none-among}
 use Rattle.class_table.proofs.Along.{held-at}
 use Rattle.class_table.proofs.trial.lines_of.Goals as goal

@@ -1,7 +1,6 @@
-use Rattle.std.proofs.Common.{◌≡◌, ◌∷◌, Some, refl, sym, ap, ◌∙◌}
+use Rattle.std.proofs.Common.{◌∷◌, Some, refl, sym, ap, ◌∙◌}
 use Rattle.py_node.specs.declared.raised.Cause.TheVariants as causes
 use Rattle.class_model.specs.Change.{with_bases}
-use Rattle.class_model.specs.Class.{lin}
 use Rattle.mro_merge.specs.Lists.{rows}
 use Rattle.mro_merge.proofs.Repeats.{repeat-differs}
 use Rattle.class_table.specs.Keys.{numbers}
