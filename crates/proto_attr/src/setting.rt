@@ -129,6 +129,7 @@ fn own_set(
             Ok(true) => Ok(Step::End(Ok(Answer::Done))),
             Ok(false) => Ok(no_attribute()),
             Err(ClassFault::Refused(_)) => Ok(Step::raise(Cause::ImmutableType)),
+            Err(ClassFault::RefusedAt(_, _)) => Ok(Step::raise(Cause::ImmutableType)),
             Err(ClassFault::OutOfMemory) => Err(OutOfMemory),
         },
     }
