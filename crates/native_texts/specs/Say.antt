@@ -16,7 +16,7 @@ use Rattle.plain_machine.specs.World.{class_at, datum_at}
 use Rattle.plain_machine.specs.Known.{the_str}
 use Rattle.plain_machine.specs.Row.{value, truth, not_implemented, fault, not_yet}
 use Rattle.plain_machine.specs.Takes.{with_one, with_two, with_text}
-use Rattle.native_base.specs.Say.{in_length, int_made, text_made, iterator_made}
+use Rattle.native_base.specs.Say.{in_length, number_told, text_made, iterator_made}
 use Rattle.native_texts.specs.Texts.{text_length, text_hash, repr_text, stands_in}
 
 -- the text that an object holds
@@ -52,10 +52,10 @@ str_str w args kw =
     with_lone_text w args kw (λ o x. cond (is_str (class_at w o)) (Ends w (value o)) (text_made w (Ok x)))
 
 abbrev pub str_hash : PlainWorld → List PyObjectRef → Bindings → Said
-str_hash w args kw = with_lone_text w args kw (λ o x. int_made w (Ok (text_hash x)))
+str_hash w args kw = with_lone_text w args kw (λ o x. number_told w (text_hash x))
 
 abbrev pub str_len : PlainWorld → List PyObjectRef → Bindings → Said
-str_len w args kw = with_lone_text w args kw (λ o x. int_made w (Ok (text_length x)))
+str_len w args kw = with_lone_text w args kw (λ o x. number_told w (text_length x))
 
 abbrev pub str_iter : PlainWorld → List PyObjectRef → Bindings → Said
 str_iter w args kw = with_lone_text w args kw (λ o x. iterator_made w o)

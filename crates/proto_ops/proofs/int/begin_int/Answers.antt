@@ -1,6 +1,6 @@
 use Rattle.std.proofs.Common.{sym, ◌∙◌}
 use Rattle.class_world.proofs.Filled.{two-hold}
-use Rattle.proto_ops.proofs.int.Goals as goal
+use Rattle.proto_ops.proofs.int.begin_int.Goals as goal
 
 pub sum-requires-clause-a : goal.sum-requires-clause-a
 sum-requires-clause-a c =

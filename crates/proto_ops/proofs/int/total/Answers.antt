@@ -1,6 +1,6 @@
 use Rattle.std.proofs.lemmas.Int.{to_z-of_z}
 use Rattle.proto_ops.proofs.Fits.{total-is}
-use Rattle.proto_ops.proofs.total.Goals as goal
+use Rattle.proto_ops.proofs.int.total.Goals as goal
 
 pub returns : goal.returns
 returns c =

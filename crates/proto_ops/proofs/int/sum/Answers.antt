@@ -5,7 +5,7 @@ use Rattle.std.proofs.lemmas.Int.{to_z-of_z}
 use Rattle.py_node.specs.BuiltIns.{place_of}
 use Rattle.proto_ops.specs.Say.{total}
 use Rattle.proto_ops.proofs.Entered.{sum-made}
-use Rattle.proto_ops.proofs.sum.Goals as goal
+use Rattle.proto_ops.proofs.int.sum.Goals as goal
 
 pub returns-in_ok-node-in-Some-clause-goes : goal.returns-in_ok-node-in-Some-clause-goes
 unfolding place_of
