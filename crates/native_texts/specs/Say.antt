@@ -3,6 +3,7 @@ use Rattle.std.specs.Prelude.{ℕ, Bool, false, cond, eqb, List, [], ◌∷◌, 
 use Rattle.std.specs.declared.cmp.Ordering.{Ordering}
 use Rattle.std.specs.Ordering.{nat_cmp, is_eq, is_ne, is_lt, is_le, is_ge, is_gt}
 use Rattle.std.specs.Cmp.Lexicographic.{slice_cmp}
+use Rattle.std.specs.Int.{w64, cast_signed}
 use Rattle.std.specs.Str.{str_to_ascii_uppercase}
 use Rattle.py_node.specs.declared.refs.PyObjectRef.{PyObjectRef}
 use Rattle.py_node.specs.declared.raised.Cause.TheVariants.{ArgCount, ConcatType, ContainsType}
@@ -54,8 +55,9 @@ str_str w args kw =
 abbrev pub str_hash : PlainWorld → List PyObjectRef → Bindings → Said
 str_hash w args kw = with_lone_text w args kw (λ o x. number_told w (text_hash x))
 
+-- a count is told as a number of 64 bits with their sign
 abbrev pub str_len : PlainWorld → List PyObjectRef → Bindings → Said
-str_len w args kw = with_lone_text w args kw (λ o x. number_told w (text_length x))
+str_len w args kw = with_lone_text w args kw (λ o x. number_told w (cast_signed w64 (text_length x)))
 
 abbrev pub str_iter : PlainWorld → List PyObjectRef → Bindings → Said
 str_iter w args kw = with_lone_text w args kw (λ o x. iterator_made w o)
