@@ -1,10 +1,11 @@
 //! The words of operations, and those of the kinds of faults.
 
-ghost use Rattle.std.specs.Prelude.{◌≡◌, ok_or, option_and_then};
+ghost use Rattle.std.specs.Prelude.{◌≡◌, bytes_eq, map, ok_or, option_and_then, option_map};
+ghost use Rattle.std.specs.List.{find};
 ghost use Rattle.serde_json.specs.Find.{as_str};
 ghost use Rattle.serde_json.specs.View.{view};
 ghost use Rattle.script_text.specs.Forms.{kind_named};
-ghost use Rattle.script_text.specs.Words.{allows, operation_of, word_of};
+ghost use Rattle.script_text.specs.Words.{allows, operation_of, word_of, words};
 
 use crate::parts::Unread;
 use py_node::{
@@ -163,12 +164,26 @@ impl Arity {
     }
 }
 
+// The words in order.
+#[tactic(auto, unfolding(crate::specs::Words::words))]
+fn all_words() -> &'static [(&'static str, Word, Arity)]
+    ensures { map (λ row. (row.0.now, row.1, row.2)) result.now ≡ words }
+{
+    &WORDS
+}
+
 // The operation that a word stands for, and how many operands it takes.
 fn find_word(text: &str) -> Option<(Word, Arity)>
     ensures { result ≡ word_of text.now }
 {
-    WORDS
-        .iter()
+    find_in(all_words(), text)
+}
+
+// What stands for a text in the first row that has it.
+fn find_in(rows: &[(&str, Word, Arity)], text: &str) -> Option<(Word, Arity)>
+    ensures { result ≡ option_map (λ row. (row.1, row.2)) (find (λ row. bytes_eq text.now row.0.now) rows.now) }
+{
+    rows.iter()
         .find(|row| text == row.0)
         .map(|row| (row.1, row.2))
 }
