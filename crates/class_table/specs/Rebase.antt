@@ -1,12 +1,13 @@
 -- Other bases for a class, and why they are refused.
-use Rattle.std.specs.Prelude.{ℕ, Bool, true, false, cond, ◌||◌, eqb, List, [], ◌∷◌, Option, Some, None, option_map, option_and_then, ◌≡◌, Result, Ok, Err}
+use Rattle.std.specs.Prelude.{ℕ, Bool, true, false, cond, ◌&&◌, ◌||◌, eqb, List, [], ◌∷◌, Option, Some, None, option_map, option_and_then, ◌≡◌, Result, Ok, Err}
 use Rattle.std.specs.Option.{option_or}
 use Rattle.py_node.specs.declared.raised.Cause.{Cause}
-use Rattle.py_node.specs.declared.raised.Cause.TheVariants.{EmptyBases, InheritanceCycle, LayoutDiffers, DuplicateBase}
+use Rattle.py_node.specs.declared.raised.Cause.TheVariants.{EmptyBases, ImmutableType, InheritanceCycle, LayoutDiffers, DuplicateBase}
 use Rattle.class_model.specs.Order.{is_distinct}
-use Rattle.class_model.specs.Class.{Classes, is_sub}
+use Rattle.class_model.specs.Class.{Classes, class_at, is_sub}
 use Rattle.class_model.specs.Layout.{is_empty, solid, base}
 use Rattle.class_model.specs.Change.{failing}
+use Rattle.class_model.specs.Slot.{is_heap_at}
 use Rattle.class_table.specs.Refused.{refused_attr, refused_layout, most_derived}
 use Rattle.class_table.specs.declared.fault.ClassFault.{ClassFault}
 use Rattle.class_table.specs.declared.fault.ClassFault.TheVariants.{Refused, RefusedAt, OutOfMemory}
@@ -58,3 +59,9 @@ told (Err OutOfMemory) = None
 -- the tests that need no order are told first, and also where memory is short
 abbrev pub IsToldFirst : {K : Type 0} → Classes K → ℕ → List ℕ → Option Refusal → Type 0
 IsToldFirst t c bs answer = (cause : Cause) → refused_change t c bs ≡ Some cause → answer ≡ Some (cause, None)
+
+-- why the objects of a class may not become those of another one: scripts made both, and their solid class is the same
+abbrev pub refused_class : {K : Type 0} → Classes K → ℕ → ℕ → Option Cause
+refused_class t c d =
+    option_or (unless (is_heap_at (class_at t c) && is_heap_at (class_at t d)) ImmutableType)
+    (unless (is_same (solid t c) (solid t d)) LayoutDiffers)

@@ -20,6 +20,7 @@ pub mod place;
 pub mod put;
 pub mod read;
 pub mod rebase;
+pub mod reclass;
 pub mod refresh;
 pub mod rename;
 pub mod renew;

@@ -11,7 +11,19 @@ ghost use Rattle.class_table.specs.Coherent.{IsCoherent};
 use crate::count::members_at;
 use crate::place::stored_at;
 use crate::stored::Stored;
+use crate::table::ClassTable;
 use py_node::{MemberPlace, PyTypeRef};
+
+impl ClassTable {
+    /// The place that an offset stands for in the objects of a class: that which so many others come before, where the
+    /// places of the classes of its layout follow one another from `object` on. There is none past the last.
+    pub fn place_at(&self, class: PyTypeRef, offset: usize) -> Option<MemberPlace>
+        requires { is_class self.now class.0 ≡ true }
+        ensures { option_map (λ p. (p.class.0, p.index)) result ≡ place_at self.now class.0 offset }
+    {
+        place_at(&self.classes, class, offset)
+    }
+}
 
 // The place that so many others come before in the objects of a class.
 pub(crate) fn place_at(classes: &[Stored], class: PyTypeRef, offset: usize) -> Option<MemberPlace>

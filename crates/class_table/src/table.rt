@@ -6,7 +6,7 @@ ghost use Rattle.py_node.specs.declared.raised.Cause.TheVariants.{EmptyBases, No
 ghost use Rattle.py_node.specs.Attributes.{is_same_name, AreNamesDistinct};
 ghost use Rattle.class_model.specs.Class.{class_at, is_class, bases_of, lin, IsLeastLine, is_sub, is_heap, found, found_past, own_of, subclasses};
 ghost use Rattle.class_model.specs.Numbers.{limit, numbers_of};
-ghost use Rattle.class_model.specs.Layout.{base, best_of, solid, built_ins, place_count, place_at};
+ghost use Rattle.class_model.specs.Layout.{base, best_of, solid, built_ins, place_count};
 ghost use Rattle.class_model.specs.Chain.{base_chain, IsChain};
 ghost use Rattle.class_model.specs.Collect.{all_attributes};
 ghost use Rattle.class_model.specs.Sound.{AreSound};
@@ -29,7 +29,6 @@ use crate::count::count_at;
 use crate::fault::ClassFault;
 use crate::heap::{add_heap, set_heap, take_heap};
 use crate::inherit::{best_base, may_derive, only, solid_class};
-use crate::member_place::place_at;
 use crate::place::{find, number_in, stored_at, takes};
 use crate::put::put_in;
 use crate::read::{own_entry, read, value_along, value_past};
@@ -40,8 +39,8 @@ use crate::steps::Steps;
 use crate::stored::{NewClass, Stored};
 use py_node::built_in::built_ins;
 use py_node::{
-    Cause, MemberPlace, OutOfMemory, PyAttributes, PyObjectRef, PyStrInterned, PyTypeFlags,
-    PyTypeRef, SlotEntry, SlotId,
+    Cause, OutOfMemory, PyAttributes, PyObjectRef, PyStrInterned, PyTypeFlags, PyTypeRef,
+    SlotEntry, SlotId,
 };
 use std::alloc::Global;
 use std::marker::Model;
@@ -51,7 +50,7 @@ use std::sync::ledger::Ledger;
 /// known, by which slots are read, have the numbers of `known_names`.
 #[derive(Drop)]
 pub struct ClassTable {
-    classes: Vec<Stored>,
+    pub(crate) classes: Vec<Stored>,
     alloc: Global,
 }
 
@@ -461,15 +460,6 @@ impl ClassTable {
         count_at(&self.classes, class)
     }
 
-    /// The place that an offset stands for in the objects of a class: that which so many others come before, where the
-    /// places of the classes of its layout follow one another from `object` on. There is none past the last.
-    pub fn place_at(&self, class: PyTypeRef, offset: usize) -> Option<MemberPlace>
-        requires { is_class self.now class.0 ≡ true }
-        ensures { option_map (λ p. (p.class.0, p.index)) result ≡ place_at self.now class.0 offset }
-    {
-        place_at(&self.classes, class, offset)
-    }
-
     /// A class's own attributes.
     pub fn attributes(&self, class: PyTypeRef) -> &PyAttributes
         requires { is_class self.now class.0 ≡ true }
@@ -478,19 +468,19 @@ impl ClassTable {
         stored_at(&self.classes, class).attributes()
     }
 
-    /// The flags of a class.
-    pub fn flags(&self, class: PyTypeRef) -> PyTypeFlags
-        requires { is_class self.now class.0 ≡ true }
-        ensures { option_map (λ k. k.flags) (class_at self.now class.0) ≡ Some result.0 }
-    {
-        stored_at(&self.classes, class).flags()
-    }
-
     /// Whether a class was made by a script.
     pub fn is_heap(&self, class: PyTypeRef) -> bool
         requires { is_class self.now class.0 ≡ true }
         ensures { result ≡ is_heap_at (class_at self.now class.0) }
     {
         stored_at(&self.classes, class).is_heap()
+    }
+
+    /// The flags of a class.
+    pub fn flags(&self, class: PyTypeRef) -> PyTypeFlags
+        requires { is_class self.now class.0 ≡ true }
+        ensures { option_map (λ k. k.flags) (class_at self.now class.0) ≡ Some result.0 }
+    {
+        stored_at(&self.classes, class).flags()
     }
 }

@@ -134,7 +134,7 @@ module _ (w : Held) where
       go true rest = rest
       go false rest = (h.0, (h.1.0, rest))
 
-  last-holds : (ss : List Scope) (x : PyStrInterned) → AllHold w (of_each of_scope ss) → IfSome (last_value ss x) (λ r. Holds w (IsNode r))
+  pub last-holds : (ss : List Scope) (x : PyStrInterned) → AllHold w (of_each of_scope ss) → IfSome (last_value ss x) (λ r. Holds w (IsNode r))
   last-holds [] x h = tt
   last-holds (s ∷ []) x h = value-holds (λ k. is_same_name k x) s.vars (all-first w (of_scope s) [] h).1.1
   last-holds (s ∷ (u ∷ ss)) x h = last-holds (u ∷ ss) x (all-rest w (of_scope s) _ h)

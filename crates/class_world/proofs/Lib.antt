@@ -8,6 +8,7 @@ pub mod Changes
 pub mod Apart
 pub mod Added
 pub mod Bound
+pub mod Bodies
 pub mod Filled
 pub mod OfClasses
 pub mod Attributes
@@ -36,3 +37,4 @@ pub mod Placed
 pub mod SameLayout
 pub mod NewBases
 pub mod NodeMembers
+pub mod Reclassed

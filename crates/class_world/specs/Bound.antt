@@ -1,5 +1,5 @@
 -- Variables and scopes, by the numbers of names.
-use Rattle.std.specs.Prelude.{List, [], ◌∷◌, Option, None}
+use Rattle.std.specs.Prelude.{List, [], ◌∷◌, Option, Some, None}
 use Rattle.py_node.specs.declared.refs.PyObjectRef.{PyObjectRef}
 use Rattle.py_node.specs.declared.refs.PyStrInterned.{PyStrInterned}
 use Rattle.py_node.specs.Attributes.{value_of, with_value, is_same_name}
@@ -11,6 +11,12 @@ abbrev pub last_value : List Scope → PyStrInterned → Option PyObjectRef
 last_value [] x = None
 last_value (s ∷ []) x = value_of (λ k. is_same_name k x) s.vars
 last_value (s ∷ (u ∷ ss)) x = last_value (u ∷ ss) x
+
+-- the function of the last of some scopes
+abbrev pub last_function : List Scope → Option PyObjectRef
+last_function [] = None
+last_function (s ∷ []) = Some s.func
+last_function (s ∷ (u ∷ ss)) = last_function (u ∷ ss)
 
 -- a variable of the running body, or else of the machine
 abbrev pub value_in : List Scope → List (PyStrInterned × PyObjectRef) → PyStrInterned → Option PyObjectRef

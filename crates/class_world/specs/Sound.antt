@@ -90,6 +90,13 @@ with_payload n p = record n { payload = p }
 abbrev pub with_members : Node → List (MemberPlace × Option PyObjectRef) → Node
 with_members n ms = record n { members = ms }
 
+-- a node of another class, and one with another dict
+abbrev pub with_class_ref : Node → PyTypeRef → Node
+with_class_ref n c = record n { class = c }
+
+abbrev pub with_dict_ref : Node → PyObjectRef → Node
+with_dict_ref n d = record n { dict = Some d }
+
 abbrev pub home_at : List Node → ℕ → Option BuiltIn
 home_at ns n = option_map (λ x. home_of x.payload) (slice_get ns n)
 

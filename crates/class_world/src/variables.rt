@@ -8,7 +8,7 @@ use crate::scope::Scope;
 use py_node::{OutOfMemory, PyAttributes, PyObjectRef, PyStrInterned};
 
 // A variable of the last of some scopes.
-fn last_value(scopes: &[Scope], name: PyStrInterned) -> Option<PyObjectRef>
+pub(crate) fn last_value(scopes: &[Scope], name: PyStrInterned) -> Option<PyObjectRef>
     ensures { result ≡ last_value scopes.now name }
 {
     let count = scopes.len();

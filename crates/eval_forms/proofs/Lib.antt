@@ -4,3 +4,6 @@ pub mod Keys
 pub mod Arguments
 pub mod DictForm
 pub mod Unrepeated
+pub mod Outcomes
+pub mod Counting
+pub mod Sequels

@@ -32,9 +32,10 @@ use Rattle.eval_forms.specs.declared.EvalKept.TheVariants.{Operands}
 use Rattle.eval_forms.specs.declared.Own.TheVariants as own
 use Rattle.py_node.specs.declared.expr.Word.{Word}
 use Rattle.py_node.specs.declared.raised.Kind.{Kind}
-use Rattle.eval_forms.specs.Say.{operand_trees, own_say, one_of, func_say, tuple_say, list_say, set_attr_say, attr_say, called_say, op_say, not_yet, raise_say, class_say, entry_names, eval_say}
+use Rattle.eval_forms.specs.Words.{one_of, op_say}
+use Rattle.eval_forms.specs.Say.{operand_trees, own_say, func_say, tuple_say, list_say, set_attr_say, del_attr_say, attr_say, called_say, if_say, seq_say, raise_say, class_say, entry_names, eval_say}
 use Rattle.plain_machine.specs.Args.{two_of}
-use Rattle.eval_forms.specs.Rows.{answered, eval_stands, Continues, EndsRow, TakesAt, Takes, StepsAt, EndsSo, HasValues, IsLater, IsOther, IsOwn, operands, operands_at, has_operand, evaluated_tree, args_of, keywords_of}
+use Rattle.eval_forms.specs.Rows.{answered, eval_stands, Continues, EndsRow, TakesAt, Takes, StepsAt, EndsSo, HasValues, IsOther, IsOwn, operands, operands_at, has_operand, evaluated_tree, args_of, keywords_of}
 
 pub list_of-trees_of : (ts : List Tree) → list_of (trees_of ts) ≡ ts
 list_of-trees_of [] = refl
@@ -52,6 +53,7 @@ pub operand_trees-form : (text : ℕ → Text) (tree : ℕ → Tree) (f : Form) 
 operand_trees-form text tree (form.Tuple es) = list_of-trees_of (map tree es.items)
 operand_trees-form text tree (form.List es) = list_of-trees_of (map tree es.items)
 operand_trees-form text tree (form.Op word es) = list_of-trees_of (map tree es.items)
+operand_trees-form text tree (form.Seq es) = list_of-trees_of (map tree es.items)
 operand_trees-form text tree (form.Class x bs kw es) =
     ap (λ l. l ++ (entry_trees (entry_list (map (part text tree) kw.items)) ++ entry_trees (entry_list (map (part text tree) es.items)))) (list_of-trees_of (map tree bs.items))
     ∙ ap (λ l. map tree bs.items ++ (l ++ entry_trees (entry_list (map (part text tree) es.items)))) (entry_trees-list text tree kw.items)
@@ -126,11 +128,16 @@ operand-holds w (form.Attr o x) (suc n) e h p = cc
 operand-holds w (form.SetAttr o x b) zero e h p = let same : o ≡ e = cc in subst (λ e. Holds w (IsExpression e)) same h.0
 operand-holds w (form.SetAttr o x b) (suc zero) e h p = let same : b ≡ e = cc in subst (λ e. Holds w (IsExpression e)) same h.1.1.0
 operand-holds w (form.SetAttr o x b) (suc (suc n)) e h p = cc
+operand-holds w (form.DelAttr o x) zero e h p = let same : o ≡ e = cc in subst (λ e. Holds w (IsExpression e)) same h.0
+operand-holds w (form.DelAttr o x) (suc n) e h p = cc
+operand-holds w (form.If c a b) zero e h p = let same : c ≡ e = cc in subst (λ e. Holds w (IsExpression e)) same h.0
+operand-holds w (form.If c a b) (suc n) e h p = cc
 operand-holds w (form.Call f es kw) zero e h p = let same : f ≡ e = cc in subst (λ e. Holds w (IsExpression e)) same h.0
 operand-holds w (form.Call f es kw) (suc n) e h p = cc
 operand-holds w (form.Tuple es) n e h p = expression-in w es.items n e h.0 p
 operand-holds w (form.List es) n e h p = expression-in w es.items n e h.0 p
 operand-holds w (form.Op word es) n e h p = expression-in w es.items n e h.0 p
+operand-holds w (form.Seq es) n e h p = expression-in w es.items n e h.0 p
 operand-holds w (form.Class x bs kw es) n e h p =
     append-holds w bs.items (map (λ e. e.1) kw.items ++ map (λ e. e.1) es.items) n e h.1.0 (both-hold w (map (λ e. e.1) kw.items) (map (λ e. e.1) es.items) h.1.1.1.0 h.1.1.1.1.1.0) p
 operand-holds w _ n e h p = cc
@@ -291,26 +298,19 @@ pub says-raise : (kind : Kind) (vs : List PyObjectRef) (f : Form) → IsOwn (own
 says-raise kind vs (form.Raise other) o t u = ap (λ k. raise_say u k []) (sym o)
 says-raise kind vs _ o t u = absurd o
 
--- a form that no stage so far has named
-says-later : (vs : List PyObjectRef) (f : Form) → IsLater f → (t : Reading) (u : PlainWorld) (more : Told) → own_say u (form_tree t.text t.tree f) vs more ≡ not_yet u more
-says-later vs (form.Const k) o t u more = absurd o
-says-later vs (form.Name y) o t u more = absurd o
-says-later vs (form.Bind y e) o t u more = absurd o
-says-later vs (form.Tuple es) o t u more = absurd o
-says-later vs (form.List es) o t u more = absurd o
-says-later vs (form.Dict ps) o t u more = absurd o
-says-later vs (form.Func y ps rest e) o t u more = absurd o
-says-later vs (form.Attr a y) o t u more = absurd o
-says-later vs (form.SetAttr a y b) o t u more = absurd o
-says-later vs (form.Op v es) o t u more = absurd o
-says-later vs (form.Call g es kw) o t u more = absurd o
-says-later vs (form.Raise kind) o t u more = absurd o
-says-later vs (form.Class y bs kw es) o t u more = absurd o
-says-later vs _ o t u more = refl
+-- the steps of an attribute that is taken out, of a condition, and of expressions one after another
 
-pub own-later : (w : World) (e : ℕ) (f : Form) (vs : List PyObjectRef) (next : Step EvalKept) → slice_get w.forms e ≡ Some f → length (operands f) ≡ length vs → IsLater f
-    → EndsRow (λ t u. not_yet u) w w next → Continues e vs w w next
-own-later w e f vs next h l o k = own-closes w w e f vs (λ t u. not_yet u) next h l (λ t u. says-later vs f o t u []) k
+pub says-del : (x : PyStrInterned) (vs : List PyObjectRef) (f : Form) → IsOwn (own.DelAttr x) f → (t : Reading) (u : PlainWorld) (more : Told) → own_say u (form_tree t.text t.tree f) vs more ≡ del_attr_say u (t.text x.0) (one_of vs) more
+says-del x vs (form.DelAttr a y) o t u more = ap (λ z. del_attr_say u (t.text z.0) (one_of vs) more) (sym o)
+says-del x vs _ o t u more = absurd o
+
+pub says-if : (a b : ℕ) (vs : List PyObjectRef) (f : Form) → IsOwn (own.If a b) f → (t : Reading) (u : PlainWorld) (more : Told) → own_say u (form_tree t.text t.tree f) vs more ≡ if_say u (t.tree a) (t.tree b) (one_of vs) more
+says-if a b vs (form.If c x y) o t u more = ap (λ z. if_say u (t.tree z) (t.tree y) (one_of vs) more) (sym o.0) ∙ ap (λ z. if_say u (t.tree a) (t.tree z) (one_of vs) more) (sym o.1)
+says-if a b vs _ o t u more = absurd o
+
+pub says-seq : (vs : List PyObjectRef) (f : Form) → IsOwn own.Seq f → (t : Reading) (u : PlainWorld) → own_say u (form_tree t.text t.tree f) vs [] ≡ seq_say u vs []
+says-seq vs (form.Seq es) o t u = refl
+says-seq vs _ o t u = absurd o
 
 pub long-trees : (tree : ℕ → Tree) (es : List ℕ) → length (list_of (trees_of (map tree es))) ≡ length es
 long-trees tree [] = refl
@@ -359,3 +359,12 @@ attr-name w x _ o h = absurd o
 pub call-func : (w : Held) (g : ℕ) (f : Form) → IsOwn (own.Call g) f → AllHold w (of_form f) → Holds w (IsExpression g)
 call-func w g (form.Call h es kw) o k = subst (λ x. Holds w (IsExpression x)) (sym o) k.0
 call-func w g _ o k = absurd o
+
+pub del-name : (w : Held) (x : PyStrInterned) (f : Form) → IsOwn (own.DelAttr x) f → AllHold w (of_form f) → Holds w (IsName x)
+del-name w x (form.DelAttr a y) o h = subst (λ z. Holds w (IsName z)) (sym o) h.1.0
+del-name w x _ o h = absurd o
+
+-- the branches of a condition are expressions
+pub if-branches : (w : Held) (a b : ℕ) (f : Form) → IsOwn (own.If a b) f → AllHold w (of_form f) → Holds w (IsExpression a) × Holds w (IsExpression b)
+if-branches w a b (form.If c x y) o h = (subst (λ z. Holds w (IsExpression z)) (sym o.0) h.1.0, subst (λ z. Holds w (IsExpression z)) (sym o.1) h.1.1.0)
+if-branches w a b _ o h = absurd o

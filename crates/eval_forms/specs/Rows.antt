@@ -1,8 +1,11 @@
 -- What the contracts of the rows of expressions say.
-use Rattle.std.specs.Prelude.{◌≡◌, ℕ, ltb, Bool, List, [], ◌∷◌, ◌++◌, map, length, Option, Some, None, Result, Ok, slice_get}
+use Rattle.std.specs.Prelude.{◌≡◌, ℕ, zero, suc, ltb, Bool, List, [], ◌∷◌, ◌++◌, map, length, Option, Some, None, Result, Ok, slice_get}
 use Rattle.py_node.specs.declared.raised.Raised.{Raised as Fault}
 use Rattle.py_node.specs.declared.refs.PyObjectRef.{PyObjectRef}
-use Rattle.py_node.specs.declared.expr.Word.TheVariants.{Binary}
+use Rattle.py_node.specs.declared.expr.Word.TheVariants.{Binary, Sequence, Object}
+use Rattle.py_node.specs.declared.expr.SequenceWord.{SequenceWord}
+use Rattle.py_node.specs.declared.expr.SequenceWord.TheVariants as sequence
+use Rattle.py_node.specs.declared.expr.ObjectWord.TheVariants as object
 use Rattle.py_node.specs.declared.task.PyNumberBinaryOp.TheVariants.{Add}
 use Rattle.py_node.specs.declared.task.Answer.{Answer}
 use Rattle.py_node.specs.declared.task.Answer.TheVariants.{Value}
@@ -12,7 +15,7 @@ use Rattle.py_node.specs.declared.task.Step.{Step}
 use Rattle.py_node.specs.declared.task.Step.TheVariants.{Ask, End}
 use Rattle.py_node.specs.declared.payload.Form.{Form}
 use Rattle.py_node.specs.declared.payload.Form.TheVariants as form
-use Rattle.py_node.specs.Tree.{literal_of, Tree, TAttr, TCall, TDict, TOp, TSetAttr, KeyedTrees, no_keyed, Trees, tree, no_trees, Entries, no_entries, TConst, LNone}
+use Rattle.py_node.specs.Tree.{literal_of, Tree, TAttr, TCall, TDelAttr, TDict, TIf, TOp, KeyedTrees, no_keyed, Trees, tree, no_trees, Entries, no_entries, TConst, LNone}
 use Rattle.plain_machine.specs.Plain.{Bindings, PlainWorld, EvalJob, DoEval, DoInvoke, DoCall, PlainTask, ToAttribute, ToCall, Ended, Fact, Answered, Told, Said, Asks, Ends}
 use Rattle.plain_machine.specs.Row.{Row, value}
 use Rattle.plain_machine.specs.Rows.{Pending}
@@ -23,9 +26,15 @@ use Rattle.class_world.specs.Rows.{Group, Goes, Steps}
 use Rattle.class_world.specs.Claims.{of_method}
 use Rattle.class_world.specs.Sound.{Claim, IsNode, AreNodes, IsExpression, HasForm}
 use Rattle.eval_forms.specs.declared.EvalKept.{EvalKept}
-use Rattle.eval_forms.specs.declared.EvalKept.TheVariants.{Pass, SetDone, Operands, Load, Arguments, Key, Value as OfKey}
+use Rattle.eval_forms.specs.declared.EvalKept.TheVariants.{Pass, Made, Count, Start, Stop, Branch, Operands, Load, Arguments, Key, Value as OfKey}
 use Rattle.eval_forms.specs.declared.call_form.Called.{Called}
 use Rattle.eval_forms.specs.declared.call_form.Called.TheVariants as called
+use Rattle.eval_forms.specs.declared.bounds.Counted.{Counted}
+use Rattle.eval_forms.specs.declared.bounds.Counted.TheVariants as counted
+use Rattle.eval_forms.specs.declared.bounds.Part.{Part}
+use Rattle.eval_forms.specs.declared.bounds.Part.TheVariants as part
+use Rattle.eval_forms.specs.declared.outcome.Outcome.{Outcome}
+use Rattle.eval_forms.specs.declared.outcome.Outcome.TheVariants as outcome
 use Rattle.eval_forms.specs.declared.Own.{Own}
 use Rattle.eval_forms.specs.declared.Own.TheVariants as own
 use Rattle.class_world.specs.Keyed.{of_pairs}
@@ -39,12 +48,44 @@ answered v = Answered (value v)
 abbrev pub passing : Tree
 passing = TOp (Binary Add) (tree (TConst LNone) (tree (TConst LNone) no_trees))
 
--- the same of one that has set an attribute
-abbrev pub setting : Tree
-setting = TSetAttr (TConst LNone) [] (TConst LNone)
+-- an operation on so many operands, whatever they are
+abbrev pub any : ℕ → Trees
+any zero = no_trees
+any (suc n) = tree (TConst LNone) (any n)
+
+-- some object
+abbrev pub nil : PyObjectRef
+nil = record { 0 = 0 }
 
 abbrev pub passed : List PyObjectRef
-passed = record { 0 = 0 } ∷ record { 0 = 0 } ∷ []
+passed = nil ∷ nil ∷ []
+
+-- an expression of which this is made
+abbrev pub outcome_tree : Outcome → Tree
+outcome_tree outcome.Same = TOp (Object object.Repr) (any 1)
+outcome_tree outcome.Nothing = TDelAttr (TConst LNone) []
+outcome_tree outcome.Truth = TOp (Object object.Bool) (any 1)
+outcome_tree outcome.Negated = TOp (Object object.Not) (any 1)
+outcome_tree outcome.Number = TOp (Sequence sequence.Len) (any 1)
+outcome_tree outcome.List = TOp (Sequence sequence.ToList) (any 1)
+outcome_tree outcome.Tuple = TOp (Sequence sequence.ToTuple) (any 1)
+outcome_tree outcome.Item = TOp (Sequence sequence.Next) (any 1)
+
+-- the word whose second operand stands for a number
+abbrev pub counted_word : Counted → SequenceWord
+counted_word counted.Repeat = sequence.Repeat
+counted_word counted.InplaceRepeat = sequence.InplaceRepeat
+counted_word counted.Hint = sequence.Hint
+
+-- an expression that does this with a part of a sequence, and what it learns of the operand that no other has
+abbrev pub part_tree : Part → Tree
+part_tree part.Get = TOp (Sequence sequence.Slice) (any 3)
+part_tree (part.Set v) = TOp (Sequence sequence.SetSlice) (any 4)
+part_tree part.Delete = TOp (Sequence sequence.DelSlice) (any 3)
+
+abbrev pub part_values : Part → List PyObjectRef
+part_values (part.Set v) = v ∷ []
+part_values _ = []
 
 -- the arguments of a call, and its keywords
 abbrev pub args_of : Tree → Trees
@@ -66,7 +107,7 @@ called_tree (called.Method m) x = method_call x
 
 abbrev pub called_told : Called → Told
 called_told (called.Object f) = answered f ∷ []
-called_told (called.Method m) = answered (record { 0 = 0 }) ∷ Answered (Ok (method_of m)) ∷ []
+called_told (called.Method m) = answered nil ∷ Answered (Ok (method_of m)) ∷ []
 
 -- the pairs of a dict
 abbrev pub pairs_of : Tree → KeyedTrees
@@ -81,10 +122,18 @@ pairs_told (e ∷ es) = answered e.0 ∷ answered e.1 ∷ pairs_told es
 -- the row that goes on, at each answer, just as the row that the code keeps this for
 abbrev pub eval_stands : Reading → EvalKept → Pending EvalJob
 eval_stands t Pass = record { task = DoEval passing; told = map answered passed }
-eval_stands t SetDone = record { task = DoEval setting; told = map answered passed }
+eval_stands t (Made o) = record { task = DoEval (outcome_tree o); told = answered nil ∷ [] }
+eval_stands t (Count k o) =
+    record { task = DoEval (TOp (Sequence (counted_word k)) (any 2)); told = answered o ∷ answered nil ∷ [] }
+eval_stands t (Start p o j) =
+    record { task = DoEval (part_tree p); told = answered o ∷ answered nil ∷ answered j ∷ map answered (part_values p) }
+eval_stands t (Stop p o i) =
+    record { task = DoEval (part_tree p); told = answered o ∷ answered nil ∷ answered nil ∷ (map answered (part_values p) ++ answered i ∷ []) }
+eval_stands t (Branch a b) =
+    record { task = DoEval (TIf (TConst LNone) (t.tree a) (t.tree b)); told = answered nil ∷ [] }
 eval_stands t (Operands e vs) = record { task = DoEval (t.tree e); told = map answered vs.items }
 eval_stands t (Load e) =
-    record { task = DoEval (method_call (t.tree e)); told = answered (record { 0 = 0 }) ∷ [] }
+    record { task = DoEval (method_call (t.tree e)); told = answered nil ∷ [] }
 eval_stands t (Arguments e f vs) =
     record { task = DoEval (called_tree f (t.tree e)); told = called_told f ++ map answered vs.items }
 eval_stands t (Key e es) = record { task = DoEval (TDict (pairs_of (t.tree e))); told = pairs_told es.items }
@@ -98,8 +147,11 @@ operands (form.Tuple es) = es.items
 operands (form.List es) = es.items
 operands (form.Attr o x) = o ∷ []
 operands (form.SetAttr o x e) = o ∷ e ∷ []
+operands (form.DelAttr o x) = o ∷ []
 operands (form.Call f es kw) = f ∷ []
 operands (form.Op word es) = es.items
+operands (form.If c a b) = c ∷ []
+operands (form.Seq es) = es.items
 operands (form.Class x bs kw es) = bs.items ++ (map (λ e. e.1) kw.items ++ map (λ e. e.1) es.items)
 operands _ = []
 
@@ -163,10 +215,18 @@ abbrev pub of_called : Called → List Claim
 of_called (called.Object f) = IsNode f ∷ []
 of_called (called.Method m) = of_method m
 
+abbrev pub of_part : Part → List Claim
+of_part (part.Set v) = IsNode v ∷ []
+of_part _ = []
+
 -- what is said of what is kept
 abbrev pub of_eval_kept : EvalKept → List Claim
 of_eval_kept Pass = []
-of_eval_kept SetDone = []
+of_eval_kept (Made o) = []
+of_eval_kept (Count k o) = IsNode o ∷ []
+of_eval_kept (Start p o j) = IsNode o ∷ IsNode j ∷ of_part p
+of_eval_kept (Stop p o i) = IsNode o ∷ IsNode i ∷ of_part p
+of_eval_kept (Branch a b) = IsExpression a ∷ IsExpression b ∷ []
 of_eval_kept (Operands e vs) = IsExpression e ∷ HasForm e (has_operand (length vs.items)) ∷ AreNodes vs.items ∷ []
 of_eval_kept (Load e) = IsExpression e ∷ []
 of_eval_kept (Arguments e f vs) =
@@ -197,23 +257,6 @@ Continues e vs = Goes eval_say eval_stands (λ t. record { task = DoEval (t.tree
 abbrev pub ContinuesTree : (Reading → Tree) → List PyObjectRef → World → World → Step EvalKept → Type 0
 ContinuesTree spell vs = Goes eval_say eval_stands (λ t. record { task = DoEval (spell t); told = map answered vs })
 
--- no stage so far has named the form
-abbrev pub IsLater : Form → Type 0
-IsLater (form.Const k) = ⊥
-IsLater (form.Name x) = ⊥
-IsLater (form.Bind x e) = ⊥
-IsLater (form.Tuple es) = ⊥
-IsLater (form.List es) = ⊥
-IsLater (form.Dict ps) = ⊥
-IsLater (form.Func x ps rest e) = ⊥
-IsLater (form.Attr o x) = ⊥
-IsLater (form.SetAttr o x e) = ⊥
-IsLater (form.Op word es) = ⊥
-IsLater (form.Call f es kw) = ⊥
-IsLater (form.Raise kind) = ⊥
-IsLater (form.Class x bs kw es) = ⊥
-IsLater _ = Unit {0}
-
 -- what is kept of an expression's own step is that of the expression
 abbrev pub IsOwn : Own → Form → Type 0
 IsOwn (own.Const k) (form.Const j) = literal_of k ≡ literal_of j
@@ -236,6 +279,12 @@ IsOwn (own.Attr x) (form.Attr o y) = x ≡ y
 IsOwn (own.Attr x) _ = ⊥
 IsOwn (own.SetAttr x) (form.SetAttr o y e) = x ≡ y
 IsOwn (own.SetAttr x) _ = ⊥
+IsOwn (own.DelAttr x) (form.DelAttr o y) = x ≡ y
+IsOwn (own.DelAttr x) _ = ⊥
+IsOwn (own.If a b) (form.If c x y) = (a ≡ x) × (b ≡ y)
+IsOwn (own.If a b) _ = ⊥
+IsOwn own.Seq (form.Seq es) = Unit {0}
+IsOwn own.Seq _ = ⊥
 IsOwn (own.Call f) (form.Call g es kw) = f ≡ g
 IsOwn (own.Call f) _ = ⊥
 IsOwn (own.Raise kind) (form.Raise other) = kind ≡ other
@@ -243,7 +292,6 @@ IsOwn (own.Raise kind) _ = ⊥
 IsOwn (own.Class x n ks xs) (form.Class y bs kw es) =
     (x ≡ y) × (n ≡ length bs.items) × (ks.items ≡ map (λ e. e.0) kw.items) × (xs.items ≡ map (λ e. e.0) es.items)
 IsOwn (own.Class x n ks xs) _ = ⊥
-IsOwn own.NotYet f = IsLater f
 
 -- the expression's operands have so many values
 abbrev pub HasValues : World → ℕ → List PyObjectRef → Type 0

@@ -1,28 +1,24 @@
 -- What the rows of expressions say.
-use Rattle.std.specs.Prelude.{ℕ, Bool, cond, eqb, if◌then◌else◌, bytes_eq, codes, List, [], ◌∷◌, ◌++◌, Option, Some, None, option_map, Ok, Err, is_some, true, false, not, filter, length, take, drop, slice_get}
+use Rattle.std.specs.Prelude.{ℕ, Bool, cond, if◌then◌else◌, bytes_eq, codes, List, [], ◌∷◌, ◌++◌, Option, Some, None, option_map, Ok, Err, is_some, true, false, not, filter, length, take, drop, slice_get}
 use Rattle.py_node.specs.declared.refs.PyObjectRef.{PyObjectRef}
 use Rattle.py_node.specs.declared.built_in.BuiltIn.{BuiltIn}
 use Rattle.py_node.specs.declared.built_in.BuiltIn.TheVariants as built_in
 use Rattle.py_node.specs.declared.known.Known.TheVariants.{Metaclass}
 use Rattle.py_node.specs.declared.raised.Kind.{Kind}
-use Rattle.py_node.specs.declared.raised.Cause.TheVariants.{ArgCount, Body, KeyType, NotYet, RepeatedKeyword, Unbound}
-use Rattle.py_node.specs.declared.expr.Word.{Word}
-use Rattle.py_node.specs.declared.expr.Word.TheVariants as word
-use Rattle.py_node.specs.declared.expr.ObjectWord.TheVariants.{Is, TypeOf, Callable}
-use Rattle.py_node.specs.declared.entry.SlotId.TheVariants.{Call}
-use Rattle.py_node.specs.declared.task.PyNumberBinaryOp.TheVariants as op
+use Rattle.py_node.specs.declared.raised.Cause.TheVariants.{ArgCount, Body, KeyType, RepeatedKeyword, Unbound}
 use Rattle.py_node.specs.Attributes.{value_of}
 use Rattle.py_node.specs.BuiltIns.{place_of}
 use Rattle.py_node.specs.Known.{known_text}
-use Rattle.py_node.specs.Tree.{Text, Tree, TConst, TName, TBind, TTuple, TList, TDict, TFunc, TAttr, TSetAttr, TCall, TOp, TRaise, TClass, KeyedTrees, no_keyed, keyed as keyed_tree, Trees, Entries, no_entries, entry, Literal, LNone, LFalse, LTrue, LInt, LText, list_of, entry_trees}
-use Rattle.plain_machine.specs.Plain.{ANumber, AText, ATuple, AList, ADict, AFunction, PlainWorld, Bindings, EvalJob, DoEval, ToEval, DoAdd, DoGetAttr, DoSetAttr, DoLoadMethod, DoInvoke, DoCall, AsFunction, AsAttribute, Ended, PlainTask, ToAttribute, ToCall, ToOperator, Said}
-use Rattle.plain_machine.specs.World.{ref, is_text, slot_at, variable, or_else_var, with_binding, with_node, next_node}
+use Rattle.py_node.specs.Tree.{Text, Tree, TConst, TName, TBind, TTuple, TList, TDict, TFunc, TAttr, TSetAttr, TDelAttr, TCall, TOp, TIf, TSeq, TRaise, TClass, KeyedTrees, no_keyed, keyed as keyed_tree, Trees, Entries, no_entries, entry, Literal, LNone, LFalse, LTrue, LInt, LText, list_of, entry_trees}
+use Rattle.plain_machine.specs.Plain.{ANumber, AText, ATuple, AList, ADict, AFunction, PlainWorld, Bindings, EvalJob, DoEval, ToEval, DoGetAttr, DoSetAttr, DoLoadMethod, DoInvoke, DoCall, AsFunction, AsAttribute, Ended, PlainTask, ToAttribute, ToCall, ToProtocol, DoIsTrue, Said}
+use Rattle.plain_machine.specs.World.{ref, is_text, variable, or_else_var, with_binding, with_node, next_node}
 use Rattle.plain_machine.specs.Args.{two_of, filled}
+use Rattle.eval_forms.specs.Words.{one_of, op_say}
 use Rattle.plain_machine.specs.Known.{the_type, the_int, the_str, the_tuple, the_list, the_dict, the_function}
 use Rattle.plain_machine.specs.Dicts.{entries_from}
 use Rattle.plain_machine.specs.Objects.{class_object, type_object}
 use Rattle.plain_machine.specs.Sound.{key_at}
-use Rattle.plain_machine.specs.Row.{Row, start, ask, pass, end, value, none, fault, on_value, on_done, make, limited, truth, not_implemented, evaluate}
+use Rattle.plain_machine.specs.Row.{Row, start, ask, pass, end, value, none, fault, on_value, on_truth, on_done, make, limited, truth, not_implemented, evaluate}
 
 -- a constant is a fixed object, or a new one
 abbrev pub const_say : PlainWorld → Literal → Row
@@ -64,12 +60,6 @@ named_say w (Some r) = end w (value r)
 abbrev pub name_say : PlainWorld → Text → Row
 name_say w x = named_say w (or_else_var (variable w x) (built_in_named x))
 
--- the operand of a form with one
-abbrev pub one_of : List PyObjectRef → Option PyObjectRef
-one_of [] = None
-one_of (a ∷ []) = Some a
-one_of (a ∷ (b ∷ more)) = None
-
 -- a binding binds a variable to its operand, which is its value
 abbrev pub bind_say : PlainWorld → Text → Option PyObjectRef → Row
 bind_say w x None = end w (fault ArgCount)
@@ -110,42 +100,18 @@ dict_say w ps = evaluate_pairs w ps (λ es. make_dict w (entries_from w es))
 abbrev pub func_say : PlainWorld → Text → List Text → Bool → Tree → Row
 func_say w x ps rest e = make w the_function (AFunction x ps rest e None)
 
--- what no stage so far has named
-abbrev pub not_yet : PlainWorld → Row
-not_yet w = end w (fault NotYet)
+-- an attribute is set, or taken out, and the answer is None
+abbrev pub change_attr : PlainWorld → PyObjectRef → Text → Option PyObjectRef → Row
+change_attr w o x v = ask w (ToAttribute (DoSetAttr o x v)) (λ r. on_done w r (end w (value none)))
 
--- a sum of two operands
-abbrev pub add_of : PlainWorld → Option (PyObjectRef × PyObjectRef) → Row
-add_of w None = end w (fault ArgCount)
-add_of w (Some p) = ask w (ToOperator (DoAdd p.0 p.1)) (end w)
-
--- whether the two operands are the same object
-abbrev pub is_of : PlainWorld → Option (PyObjectRef × PyObjectRef) → Row
-is_of w None = end w (fault ArgCount)
-is_of w (Some p) = end w (value (truth (eqb p.0.0 p.1.0)))
-
--- the operand's class, as an object
-abbrev pub type_of : PlainWorld → Option PyObjectRef → Row
-type_of w None = end w (fault ArgCount)
-type_of w (Some o) = end w (value (type_object w o))
-
--- whether the operand's class says how it is called
-abbrev pub callable_of : PlainWorld → Option PyObjectRef → Row
-callable_of w None = end w (fault ArgCount)
-callable_of w (Some o) = end w (value (truth (is_some (slot_at w o Call))))
-
--- what the word says of the values of the operands: its task, or what it reads by itself
-abbrev pub op_say : PlainWorld → Word → List PyObjectRef → Row
-op_say w (word.Binary op.Add) vs = add_of w (two_of vs)
-op_say w (word.Object Is) vs = is_of w (two_of vs)
-op_say w (word.Object TypeOf) vs = type_of w (one_of vs)
-op_say w (word.Object Callable) vs = callable_of w (one_of vs)
-op_say w _ vs = not_yet w
-
--- an attribute is set to the second operand, and the answer is None
+-- it is set to the second operand
 abbrev pub set_attr_say : PlainWorld → Text → Option (PyObjectRef × PyObjectRef) → Row
 set_attr_say w x None = end w (fault ArgCount)
-set_attr_say w x (Some p) = ask w (ToAttribute (DoSetAttr p.0 x (Some p.1))) (λ r. on_done w r (end w (value none)))
+set_attr_say w x (Some p) = change_attr w p.0 x (Some p.1)
+
+abbrev pub del_attr_say : PlainWorld → Text → Option PyObjectRef → Row
+del_attr_say w x None = end w (fault ArgCount)
+del_attr_say w x (Some o) = change_attr w o x None
 
 -- an attribute of the operand
 abbrev pub attr_say : PlainWorld → Text → Option PyObjectRef → Row
@@ -239,6 +205,24 @@ class_say w x bases keys names vs =
     on_keywords w (unrepeated [] keys (take (length keys) (drop bases vs))) (λ kw.
     start (class_by w x (take bases vs) kw (filled [] names (drop (length keys) (drop bases vs)))) (end w))
 
+-- a condition, and then the one branch or the other
+abbrev pub branch_say : PlainWorld → Tree → Tree → Ended → Row
+branch_say w a b r = on_truth w r (λ holds. start (pass w (ToEval (DoEval (cond holds a b)))) (end w))
+
+abbrev pub if_say : PlainWorld → Tree → Tree → Option PyObjectRef → Row
+if_say w a b None = end w (fault ArgCount)
+if_say w a b (Some c) = ask w (ToProtocol (DoIsTrue c)) (branch_say w a b)
+
+-- the last of some values, or else None
+abbrev pub last_or_none : List PyObjectRef → PyObjectRef
+last_or_none [] = none
+last_or_none (v ∷ []) = v
+last_or_none (v ∷ (u ∷ vs)) = last_or_none (u ∷ vs)
+
+-- expressions one after another: the value of the last
+abbrev pub seq_say : PlainWorld → List PyObjectRef → Row
+seq_say w vs = end w (value (last_or_none vs))
+
 -- a fault of this kind
 abbrev pub raise_say : PlainWorld → Kind → Row
 raise_say w kind = end w (Err (record { kind = kind; cause = Body }))
@@ -255,8 +239,11 @@ operand_trees (TTuple es) = list_of es
 operand_trees (TList es) = list_of es
 operand_trees (TAttr o x) = o ∷ []
 operand_trees (TSetAttr o x e) = o ∷ e ∷ []
+operand_trees (TDelAttr o x) = o ∷ []
 operand_trees (TCall f es kw) = callee_tree f ∷ []
 operand_trees (TOp word es) = list_of es
+operand_trees (TIf c a b) = c ∷ []
+operand_trees (TSeq es) = list_of es
 operand_trees (TClass x bs kw es) = list_of bs ++ (entry_trees kw ++ entry_trees es)
 operand_trees _ = []
 
@@ -271,11 +258,13 @@ own_say w (TDict ps) vs = dict_say w ps
 own_say w (TFunc x ps rest e) vs = func_say w x ps rest e
 own_say w (TAttr o x) vs = attr_say w x (one_of vs)
 own_say w (TSetAttr o x e) vs = set_attr_say w x (two_of vs)
+own_say w (TDelAttr o x) vs = del_attr_say w x (one_of vs)
 own_say w (TCall f es kw) vs = called_say w f es kw (one_of vs)
 own_say w (TOp word es) vs = op_say w word vs
+own_say w (TIf c a b) vs = if_say w a b (one_of vs)
+own_say w (TSeq es) vs = seq_say w vs
 own_say w (TRaise kind) vs = raise_say w kind
 own_say w (TClass x bs kw es) vs = class_say w x (length (list_of bs)) (entry_names kw) (entry_names es) vs
-own_say w _ vs = not_yet w
 
 -- an expression's operands are evaluated in order. Then it has a step of its own
 unfoldable pub eval_say : PlainWorld → EvalJob → Row

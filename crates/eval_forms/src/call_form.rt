@@ -9,7 +9,8 @@ ghost use Rattle.eval_forms.specs.Say.{callee_say, callee_tree, called_say, give
 ghost use Rattle.eval_forms.specs.Rows.{Takes, Resumes, GoesOn, args_of, arguments, arguments_at, attribute, called_task, evaluated_tree, keywords_of, named, of_called, of_eval_kept, positional};
 
 use crate::keywords::{list_of, unrepeated};
-use crate::{EvalKept, entry_value, names_of, object_of, with_value};
+use crate::operand::entry_value;
+use crate::{EvalKept, names_of, object_of, with_value};
 use class_world::World;
 use class_world::args::copy_args;
 use py_node::task::{Args, Keywords};

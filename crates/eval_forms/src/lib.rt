@@ -2,29 +2,39 @@
 #![tactic(auto, unfolding(crate::specs::Say::eval_say))]
 
 ghost use Rattle.std.specs.Prelude.{◌≡◌, ◌≤◌, ◌++◌, [], ◌∷◌, map, length, slice_get, Ok, IfOk, IfErr, OnOk, IfSome};
-ghost use Rattle.py_node.specs.Faults.{raised};
 ghost use Rattle.class_world.specs.Sound.{AllHold, Holds, IsExpression, IsName, IsNode, AreNodes, of_form, of_node_ref, of_option};
 ghost use Rattle.class_world.specs.Claims.{of_eval_task, of_ended, of_step, Leaves};
 ghost use Rattle.class_world.specs.Reading.{Reading, Reads};
-ghost use Rattle.eval_forms.specs.Say.{one_of, bind_say, func_say, raise_say, tuple_say, list_say};
+ghost use Rattle.eval_forms.specs.Words.{one_of};
+ghost use Rattle.eval_forms.specs.Say.{bind_say, func_say, raise_say, tuple_say, list_say};
 ghost use Rattle.py_node.specs.Tree.{TConst, literal_of};
-ghost use Rattle.eval_forms.specs.Rows.{Begins, Resumes, Continues, ContinuesTree, EndsRow, IsOwn, HasValues, IsLater, IsOther, of_eval_kept, operands, operands_at};
+ghost use Rattle.eval_forms.specs.Rows.{Begins, Resumes, Continues, ContinuesTree, EndsRow, IsOwn, HasValues, IsOther, of_eval_kept, operands, operands_at};
 
 mod attr;
+pub mod bounds;
 mod call_form;
 mod class_form;
 mod dict_form;
+mod flow;
 mod keywords;
+pub mod manner;
 mod names;
+mod operand;
+pub mod outcome;
+mod tasks;
 mod words;
 
-use attr::{attr_step, set_attr_step};
+use attr::{attr_step, del_attr_step, set_attr_step};
+use bounds::{Counted, Part, with_count, with_start, with_stop};
 use call_form::{Called, argued, call_step, evaluated, loaded};
 use class_form::class_step;
 use class_world::limits::is_within_limit;
 use class_world::{Fixed, World};
 use dict_form::{keyed, next_key, valued};
+use flow::{branch, if_step, seq_step};
 use names::name_step;
+use operand::operand;
+use outcome::{Outcome, made};
 use py_node::{
     Answer, BuiltIn, Cause, Constant, EvalTask, Form, Function, Kind, OutOfMemory, Payload,
     PyObjectRef, PyStrInterned, Raised, Step, Task, Word,
@@ -37,8 +47,16 @@ use words::op_step;
 pub enum EvalKept {
     /// The answer is passed on.
     Pass,
-    /// An attribute is being set, and then the answer is None.
-    SetDone,
+    /// This is made of the answer.
+    Made(Outcome),
+    /// A word whose second operand is asked for its number, and the first operand.
+    Count(Counted, PyObjectRef),
+    /// A word for a part of a sequence whose first place is asked for its number: the sequence, and the second place.
+    Start(Part, PyObjectRef, PyObjectRef),
+    /// The same for the second place: the sequence, and what was answered for the first.
+    Stop(Part, PyObjectRef, PyObjectRef),
+    /// The branches of a condition.
+    Branch(u64, u64),
     /// The expression, and the values of its operands so far.
     Operands(u64, Vec<PyObjectRef>),
     /// The call whose method is being loaded.
@@ -87,8 +105,21 @@ pub fn resume(
             Ok(step)
         }
         EvalKept::Value(e, pairs, key) => valued(world, e, pairs, key, answer),
-        EvalKept::SetDone => {
-            let step = set_done(world, answer);
+        EvalKept::Made(outcome) => made(world, outcome, answer),
+        EvalKept::Count(counted, object) => {
+            let step = with_count(world, counted, object, answer);
+            Ok(step)
+        }
+        EvalKept::Start(part, object, stop) => {
+            let step = with_start(world, part, object, stop, answer);
+            Ok(step)
+        }
+        EvalKept::Stop(part, object, start) => {
+            let step = with_stop(world, part, object, start, answer);
+            Ok(step)
+        }
+        EvalKept::Branch(chosen, other) => {
+            let step = branch(world, chosen, other, answer);
             Ok(step)
         }
     }
@@ -105,17 +136,6 @@ pub(crate) fn object_of(
     match answer {
         Ok(Answer::Value(value)) => Ok(value),
         other => Err(other),
-    }
-}
-
-// An attribute was set: the answer is None.
-fn set_done(world: &World, answer: Result<Answer, Raised>) -> Step<EvalKept>
-    ensures goes { Resumes EvalKept.SetDone answer world.now world.now result }
-    ensures safe { AllHold world.now (of_step of_eval_kept result) }
-{
-    match answer {
-        Err(raised) => Step::End(Err(raised)),
-        Ok(_given) => Step::End(Ok(Answer::Value(world.fixed(Fixed::None)))),
     }
 }
 
@@ -169,67 +189,6 @@ fn next_operand(
     }
 }
 
-// The operand of an expression at a place.
-fn operand(form: &Form, place: usize) -> Option<u64>
-    ensures { result ≡ slice_get (operands form.now) place }
-{
-    match form {
-        Form::Bind(_, value) => first_of(*value, place),
-        Form::Attr(target, _) => first_of(*target, place),
-        Form::SetAttr(target, _, value) => {
-            if place == 0 {
-                Some(*target)
-            } else {
-                first_of(*value, place - 1)
-            }
-        }
-        Form::Call(func, _, _) => first_of(*func, place),
-        Form::Tuple(items) => items.get(place).copied(),
-        Form::List(items) => items.get(place).copied(),
-        Form::Op(_, operands) => operands.get(place).copied(),
-        Form::Class(_, bases, keywords, entries) => {
-            if place < bases.len() {
-                Some(bases[place])
-            } else {
-                entry_of_two(keywords, entries, place - bases.len())
-            }
-        }
-        _ => None,
-    }
-}
-
-// The expression at a place of two lists of entries, one after the other.
-fn entry_of_two(
-    first: &[(PyStrInterned, u64)],
-    second: &[(PyStrInterned, u64)],
-    place: usize,
-) -> Option<u64>
-    ensures { result ≡ slice_get (map (λ e. e.1) first.now ++ map (λ e. e.1) second.now) place }
-{
-    if place < first.len() {
-        entry_value(first, place)
-    } else {
-        entry_value(second, place - first.len())
-    }
-}
-
-// The expression of the entry at a place.
-pub(crate) fn entry_value(entries: &[(PyStrInterned, u64)], place: usize) -> Option<u64>
-    ensures { result ≡ slice_get (map (λ e. e.1) entries.now) place }
-{
-    match entries.get(place) {
-        Some(entry) => Some(entry.1),
-        None => None,
-    }
-}
-
-// The only one, at its place.
-fn first_of(only: u64, place: usize) -> Option<u64>
-    ensures { result ≡ slice_get (only ∷ []) place }
-{
-    if place == 0 { Some(only) } else { None }
-}
-
 /// What an expression does with the values of its operands.
 #[derive(Drop)]
 pub enum Own {
@@ -243,14 +202,16 @@ pub enum Own {
     Func(PyStrInterned, Vec<PyStrInterned>, bool, u64),
     Attr(PyStrInterned),
     SetAttr(PyStrInterned),
+    DelAttr(PyStrInterned),
     /// The expression of what is called.
     Call(u64),
     Op(Word),
+    /// The expressions of the branches.
+    If(u64, u64),
+    Seq,
     Raise(Kind),
     /// The class's name, how many bases it has, the names of its keywords, and those of its entries.
     Class(PyStrInterned, usize, Vec<PyStrInterned>, Vec<PyStrInterned>),
-    /// What no stage so far has named.
-    NotYet,
 }
 
 // The step of an expression whose operands have their values.
@@ -285,16 +246,24 @@ fn own_step(
             let step = set_attr_step(name, &values);
             Ok(step)
         }
+        Own::DelAttr(name) => {
+            let step = del_attr_step(name, one_of(&values));
+            Ok(step)
+        }
         Own::Call(func) => call_step(world, e, func, one_of(&values)),
-        Own::Op(word) => {
-            let step = op_step(world, word, &values);
+        Own::Op(word) => op_step(world, word, &values),
+        Own::If(chosen, other) => {
+            let step = if_step(chosen, other, one_of(&values));
+            Ok(step)
+        }
+        Own::Seq => {
+            let step = seq_step(world, &values);
             Ok(step)
         }
         Own::Raise(kind) => Ok(raise_step(kind)),
         Own::Class(name, bases, keys, names) => {
             class_step(world, name, bases, &keys, &names, &values)
         }
-        Own::NotYet => Ok(not_yet()),
     }
 }
 
@@ -318,6 +287,9 @@ fn own_of(alloc: Global, form: &Form) -> Result<Own, OutOfMemory>
         }
         Form::Attr(_, name) => Ok(Own::Attr(*name)),
         Form::SetAttr(_, name, _) => Ok(Own::SetAttr(*name)),
+        Form::DelAttr(_, name) => Ok(Own::DelAttr(*name)),
+        Form::If(_, chosen, other) => Ok(Own::If(*chosen, *other)),
+        Form::Seq(_) => Ok(Own::Seq),
         Form::Call(func, _, _) => Ok(Own::Call(*func)),
         Form::Op(word, _) => Ok(Own::Op(*word)),
         Form::Raise(kind) => Ok(Own::Raise(*kind)),
@@ -326,7 +298,6 @@ fn own_of(alloc: Global, form: &Form) -> Result<Own, OutOfMemory>
             let names = names_of(alloc, entries)?;
             Ok(Own::Class(*name, bases.len(), keys, names))
         }
-        _ => Ok(Own::NotYet),
     }
 }
 
@@ -399,7 +370,10 @@ pub(crate) fn one_of(values: &[PyObjectRef]) -> Option<PyObjectRef>
 
 // A new tuple of the operands.
 #[tactic(auto, unfolding(py_node::specs::BuiltIns::place_of))]
-fn tuple_step(world: &mut World, values: Vec<PyObjectRef>) -> Result<Step<EvalKept>, OutOfMemory>
+pub(crate) fn tuple_step(
+    world: &mut World,
+    values: Vec<PyObjectRef>,
+) -> Result<Step<EvalKept>, OutOfMemory>
     requires { Holds world.old (AreNodes values.items) }
     ensures goes { IfOk result (λ step. EndsRow (λ t w. tuple_say w values.items) world.old world.new step) }
     ensures safe { Leaves of_eval_kept world.old world.new result }
@@ -414,7 +388,10 @@ fn tuple_step(world: &mut World, values: Vec<PyObjectRef>) -> Result<Step<EvalKe
 
 // A new list of the operands.
 #[tactic(auto, unfolding(py_node::specs::BuiltIns::place_of))]
-fn list_step(world: &mut World, values: Vec<PyObjectRef>) -> Result<Step<EvalKept>, OutOfMemory>
+pub(crate) fn list_step(
+    world: &mut World,
+    values: Vec<PyObjectRef>,
+) -> Result<Step<EvalKept>, OutOfMemory>
     requires { Holds world.old (AreNodes values.items) }
     ensures goes { IfOk result (λ step. EndsRow (λ t w. list_say w values.items) world.old world.new step) }
     ensures safe { Leaves of_eval_kept world.old world.new result }
@@ -463,11 +440,4 @@ fn raise_step(kind: Kind) -> Step<EvalKept>
         kind,
         cause: Cause::Body,
     }))
-}
-
-// What no stage so far has named.
-pub(crate) fn not_yet() -> Step<EvalKept>
-    ensures { result ≡ Step.End (Err (raised Cause.NotYet)) }
-{
-    Step::raise(Cause::NotYet)
 }

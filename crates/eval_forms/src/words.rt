@@ -1,43 +1,72 @@
 //! Operations: the word's task, or what it reads of the operands by itself.
 
-ghost use Rattle.std.specs.Prelude.{◌≡◌};
+ghost use Rattle.std.specs.Prelude.{◌≡◌, IfOk};
 ghost use Rattle.class_world.specs.Sound.{AllHold, Holds, IsNode, AreNodes};
-ghost use Rattle.class_world.specs.Claims.{of_step};
+ghost use Rattle.class_world.specs.Claims.{of_step, Leaves};
 ghost use Rattle.plain_machine.specs.Args.{two_of};
-ghost use Rattle.eval_forms.specs.Say.{one_of, add_of, callable_of, is_of, op_say, type_of};
+ghost use Rattle.eval_forms.specs.Words.{asked, callable_of, format_of, has_attr_of, is_of, one_of, op_say, task_for, type_of};
 ghost use Rattle.eval_forms.specs.Rows.{Takes, of_eval_kept};
 
-use crate::{EvalKept, not_yet, one_of};
+use crate::bounds::{counted_step, del_slice_step, set_slice_step, slice_step};
+use crate::manner::{Manner, manner_of};
+use crate::outcome::Outcome;
+use crate::tasks::task_for;
+use crate::{EvalKept, one_of};
 use class_world::World;
 use class_world::args::two_of;
 use py_node::{
-    Answer, Cause, ObjectWord, OperatorTask, PyNumberBinaryOp, PyObjectRef, SlotId, Step, Task,
-    Word,
+    Answer, AttributeTask, Cause, ObjectTask, OutOfMemory, Payload, PyObjectRef, SlotId, Step,
+    Task, Word,
 };
 
 // What the word says of the values of the operands.
-pub(crate) fn op_step(world: &World, word: Word, values: &[PyObjectRef]) -> Step<EvalKept>
-    requires { Holds world.now (AreNodes values.now) }
-    ensures goes { Takes (λ t u. op_say u word values.now) world.now world.now result }
-    ensures safe { AllHold world.now (of_step of_eval_kept result) }
+pub(crate) fn op_step(
+    world: &mut World,
+    word: Word,
+    values: &[PyObjectRef],
+) -> Result<Step<EvalKept>, OutOfMemory>
+    requires { Holds world.old (AreNodes values.now) }
+    ensures goes { IfOk result (λ step. Takes (λ t u. op_say u word values.now) world.old world.new step) }
+    ensures safe { Leaves of_eval_kept world.old world.new result }
 {
-    match word {
-        Word::Binary(PyNumberBinaryOp::Add) => add_step(values),
-        Word::Object(ObjectWord::Is) => is_step(world, values),
-        Word::Object(ObjectWord::TypeOf) => type_step(world, values),
-        Word::Object(ObjectWord::Callable) => callable_step(world, values),
-        _ => not_yet(),
+    match manner_of(word) {
+        Manner::HasAttr => has_attr_step(world, values),
+        Manner::Asks(outcome) => {
+            let step = ask_for(world, word, outcome, values);
+            Ok(step)
+        }
+        Manner::Counts(counted) => Ok(counted_step(counted, values)),
+        Manner::Slices => Ok(slice_step(values)),
+        Manner::SetsSlice => Ok(set_slice_step(values)),
+        Manner::DeletesSlice => Ok(del_slice_step(values)),
+        Manner::IsSame => {
+            let step = is_step(world, values);
+            Ok(step)
+        }
+        Manner::TypeOf => {
+            let step = type_step(world, values);
+            Ok(step)
+        }
+        Manner::IsCallable => {
+            let step = callable_step(world, values);
+            Ok(step)
+        }
+        Manner::Formats => {
+            let step = format_step(world, values);
+            Ok(step)
+        }
     }
 }
 
-// A sum, with the values of its operands.
-fn add_step(values: &[PyObjectRef]) -> Step<EvalKept>
-    ensures goes { (w : World) → Takes (λ t u. add_of u (two_of values.now)) w w result }
-    ensures safe { (w : World) → Holds w (AreNodes values.now) → AllHold w (of_step of_eval_kept result) }
+// The word's task is asked, and this is made of its answer.
+fn ask_for(world: &World, word: Word, outcome: Outcome, values: &[PyObjectRef]) -> Step<EvalKept>
+    requires { Holds world.now (AreNodes values.now) }
+    ensures goes { Takes (λ t u. asked u outcome (task_for word values.now)) world.now world.now result }
+    ensures safe { AllHold world.now (of_step of_eval_kept result) }
 {
-    match two_of(values) {
+    match task_for(world, word, values) {
         None => Step::raise(Cause::ArgCount),
-        Some((a, b)) => Step::Ask(Task::Operator(OperatorTask::Add(a, b)), EvalKept::Pass),
+        Some(task) => Step::Ask(task, EvalKept::Made(outcome)),
     }
 }
 
@@ -77,5 +106,41 @@ fn callable_step(world: &World, values: &[PyObjectRef]) -> Step<EvalKept>
             let callable = world.slot(object, SlotId::Call).is_some();
             Step::End(Ok(Answer::Value(world.truth(callable))))
         }
+    }
+}
+
+// An object as a text by a specification, which must be a text.
+fn format_step(world: &World, values: &[PyObjectRef]) -> Step<EvalKept>
+    requires { Holds world.now (AreNodes values.now) }
+    ensures goes { Takes (λ t u. format_of u (two_of values.now)) world.now world.now result }
+    ensures safe { AllHold world.now (of_step of_eval_kept result) }
+{
+    match two_of(values) {
+        None => Step::raise(Cause::ArgCount),
+        Some((object, spec)) => match world.payload(spec) {
+            Payload::Text(_) => Step::Ask(
+                Task::Object(ObjectTask::Format(object, spec)),
+                EvalKept::Pass,
+            ),
+            _ => Step::raise(Cause::SelfType),
+        },
+    }
+}
+
+// Whether an object has an attribute of a name, which must be a text.
+fn has_attr_step(world: &mut World, values: &[PyObjectRef]) -> Result<Step<EvalKept>, OutOfMemory>
+    requires { Holds world.old (AreNodes values.now) }
+    ensures goes { IfOk result (λ step. Takes (λ t u. has_attr_of u (two_of values.now)) world.old world.new step) }
+    ensures safe { Leaves of_eval_kept world.old world.new result }
+{
+    match two_of(values) {
+        None => Ok(Step::raise(Cause::ArgCount)),
+        Some((object, text)) => match world.name_in(text)? {
+            Err(raised) => Ok(Step::End(Err(raised))),
+            Ok(name) => Ok(Step::Ask(
+                Task::Attribute(AttributeTask::HasAttr(object, name)),
+                EvalKept::Made(Outcome::Truth),
+            )),
+        },
     }
 }

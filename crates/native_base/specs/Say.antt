@@ -6,7 +6,7 @@ use Rattle.py_node.specs.declared.raised.Raised.{Raised as Fault}
 use Rattle.py_node.specs.declared.raised.Cause.TheVariants.{ArgCount, SelfType, IntRange, TooLong}
 use Rattle.py_node.specs.BuiltIns.{place_of}
 use Rattle.py_node.specs.Tree.{Text}
-use Rattle.plain_machine.specs.Plain.{Datum, ANumber, AText, AnIterator, PlainWorld, Bindings, Said, Ends}
+use Rattle.plain_machine.specs.Plain.{Datum, ANumber, AText, AnIterator, PlainWorld, Bindings, AsNumber, Said, Ends}
 use Rattle.plain_machine.specs.World.{datum_at, number_of, with_node, next_node}
 use Rattle.plain_machine.specs.Known.{the_int, the_str}
 use Rattle.plain_machine.specs.Row.{value, not_implemented, fits, most_items, fault}
@@ -28,6 +28,10 @@ object_made w c d = Ends (with_node w c d) (value (next_node w c))
 abbrev pub int_made : PlainWorld → Result ℤ Fault → Said
 int_made w (Err x) = Ends w (Err x)
 int_made w (Ok z) = object_made w the_int (ANumber z)
+
+-- ends with a number, of which a call by name makes a new one
+abbrev pub number_told : PlainWorld → ℤ → Said
+number_told w z = Ends w (Ok (AsNumber z))
 
 -- ends with a new text, or with a fault
 abbrev pub text_made : PlainWorld → Result Text Fault → Said

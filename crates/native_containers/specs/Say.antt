@@ -18,7 +18,7 @@ use Rattle.plain_machine.specs.Objects.{with_datum}
 use Rattle.plain_machine.specs.Plain.{ATuple, AList, PlainWorld, Bindings, Ended, Said, Ends}
 use Rattle.plain_machine.specs.Row.{value, none, truth, most_items, fault, not_yet}
 use Rattle.plain_machine.specs.World.{datum_at, with_node, next_node}
-use Rattle.native_base.specs.Say.{object_made, int_made, iterator_made}
+use Rattle.native_base.specs.Say.{object_made, number_told, iterator_made}
 use Rattle.native_containers.specs.declared.take.Kind.{Kind}
 use Rattle.native_containers.specs.declared.take.Kind.TheVariants as kind
 use Rattle.native_containers.specs.Take.{is_of, items_at, entries_at, with_kind, with_own, with_lone, with_own_and, with_own_and_two, with_key, with_dict_and_key, with_default}
@@ -27,9 +27,9 @@ use Rattle.native_containers.specs.Take.{is_of, items_at, entries_at, with_kind,
 abbrev pub unless_long : {A : Type 0} → PlainWorld → List A → Said → Said
 unless_long w xs go = cond (nat_le (length xs) most_items) go (Ends w (fault TooLong))
 
--- how many there are, as a new number
+-- how many there are
 abbrev pub counted : {A : Type 0} → PlainWorld → List A → Said
-counted w xs = int_made w (Ok (pos (length xs)))
+counted w xs = number_told w (pos (length xs))
 
 -- tuples and lists
 

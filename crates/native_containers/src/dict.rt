@@ -23,7 +23,7 @@ use crate::take::{
     Kind, dict_and_key, entries, key_refusal, lone, own, own_and, own_and_two, with_default,
 };
 use class_world::World;
-use native_base::give::{new_int, new_iterator};
+use native_base::give::new_iterator;
 use py_node::{
     Answer, BuiltIn, Cause, DictNative, OutOfMemory, Payload, PyObjectRef, PyStrInterned, Raised,
 };
@@ -43,7 +43,7 @@ pub fn dict_native(
     match native {
         DictNative::Init => init(world, args, kw),
         DictNative::Repr => Ok(Err(Raised::new(Cause::NotYet))),
-        DictNative::Length => length(world, args, kw),
+        DictNative::Length => Ok(length(world, args, kw)),
         DictNative::GetItem => Ok(get_item(world, args, kw)),
         DictNative::SetItem => set_item(world, args, kw),
         DictNative::DelItem => del_item(world, args, kw),
@@ -59,23 +59,17 @@ pub fn dict_native(
 
 // How many keys there are.
 fn length(
-    world: &mut World,
+    world: &World,
     args: &[PyObjectRef],
     kw: &[(PyStrInterned, PyObjectRef)],
-) -> Result<Result<Answer, Raised>, OutOfMemory>
-    requires { Holds world.old (AreNodes args.now) }
-    ensures ends { IfOk result (λ r. EndsAs (λ t u.
-        with_lone kind.Dict u args.now (bindings t kw.now) (λ d. counted u (entries_at u d)))
-        world.old world.new r) }
-    ensures safe { LeavesEnd world.old world.new result }
+) -> Result<Answer, Raised>
+    requires { Holds world.now (AreNodes args.now) }
+    ensures ends { EndsAs (λ t u. with_lone kind.Dict u args.now (bindings t kw.now)
+        (λ d. counted u (entries_at u d))) world.now world.now result }
+    ensures holds { AllHold world.now (of_ended result) }
 {
-    match lone(world, Kind::Dict, args, kw) {
-        Err(raised) => Ok(Err(raised)),
-        Ok(dict) => {
-            let count = entries(world, dict).len();
-            new_int(world, Ok(count as i128))
-        }
-    }
+    let dict = lone(world, Kind::Dict, args, kw)?;
+    Ok(Answer::Number(entries(world, dict).len() as i64))
 }
 
 // The value under a key, which must be there.

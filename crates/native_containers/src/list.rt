@@ -27,7 +27,7 @@ pub fn list_native(
     ensures safe { LeavesEnd world.old world.new result }
 {
     match native {
-        ListNative::Length => length(world, Kind::List, args, kw),
+        ListNative::Length => Ok(length(world, Kind::List, args, kw)),
         ListNative::Iter => iter(world, Kind::List, args, kw),
         ListNative::Add => add(world, args, kw),
         ListNative::Append => append(world, args, kw),

@@ -4,7 +4,8 @@ ghost use Rattle.std.specs.Prelude.{◌≡◌, ◌++◌, Err, IfErr, IfOk, List}
 ghost use Rattle.plain_machine.specs.Plain.{Said, Ends};
 ghost use Rattle.py_node.specs.declared.refs.PyObjectRef.{PyObjectRef as Object};
 ghost use Rattle.class_world.specs.Reading.{Reading, bindings, plain};
-ghost use Rattle.class_world.specs.Sound.{AreNodes, Holds};
+ghost use Rattle.class_world.specs.Claims.{of_ended};
+ghost use Rattle.class_world.specs.Sound.{AllHold, AreNodes, Holds};
 ghost use Rattle.class_world.specs.Rows.{EndsAs, LeavesEnd};
 ghost use Rattle.native_base.specs.Say.{iterator_made};
 ghost use Rattle.native_containers.specs.Say.{counted, with_joined};
@@ -13,30 +14,25 @@ ghost use Rattle.native_containers.specs.Take.{items_at, with_lone};
 use crate::take::{Kind, is_of, items, lone, own_and};
 use class_world::World;
 use class_world::limits::is_within_limit;
-use native_base::give::{new_int, new_iterator};
+use native_base::give::new_iterator;
 use py_node::task::Args;
 use py_node::{Answer, Cause, OutOfMemory, PyObjectRef, PyStrInterned, Raised};
 use std::alloc::Global;
 
 /// How many items a tuple or a list has.
 pub(crate) fn length(
-    world: &mut World,
+    world: &World,
     kind: Kind,
     args: &[PyObjectRef],
     kw: &[(PyStrInterned, PyObjectRef)],
-) -> Result<Result<Answer, Raised>, OutOfMemory>
-    requires { Holds world.old (AreNodes args.now) }
-    ensures ends { IfOk result (λ r. EndsAs (λ t u.
-        with_lone kind u args.now (bindings t kw.now) (λ o. counted u (items_at u o))) world.old world.new r) }
-    ensures safe { LeavesEnd world.old world.new result }
+) -> Result<Answer, Raised>
+    requires { Holds world.now (AreNodes args.now) }
+    ensures ends { EndsAs (λ t u. with_lone kind u args.now (bindings t kw.now)
+        (λ o. counted u (items_at u o))) world.now world.now result }
+    ensures holds { AllHold world.now (of_ended result) }
 {
-    match lone(world, kind, args, kw) {
-        Err(raised) => Ok(Err(raised)),
-        Ok(object) => {
-            let count = items(world, object).len();
-            new_int(world, Ok(count as i128))
-        }
-    }
+    let object = lone(world, kind, args, kw)?;
+    Ok(Answer::Number(items(world, object).len() as i64))
 }
 
 /// A new iterator over a tuple or a list.

@@ -26,7 +26,7 @@ pub fn tuple_native(
     ensures safe { LeavesEnd world.old world.new result }
 {
     match native {
-        TupleNative::Length => length(world, Kind::Tuple, args, kw),
+        TupleNative::Length => Ok(length(world, Kind::Tuple, args, kw)),
         TupleNative::Iter => iter(world, Kind::Tuple, args, kw),
         TupleNative::Add => add(world, args, kw),
         _ => Ok(Err(Raised::new(Cause::NotYet))),

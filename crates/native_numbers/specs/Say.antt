@@ -23,7 +23,7 @@ use Rattle.plain_machine.specs.World.{class_at, datum_at, number_of, with_node, 
 use Rattle.plain_machine.specs.Known.{the_int, the_tuple}
 use Rattle.plain_machine.specs.Row.{value, truth, not_implemented, fault, not_yet}
 use Rattle.plain_machine.specs.Takes.{with_one, with_two, with_three}
-use Rattle.native_base.specs.Say.{int_made, text_made, numbers_of, with_lone_number, with_number_and, with_numbers}
+use Rattle.native_base.specs.Say.{int_made, number_told, text_made, numbers_of, with_lone_number, with_number_and, with_numbers}
 use Rattle.native_numbers.specs.Numbers.{is_zero, number_hash, negated, absolute, inverted, difference, product, quotient, remainder, power, right_shifted, left_shifted}
 
 -- the natives of None and NotImplemented, which are for these two
@@ -59,7 +59,7 @@ truth_text false = codes "False"
 
 abbrev pub number_by : PlainWorld → NumberNative → PyObjectRef → ℤ → Said
 number_by w number.Repr o z = text_made w (Ok (signed_decimal z))
-number_by w number.Hash o z = int_made w (Ok (number_hash z))
+number_by w number.Hash o z = number_told w (number_hash z)
 number_by w number.Negative o z = int_made w (negated z)
 number_by w number.Positive o z = as_int w o z
 number_by w number.Absolute o z = int_made w (absolute z)

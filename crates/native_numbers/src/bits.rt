@@ -52,8 +52,8 @@ fn bits_of(
     }
 }
 
-// The truth value that an object is, if it is one.
-fn truth_of(object: PyObjectRef) -> Option<bool>
+/// The truth value that an object is, if it is one.
+pub fn truth_of(object: PyObjectRef) -> Option<bool>
     ensures { result ≡ truth_of object }
 {
     if object.0 == Fixed::False.node().0 {

@@ -9,7 +9,7 @@ mod number;
 pub mod reckon;
 
 pub use arithmetic::arithmetic_native;
-pub use bits::bits_native;
+pub use bits::{bits_native, truth_of};
 pub use compare::compare_native;
 pub use fixed::fixed_native;
-pub use number::number_native;
+pub use number::{as_int, is_int, number_native};

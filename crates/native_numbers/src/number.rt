@@ -47,7 +47,7 @@ fn number_by(
             let text = format!(in world.alloc(); "{z}")?;
             new_text(world, text)
         }
-        NumberNative::Hash => new_int(world, Ok(number_hash(z) as i128)),
+        NumberNative::Hash => Ok(Ok(Answer::Number(number_hash(z)))),
         NumberNative::Negative => new_int(world, negated(z)),
         NumberNative::Positive => as_int(world, o, z),
         NumberNative::Absolute => new_int(world, absolute(z)),
@@ -61,8 +61,8 @@ fn number_by(
     }
 }
 
-// A number as an int: an int of no other class is itself.
-fn as_int(world: &mut World, o: PyObjectRef, z: i128) -> Result<Result<Answer, Raised>, OutOfMemory>
+/// A number as an int: an int of no other class is itself.
+pub fn as_int(world: &mut World, o: PyObjectRef, z: i128) -> Result<Result<Answer, Raised>, OutOfMemory>
     requires { Holds world.old (IsNode o) }
     ensures ends { IfOk result (λ r. EndsAs (λ t u. as_int u o z) world.old world.new r) }
     ensures safe { LeavesEnd world.old world.new result }
@@ -74,9 +74,9 @@ fn as_int(world: &mut World, o: PyObjectRef, z: i128) -> Result<Result<Answer, R
     }
 }
 
-// Whether the class of an object is `int` itself.
+/// Whether the class of an object is `int` itself.
 #[tactic(auto, unfolding(py_node::specs::BuiltIns::place_of))]
-fn is_int(world: &World, o: PyObjectRef) -> bool
+pub fn is_int(world: &World, o: PyObjectRef) -> bool
     requires { Holds world.now (IsNode o) }
     ensures { (t : Reading) → is_int (class_at (plain t world.now) o) ≡ result }
 {

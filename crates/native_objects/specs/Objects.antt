@@ -1,5 +1,6 @@
 -- The natives of `object` and of `type` that ask no task.
-use Rattle.std.specs.Prelude.{ℕ, pos, true, cond, eqb, length, nat_le, List, [], ◌∷◌, map, Option, Some, None, Ok}
+use Rattle.std.specs.Prelude.{ℕ, true, cond, eqb, length, nat_le, List, [], ◌∷◌, map, Option, Some, None}
+use Rattle.std.specs.Int.{w64, cast_signed}
 use Rattle.py_node.specs.declared.refs.PyObjectRef.{PyObjectRef}
 use Rattle.py_node.specs.declared.raised.Cause.TheVariants.{ArgCount}
 use Rattle.py_node.specs.declared.entry.ObjectNative.{ObjectNative}
@@ -13,7 +14,7 @@ use Rattle.plain_machine.specs.Known.{the_list, the_dict}
 use Rattle.plain_machine.specs.Objects.{class_number, is_instance}
 use Rattle.plain_machine.specs.Row.{value, truth, not_implemented, fault, not_yet}
 use Rattle.plain_machine.specs.Takes.{with_one, with_two}
-use Rattle.native_base.specs.Say.{object_made, int_made, text_made}
+use Rattle.native_base.specs.Say.{object_made, number_told, text_made}
 use Rattle.native_objects.specs.Attributes.{type_dir}
 use Rattle.native_objects.specs.Takes.{needed, with_class, with_lone_class, with_class_and}
 use Rattle.native_objects.specs.Names.{object_text, class_text}
@@ -40,9 +41,9 @@ says_nothing w args kw = with_two w args kw (λ a b. Ends w (value not_implement
 abbrev pub object_repr : PlainWorld → List PyObjectRef → Bindings → Said
 object_repr w args kw = with_one w args kw (λ o. repr_of w o (class_at w o))
 
--- an object's hash is its number
+-- an object's hash is its number, of 64 bits with their sign
 abbrev pub object_hash : PlainWorld → List PyObjectRef → Bindings → Said
-object_hash w args kw = with_one w args kw (λ o. int_made w (Ok (pos o.0)))
+object_hash w args kw = with_one w args kw (λ o. number_told w (cast_signed w64 o.0))
 
 abbrev pub object_eq : PlainWorld → List PyObjectRef → Bindings → Said
 object_eq w args kw = with_two w args kw (same_or_none w)

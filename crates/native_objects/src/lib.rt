@@ -16,7 +16,7 @@ mod types;
 pub use descriptors::{callable_native, descriptor_native, super_native, wrapper_native};
 pub use details::getter_of_native;
 pub use getters::getter_native;
-pub use makers::maker_native;
+pub use makers::{heir, maker_native};
 pub use object::object_native;
 pub use property::property_native;
 pub use types::type_native;

@@ -47,8 +47,8 @@ fn not_yet() -> Result<Result<Answer, Raised>, OutOfMemory>
     Ok(Err(Raised::new(Cause::NotYet)))
 }
 
-// The class that is the first argument, where its objects are those of a built-in class, or why it is refused.
-fn heir(world: &World, built_in: BuiltIn, args: &[PyObjectRef]) -> Result<PyTypeRef, Raised>
+/// The class that is the first argument, where its objects are those of a built-in class, or why it is refused.
+pub fn heir(world: &World, built_in: BuiltIn, args: &[PyObjectRef]) -> Result<PyTypeRef, Raised>
     requires { Holds world.now (AreNodes args.now) }
     ensures given { IfOk result (λ c. (t : Reading) (go : ℕ → Said) →
         with_heir (plain t world.now) built_in args.now go ≡ go c.0) }

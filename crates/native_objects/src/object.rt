@@ -2,6 +2,7 @@
 
 ghost use Rattle.std.specs.Prelude.{IfOk};
 ghost use Rattle.class_world.specs.Claims.{of_ended};
+ghost use Rattle.class_world.specs.Held.{Held};
 ghost use Rattle.class_world.specs.Reading.{bindings};
 ghost use Rattle.class_world.specs.Rows.{EndsAs, LeavesEnd};
 ghost use Rattle.class_world.specs.Sound.{AllHold, AreNodes, Holds};
@@ -10,7 +11,6 @@ ghost use Rattle.native_objects.specs.Objects.{object_native_say, object_repr, o
 use crate::names::{limited_text, object_text};
 use class_world::takes::{one, two};
 use class_world::{Fixed, World};
-use native_base::give::new_int;
 use py_node::{Answer, Cause, ObjectNative, OutOfMemory, PyObjectRef, PyStrInterned, Raised};
 
 /// A native of `object` that asks no task.
@@ -27,7 +27,7 @@ pub fn object_native(
 {
     match native {
         ObjectNative::Repr => object_repr(world, args, kw),
-        ObjectNative::Hash => object_hash(world, args, kw),
+        ObjectNative::Hash => Ok(object_hash(args, kw)),
         ObjectNative::Eq => Ok(object_eq(world, args, kw)),
         ObjectNative::Lt | ObjectNative::Le | ObjectNative::Ge | ObjectNative::Gt => {
             Ok(says_nothing(world, args, kw))
@@ -58,20 +58,16 @@ fn object_repr(
     }
 }
 
-// The hash of an object is its number.
+// The hash of an object is its number, of 64 bits with their sign.
 fn object_hash(
-    world: &mut World,
     args: &[PyObjectRef],
     kw: &[(PyStrInterned, PyObjectRef)],
-) -> Result<Result<Answer, Raised>, OutOfMemory>
-    ensures ends { IfOk result (λ r. EndsAs (λ t u. object_hash u args.now (bindings t kw.now))
-        world.old world.new r) }
-    ensures safe { LeavesEnd world.old world.new result }
+) -> Result<Answer, Raised>
+    ensures ends { (w : World) → EndsAs (λ t u. object_hash u args.now (bindings t kw.now)) w w result }
+    ensures holds { (w : Held) → AllHold w (of_ended result) }
 {
-    match one(args, kw) {
-        Err(raised) => Ok(Err(raised)),
-        Ok(object) => new_int(world, Ok(object.0 as i128)),
-    }
+    let object = one(args, kw)?;
+    Ok(Answer::Number(object.0.cast_signed()))
 }
 
 // An object is equal to itself. Of others the native says nothing.

@@ -3,6 +3,7 @@ use Rattle.std.specs.Prelude.{ℕ, Bool, false, cond, eqb, List, [], ◌∷◌, 
 use Rattle.std.specs.declared.cmp.Ordering.{Ordering}
 use Rattle.std.specs.Ordering.{nat_cmp, is_eq, is_ne, is_lt, is_le, is_ge, is_gt}
 use Rattle.std.specs.Cmp.Lexicographic.{slice_cmp}
+use Rattle.std.specs.Int.{w64, cast_signed}
 use Rattle.std.specs.Str.{str_to_ascii_uppercase}
 use Rattle.py_node.specs.declared.refs.PyObjectRef.{PyObjectRef}
 use Rattle.py_node.specs.declared.raised.Cause.TheVariants.{ArgCount, ConcatType, ContainsType}
@@ -16,7 +17,7 @@ use Rattle.plain_machine.specs.World.{class_at, datum_at}
 use Rattle.plain_machine.specs.Known.{the_str}
 use Rattle.plain_machine.specs.Row.{value, truth, not_implemented, fault, not_yet}
 use Rattle.plain_machine.specs.Takes.{with_one, with_two, with_text}
-use Rattle.native_base.specs.Say.{in_length, int_made, text_made, iterator_made}
+use Rattle.native_base.specs.Say.{in_length, number_told, text_made, iterator_made}
 use Rattle.native_texts.specs.Texts.{text_length, text_hash, repr_text, stands_in}
 
 -- the text that an object holds
@@ -52,10 +53,11 @@ str_str w args kw =
     with_lone_text w args kw (λ o x. cond (is_str (class_at w o)) (Ends w (value o)) (text_made w (Ok x)))
 
 abbrev pub str_hash : PlainWorld → List PyObjectRef → Bindings → Said
-str_hash w args kw = with_lone_text w args kw (λ o x. int_made w (Ok (text_hash x)))
+str_hash w args kw = with_lone_text w args kw (λ o x. number_told w (text_hash x))
 
+-- a count is told as a number of 64 bits with their sign
 abbrev pub str_len : PlainWorld → List PyObjectRef → Bindings → Said
-str_len w args kw = with_lone_text w args kw (λ o x. int_made w (Ok (text_length x)))
+str_len w args kw = with_lone_text w args kw (λ o x. number_told w (cast_signed w64 (text_length x)))
 
 abbrev pub str_iter : PlainWorld → List PyObjectRef → Bindings → Said
 str_iter w args kw = with_lone_text w args kw (λ o x. iterator_made w o)

@@ -1,6 +1,6 @@
 //! What natives make of texts: their length, their hash, and their form in Python's syntax.
 
-ghost use Rattle.std.specs.Prelude.{◌≡◌, ◌++◌, pos, OnOk, IfOk, string_bytes};
+ghost use Rattle.std.specs.Prelude.{◌≡◌, ◌++◌, OnOk, IfOk, string_bytes};
 ghost use Rattle.std.specs.Str.{IsUtf8};
 ghost use Rattle.native_texts.specs.Texts.{text_length, hash_of, text_hash, repr_byte, repr_text, stands_in};
 
@@ -9,7 +9,7 @@ use std::alloc::Global;
 
 /// How many characters a text has.
 pub(crate) fn text_length(text: &str) -> usize
-    ensures { pos result ≡ text_length text.now }
+    ensures { result ≡ text_length text.now }
 {
     text.chars().count()
 }

@@ -13,7 +13,7 @@ use crate::of_bytes::{repr_text, stands_in, text_hash, text_length};
 use crate::take::{lone_text, text_and, text_of};
 use class_world::World;
 use class_world::limits::is_within_limit;
-use native_base::give::{new_int, new_iterator, new_text};
+use native_base::give::{new_iterator, new_text};
 use py_node::{Answer, BuiltIn, Cause, OutOfMemory, PyObjectRef, PyStrInterned, Raised, StrNative};
 
 /// A native of texts. Those that ask a task are not there yet.
@@ -31,8 +31,8 @@ pub fn text_native(
     match native {
         StrNative::Repr => str_repr(world, args, kw),
         StrNative::Str => str_str(world, args, kw),
-        StrNative::Hash => str_hash(world, args, kw),
-        StrNative::Length => str_len(world, args, kw),
+        StrNative::Hash => Ok(str_hash(world, args, kw)),
+        StrNative::Length => Ok(str_len(world, args, kw)),
         StrNative::Contains => Ok(str_contains(world, args, kw)),
         StrNative::Iter => str_iter(world, args, kw),
         StrNative::Add => str_add(world, args, kw),
@@ -86,42 +86,30 @@ fn str_str(
 
 // The hash of the text.
 fn str_hash(
-    world: &mut World,
+    world: &World,
     args: &[PyObjectRef],
     kw: &[(PyStrInterned, PyObjectRef)],
-) -> Result<Result<Answer, Raised>, OutOfMemory>
-    requires { Holds world.old (AreNodes args.now) }
-    ensures ends { IfOk result (λ r. EndsAs (λ t u. str_hash u args.now (bindings t kw.now))
-        world.old world.new r) }
-    ensures safe { LeavesEnd world.old world.new result }
+) -> Result<Answer, Raised>
+    requires { Holds world.now (AreNodes args.now) }
+    ensures ends { EndsAs (λ t u. str_hash u args.now (bindings t kw.now)) world.now world.now result }
+    ensures holds { AllHold world.now (of_ended result) }
 {
-    match lone_text(world, args, kw) {
-        Err(raised) => Ok(Err(raised)),
-        Ok((_, text)) => {
-            let hash = text_hash(text);
-            new_int(world, Ok(hash as i128))
-        }
-    }
+    let (_, text) = lone_text(world, args, kw)?;
+    Ok(Answer::Number(text_hash(text)))
 }
 
 // How many characters the text has.
 fn str_len(
-    world: &mut World,
+    world: &World,
     args: &[PyObjectRef],
     kw: &[(PyStrInterned, PyObjectRef)],
-) -> Result<Result<Answer, Raised>, OutOfMemory>
-    requires { Holds world.old (AreNodes args.now) }
-    ensures ends { IfOk result (λ r. EndsAs (λ t u. str_len u args.now (bindings t kw.now))
-        world.old world.new r) }
-    ensures safe { LeavesEnd world.old world.new result }
+) -> Result<Answer, Raised>
+    requires { Holds world.now (AreNodes args.now) }
+    ensures ends { EndsAs (λ t u. str_len u args.now (bindings t kw.now)) world.now world.now result }
+    ensures holds { AllHold world.now (of_ended result) }
 {
-    match lone_text(world, args, kw) {
-        Err(raised) => Ok(Err(raised)),
-        Ok((_, text)) => {
-            let length = text_length(text);
-            new_int(world, Ok(length as i128))
-        }
-    }
+    let (_, text) = lone_text(world, args, kw)?;
+    Ok(Answer::Number((text_length(text) as u64).cast_signed()))
 }
 
 // An iterator over the characters of the text.

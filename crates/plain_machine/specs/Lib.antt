@@ -1,6 +1,7 @@
 pub mod Known
 pub mod Plain
 pub mod World
+pub mod Running
 pub mod Args
 pub mod Show
 pub mod ClassText

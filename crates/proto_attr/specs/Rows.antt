@@ -4,7 +4,7 @@ use Rattle.py_node.specs.declared.raised.Raised.{Raised as Fault}
 use Rattle.py_node.specs.declared.task.Answer.{Answer}
 use Rattle.py_node.specs.declared.task.AttributeTask.{AttributeTask}
 use Rattle.py_node.specs.declared.task.Step.{Step}
-use Rattle.plain_machine.specs.Plain.{PlainWorld, AttributeJob, DoGetAttr, DoGenericOpt, DoLoadMethod, DoSpecial, DoBind, Chose, Said}
+use Rattle.plain_machine.specs.Plain.{PlainWorld, AttributeJob, DoGetAttr, DoGenericOpt, DoLoadMethod, DoHasAttr, DoSpecial, DoBind, Chose, Said}
 use Rattle.plain_machine.specs.Rows.{Pending}
 use Rattle.plain_machine.specs.World.{ref}
 use Rattle.class_world.specs.declared.world.World.{World}
@@ -14,7 +14,7 @@ use Rattle.class_world.specs.Rows.{Group}
 use Rattle.class_world.specs.Sound.{Claim, IsNode, IsName}
 use Rattle.class_world.specs.Claims.{of_args}
 use Rattle.proto_attr.specs.declared.AttributeKept.{AttributeKept}
-use Rattle.proto_attr.specs.declared.AttributeKept.TheVariants.{Pass, AfterBind, GetAttr, Maybe, Method}
+use Rattle.proto_attr.specs.declared.AttributeKept.TheVariants.{Pass, AfterBind, GetAttr, HasAttr, Maybe, Method}
 use Rattle.proto_attr.specs.declared.find.Found.{Found}
 use Rattle.proto_attr.specs.declared.find.Found.TheVariants.{Descriptor, Value, Missing}
 use Rattle.proto_attr.specs.Say.{attribute_say}
@@ -23,6 +23,7 @@ use Rattle.proto_attr.specs.Say.{attribute_say}
 abbrev pub attribute_stands : Reading → AttributeKept → Pending AttributeJob
 attribute_stands t Pass = record { task = DoBind (record { 0 = 0 }) None (record { 0 = 0 }); told = [] }
 attribute_stands t (GetAttr o x) = record { task = DoGetAttr o (spelled t x); told = Chose 1 ∷ [] }
+attribute_stands t HasAttr = record { task = DoHasAttr (ref 0) []; told = [] }
 attribute_stands t Maybe = record { task = DoGenericOpt (ref 0) [] None; told = [] }
 attribute_stands t Method = record { task = DoLoadMethod (ref 0) []; told = [] }
 attribute_stands t (AfterBind args kw) = record { task = DoSpecial (record { 0 = 0 }) [] args.items (bindings t kw.items); told = Chose 1 ∷ [] }
@@ -31,6 +32,7 @@ attribute_stands t (AfterBind args kw) = record { task = DoSpecial (record { 0 =
 abbrev pub of_attribute_kept : AttributeKept → List Claim
 of_attribute_kept Pass = []
 of_attribute_kept (GetAttr o x) = IsNode o ∷ IsName x ∷ []
+of_attribute_kept HasAttr = []
 of_attribute_kept Maybe = []
 of_attribute_kept Method = []
 of_attribute_kept (AfterBind args kw) = of_args args.items kw.items

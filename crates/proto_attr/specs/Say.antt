@@ -1,28 +1,30 @@
 -- What the rows of attributes and special methods say.
-use Rattle.std.specs.Prelude.{ℕ, zero, suc, Bool, true, false, cond, ◌&&◌, List, [], ◌∷◌, Option, Some, None, Ok, Err, is_some}
+use Rattle.std.specs.Prelude.{ℕ, zero, suc, Bool, true, false, cond, eqb, not, ◌&&◌, List, [], ◌∷◌, Option, Some, None, Ok, Err, is_some}
 use Rattle.py_node.specs.declared.refs.PyObjectRef.{PyObjectRef}
 use Rattle.py_node.specs.declared.raised.Raised.{Raised as Fault}
 use Rattle.py_node.specs.declared.raised.Cause.TheVariants.{ImmutableType, NoAttribute, NoSpecial}
 use Rattle.py_node.specs.declared.entry.SlotId.TheVariants.{Getattro, Setattro, DescrGet, DescrSet}
 use Rattle.py_node.specs.declared.entry.SlotEntry.{SlotEntry}
 use Rattle.py_node.specs.declared.entry.SlotEntry.TheVariants.{Native, Wrapper}
-use Rattle.py_node.specs.declared.entry.NativeEntry.TheVariants.{OfObject, OfType}
+use Rattle.py_node.specs.declared.entry.NativeEntry.TheVariants.{OfObject, OfType, OfSuper}
 use Rattle.py_node.specs.declared.entry.ObjectNative.TheVariants as object
+use Rattle.py_node.specs.declared.entry.SuperNative.TheVariants as super
 use Rattle.py_node.specs.declared.entry.TypeNative.TheVariants as type
 use Rattle.py_node.specs.Tree.{Text}
 use Rattle.py_node.specs.declared.known.Known.TheVariants as known
 use Rattle.py_node.specs.Known.{known_text}
 use Rattle.proto_attr.specs.declared.find.Found.{Found}
 use Rattle.proto_attr.specs.declared.find.Found.TheVariants.{Descriptor, Value, Missing}
-use Rattle.class_model.specs.Class.{class_at as class_numbered, found}
+use Rattle.class_model.specs.Class.{class_at as class_numbered, found, own_of}
 use Rattle.class_model.specs.Slot.{is_heap_at}
-use Rattle.plain_machine.specs.Plain.{AText, PlainWorld, Bindings, PlainTask, AttributeJob, DoGetAttr, DoGeneric, DoGenericOpt, DoTypeGet, DoLoadMethod, DoInvoke, DoSetAttr, DoGenericSet, DoTypeSet, DoSpecial, DoBind, DoDescrGet, DoDescrSet, DoCall}
-use Rattle.plain_machine.specs.Plain.{ToAttribute, ToDescriptor, ToCall, AsMaybe, AsFunction, AsAttribute, Ended, Chose, Said, Asks, Ends}
+use Rattle.plain_machine.specs.Plain.{AText, PlainWorld, Bindings, PlainTask, AttributeJob, DoGetAttr, DoGeneric, DoGenericOpt, DoTypeGet, DoLoadMethod, DoInvoke, DoSetAttr, DoGenericSet, DoTypeSet, DoSpecial, DoBind, DoDescrGet, DoDescrSet, DoHasAttr, DoSuperGet, DoCall}
+use Rattle.plain_machine.specs.Plain.{ToAttribute, ToDescriptor, ToCall, AsMaybe, AsTruth, AsFunction, AsAttribute, Ended, Chose, Said, Asks, Ends}
 use Rattle.plain_machine.specs.World.{is_text, datum_at, slot_at, with_node, next_node, with_own_attr}
+use Rattle.plain_machine.specs.Change.{without_own_attr}
 use Rattle.plain_machine.specs.Objects.{class_object, type_object, class_number, special_at, is_fast}
 use Rattle.plain_machine.specs.Dicts.{dict_of, value_in, own_value, with_value_in, without_value_in}
 use Rattle.plain_machine.specs.Known.{the_str}
-use Rattle.plain_machine.specs.Row.{Row, start, fork, pass, end, value, done, fault, not_yet, is_attribute_error, on_value}
+use Rattle.plain_machine.specs.Row.{Row, start, fork, ask, pass, end, value, done, none, fault, is_attribute_error, on_value}
 
 -- a special method is given a name as a new text
 abbrev pub with_text : PlainWorld → Text → PlainWorld
@@ -54,11 +56,16 @@ abbrev pub setter : PlainWorld → Option PyObjectRef → Option PyObjectRef
 setter w None = None
 setter w (Some a) = cond (is_some (slot_at w a DescrSet)) (Some a) None
 
--- a class's own attribute, where the class was made by a script. That one is taken out is not there yet
+-- a class's own attribute is taken out, where it is there
+abbrev pub own_taken : PlainWorld → ℕ → Text → Option PyObjectRef → Said
+own_taken w c x None = Ends w (fault NoAttribute)
+own_taken w c x (Some old) = Ends (without_own_attr w c x) done
+
+-- a class's own attribute is set or taken out, where the class was made by a script
 abbrev pub own_set : PlainWorld → Bool → ℕ → Text → Option PyObjectRef → Said
 own_set w false c x v = Ends w (fault ImmutableType)
 own_set w true c x (Some v) = Ends (with_own_attr w c x v) done
-own_set w true c x None = Ends w not_yet
+own_set w true c x None = own_taken w c x (own_of (λ y. is_text y x) (class_numbered w.classes c))
 
 -- a class's attribute is set by what its metaclass has under the name, or else in the class itself
 abbrev pub type_set_by : PlainWorld → Option PyObjectRef → ℕ → Text → Option PyObjectRef → Said
@@ -154,7 +161,7 @@ type_get_by w c (Some a) (Some z) = cond (is_data w a) (descriptor_get w a (clas
 abbrev pub type_get_say : PlainWorld → ℕ → Text → Row
 type_get_say w c x = start (type_get_by w c (special_at w (class_object w c) x) (found is_text w.classes c x)) (end w)
 
--- an object's attribute is read as its class's entry for that says: by a special method, as classes do, or as objects do
+-- an object's attribute is read as its class's entry for that says: by a special method, as classes do, as `super` does, or as objects do
 abbrev pub get_by_method : PlainWorld → PyObjectRef → Text → Said
 get_by_method w o x = Asks (with_text w x) (Chose 1 ∷ []) (by_name w o (known_text known.GetAttribute))
 
@@ -165,6 +172,7 @@ get_in_class w (Some c) o x = Asks w (Chose 0 ∷ []) (ToAttribute (DoTypeGet c 
 abbrev pub get_by : PlainWorld → Option SlotEntry → PyObjectRef → Text → Said
 get_by w (Some (Wrapper s)) o x = get_by_method w o x
 get_by w (Some (Native (OfType type.GetAttribute))) o x = get_in_class w (class_number (datum_at w o)) o x
+get_by w (Some (Native (OfSuper super.GetAttribute))) o x = Asks w (Chose 0 ∷ []) (ToDescriptor (DoSuperGet o x))
 get_by w _ o x = Asks w (Chose 0 ∷ []) (ToAttribute (DoGeneric o x))
 
 -- a special method that finds no attribute leaves it to `__getattr__`, where there is one
@@ -179,6 +187,13 @@ get_rest w o x _ r = end w r
 
 abbrev pub get_attr_say : PlainWorld → PyObjectRef → Text → Row
 get_attr_say w o x = fork (get_by w (slot_at w o Getattro) o x) (get_rest w o x)
+
+-- whether an object has an attribute that is not None
+abbrev pub not_none : PyObjectRef → Ended
+not_none v = Ok (AsTruth (not (eqb v.0 none.0)))
+
+abbrev pub has_attr_say : PlainWorld → PyObjectRef → Text → Row
+has_attr_say w o x = ask w (ToAttribute (DoGetAttr o x)) (λ r. on_value w r (λ v. end w (not_none v)))
 
 -- a method is loaded to be called at once. Where its class reads attributes in its own way, it is what the attribute gives.
 -- A method that is fast comes with its object, unless the object's dict has the name
@@ -238,4 +253,4 @@ attribute_say w (DoTypeGet c x) told = type_get_say w c x told
 attribute_say w (DoLoadMethod o x) told = load_method_say w o x told
 attribute_say w (DoInvoke o f args kw) told = invoke_say w o f args kw told
 attribute_say w (DoGenericSet o x v) told = generic_set_say w o x v told
-attribute_say w _ told = end w not_yet told
+attribute_say w (DoHasAttr o x) told = has_attr_say w o x told

@@ -1,9 +1,9 @@
 //! How an object's attribute is read.
 #![tactic(auto, unfolding(crate::specs::Say::attribute_say))]
 
-ghost use Rattle.std.specs.Prelude.{◌≡◌, ◌∷◌, [], Err, IfOk};
-ghost use Rattle.class_world.specs.Sound.{AllHold, IsName, IsNode};
-ghost use Rattle.class_world.specs.Claims.{of_attribute_task, of_ended, Leaves};
+ghost use Rattle.std.specs.Prelude.{◌≡◌, Err, IfOk};
+ghost use Rattle.class_world.specs.Sound.{AllHold};
+ghost use Rattle.class_world.specs.Claims.{of_attribute_task, of_ended, of_step, Leaves};
 ghost use Rattle.class_world.specs.Reading.{spelled};
 ghost use Rattle.py_node.specs.declared.task.AttributeTask.TheVariants as attribute;
 ghost use Rattle.proto_attr.specs.declared.AttributeKept.TheVariants as kept;
@@ -15,8 +15,8 @@ use crate::named::by_name;
 use crate::setting::asked;
 use class_world::World;
 use py_node::{
-    Answer, AttributeTask, Kind, Known, NativeEntry, OutOfMemory, PyObjectRef, PyStrInterned,
-    Raised, SlotEntry, SlotId, Step, TypeNative,
+    Answer, AttributeTask, DescriptorTask, Kind, Known, NativeEntry, OutOfMemory, PyObjectRef,
+    PyStrInterned, Raised, SlotEntry, SlotId, Step, SuperNative, Task, TypeNative,
 };
 
 // An object's attribute is read as its class's entry for that says.
@@ -37,8 +37,22 @@ pub(crate) fn get_attr(
                 Some(class) => Ok(asked(AttributeTask::TypeGet(class, name))),
             }
         }
+        Some(SlotEntry::Native(NativeEntry::OfSuper(SuperNative::GetAttribute))) => {
+            let task = DescriptorTask::SuperGet(o, name);
+            Ok(Step::Ask(Task::Descriptor(task), AttributeKept::Pass))
+        }
         _ => Ok(asked(AttributeTask::Generic(o, name))),
     }
+}
+
+// Whether an object has an attribute that isn't None: the attribute is read.
+pub(crate) fn has_attr(o: PyObjectRef, name: PyStrInterned) -> Step<AttributeKept>
+    ensures goes { (w : World) → Begins (attribute.HasAttr o name) w w result }
+    ensures safe { (w : World) → AllHold w (of_attribute_task (attribute.HasAttr o name)) →
+        AllHold w (of_step of_attribute_kept result) }
+{
+    let task = AttributeTask::GetAttr(o, name);
+    Step::Ask(Task::Attribute(task), AttributeKept::HasAttr)
 }
 
 // A special method reads the attribute.

@@ -7,7 +7,7 @@ ghost use Rattle.plain_machine.specs.Plain.{PlainWorld, Told, Ends};
 ghost use Rattle.plain_machine.specs.Row.{end, on_value};
 ghost use Rattle.class_world.specs.Held.{Held};
 ghost use Rattle.class_world.specs.Reading.{ended_of};
-ghost use Rattle.proto_attr.specs.Say.{maybe, as_attribute};
+ghost use Rattle.proto_attr.specs.Say.{maybe, not_none, as_attribute};
 ghost use Rattle.class_world.specs.Sound.{AllHold};
 ghost use Rattle.class_world.specs.Claims.{of_attribute_task, of_ended, Leaves};
 ghost use Rattle.proto_attr.specs.Rows.{Begins, Resumes, of_attribute_kept};
@@ -23,7 +23,7 @@ mod object_set;
 mod setting;
 mod special;
 
-use class_world::World;
+use class_world::{Fixed, World};
 use py_node::task::{Args, Keywords};
 use py_node::{
     Answer, AttributeTask, CallTask, OutOfMemory, PyMethod, PyObjectRef, PyStrInterned, Raised,
@@ -37,6 +37,8 @@ pub enum AttributeKept {
     Pass,
     /// Of a special method that reads an attribute: the object and the name.
     GetAttr(PyObjectRef, PyStrInterned),
+    /// The answer is passed on as whether it is an object other than None.
+    HasAttr,
     /// The answer is passed on as an object that there is.
     Maybe,
     /// The answer is passed on as a method that was loaded.
@@ -65,7 +67,7 @@ pub fn begin(world: &mut World, task: AttributeTask) -> Result<Step<AttributeKep
         AttributeTask::TypeSet(class, name, value) => setting::type_set(world, class, name, value),
         AttributeTask::Special(o, name, args, kw) => { special::special(world, o, name, args, kw) }
         AttributeTask::Bind(m, o, class) => Ok(binding::bind(world, m, o, class)),
-        AttributeTask::HasAttr(_, _) => Ok(Step::not_yet()),
+        AttributeTask::HasAttr(o, name) => Ok(get_attr::has_attr(o, name)),
     }
 }
 
@@ -83,6 +85,7 @@ pub fn resume(
     match kept {
         AttributeKept::Pass => Ok(Step::End(answer)),
         AttributeKept::GetAttr(o, name) => get_attr::or_get_attr(world, o, name, answer),
+        AttributeKept::HasAttr => Ok(Step::End(is_some(answer))),
         AttributeKept::Maybe => Ok(Step::End(maybe(answer))),
         AttributeKept::Method => Ok(Step::End(method(answer))),
         AttributeKept::AfterBind(args, kw) => match answer {
@@ -92,6 +95,18 @@ pub fn resume(
             }
             other => Ok(Step::End(other)),
         },
+    }
+}
+
+// An object is answered as whether it isn't None.
+fn is_some(answer: Result<Answer, Raised>) -> Result<Answer, Raised>
+    ensures answer { (w : PlainWorld) (told : Told) →
+        on_value w (ended_of answer) (λ v. end w (not_none v)) told ≡ Ends w (ended_of result) }
+    ensures holds { (w : Held) → AllHold w (of_ended answer) → AllHold w (of_ended result) }
+{
+    match answer {
+        Ok(Answer::Value(value)) => Ok(Answer::Truth(value != Fixed::None.node())),
+        other => other,
     }
 }
 

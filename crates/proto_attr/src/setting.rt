@@ -12,6 +12,7 @@ ghost use Rattle.proto_attr.specs.Say.{set_by_method, setter, own_set};
 ghost use Rattle.proto_attr.specs.Rows.{Begins, Starts, of_attribute_kept};
 
 use crate::AttributeKept;
+use crate::generic::no_attribute;
 use class_table::ClassFault;
 use class_world::World;
 use class_world::args::{alone, both};
@@ -104,7 +105,7 @@ pub(crate) fn type_set(
     }
 }
 
-// A class's own attribute is set. The class must be made by a script.
+// A class's own attribute is set or taken out. The class must be made by a script.
 fn own_set(
     world: &mut World,
     class: PyTypeRef,
@@ -124,13 +125,13 @@ fn own_set(
             Err(ClassFault::RefusedAt(_, _)) => Ok(Step::raise(Cause::ImmutableType)),
             Err(ClassFault::OutOfMemory) => Err(OutOfMemory),
         },
-        PySetterValue::Delete => {
-            if world.class_is_heap(class) {
-                Ok(Step::not_yet())
-            } else {
-                Ok(Step::raise(Cause::ImmutableType))
-            }
-        }
+        PySetterValue::Delete => match world.del_attr_direct(class, name) {
+            Ok(true) => Ok(Step::End(Ok(Answer::Done))),
+            Ok(false) => Ok(no_attribute()),
+            Err(ClassFault::Refused(_)) => Ok(Step::raise(Cause::ImmutableType)),
+            Err(ClassFault::RefusedAt(_, _)) => Ok(Step::raise(Cause::ImmutableType)),
+            Err(ClassFault::OutOfMemory) => Err(OutOfMemory),
+        },
     }
 }
 

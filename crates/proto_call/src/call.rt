@@ -4,19 +4,20 @@ ghost use Rattle.std.specs.Prelude.{◌≡◌, ◌∷◌, Some, IfOk, option_map
 ghost use Rattle.py_node.specs.declared.task.CallTask.TheVariants as call;
 ghost use Rattle.plain_machine.specs.World.{datum_at};
 ghost use Rattle.class_world.specs.Sound.{AllHold, Holds, IsNode, AreNodes, of_payload, of_option, of_node_ref};
-ghost use Rattle.class_world.specs.Claims.{of_args, of_task};
+ghost use Rattle.class_world.specs.Claims.{of_args, of_ended, of_task};
 ghost use Rattle.class_world.specs.Reading.{Reading, Reads, bindings, datum, plain, task_of};
 ghost use Rattle.proto_call.specs.Say.{call_native, call_by, with_self};
-ghost use Rattle.proto_call.specs.Rows.{Begins, Starts, OpensNone, LeavesNone};
+ghost use Rattle.proto_call.specs.Rows.{Begins, Resumes, LeavesNone};
 
 use crate::CallKept;
 use crate::asked::{bound, special};
-use class_world::World;
 use class_world::natives::native_task;
+use class_world::{Fixed, World};
+use native_base::give::new_int;
 use py_node::task::{Args, Keywords};
 use py_node::{
-    CallTask, CallableNative, Cause, Known, NativeEntry, OutOfMemory, Payload, PyObjectRef,
-    SlotEntry, SlotId, Step, Task, TypeNative, WrapperNative,
+    Answer, CallTask, CallableNative, Cause, Known, NativeEntry, OutOfMemory, Payload, PyObjectRef,
+    Raised, SlotEntry, SlotId, Step, Task, TypeNative, WrapperNative,
 };
 use std::alloc::Global;
 
@@ -34,15 +35,34 @@ pub(crate) fn begin_call(
     match world.slot(f, SlotId::Call) {
         Some(SlotEntry::Native(native)) => {
             match native_call(world, native, f, args, kw)? {
-                Some(task) => Ok(Step::Ask(task, CallKept::Pass)),
+                Some(task) => Ok(Step::Ask(task, CallKept::Named)),
                 None => Ok(Step::not_yet()),
             }
         }
         Some(SlotEntry::Wrapper(_)) => {
             let task = special(world, f, Known::Call, args, kw);
-            Ok(Step::Ask(task, CallKept::Pass))
+            Ok(Step::Ask(task, CallKept::Named))
         }
         _ => Ok(Step::raise(Cause::NotCallable)),
+    }
+}
+
+/// A call gives an object: of a number that a native tells, a new one, and None where there is none.
+pub(crate) fn named_end(
+    world: &mut World,
+    answer: Result<Answer, Raised>,
+) -> Result<Step<CallKept>, OutOfMemory>
+    requires { AllHold world.old (of_ended answer) }
+    ensures goes { IfOk result (λ step. Resumes CallKept.Named answer world.old world.new step) }
+    ensures safe { LeavesNone world.old world.new result }
+{
+    match answer {
+        Ok(Answer::Number(z)) => {
+            let ended = new_int(world, Ok(z as i128))?;
+            Ok(Step::End(ended))
+        }
+        Ok(Answer::Done) => Ok(Step::End(Ok(Answer::Value(world.fixed(Fixed::None))))),
+        other => Ok(Step::End(other)),
     }
 }
 

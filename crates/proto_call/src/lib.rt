@@ -7,7 +7,7 @@ ghost use Rattle.class_world.specs.Claims.{of_call_task, of_ended, LeavesOpen};
 ghost use Rattle.proto_call.specs.Rows.{Begins, Resumes, of_call_kept, bodies_of};
 
 use crate::body::begin_body;
-use crate::call::begin_call;
+use crate::call::{begin_call, named_end};
 pub use crate::call::native_call;
 use crate::create::{begin_new, begin_type_call, resume_type_call};
 use crate::init::{begin_init, resume_init};
@@ -29,6 +29,8 @@ mod parameters;
 pub enum CallKept {
     /// The answer is passed on.
     Pass,
+    /// The answer is that of a call: of a number that a native tells, a new one, and None where there is no object.
+    Named,
     /// The answer is that of a native: where there is no object, it is None.
     Native,
     /// A body runs: its scope is taken away at its end.
@@ -70,6 +72,7 @@ pub fn resume(
 {
     match kept {
         CallKept::Pass => Ok(Step::End(answer)),
+        CallKept::Named => named_end(world, answer),
         CallKept::Native => Ok(native_end(world, answer)),
         CallKept::Scope => {
             world.close_scope();

@@ -7,14 +7,18 @@ use Rattle.py_node.specs.declared.task.DescriptorTask.{DescriptorTask}
 use Rattle.py_node.specs.declared.task.Step.{Step}
 use Rattle.py_node.specs.declared.task.Step.TheVariants.{Ask, End}
 use Rattle.py_node.specs.declared.task.DescriptorTask.TheVariants.{DescrGet}
+use Rattle.py_node.specs.declared.task.DescriptorTask.TheVariants as descriptor
+use Rattle.py_node.specs.declared.task.PySetterValue.{PySetterValue}
+use Rattle.py_node.specs.declared.entry.SlotId.TheVariants.{DescrSet}
+use Rattle.plain_machine.specs.World.{slot_at}
 use Rattle.py_node.specs.declared.refs.PyObjectRef.{PyObjectRef}
 use Rattle.plain_machine.specs.Plain.{PlainWorld, Answered, Said, Asks, Ends}
 use Rattle.class_world.specs.declared.world.World.{World}
-use Rattle.class_world.specs.Reading.{Reading, Reads, plain, descriptor_job, ended_of}
+use Rattle.class_world.specs.Reading.{Reading, Reads, plain, descriptor_job, ended_of, setter_value}
 use Rattle.class_world.specs.Rows.{Steps}
-use Rattle.proto_descr.specs.Say.{descriptor_say, class_method_by}
-use Rattle.proto_descr.specs.Rows.{descriptor_stands, Starts, Resumes, StepsAs, EndsAs, EndsSo, passed}
-use Rattle.proto_descr.specs.declared.DescriptorKept.TheVariants.{Pass, AfterGet}
+use Rattle.proto_descr.specs.Say.{descriptor_say, class_method_by, descr_set_by}
+use Rattle.proto_descr.specs.Rows.{descriptor_stands, Begins, Starts, Resumes, StepsAs, EndsAs, EndsSo, passed, closed}
+use Rattle.proto_descr.specs.declared.DescriptorKept.TheVariants.{Pass, AfterGet, Done}
 
 -- a row that is said to end ends
 ends-so : (t : Reading) (task : DescriptorTask) (said : Said) (r : Result Answer Fault) (new : World) → EndsSo said r (plain t new) → Steps descriptor_say (descriptor_stands t) t (descriptor_job t task) [] said (End r) new
@@ -47,3 +51,13 @@ passed-resumes k f r old new (End s) h = λ t q.
     let e = h t q in
     let p = descriptor_stands t (AfterGet k f) in
     (e.0, subst (λ said. Steps descriptor_say (descriptor_stands t) t p.task (p.told ++ Answered (ended_of r) ∷ []) said (End s) new) (sym e.1) (refl, refl))
+
+-- a row that sets: it begins with such a step, and then is done
+pub closed-begins : (m o : PyObjectRef) (v : PySetterValue) (old new : World) (step : Step Unit) → StepsAs (λ t w. descr_set_by w (slot_at w m DescrSet) m o (setter_value v)) old new step → Begins (descriptor.DescrSet m o v) old new (closed step)
+unfolding descriptor_say
+closed-begins m o v old new (Ask asked kept) h = λ t q.
+    let k = h t q in
+    (k.0, subst (λ s. Steps descriptor_say (descriptor_stands t) t (descriptor_job t (descriptor.DescrSet m o v)) [] s (Ask asked Done) new) (sym k.1) (refl, refl, record { says = λ w s more. refl }))
+closed-begins m o v old new (End r) h = λ t q.
+    let k = h t q in
+    (k.0, subst (λ s. Steps descriptor_say (descriptor_stands t) t (descriptor_job t (descriptor.DescrSet m o v)) [] s (End r) new) (sym k.1) (refl, refl))

@@ -1,5 +1,5 @@
 -- What the contracts of the rows of descriptors say.
-use Rattle.std.specs.Prelude.{◌≡◌, ℕ, List, [], ◌∷◌, Result, Option, Some, None, option_map}
+use Rattle.std.specs.Prelude.{◌≡◌, ℕ, Bool, cond, List, [], ◌∷◌, Result, Ok, Err, Option, Some, None, option_map}
 use Rattle.py_node.specs.declared.raised.Raised.{Raised as Fault}
 use Rattle.py_node.specs.declared.refs.PyObjectRef.{PyObjectRef}
 use Rattle.py_node.specs.declared.refs.PyTypeRef.{PyTypeRef}
@@ -9,27 +9,46 @@ use Rattle.py_node.specs.declared.task.Answer.{Answer}
 use Rattle.py_node.specs.declared.task.DescriptorTask.{DescriptorTask}
 use Rattle.py_node.specs.declared.task.Step.{Step}
 use Rattle.py_node.specs.declared.task.Step.TheVariants.{Ask, End}
-use Rattle.plain_machine.specs.Plain.{Datum, PlainWorld, DescriptorJob, DoDescrGet, ReadObjects, Said, Asks, Ends}
-use Rattle.plain_machine.specs.Rows.{Pending}
-use Rattle.plain_machine.specs.World.{ref}
+use Rattle.plain_machine.specs.Plain.{Datum, PlainWorld, DescriptorJob, DoDescrGet, DoDescrSet, DoSuperInit, DoSuperCheck, DoGeneric, ToAttribute, ReadObjects, Said, Asks, Ends}
+use Rattle.plain_machine.specs.Rows.{Pending, fresh}
+use Rattle.plain_machine.specs.Row.{pass, value}
+use Rattle.plain_machine.specs.World.{is_text, ref}
+use Rattle.py_node.specs.Tree.{Text}
+use Rattle.py_node.specs.declared.known.Known.TheVariants as known
+use Rattle.py_node.specs.Known.{known_text}
+use Rattle.py_node.specs.declared.payload.PySuper.{PySuper}
 use Rattle.class_world.specs.declared.world.World.{World}
 use Rattle.class_world.specs.Reading.{Reading, Reads, plain, descriptor_job, datum, task_of, ended_of, spelled, spelled_option}
 use Rattle.class_world.specs.Rows as rows
 use Rattle.class_world.specs.Rows.{Group}
-use Rattle.class_world.specs.Sound.{Claim, IsNode, of_payload}
+use Rattle.class_world.specs.Sound.{Claim, IsClass, IsNode, of_payload}
 use Rattle.proto_descr.specs.declared.DescriptorKept.{DescriptorKept}
-use Rattle.proto_descr.specs.declared.DescriptorKept.TheVariants.{Pass, AfterGet}
+use Rattle.proto_descr.specs.declared.DescriptorKept.TheVariants.{Pass, AfterGet, Done, Binding, Starting, AfterClass}
+use Rattle.proto_descr.specs.declared.super_get.BoundSuper.{BoundSuper}
 use Rattle.proto_descr.specs.Say.{descriptor_say, bound_native}
+use Rattle.proto_descr.specs.Supers.{Parts, after, found_after, looked_up, start_asked}
+
+-- a class and an object
+abbrev pub Unbound : Type 0
+Unbound = PyTypeRef × PyObjectRef
 
 -- the row that goes on, at each answer, just as the row that the code keeps this for
 abbrev pub descriptor_stands : Reading → DescriptorKept → Pending DescriptorJob
 descriptor_stands t Pass = record { task = DoDescrGet (ref 0) None None; told = [] }
 descriptor_stands t (AfterGet k f) = record { task = DoDescrGet (ref 0) None None; told = ReadObjects (k ∷ f ∷ []) ∷ [] }
+descriptor_stands t Done = record { task = DoDescrSet (ref 0) (ref 0) None; told = [] }
+descriptor_stands t (Binding c o) = record { task = DoDescrGet (ref 0) None None; told = ReadObjects (ref 0 ∷ ref c.0 ∷ o ∷ []) ∷ [] }
+descriptor_stands t (Starting s c o) = record { task = DoSuperInit (ref 0) []; told = ReadObjects (s ∷ ref c.0 ∷ o ∷ []) ∷ [] }
+descriptor_stands t (AfterClass c) = record { task = DoSuperCheck c.0 (ref 0); told = [] }
 
 -- what is said of what is kept
 abbrev pub of_descriptor_kept : DescriptorKept → List Claim
 of_descriptor_kept Pass = []
 of_descriptor_kept (AfterGet k f) = IsNode k ∷ IsNode f ∷ []
+of_descriptor_kept Done = []
+of_descriptor_kept (Binding c o) = IsClass c.0 ∷ IsNode o ∷ []
+of_descriptor_kept (Starting s c o) = IsNode s ∷ IsClass c.0 ∷ IsNode o ∷ []
+of_descriptor_kept (AfterClass c) = IsClass c.0 ∷ []
 
 -- the group: its jobs, what they say, what goes on, and what is claimed of that
 abbrev pub descriptor_group : Group DescriptorTask DescriptorJob DescriptorKept
@@ -70,6 +89,48 @@ nothing_held kept = []
 abbrev pub passed : Step Unit → Step DescriptorKept
 passed (Ask asked kept) = Ask asked Pass
 passed (End r) = End r
+
+-- a step after which all is done, whatever it asked gave
+abbrev pub closed : Step Unit → Step DescriptorKept
+closed (Ask asked kept) = Ask asked Done
+closed (End r) = End r
+
+-- what a `super` does that is to be bound to this object, if there is one
+abbrev pub super_asked : PlainWorld → Option Unbound → PyObjectRef → Said
+super_asked w None m = Ends w (value m)
+super_asked w (Some p) m = start_asked w m p.0.0 p.1
+
+-- what is said of a class and an object
+abbrev pub of_parts : Unbound → List Claim
+of_parts p = IsClass p.0.0 ∷ IsNode p.1 ∷ []
+
+-- these in the plain world, or why there are none
+abbrev pub parts_of : Result Unbound Fault → Parts
+parts_of (Ok p) = Ok (p.0.0, p.1)
+parts_of (Err x) = Err x
+
+-- the object that a `super` is bound to, with the class from which it starts
+abbrev pub bound_to : PySuper → Option (PyObjectRef × ℕ)
+bound_to p = option_map (λ b. (b.0, b.1.0)) p.obj
+
+-- what gives an attribute of a `super` that is bound so
+abbrev pub bound_attribute : PlainWorld → Option BoundSuper → PyObjectRef → Text → Said
+bound_attribute w None s x = pass w (ToAttribute (DoGeneric s x))
+bound_attribute w (Some p) s x =
+    cond (is_text x (known_text known.Class)) (pass w (ToAttribute (DoGeneric s x)))
+    (looked_up w s x p.object p.start.0 (found_after w p.start.0 p.class.0 x))
+
+abbrev pub of_bound : BoundSuper → List Claim
+of_bound p = IsClass p.class.0 ∷ IsNode p.object ∷ IsClass p.start.0 ∷ []
+
+-- the classes that follow: all that are left, or those after one
+abbrev pub remaining : Bool → ℕ → List ℕ → List ℕ
+remaining past c cs = cond past cs (after c cs)
+
+-- a `super` is initialised so, whatever it was given
+abbrev pub Initialises : PyObjectRef → (PlainWorld → Said) → World → World → Step DescriptorKept → Type 0
+Initialises s said old new step =
+    (args : List PyObjectRef) → rows.Follows descriptor_say descriptor_stands (λ t. fresh (DoSuperInit s args)) (λ t w. said w) old new step
 
 -- a class by its number
 abbrev pub number : Option PyTypeRef → Option ℕ

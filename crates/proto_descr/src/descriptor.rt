@@ -15,14 +15,18 @@ ghost use Rattle.proto_descr.specs.Say.{descr_get_by, function_get, is_object_no
 ghost use Rattle.proto_descr.specs.Rows.{Begins, Starts, EndsAs, number, described, native_of, bound_as, of_descriptor_kept};
 
 use crate::DescriptorKept;
+use crate::member::get_of_member;
+use crate::property::get_of_property;
+use crate::super_start::get_of_super;
 use crate::wrapped::{get_of_class_method, get_of_getset, static_method_get};
 use bitflags::Flags;
 use class_world::args::both;
 use class_world::{Fixed, World};
 use py_node::{
     Answer, AttributeTask, BoundMethod, BuiltIn, BuiltinMethod, CallableNative, Cause,
-    DescriptorNative, Known, MethodDescriptor, NativeEntry, OutOfMemory, Payload, PyMethodFlags,
-    PyObjectRef, PyTypeRef, Raised, SlotEntry, SlotId, Step, Task, WrapperNative,
+    DescriptorNative, Known, MethodDescriptor, NativeEntry, OutOfMemory, Payload, PropertyNative,
+    PyMethodFlags, PyObjectRef, PyTypeRef, Raised, SlotEntry, SlotId, Step, SuperNative, Task,
+    WrapperNative,
 };
 
 /// How a row ends.
@@ -40,7 +44,6 @@ pub(crate) fn descr_get(
     ensures safe { Leaves of_descriptor_kept world.old world.new result }
 {
     match world.slot(m, SlotId::DescrGet) {
-        None => Ok(Step::End(Ok(Answer::Value(m)))),
         Some(SlotEntry::Wrapper(_)) => get_by_method(world, m, o, class),
         Some(SlotEntry::Native(NativeEntry::OfCallable(CallableNative::GetFunction))) => {
             let class = class_of_option(world, class);
@@ -53,6 +56,12 @@ pub(crate) fn descr_get(
         Some(SlotEntry::Native(NativeEntry::OfDescriptor(DescriptorNative::GetSetGet))) => {
             get_of_getset(world, m, o, class)
         }
+        Some(SlotEntry::Native(NativeEntry::OfDescriptor(DescriptorNative::MemberGet))) => {
+            get_of_member(world, m, o, class)
+        }
+        Some(SlotEntry::Native(NativeEntry::OfProperty(PropertyNative::Get))) => {
+            get_of_property(world, m, o, class)
+        }
         Some(SlotEntry::Native(NativeEntry::OfWrapper(WrapperNative::ClassGet))) => {
             Ok(get_of_class_method(world, m, o, class))
         }
@@ -60,7 +69,10 @@ pub(crate) fn descr_get(
             let value = static_method_get(world, m);
             Ok(Step::End(Ok(Answer::Value(value))))
         }
-        Some(_) => Ok(Step::not_yet()),
+        Some(SlotEntry::Native(NativeEntry::OfSuper(SuperNative::Get))) => {
+            Ok(get_of_super(world, m, o, class))
+        }
+        _ => Ok(Step::End(Ok(Answer::Value(m)))),
     }
 }
 

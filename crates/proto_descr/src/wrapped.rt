@@ -175,7 +175,7 @@ pub fn static_method_get(world: &World, m: PyObjectRef) -> PyObjectRef
 }
 
 // A step that ends as what it asked does, among those of descriptors.
-fn passed(step: Step<()>) -> Step<DescriptorKept>
+pub(crate) fn passed(step: Step<()>) -> Step<DescriptorKept>
     ensures step { result ≡ passed step }
     ensures says { of_step of_descriptor_kept result ≡ of_step nothing_held step }
 {

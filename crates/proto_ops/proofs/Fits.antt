@@ -1,31 +1,11 @@
--- Whole numbers of at most 128 bits.
-use Rattle.std.proofs.Common.{◌≡◌, ◌<◌, ◌^◌, Bool, true, false, cond, Option, Some, None, refl, sym, ap, ◌∙◌, subst, arith, nat_lt, T}
-use Rattle.std.specs.Prelude.{ℤ, pos, negsuc, ◌+ℤ◌, SomeIff}
+-- What the checked sum of the code gives.
+use Rattle.std.proofs.Common.{◌≡◌, cond, Option, Some, None, sym, ap, ◌∙◌}
+use Rattle.std.specs.Prelude.{ℤ, ◌+ℤ◌, SomeIff}
 use Rattle.std.specs.Int.{w128}
 use Rattle.std.specs.Int.RustNames.{FitsSigned}
-use Rattle.std.proofs.lemmas.Bool.{lt-ltb}
-use Rattle.std.proofs.lemmas.Int.{ints}
-use Rattle.std.proofs.Math.Facts.{sfits_lit}
-use Rattle.plain_machine.specs.Row.{fits}
+use Rattle.native_base.proofs.Fits.{fits-true, fits-false}
 use Rattle.proto_ops.specs.Say.{total}
 
-pub fits-true : (z : ℤ) → FitsSigned w128 z → fits z ≡ true
-fits-true (pos n) h = let l : n < 2 ^ 127 = omega (arith, ints) in lt-ltb n (2 ^ 127) l
-fits-true (negsuc n) h = let l : n < 2 ^ 127 = omega (arith, ints) in lt-ltb n (2 ^ 127) l
-
-pub fits-false : (z : ℤ) → (FitsSigned w128 z → ⊥) → fits z ≡ false
-fits-false (pos n) h = go (nat_lt n (2 ^ 127)) refl
-  where
-    go : (b : Bool) → nat_lt n (2 ^ 127) ≡ b → b ≡ false
-    go true e = absurd (h (sfits_lit {w = w128} {z = pos n} (subst T (sym e) tt)))
-    go false e = refl
-fits-false (negsuc n) h = go (nat_lt n (2 ^ 127)) refl
-  where
-    go : (b : Bool) → nat_lt n (2 ^ 127) ≡ b → b ≡ false
-    go true e = absurd (h (sfits_lit {w = w128} {z = negsuc n} (subst T (sym e) tt)))
-    go false e = refl
-
--- what the checked sum of the code gives
 pub total-is : (x y : ℤ) (o : Option ℤ) → SomeIff o (FitsSigned w128 (x +ℤ y)) (x +ℤ y) → o ≡ total x y
 total-is x y None h = sym (ap (λ b. cond b (Some (x +ℤ y)) None) (fits-false (x +ℤ y) h))
 total-is x y (Some z) h = ap Some h.1 ∙ sym (ap (λ b. cond b (Some (x +ℤ y)) None) (fits-true (x +ℤ y) h.0))

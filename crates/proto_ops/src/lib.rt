@@ -1,33 +1,78 @@
 //! The rows of operators, each a small automaton: `begin` and `resume`.
 #![tactic(auto, unfolding(crate::specs::Say::operator_say))]
 
-ghost use Rattle.std.specs.Prelude.{◌≡◌, [], ◌∷◌, IfOk};
-ghost use Rattle.class_world.specs.Sound.{AllHold, Holds, IsNode, AreNodes};
+ghost use Rattle.std.specs.Prelude.{◌≡◌, IfOk};
+ghost use Rattle.class_world.specs.Sound.{AllHold};
 ghost use Rattle.class_world.specs.Claims.{of_operator_task, of_ended, of_step, Leaves};
-ghost use Rattle.py_node.specs.declared.task.OperatorTask.TheVariants as operator;
+ghost use Rattle.class_world.specs.Reading.{ended_of};
 ghost use Rattle.plain_machine.specs.Row.{is_not_implemented};
-ghost use Rattle.proto_ops.specs.Say.{total, in_order};
-ghost use Rattle.plain_machine.specs.Args.{two_of};
-ghost use Rattle.proto_ops.specs.Rows.{Begins, Resumes, Sums, of_operator_kept};
+ghost use Rattle.proto_ops.specs.Rows.{Begins, Resumes, GoesOn, is_unserved, of_operator_kept, of_otherwise};
 
-use class_world::args::{alone, both, two_of};
-use class_world::natives::native_task;
-use class_world::{Fixed, World};
-use py_node::task::{Args, Keywords};
-use py_node::{
-    Answer, AttributeTask, BuiltIn, Cause, IntNative, OperatorTask, OutOfMemory, Payload,
-    PyNumberBinaryOp, PyObjectRef, Raised, SlotEntry, SlotId, Step, Task,
+mod binary;
+mod enter;
+mod int;
+mod joins;
+mod powers;
+mod repeats;
+
+use binary::{
+    begin_binary, begin_binop1, begin_inplace, begin_inplace_op1, begin_unary, next_candidate,
+    plain_operator,
 };
+use class_world::{Fixed, World};
+use enter::{begin_enter, begin_enter_power};
+use int::begin_int;
+use joins::{begin_add, begin_concat, begin_inplace_add, begin_inplace_concat, inplace_join, join};
+use powers::{Tried, begin_inplace_power, begin_power, plain_power, power_last, power_next};
+use py_node::{
+    Answer, Cause, OperatorTask, OutOfMemory, PyNumberBinaryOp, PyObjectRef, Raised, SlotEntry,
+    Step,
+};
+use repeats::{
+    begin_inplace_mul, begin_inplace_repeat, begin_mul, begin_repeat, inplace_repeat_one,
+    inplace_times, repeat_one, times,
+};
+
+/// What is done where what was asked is not for its operands.
+#[derive(Drop)]
+pub enum Otherwise {
+    /// The operator is not for them.
+    Unsupported,
+    /// The candidate that is left, if any, is entered with the operands.
+    Candidate(Option<SlotEntry>, PyObjectRef, PyObjectRef),
+    /// The operator is done as if it were not in place.
+    Operator(PyNumberBinaryOp, PyObjectRef, PyObjectRef),
+    /// Sequences are joined.
+    Join(PyObjectRef, PyObjectRef),
+    /// Sequences are joined in place.
+    InplaceJoin(PyObjectRef, PyObjectRef),
+    /// They cannot be joined.
+    NotConcatenable,
+    /// One of the operands is repeated.
+    RepeatOne(PyObjectRef, PyObjectRef),
+    /// The same, the left one in place.
+    InplaceRepeatOne(PyObjectRef, PyObjectRef),
+    /// The object cannot be repeated.
+    NotRepeatable,
+    /// The second candidate of a power, if any, is entered with the operands and the modulus.
+    PowerFirst(Tried, PyObjectRef, PyObjectRef, PyObjectRef),
+    /// The modulus's own slot may be entered.
+    PowerLast(Tried, PyObjectRef, PyObjectRef, PyObjectRef),
+    /// The power is done as if it were not in place.
+    Power(PyObjectRef, PyObjectRef, PyObjectRef),
+}
 
 /// What a row of an operator keeps while it waits for an answer.
 #[derive(Drop)]
 pub enum OperatorKept {
     /// The answer is passed on.
     Pass,
-    /// Of a sum: the operands, for the case that no candidate serves.
-    AddRest(PyObjectRef, PyObjectRef),
-    /// The candidate that is left, if any, and the operands.
-    Candidate(Option<SlotEntry>, PyObjectRef, PyObjectRef),
+    /// The answer is passed on, unless what was asked is not for its operands.
+    OrElse(Otherwise),
+    /// The index that tells how often is awaited: what is repeated.
+    Times(PyObjectRef),
+    /// The same, in place.
+    InplaceTimes(PyObjectRef),
 }
 
 /// Begins a task.
@@ -37,14 +82,25 @@ pub fn begin(world: &mut World, task: OperatorTask) -> Result<Step<OperatorKept>
     ensures safe { Leaves of_operator_kept world.old world.new result }
 {
     match task {
-        OperatorTask::Add(a, b) => Ok(Step::Ask(
-            Task::Operator(OperatorTask::BinOp1(PyNumberBinaryOp::Add, a, b)),
-            OperatorKept::AddRest(a, b),
-        )),
-        OperatorTask::BinOp1(op, a, b) => Ok(binop1(world, op, a, b)),
-        OperatorTask::Enter(entry, a, b) => enter(world, entry, a, b),
-        OperatorTask::Int(native, args, kw) => int(world, native, args, kw),
-        _ => Ok(Step::not_yet()),
+        OperatorTask::Add(a, b) => Ok(begin_add(a, b)),
+        OperatorTask::BinOp1(op, a, b) => Ok(begin_binop1(world, op, a, b)),
+        OperatorTask::Enter(entry, a, b) => begin_enter(world, entry, a, b),
+        OperatorTask::Binary(op, a, b) => Ok(begin_binary(op, a, b)),
+        OperatorTask::InplaceOp1(op, a, b) => Ok(begin_inplace_op1(world, op, a, b)),
+        OperatorTask::Inplace(op, a, b) => Ok(begin_inplace(op, a, b)),
+        OperatorTask::Concat(a, b) => begin_concat(world, a, b),
+        OperatorTask::InplaceAdd(a, b) => Ok(begin_inplace_add(a, b)),
+        OperatorTask::InplaceConcat(a, b) => begin_inplace_concat(world, a, b),
+        OperatorTask::Mul(a, b) => Ok(begin_mul(a, b)),
+        OperatorTask::Repeat(a, count) => begin_repeat(world, a, count),
+        OperatorTask::InplaceMul(a, b) => Ok(begin_inplace_mul(a, b)),
+        OperatorTask::InplaceRepeat(a, count) => begin_inplace_repeat(world, a, count),
+        OperatorTask::NativeRepeat(_, _, _) => Ok(Step::not_yet()),
+        OperatorTask::EnterPower(entry, a, b, c) => begin_enter_power(world, entry, a, b, c),
+        OperatorTask::Power(a, b, c) => Ok(begin_power(world, a, b, c)),
+        OperatorTask::InplacePower(a, b, c) => Ok(begin_inplace_power(world, a, b, c)),
+        OperatorTask::Unary(op, a) => Ok(begin_unary(world, op, a)),
+        OperatorTask::Int(native, args, kw) => begin_int(world, native, args, kw),
     }
 }
 
@@ -61,14 +117,31 @@ pub fn resume(
 {
     match kept {
         OperatorKept::Pass => Ok(Step::End(answer)),
-        OperatorKept::AddRest(a, b) => match answer {
-            Ok(Answer::Value(x)) => add_rest(world, a, b, x),
+        OperatorKept::OrElse(rest) => {
+            if !is_unserved(&answer) {
+                return Ok(Step::End(answer));
+            }
+            let step = go_on(world, rest);
+            Ok(step)
+        }
+        OperatorKept::Times(a) => match answer {
+            Ok(Answer::Value(index)) => Ok(times(world, a, index)),
             other => Ok(Step::End(other)),
         },
-        OperatorKept::Candidate(next, a, b) => match answer {
-            Ok(Answer::Value(x)) => Ok(next_candidate(world, next, a, b, x)),
+        OperatorKept::InplaceTimes(a) => match answer {
+            Ok(Answer::Value(index)) => Ok(inplace_times(world, a, index)),
             other => Ok(Step::End(other)),
         },
+    }
+}
+
+// Whether an answer says that what was asked is not for its operands.
+fn is_unserved(answer: &Result<Answer, Raised>) -> bool
+    ensures { result ≡ is_unserved (ended_of answer.now) }
+{
+    match answer {
+        Ok(Answer::Value(object)) => is_not_implemented(*object),
+        _ => false,
     }
 }
 
@@ -79,180 +152,24 @@ fn is_not_implemented(object: PyObjectRef) -> bool
     object.0 == Fixed::NotImplemented.node().0
 }
 
-// A sum that no candidate gave: sequences are joined, and nothing else.
-fn add_rest(
-    world: &mut World,
-    a: PyObjectRef,
-    b: PyObjectRef,
-    x: PyObjectRef,
-) -> Result<Step<OperatorKept>, OutOfMemory>
-    requires a { Holds world.old (IsNode a) }
-    requires b { Holds world.old (IsNode b) }
-    requires answer { Holds world.old (IsNode x) }
-    ensures goes { IfOk result (λ step.
-        Resumes (OperatorKept.AddRest a b) (Ok (Answer.Value x)) world.old world.new step) }
-    ensures safe { Leaves of_operator_kept world.old world.new result }
-{
-    if !is_not_implemented(x) {
-        return Ok(Step::End(Ok(Answer::Value(x))));
-    }
-    match world.slot(a, SlotId::SeqItem) {
-        Some(_) => {
-            let task = OperatorTask::Concat(a, b);
-            Ok(Step::Ask(Task::Operator(task), OperatorKept::Pass))
-        }
-        None => Ok(Step::raise(Cause::UnsupportedOperand)),
-    }
-}
-
-// The candidate that is left is entered, where the first gave NotImplemented.
-fn next_candidate(
-    world: &World,
-    next: Option<SlotEntry>,
-    a: PyObjectRef,
-    b: PyObjectRef,
-    x: PyObjectRef,
-) -> Step<OperatorKept>
-    requires a { Holds world.now (IsNode a) }
-    requires b { Holds world.now (IsNode b) }
-    requires answer { Holds world.now (IsNode x) }
-    ensures goes { Resumes (OperatorKept.Candidate next a b) (Ok (Answer.Value x)) world.now world.now result }
+// What is done where what was asked is not for its operands.
+fn go_on(world: &World, rest: Otherwise) -> Step<OperatorKept>
+    requires { AllHold world.now (of_otherwise rest) }
+    ensures goes { GoesOn rest world.now world.now result }
     ensures safe { AllHold world.now (of_step of_operator_kept result) }
 {
-    if !is_not_implemented(x) {
-        return Step::End(Ok(Answer::Value(x)));
+    match rest {
+        Otherwise::Unsupported => Step::raise(Cause::UnsupportedOperand),
+        Otherwise::Candidate(next, a, b) => next_candidate(world, next, a, b),
+        Otherwise::Operator(op, a, b) => plain_operator(op, a, b),
+        Otherwise::Join(a, b) => join(world, a, b),
+        Otherwise::InplaceJoin(a, b) => inplace_join(world, a, b),
+        Otherwise::NotConcatenable => Step::raise(Cause::NotConcatenable),
+        Otherwise::RepeatOne(a, b) => repeat_one(world, a, b),
+        Otherwise::InplaceRepeatOne(a, b) => inplace_repeat_one(world, a, b),
+        Otherwise::NotRepeatable => Step::raise(Cause::NotRepeatable),
+        Otherwise::PowerFirst(tried, a, b, c) => power_next(world, tried, a, b, c),
+        Otherwise::PowerLast(tried, a, b, c) => power_last(world, tried, a, b, c),
+        Otherwise::Power(a, b, c) => plain_power(a, b, c),
     }
-    match next {
-        Some(entry) => enter_candidate(entry, None, a, b),
-        None => Step::End(Ok(Answer::Value(world.fixed(Fixed::NotImplemented)))),
-    }
-}
-
-// A candidate is entered. What is kept is the next one, if any, and the operands.
-fn enter_candidate(
-    entry: SlotEntry,
-    next: Option<SlotEntry>,
-    a: PyObjectRef,
-    b: PyObjectRef,
-) -> Step<OperatorKept>
-    ensures { result ≡ Step.Ask (Task.Operator (operator.Enter entry a b)) (OperatorKept.Candidate next a b) }
-{
-    let task = OperatorTask::Enter(entry, a, b);
-    Step::Ask(Task::Operator(task), OperatorKept::Candidate(next, a, b))
-}
-
-// The candidates are read once, and the first is entered.
-fn binop1(world: &World, op: PyNumberBinaryOp, a: PyObjectRef, b: PyObjectRef) -> Step<OperatorKept>
-    requires { AllHold world.now (of_operator_task (operator.BinOp1 op a b)) }
-    ensures goes { Begins (operator.BinOp1 op a b) world.now world.now result }
-    ensures safe { AllHold world.now (of_step of_operator_kept result) }
-{
-    let candidates = world.candidates(op.left_slot(), op.right_slot(), a, b);
-    match (candidates.first, candidates.second) {
-        (Some(entry), next) => enter_candidate(entry, next, a, b),
-        (None, Some(entry)) => enter_candidate(entry, None, a, b),
-        (None, None) => Step::End(Ok(Answer::Value(world.fixed(Fixed::NotImplemented)))),
-    }
-}
-
-// An entry is entered with both operands.
-fn enter(
-    world: &World,
-    entry: SlotEntry,
-    a: PyObjectRef,
-    b: PyObjectRef,
-) -> Result<Step<OperatorKept>, OutOfMemory>
-    requires { AllHold world.now (of_operator_task (operator.Enter entry a b)) }
-    ensures goes { IfOk result (λ step. Begins (operator.Enter entry a b) world.now world.now step) }
-    ensures safe { Leaves of_operator_kept world.now world.now result }
-{
-    let alloc = world.alloc();
-    match entry {
-        SlotEntry::Native(native) => {
-            let args = both(alloc, a, b)?;
-            let task = native_task(native, args, Vec::new(alloc));
-            Ok(Step::Ask(task, OperatorKept::Pass))
-        }
-        SlotEntry::Wrapper(slot) => enter_method(world, slot, a, b),
-        SlotEntry::Unhashable => Ok(Step::not_yet()),
-    }
-}
-
-// The special method that a wrapper stands for: that of its slot's first name.
-fn enter_method(
-    world: &World,
-    slot: SlotId,
-    a: PyObjectRef,
-    b: PyObjectRef,
-) -> Result<Step<OperatorKept>, OutOfMemory>
-    requires { AllHold world.now (of_operator_task (operator.Enter (SlotEntry.Wrapper slot) a b)) }
-    ensures goes { IfOk result (λ step. Begins (operator.Enter (SlotEntry.Wrapper slot) a b) world.now world.now step) }
-    ensures safe { Leaves of_operator_kept world.now world.now result }
-{
-    let alloc = world.alloc();
-    let [name, ..] = slot.special_names() else {
-        return Ok(Step::not_yet());
-    };
-    let (object, other) = in_order(slot.is_reflected(), a, b);
-    let args = alone(alloc, other)?;
-    let task = AttributeTask::Special(object, world.known(*name), args, Vec::new(alloc));
-    Ok(Step::Ask(Task::Attribute(task), OperatorKept::Pass))
-}
-
-// The operands in the order in which a method takes them: the reflected one is that of the right operand.
-fn in_order(reflected: bool, a: PyObjectRef, b: PyObjectRef) -> (PyObjectRef, PyObjectRef)
-    ensures order { result ≡ in_order reflected a b }
-    ensures first { (w : World) → Holds w (IsNode a) → Holds w (IsNode b) → Holds w (IsNode result.0) }
-    ensures second { (w : World) → Holds w (IsNode a) → Holds w (IsNode b) → Holds w (IsNode result.1) }
-{
-    if reflected { (b, a) } else { (a, b) }
-}
-
-// A native of `int`: the sum of two whole numbers.
-fn int(
-    world: &mut World,
-    native: IntNative,
-    args: Args,
-    kw: Keywords,
-) -> Result<Step<OperatorKept>, OutOfMemory>
-    requires { AllHold world.old (of_operator_task (operator.Int native args kw)) }
-    ensures goes { IfOk result (λ step. Begins (operator.Int native args kw) world.old world.new step) }
-    ensures safe { Leaves of_operator_kept world.old world.new result }
-{
-    match two_of(&args) {
-        None => Ok(Step::raise(Cause::ArgCount)),
-        Some((a, b)) => {
-            if !kw.is_empty() {
-                return Ok(Step::raise(Cause::UnexpectedKeyword));
-            }
-            sum(world, a, b)
-        }
-    }
-}
-
-// The sum of two whole numbers, or NotImplemented where one is none.
-fn sum(world: &mut World, a: PyObjectRef, b: PyObjectRef) -> Result<Step<OperatorKept>, OutOfMemory>
-    requires a { Holds world.old (IsNode a) }
-    requires b { Holds world.old (IsNode b) }
-    ensures goes { IfOk result (λ step. Sums a b world.old world.new step) }
-    ensures safe { Leaves of_operator_kept world.old world.new result }
-{
-    match (world.number(a), world.number(b)) {
-        (Some(x), Some(y)) => match total(x, y) {
-            Some(z) => {
-                let class = world.built_in(BuiltIn::Int);
-                let node = world.make_node(class, Payload::Number(z))?;
-                Ok(Step::End(Ok(Answer::Value(node))))
-            }
-            None => Ok(Step::raise(Cause::IntRange)),
-        },
-        _ => Ok(Step::End(Ok(Answer::Value(world.fixed(Fixed::NotImplemented))))),
-    }
-}
-
-// The sum of two numbers, where it fits.
-fn total(x: i128, y: i128) -> Option<i128>
-    ensures { result ≡ total x y }
-{
-    x.checked_add(y)
 }

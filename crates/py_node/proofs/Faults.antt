@@ -1,5 +1,5 @@
 -- The tables of faults have a row for each kind and each cause.
-use Rattle.std.proofs.Common.{◌≡◌, ◌<◌, true, refl, nat_lt, arith, rules, ℕ}
+use Rattle.std.proofs.Common.{◌≡◌, ◌<◌, true, refl, nat_lt}
 use borrow.Author.Tests.{ltb-true}
 use Rattle.py_node.specs.declared.raised.Kind.{Kind}
 use Rattle.py_node.specs.declared.raised.Kind.TheVariants.{TypeError}

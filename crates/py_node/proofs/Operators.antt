@@ -1,6 +1,5 @@
 -- The table of operators has a row for each, at its place.
 use Rattle.std.proofs.Common.{◌≡◌, ◌<◌, true, refl, nat_lt}
-use Rattle.std.specs.Prelude.{slice_get, Some, option_map}
 use denote.Enum.Declared.{tag_of}
 use borrow.Author.Tests.{ltb-true}
 use Rattle.py_node.specs.contracts.task.PyNumberBinaryOp.{the_type}

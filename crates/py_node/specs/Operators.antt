@@ -1,5 +1,5 @@
 -- The slots of the binary operators.
-use Rattle.std.specs.Prelude.{Bool, List, ◌∷◌, [], Option, None, slice_index_or}
+use Rattle.std.specs.Prelude.{Bool, List, Option, None, slice_index_or}
 use Rattle.std.specs.List.{list_any}
 use denote.Enum.Declared.{tag_of}
 use Rattle.py_node.specs.contracts.task.PyNumberBinaryOp.{the_type}

@@ -1,5 +1,5 @@
 -- The members of an object: what stands in its places.
-use Rattle.std.specs.Prelude.{ℕ, Bool, eqb, ◌&&◌, List, Option, option_and_then}
+use Rattle.std.specs.Prelude.{Bool, eqb, ◌&&◌, List, Option, option_and_then}
 use Rattle.py_node.specs.declared.refs.PyObjectRef.{PyObjectRef}
 use Rattle.py_node.specs.declared.members.MemberPlace.{MemberPlace}
 use Rattle.py_node.specs.Attributes.{value_of}

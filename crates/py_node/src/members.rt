@@ -64,11 +64,7 @@ impl PyMembers {
 
     /// Sets a place, or empties it. Where memory runs out, all places are as they were; it never does for a place
     /// that was set before.
-    pub fn set(
-        &mut self,
-        place: MemberPlace,
-        value: Option<PyObjectRef>,
-    ) -> Result<(), OutOfMemory>
+    pub fn set(&mut self, place: MemberPlace, value: Option<PyObjectRef>) -> Result<(), OutOfMemory>
         ensures set { OnOk result (self.new ≡ with_value is_same_place self.old place value) }
         ensures err { OnErr result (self.new ≡ self.old) }
     {

@@ -1,13 +1,16 @@
 -- Lists that are read item by item.
-use Rattle.std.proofs.Common.{◌≡◌, ℕ, zero, suc, ◌+◌, ◌<◌, ◌≤◌, List, [], ◌∷◌, ◌++◌, length, get_or, drop, map, Option, Some, None, option_map, String, string_bytes, Vec, Box, Global, refl, ap, sym, ◌∙◌, append_assoc, add-one, arith, rules}
+use Rattle.std.proofs.Common.{◌≡◌, ℕ, zero, suc, ◌+◌, ◌<◌, ◌≤◌, List, [], ◌∷◌, ◌++◌, length, get_or, drop, map, cond, true, Option, Some, None, Ok, ok_or, option_map, String, string_bytes, Vec, Box, Global, refl, ap, sym, ◌∙◌, append_assoc, add-one, arith, rules}
 use Rattle.std.proofs.Math.Seq.{drop-cons}
-use Rattle.std.proofs.lemmas.List.{map-append}
+use Rattle.std.proofs.lemmas.List.{map-append, length-map}
 use Rattle.serde_json.specs.Data.{depth, items_depth}
 use Rattle.serde_json.specs.View.{view, items_view}
 use Rattle.serde_json.specs.declared.value.Value.{Value}
-use Rattle.py_node.specs.declared.expr.Expr.{Expr, Call, Class, the_lemmas}
-use Rattle.py_node.specs.Tree.{TCall, TClass, entry, entries_of, trees_of, tree_of, pair_of}
-use Rattle.script_text.specs.Forms.{of_two, expr_of, exprs_of, pair_in, pairs_in, entry_of, entries_in, named, named_entries, call, class}
+use Rattle.py_node.specs.declared.expr.Expr.{Expr, Call, Class, Op, the_lemmas}
+use Rattle.py_node.specs.declared.expr.Word.{Word}
+use Rattle.py_node.specs.Tree.{TCall, TClass, TOp, entry, entries_of, trees_of, tree_of, pair_of}
+use Rattle.script_text.specs.Forms.{of_two, expr_of, exprs_of, pair_in, pairs_in, entry_of, entries_in, named, named_entries, call, class, operation}
+use Rattle.script_text.specs.Words.{allows}
+use Rattle.script_text.specs.declared.words.Arity.{Arity}
 
 -- what is left, with what was found before it
 abbrev pub onto : {A : Type 0} → List A → Option (List A) → Option (List A)
@@ -81,3 +84,15 @@ class-tree text bases keywords entries =
     search (rules, the_lemmas) in
     seen ∙ ap (λ ks. TClass (string_bytes text) (trees_of (map tree_of bases.items)) ks (entries_of (map (λ (e : String Global × Expr). (e.0, tree_of e.1)) entries.items))) (entries-named keywords.items)
     ∙ ap (TClass (string_bytes text) (trees_of (map tree_of bases.items)) (named_entries (map named keywords.items))) (entries-named entries.items)
+
+-- an operation that was read: its word is known, and it takes so many operands
+pub op-tree : (row : Word × Arity) (operands : Vec Expr Global) → allows row.1 (length operands.items) ≡ true → operation (Some row) (Some (map tree_of operands.items)) ≡ Some (tree_of (Op row.0 operands))
+op-tree row operands h =
+    let seen : tree_of (Op row.0 operands) ≡ TOp row.0 (trees_of (map tree_of operands.items)) = search (rules, the_lemmas) in
+    let enough : allows row.1 (length (map tree_of operands.items)) ≡ true = ap (allows row.1) (length-map operands.items tree_of) ∙ h in
+    ap (λ b. cond b (Some (TOp row.0 (trees_of (map tree_of operands.items)))) None) enough ∙ ap Some (sym seen)
+
+-- what was found where this gives no refusal
+pub found : {A E : Type 0} (o : Option A) (e : E) (a : A) → ok_or o e ≡ Ok a → o ≡ Some a
+found None e a h = cc
+found (Some b) e a h = let same : b ≡ a = cc in ap Some same

@@ -1,17 +1,16 @@
 -- Which expression a JSON value spells.
-use Rattle.std.specs.Prelude.{ℕ, ◌&&◌, ◌==◌, List, [], ◌∷◌, length, codes, bytes_eq, Bool, true, false, not, if◌then◌else◌, Option, Some, None, option_map, option_and_then, String, string_bytes}
+use Rattle.std.specs.Prelude.{◌&&◌, List, [], ◌∷◌, length, codes, bytes_eq, Bool, true, false, not, if◌then◌else◌, Option, Some, None, option_map, option_and_then, String, string_bytes}
 use Rattle.std.specs.List.{find, list_any}
 use Rattle.serde_json.specs.Data.{Data, null, boolean, number, string, array, object, Items, no_items, item}
 use Rattle.serde_json.specs.Find.{as_i64, as_str}
 use Rattle.std.specs.declared.alloc.Global.{Global}
 use Rattle.py_node.specs.declared.expr.Expr.{Expr}
 use Rattle.py_node.specs.declared.expr.Word.{Word}
-use Rattle.py_node.specs.declared.expr.Word.TheVariants.{Binary, Object}
-use Rattle.py_node.specs.declared.expr.ObjectWord.TheVariants.{Is, TypeOf, Callable}
 use Rattle.py_node.specs.declared.raised.Kind.{Kind}
 use Rattle.py_node.specs.declared.raised.TheConstants.{KINDS}
-use Rattle.py_node.specs.declared.task.PyNumberBinaryOp.TheVariants.{Add}
-use Rattle.py_node.specs.Tree.{Text, LNone, LFalse, LTrue, LInt, LText, Tree, TConst, TName, TBind, TTuple, TList, TDict, TFunc, TAttr, TSetAttr, TCall, TOp, TRaise, TClass, Entries, no_entries, entry, keyed_of, trees_of, tree_of}
+use Rattle.script_text.specs.declared.words.Arity.{Arity}
+use Rattle.script_text.specs.Words.{allows, operation_of}
+use Rattle.py_node.specs.Tree.{Text, LNone, LFalse, LTrue, LInt, LText, Tree, TConst, TName, TBind, TTuple, TList, TDict, TFunc, TAttr, TSetAttr, TDelAttr, TCall, TOp, TIf, TSeq, TRaise, TClass, Entries, no_entries, entry, keyed_of, trees_of, tree_of}
 
 -- f of two parts, where both are there
 abbrev pub of_two : {A B C : Type 0} → (A → B → C) → Option A → Option B → Option C
@@ -27,18 +26,6 @@ of_three f None b c = None
 abbrev pub of_four : {A B C D E : Type 0} → (A → B → C → D → E) → Option A → Option B → Option C → Option D → Option E
 of_four f (Some a) b c d = of_three (f a) b c d
 of_four f None b c d = None
-
--- the operation that a word stands for
-abbrev pub word_of : Text → Option Word
-word_of text =
-    if bytes_eq text (codes "+") then Some (Binary Add)
-    else (if bytes_eq text (codes "is") then Some (Object Is)
-    else (if bytes_eq text (codes "typeof") then Some (Object TypeOf)
-    else (if bytes_eq text (codes "callable") then Some (Object Callable)
-    else None)))
-
-abbrev pub operation_of : Data → Option Word
-operation_of d = option_and_then word_of (as_str d)
 
 -- the kind of faults that a word stands for
 abbrev pub kind_named : Text → Option Kind
@@ -79,14 +66,9 @@ abbrev pub named_entries : List Named → Entries
 named_entries [] = no_entries
 named_entries (e ∷ es) = entry e.0 e.1 (named_entries es)
 
--- how many operands a word takes
-abbrev pub takes : Word → ℕ → Bool
-takes (Object TypeOf) n = n == 1
-takes (Object Callable) n = n == 1
-takes _ n = n == 2
-
-abbrev pub operation : Option Word → Option (List Tree) → Option Tree
-operation (Some w) (Some ts) = if takes w (length ts) then Some (TOp w (trees_of ts)) else None
+-- an operation of as many operands as its word takes
+abbrev pub operation : Option (Word × Arity) → Option (List Tree) → Option Tree
+operation (Some w) (Some ts) = if allows w.1 (length ts) then Some (TOp w.0 (trees_of ts)) else None
 operation (Some w) None = None
 operation None ts = None
 
@@ -98,6 +80,9 @@ tuple ts = TTuple (trees_of ts)
 
 abbrev pub list : List Tree → Tree
 list ts = TList (trees_of ts)
+
+abbrev pub seq : List Tree → Tree
+seq ts = TSeq (trees_of ts)
 
 abbrev pub dict : List (Tree × Tree) → Tree
 dict ps = TDict (keyed_of ps)
@@ -135,11 +120,14 @@ unfoldable mutual
       else (if bytes_eq word (codes "func*") then func_of true ds
       else (if bytes_eq word (codes "attr") then attr_of ds
       else (if bytes_eq word (codes "setattr") then setattr_of ds
+      else (if bytes_eq word (codes "delattr") then delattr_of ds
       else (if bytes_eq word (codes "call") then call_of ds
       else (if bytes_eq word (codes "op") then op_of ds
+      else (if bytes_eq word (codes "if") then if_of ds
+      else (if bytes_eq word (codes "seq") then option_map seq (exprs_of ds)
       else (if bytes_eq word (codes "raise") then raise_of ds
       else (if bytes_eq word (codes "class") then class_of ds
-      else None))))))))))))) (as_str head)
+      else None)))))))))))))))) (as_str head)
 
   -- a name
   pub name_of : Items → Option Tree
@@ -166,6 +154,11 @@ unfoldable mutual
   setattr_of (item o (item n (item e no_items))) = of_three TSetAttr (expr_of o) (as_str n) (expr_of e)
   setattr_of _ = None
 
+  -- an object, and the name of an attribute that is taken out
+  pub delattr_of : Items → Option Tree
+  delattr_of (item o (item n no_items)) = of_two TDelAttr (expr_of o) (as_str n)
+  delattr_of _ = None
+
   -- what is called, the arguments, and the keywords
   pub call_of : Items → Option Tree
   call_of (item f (item list rest)) = of_three call (expr_of f) (list_of list) (keywords_of rest)
@@ -175,6 +168,11 @@ unfoldable mutual
   pub op_of : Items → Option Tree
   op_of (item w es) = operation (operation_of w) (exprs_of es)
   op_of no_items = None
+
+  -- a condition, and what is evaluated where it is true and where it isn't
+  pub if_of : Items → Option Tree
+  if_of (item c (item a (item b no_items))) = of_three TIf (expr_of c) (expr_of a) (expr_of b)
+  if_of _ = None
 
   -- the kind of the fault
   pub raise_of : Items → Option Tree

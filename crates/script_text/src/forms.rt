@@ -4,10 +4,10 @@ ghost use Rattle.std.specs.Prelude.{◌≡◌, Some, None, Err, IfOk, IfErr, map
 ghost use Rattle.serde_json.specs.Find.{as_str};
 ghost use Rattle.serde_json.specs.View.{view, items_view};
 ghost use Rattle.py_node.specs.Tree.{tree_of, pair_of, texts_of};
-ghost use Rattle.script_text.specs.Forms.{tuple, list, dict, pairs_in, pair_in, paired_of, texts_in, all_differ, params_of, expr_of, array_of, name_of, bind_of, func_of, attr_of, setattr_of, call_of, op_of, raise_of, class_of, keywords_of, list_of, exprs_of, body_of, entries_in, entry_of, named_of, differing, named};
+ghost use Rattle.script_text.specs.Forms.{tuple, list, seq, dict, pairs_in, pair_in, paired_of, texts_in, all_differ, params_of, expr_of, array_of, name_of, bind_of, func_of, attr_of, setattr_of, delattr_of, call_of, op_of, if_of, raise_of, class_of, keywords_of, list_of, exprs_of, body_of, entries_in, entry_of, named_of, differing, named};
 
 use crate::parts::{Unread, next, no_more, one, three, three_and_rest, two, two_and_rest};
-use crate::words::{read_kind, read_word, takes};
+use crate::words::{read_kind, read_word};
 use py_node::{Constant, Expr};
 use serde_json::Value;
 use std::alloc::{AllocError, Global};
@@ -128,10 +128,16 @@ fn read_array(alloc: Global, items: &[Value]) -> Result<Expr, Unread>
         read_attr(alloc, rest)
     } else if word == "setattr" {
         read_setattr(alloc, rest)
+    } else if word == "delattr" {
+        read_delattr(alloc, rest)
     } else if word == "call" {
         read_call(alloc, rest)
     } else if word == "op" {
         read_op(alloc, rest)
+    } else if word == "if" {
+        read_if(alloc, rest)
+    } else if word == "seq" {
+        read_seq(alloc, rest)
     } else if word == "raise" {
         read_raise(rest)
     } else if word == "class" {
@@ -236,6 +242,19 @@ fn read_setattr(alloc: Global, items: &[Value]) -> Result<Expr, Unread>
     Ok(Expr::SetAttr(Box::new(alloc, target)?, text, Box::new(alloc, expr)?))
 }
 
+// An object, and the name of an attribute that is taken out.
+#[tactic(auto, unfolding(crate::specs::Forms::delattr_of))]
+#[cycle(forms)]
+fn read_delattr(alloc: Global, items: &[Value]) -> Result<Expr, Unread>
+    ensures ok { IfOk result (λ e. delattr_of (items_view items.now) ≡ Some (tree_of e)) }
+    ensures shape { result ≡ Err Unread.Shape → delattr_of (items_view items.now) ≡ None }
+{
+    let (object, name) = two(items)?;
+    let target = read_expr(alloc, object)?;
+    let text = read_text(alloc, name)?;
+    Ok(Expr::DelAttr(Box::new(alloc, target)?, text))
+}
+
 // What is called, the arguments, and the keywords.
 #[tactic(auto, unfolding(crate::specs::Forms::call_of))]
 #[cycle(forms)]
@@ -258,13 +277,41 @@ fn read_op(alloc: Global, items: &[Value]) -> Result<Expr, Unread>
     ensures shape { result ≡ Err Unread.Shape → op_of (items_view items.now) ≡ None }
 {
     let (head, rest) = next(items)?;
-    let word = read_word(head)?;
+    let (word, arity) = read_word(head)?;
     let operands = read_exprs(alloc, rest)?;
-    if takes(word, operands.len()) {
+    if arity.allows(operands.len()) {
         Ok(Expr::Op(word, operands))
     } else {
         Err(Unread::Shape)
     }
+}
+
+// A condition, and what is evaluated where it is true and where it isn't.
+#[tactic(auto, unfolding(crate::specs::Forms::if_of))]
+#[cycle(forms)]
+fn read_if(alloc: Global, items: &[Value]) -> Result<Expr, Unread>
+    ensures ok { IfOk result (λ e. if_of (items_view items.now) ≡ Some (tree_of e)) }
+    ensures shape { result ≡ Err Unread.Shape → if_of (items_view items.now) ≡ None }
+{
+    let (condition, first, second) = three(items)?;
+    let test = read_expr(alloc, condition)?;
+    let chosen = read_expr(alloc, first)?;
+    let other = read_expr(alloc, second)?;
+    Ok(Expr::If(
+        Box::new(alloc, test)?,
+        Box::new(alloc, chosen)?,
+        Box::new(alloc, other)?,
+    ))
+}
+
+// Expressions one after another.
+#[cycle(forms)]
+fn read_seq(alloc: Global, items: &[Value]) -> Result<Expr, Unread>
+    ensures ok { IfOk result (λ e. option_map seq (exprs_of (items_view items.now)) ≡ Some (tree_of e)) }
+    ensures shape { result ≡ Err Unread.Shape → option_map seq (exprs_of (items_view items.now)) ≡ None }
+{
+    let parts = read_exprs(alloc, items)?;
+    Ok(Expr::Seq(parts))
 }
 
 // The kind of the fault.

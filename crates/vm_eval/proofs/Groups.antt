@@ -5,7 +5,7 @@ use Rattle.py_node.specs.declared.task.Answer.{Answer}
 use Rattle.py_node.specs.declared.task.Task.{Task}
 use Rattle.py_node.specs.declared.task.Step.{Step}
 use Rattle.py_node.specs.declared.task.Step.TheVariants.{Ask, End}
-use Rattle.plain_machine.specs.Plain.{PlainWorld, PlainTask, ToEval, ToAttribute, ToDescriptor, ToCall, ToClass, ToOperator, Answered, Told, Said, Asks, Ends, Saying}
+use Rattle.plain_machine.specs.Plain.{PlainWorld, PlainTask, ToEval, ToAttribute, ToDescriptor, ToCall, ToClass, ToOperator, ToCompare, ToProtocol, Answered, Told, Said, Asks, Ends, Saying}
 use Rattle.plain_machine.specs.Row.{not_yet}
 use Rattle.plain_machine.specs.Rows.{Pending, Alike, fresh, given}
 use Rattle.class_world.specs.declared.world.World.{World}
@@ -23,9 +23,13 @@ use Rattle.class_make.specs.Say.{class_job_say}
 use Rattle.class_make.specs.Rows.{class_stands}
 use Rattle.proto_ops.specs.Say.{operator_say}
 use Rattle.proto_ops.specs.Rows.{operator_stands}
+use Rattle.proto_compare.specs.Say.{compare_job_say}
+use Rattle.proto_compare.specs.Rows.{compare_stands}
+use Rattle.proto_number.specs.Say.{number_job_say}
+use Rattle.proto_number.specs.Rows.{number_stands}
 use Rattle.class_world.specs.Rows.{EndsAs}
 use Rattle.vm_eval.specs.declared.stack.Kept.{Kept}
-use Rattle.vm_eval.specs.declared.stack.Kept.TheVariants.{ForEval, ForAttribute, ForDescriptor, ForCall, ForClass, ForOperator}
+use Rattle.vm_eval.specs.declared.stack.Kept.TheVariants.{ForEval, ForAttribute, ForDescriptor, ForCall, ForClass, ForOperator, ForCompare, ForNumber}
 use Rattle.vm_eval.specs.Say.{say, stands, among, step_among, Begins, Resumes}
 
 -- a group of rows, among all
@@ -90,6 +94,14 @@ class-group = record { says = λ w j told. refl; keeps = λ t k. refl }
 pub operator-group : Among operator_say operator_stands ToOperator ForOperator
 unfolding say stands
 operator-group = record { says = λ w j told. refl; keeps = λ t k. refl }
+
+pub compare-group : Among compare_job_say compare_stands ToCompare ForCompare
+unfolding say stands
+compare-group = record { says = λ w j told. refl; keeps = λ t k. refl }
+
+pub number-group : Among number_job_say number_stands ToProtocol ForNumber
+unfolding say stands
+number-group = record { says = λ w j told. refl; keeps = λ t k. refl }
 
 -- a task whose row is not there yet ends at once
 pub not-yet-begins : (full : Task) (w : World) → ((t : Reading) (u : PlainWorld) → say u (task_of t full) [] ≡ Ends u not_yet) → Begins full w w (End not_yet)

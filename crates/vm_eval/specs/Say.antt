@@ -28,6 +28,10 @@ use Rattle.class_make.specs.Say.{class_job_say}
 use Rattle.class_make.specs.Rows.{class_stands, of_class_kept}
 use Rattle.proto_ops.specs.Say.{operator_say}
 use Rattle.proto_ops.specs.Rows.{operator_stands, of_operator_kept}
+use Rattle.proto_compare.specs.Say.{compare_job_say}
+use Rattle.proto_compare.specs.Rows.{compare_stands, of_compare_kept}
+use Rattle.proto_number.specs.Say.{number_job_say}
+use Rattle.proto_number.specs.Rows.{number_stands, of_number_kept}
 use Rattle.native_containers.specs.Say.{tuple_say, list_say, dict_say, iterator_say}
 use Rattle.native_numbers.specs.Say.{fixed_say, number_say, arithmetic_say, bits_say, compare_say}
 use Rattle.native_calls.specs.Say.{asks, asking_by, asking_rest}
@@ -38,7 +42,7 @@ use Rattle.native_objects.specs.Makers.{maker_say}
 use Rattle.native_objects.specs.Getters.{getter_say}
 use Rattle.native_objects.specs.Details.{getter_of_say}
 use Rattle.vm_eval.specs.declared.stack.Kept.{Kept}
-use Rattle.vm_eval.specs.declared.stack.Kept.TheVariants.{ForEval, ForAttribute, ForDescriptor, ForCall, ForClass, ForOperator, ForNative}
+use Rattle.vm_eval.specs.declared.stack.Kept.TheVariants.{ForEval, ForAttribute, ForDescriptor, ForCall, ForClass, ForOperator, ForCompare, ForNumber, ForNative}
 
 -- what a native of no group of rows says that ends at once. Those that are not named here are not there yet
 abbrev pub native_by : PlainWorld → NativeEntry → List PyObjectRef → Bindings → Said
@@ -75,8 +79,8 @@ say w (ToDescriptor job) = descriptor_say w job
 say w (ToCall job) = call_job_say w job
 say w (ToClass job) = class_job_say w job
 say w (ToOperator job) = operator_say w job
-say w (ToCompare job) = end w not_yet
-say w (ToProtocol job) = end w not_yet
+say w (ToCompare job) = compare_job_say w job
+say w (ToProtocol job) = number_job_say w job
 say w (ToObject job) = end w not_yet
 say w (ToNative n args kw) = native_say w n args kw
 
@@ -96,6 +100,8 @@ stands t (ForDescriptor kept) = among ToDescriptor (descriptor_stands t kept)
 stands t (ForCall kept) = among ToCall (call_stands t kept)
 stands t (ForClass kept) = among ToClass (class_stands t kept)
 stands t (ForOperator kept) = among ToOperator (operator_stands t kept)
+stands t (ForCompare kept) = among ToCompare (compare_stands t kept)
+stands t (ForNumber kept) = among ToProtocol (number_stands t kept)
 stands t (ForNative kept) = asking_stands t kept
 
 abbrev pub Begins : Task → World → World → Step Kept → Type 0
@@ -111,6 +117,8 @@ of_kept (ForDescriptor kept) = of_descriptor_kept kept
 of_kept (ForCall kept) = of_call_kept kept
 of_kept (ForClass kept) = of_class_kept kept
 of_kept (ForOperator kept) = of_operator_kept kept
+of_kept (ForCompare kept) = of_compare_kept kept
+of_kept (ForNumber kept) = of_number_kept kept
 of_kept (ForNative kept) = of_native_kept kept
 
 -- how many bodies are open in what is kept: only a call opens one

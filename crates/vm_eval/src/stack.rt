@@ -9,6 +9,8 @@ ghost use Rattle.proto_descr.specs.Rows.{of_descriptor_kept};
 ghost use Rattle.proto_call.specs.Rows.{of_call_kept, bodies_of};
 ghost use Rattle.class_make.specs.Rows.{of_class_kept};
 ghost use Rattle.proto_ops.specs.Rows.{of_operator_kept};
+ghost use Rattle.proto_compare.specs.Rows.{of_compare_kept};
+ghost use Rattle.proto_number.specs.Rows.{of_number_kept};
 ghost use Rattle.vm_eval.specs.Say.{Begins, Resumes, step_among, of_kept, bodies_in};
 ghost use Rattle.vm_eval.specs.Stack.{Answers, Reaches, Keeps, RunsAbove, AsDeep, EndsDeep, turns_left, of_turn, of_end};
 
@@ -19,7 +21,9 @@ use eval_forms::EvalKept;
 use native_calls::NativeKept;
 use proto_attr::AttributeKept;
 use proto_call::CallKept;
+use proto_compare::CompareKept;
 use proto_descr::DescriptorKept;
+use proto_number::NumberKept;
 use proto_ops::OperatorKept;
 use py_node::{Answer, Cause, OutOfMemory, Raised, Step, Task};
 
@@ -35,6 +39,8 @@ pub enum Kept {
     ForCall(CallKept),
     ForClass(ClassKept),
     ForOperator(OperatorKept),
+    ForCompare(CompareKept),
+    ForNumber(NumberKept),
     ForNative(NativeKept),
 }
 
@@ -76,8 +82,14 @@ fn begin(world: &mut World, task: Task) -> Result<Step<Kept>, OutOfMemory>
             let step = proto_ops::begin(world, task)?;
             Ok(of_operator(step))
         }
-        Task::Compare(_) => Ok(Step::not_yet()),
-        Task::Protocol(_) => Ok(Step::not_yet()),
+        Task::Compare(task) => {
+            let step = proto_compare::begin(world, task)?;
+            Ok(of_compare(step))
+        }
+        Task::Protocol(task) => {
+            let step = proto_number::begin(world, task)?;
+            Ok(of_number(step))
+        }
         Task::Object(_) => Ok(Step::not_yet()),
         Task::Native(entry, args, kw) => {
             let step = begin_native(world, entry, args, kw)?;
@@ -121,6 +133,14 @@ fn resume(
         Kept::ForOperator(kept) => {
             let step = proto_ops::resume(world, kept, answer)?;
             Ok(of_operator(step))
+        }
+        Kept::ForCompare(kept) => {
+            let step = proto_compare::resume(world, kept, answer)?;
+            Ok(of_compare(step))
+        }
+        Kept::ForNumber(kept) => {
+            let step = proto_number::resume(world, kept, answer)?;
+            Ok(of_number(step))
         }
         Kept::ForNative(kept) => {
             let step = native_calls::resume(world, kept, answer)?;
@@ -197,6 +217,30 @@ fn of_operator(step: Step<OperatorKept>) -> Step<Kept>
 {
     match step {
         Step::Ask(task, kept) => Step::Ask(task, Kept::ForOperator(kept)),
+        Step::End(answer) => Step::End(answer),
+    }
+}
+
+// A step of a comparison, among all steps.
+fn of_compare(step: Step<CompareKept>) -> Step<Kept>
+    ensures step { result ≡ step_among Kept.ForCompare step }
+    ensures says { of_step of_kept result ≡ of_step of_compare_kept step }
+    ensures opens { left_open bodies_in result ≡ 0 }
+{
+    match step {
+        Step::Ask(task, kept) => Step::Ask(task, Kept::ForCompare(kept)),
+        Step::End(answer) => Step::End(answer),
+    }
+}
+
+// A step of a truth value, a number or a length, among all steps.
+fn of_number(step: Step<NumberKept>) -> Step<Kept>
+    ensures step { result ≡ step_among Kept.ForNumber step }
+    ensures says { of_step of_kept result ≡ of_step of_number_kept step }
+    ensures opens { left_open bodies_in result ≡ 0 }
+{
+    match step {
+        Step::Ask(task, kept) => Step::Ask(task, Kept::ForNumber(kept)),
         Step::End(answer) => Step::End(answer),
     }
 }

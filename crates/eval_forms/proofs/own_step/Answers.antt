@@ -3,10 +3,11 @@ use Rattle.std.proofs.Common.{length, map, refl, ap, sym, subst, ◌∙◌}
 use Rattle.plain_machine.specs.Plain.{PlainWorld}
 use Rattle.class_world.specs.Reading.{Reading, spelled}
 use Rattle.class_world.proofs.Stored.{ok-map}
-use Rattle.eval_forms.specs.Say.{one_of, attr_say, set_attr_say, called_say, op_say, raise_say, class_say}
+use Rattle.eval_forms.specs.Words.{one_of, op_say}
+use Rattle.eval_forms.specs.Say.{attr_say, set_attr_say, del_attr_say, called_say, if_say, seq_say, raise_say, class_say}
 use Rattle.plain_machine.specs.Args.{two_of}
 use Rattle.eval_forms.specs.Rows.{IsOwn, Takes, Continues, operands_at, args_of, keywords_of}
-use Rattle.eval_forms.proofs.Operands.{own-closes, own-takes, own-takes-read, says-attr, says-set, says-call, says-raise, attr-name, call-func, says-op, says-class, class-long, class-names, set-name, one-holds, own-func, own-later, own-tuple, own-list}
+use Rattle.eval_forms.proofs.Operands.{own-closes, own-takes, own-takes-read, says-attr, says-set, says-call, says-raise, attr-name, call-func, says-op, says-del, says-if, says-seq, del-name, if-branches, says-class, class-long, class-names, set-name, one-holds, own-func, own-tuple, own-list}
 use Rattle.eval_forms.proofs.DictForm.{no-pairs, own-dict}
 use Rattle.class_world.proofs.Growth.{grows-itself}
 use Rattle.eval_forms.proofs.own_step.Goals as goal
@@ -90,24 +91,21 @@ returns-in-Raise-clause-safe c =
     let w = c.args.world.now in
     (grows-itself w, c.raise_step.ensures.safe w)
 
+pub op_step-requires : goal.op_step-requires
+op_step-requires c = rw c.deref-in-Op.ensures.value c.requires.values
+
 pub returns-in-Op-clause-goes : goal.returns-in-Op-clause-goes
 returns-in-Op-clause-goes c =
     let w = c.args.world.now in
+    let new = c.op_step.new.world in
     let f = c.form.result.now in
     let vs = c.args.values.items in
     let word = c.in-Op.word in
     let own = subst (λ o. IsOwn o f) c.in-Op.is c.in_ok-constant.ensures in
     let long = ap (λ o. length (operands_at o)) (sym c.form.ensures.stored) ∙ c.requires.all in
-    let goes = rw c.deref-in-Op.ensures.value at c.op_step-step.ensures.goes in
-    own-takes w w c.args.e f vs (λ t u. op_say u word vs) c.op_step-step.result c.form.ensures.stored long (says-op word vs f own) goes
-
-pub returns-in-Op-clause-safe : goal.returns-in-Op-clause-safe
-returns-in-Op-clause-safe c =
-    let w = c.args.world.now in
-    (grows-itself w, c.op_step-step.ensures.safe)
-
-pub op_step-step-requires : goal.op_step-step-requires
-op_step-step-requires c = rw c.deref-in-Op.ensures.value c.requires.values
+    let row = λ (t : Reading) (u : PlainWorld). op_say u word vs in
+    let goes : IfOk c.op_step.result (λ step. Takes row w new step) = rw (← c.deref-in-Op.ensures.value) c.op_step.ensures.goes in
+    ok-map (λ step. Takes row w new step) (λ step. Continues c.args.e vs w new step) c.op_step.result (λ step k. own-takes w new c.args.e f vs row step c.form.ensures.stored long (says-op word vs f own) k) goes
 
 pub returns-in-Tuple-clause-goes : goal.returns-in-Tuple-clause-goes
 returns-in-Tuple-clause-goes c =
@@ -133,13 +131,66 @@ returns-in-Dict-clause-goes c =
     let long = ap (λ o. length (operands_at o)) (sym c.form.ensures.stored) ∙ c.requires.all in
     own-dict c.args.world.now c.next_key.new.world c.args.e f c.args.values.items c.new.result c.next_key.result c.form.ensures.stored long own c.new.ensures.items c.next_key.ensures.goes
 
-pub returns-in-NotYet-clause-goes : goal.returns-in-NotYet-clause-goes
-returns-in-NotYet-clause-goes c =
+pub returns-in-DelAttr-clause-goes : goal.returns-in-DelAttr-clause-goes
+returns-in-DelAttr-clause-goes c =
     let w = c.args.world.now in
     let f = c.form.result.now in
-    let own = subst (λ o. IsOwn o f) c.in-NotYet.is c.in_ok-constant.ensures in
+    let vs = c.args.values.items in
+    let own = subst (λ o. IsOwn o f) c.in-DelAttr.is c.in_ok-constant.ensures in
     let long = ap (λ o. length (operands_at o)) (sym c.form.ensures.stored) ∙ c.requires.all in
-    own-later w c.args.e f c.args.values.items c.not_yet.result c.form.ensures.stored long own (rw c.not_yet.ensures (λ t r. (r, refl)))
+    let is = rw c.deref-in-DelAttr.ensures.value at c.one_of-in-DelAttr.ensures in
+    let goes = rw is at c.del_attr_step-step.ensures.goes in
+    own-takes w w c.args.e f vs (λ t u. del_attr_say u (t.text c.in-DelAttr.name.0) (one_of vs)) c.del_attr_step-step.result c.form.ensures.stored long (says-del c.in-DelAttr.name vs f own) (goes w)
+
+pub returns-in-DelAttr-clause-safe : goal.returns-in-DelAttr-clause-safe
+returns-in-DelAttr-clause-safe c =
+    let w = c.args.world.now in
+    let f = c.form.result.now in
+    let own = subst (λ o. IsOwn o f) c.in-DelAttr.is c.in_ok-constant.ensures in
+    let is = rw c.deref-in-DelAttr.ensures.value at c.one_of-in-DelAttr.ensures in
+    let safe = rw is at c.del_attr_step-step.ensures.safe in
+    (grows-itself w, safe w (del-name w c.in-DelAttr.name f own c.form.ensures.holds) (one-holds w c.args.values.items c.requires.values))
+
+pub returns-in-If-clause-goes : goal.returns-in-If-clause-goes
+returns-in-If-clause-goes c =
+    let w = c.args.world.now in
+    let f = c.form.result.now in
+    let vs = c.args.values.items in
+    let a = c.in-If.chosen in
+    let b = c.in-If.other in
+    let own = subst (λ o. IsOwn o f) c.in-If.is c.in_ok-constant.ensures in
+    let long = ap (λ o. length (operands_at o)) (sym c.form.ensures.stored) ∙ c.requires.all in
+    let is = rw c.deref-in-If.ensures.value at c.one_of-in-If.ensures in
+    let goes = rw is at c.if_step-step.ensures.goes in
+    own-takes w w c.args.e f vs (λ t u. if_say u (t.tree a) (t.tree b) (one_of vs)) c.if_step-step.result c.form.ensures.stored long (says-if a b vs f own) (goes w)
+
+pub returns-in-If-clause-safe : goal.returns-in-If-clause-safe
+returns-in-If-clause-safe c =
+    let w = c.args.world.now in
+    let f = c.form.result.now in
+    let own = subst (λ o. IsOwn o f) c.in-If.is c.in_ok-constant.ensures in
+    let is = rw c.deref-in-If.ensures.value at c.one_of-in-If.ensures in
+    let safe = rw is at c.if_step-step.ensures.safe in
+    let both = if-branches w c.in-If.chosen c.in-If.other f own c.form.ensures.holds in
+    (grows-itself w, safe w both.0 both.1 (one-holds w c.args.values.items c.requires.values))
+
+pub seq_step-step-requires : goal.seq_step-step-requires
+seq_step-step-requires c = rw c.deref-in-Seq.ensures.value c.requires.values
+
+pub returns-in-Seq-clause-goes : goal.returns-in-Seq-clause-goes
+returns-in-Seq-clause-goes c =
+    let w = c.args.world.now in
+    let f = c.form.result.now in
+    let vs = c.args.values.items in
+    let own = subst (λ o. IsOwn o f) c.in-Seq.is c.in_ok-constant.ensures in
+    let long = ap (λ o. length (operands_at o)) (sym c.form.ensures.stored) ∙ c.requires.all in
+    let goes = rw c.deref-in-Seq.ensures.value at c.seq_step-step.ensures.goes in
+    own-closes w w c.args.e f vs (λ t u. seq_say u vs) c.seq_step-step.result c.form.ensures.stored long (says-seq vs f own) goes
+
+pub returns-in-Seq-clause-safe : goal.returns-in-Seq-clause-safe
+returns-in-Seq-clause-safe c =
+    let w = c.args.world.now in
+    (grows-itself w, c.seq_step-step.ensures.safe)
 
 pub class_step-requires-clause-name : goal.class_step-requires-clause-name
 class_step-requires-clause-name c =

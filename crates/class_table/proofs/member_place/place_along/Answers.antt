@@ -1,7 +1,6 @@
-use Rattle.std.proofs.Common.{◌≡◌, ℕ, suc, ◌+◌, ◌-◌, ◌≤◌, ◌<◌, List, ◌∷◌, Some, length, get_or, ap, subst, sym, ◌∙◌, arith, drop, drop-cons, slice_index_or}
+use Rattle.std.proofs.Common.{◌≡◌, ℕ, suc, ◌+◌, ◌-◌, ◌<◌, List, ◌∷◌, Some, length, get_or, ap, sym, ◌∙◌, arith, drop, drop-cons, slice_index_or}
 use Rattle.py_node.specs.declared.refs.PyTypeRef.{PyTypeRef}
-use Rattle.class_model.specs.Class.{class_at}
-use Rattle.class_model.specs.Layout.{layout_along, member_count, members_in, place_along}
+use Rattle.class_model.specs.Layout.{layout_along, members_in, place_along}
 use Rattle.class_table.specs.Keys.{numbers}
 use Rattle.class_table.specs.Stored.{classes_of}
 use Rattle.class_table.proofs.Counts.{layout-none, layout-below, layout-own}

@@ -1,8 +1,7 @@
-use Rattle.std.proofs.Common.{◌≡◌, ℕ, Some, sym, ap, ◌∙◌}
+use Rattle.std.proofs.Common.{◌≡◌, Some, sym, ap, ◌∙◌}
 use Rattle.class_model.specs.Class.{lin}
 use Rattle.class_model.specs.Layout.{layout_along, members_in, place_along, place_at, place_count}
 use Rattle.std.specs.Prelude.{option_and_then}
-use Rattle.class_table.specs.Keys.{numbers}
 use Rattle.class_table.specs.Stored.{classes_of}
 use Rattle.class_table.proofs.Counts.{count-line}
 use Rattle.class_table.proofs.member_place.place_at.Goals as goal

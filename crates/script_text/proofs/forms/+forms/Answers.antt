@@ -1,9 +1,13 @@
-use Rattle.std.proofs.Common.{◌≡◌, ◌∷◌, [], ◌++◌, Some, map, string_bytes, arith}
+use Rattle.std.proofs.Common.{◌≡◌, ◌∷◌, [], ◌++◌, Some, Ok, ok_or, true, length, map, string_bytes, arith}
 use Rattle.serde_json.specs.Find.{as_str}
 use Rattle.serde_json.specs.View.{view, items_view}
 use Rattle.py_node.specs.Tree.{tree_of}
-use Rattle.script_text.specs.Forms.{call_of, class_of, expr_of, list_of, body_of, keywords_of, named}
-use Rattle.script_text.proofs.Lists.{depth-here, exprs-turn, entries-turn, pairs-turn, call-tree, class-tree}
+use Rattle.script_text.specs.declared.parts.Unread.TheVariants.{Shape}
+use Rattle.py_node.specs.declared.expr.Word.{Word}
+use Rattle.script_text.specs.declared.words.Arity.{Arity}
+use Rattle.script_text.specs.Words.{allows, operation_of}
+use Rattle.script_text.specs.Forms.{call_of, class_of, expr_of, exprs_of, op_of, list_of, body_of, keywords_of, named}
+use Rattle.script_text.proofs.Lists.{depth-here, exprs-turn, entries-turn, pairs-turn, call-tree, class-tree, found, op-tree}
 use Rattle.script_text.proofs.forms.+forms.Goals as goal
 
 pub read_call-returns-clause-ok : goal.read_call-returns-clause-ok
@@ -19,6 +23,18 @@ read_call-returns-clause-ok t c =
     let named_ones : keywords_of (items_view p.rest.now) ≡ Some (map named keywords.items) = grind arith in
     let boxed : c.in_ok-new.field-0.value ≡ callee = grind arith in
     rw (parts, called, given, named_ones, call-tree c.in_ok-new.field-0 args keywords, boxed)
+
+pub read_op-returns-then-allows-clause-ok : goal.read_op-returns-then-allows-clause-ok
+unfolding op_of
+read_op-returns-then-allows-clause-ok t c =
+    let head = c.in_ok-head.head.now in
+    let row : Word × Arity = (c.in_ok-word.word, c.in_ok-word.arity) in
+    let operands = c.in_ok-operands.operands in
+    let parts : c.args.items.now ≡ head ∷ c.in_ok-head.rest.now = grind arith in
+    let said : ok_or (operation_of (view head)) Shape ≡ Ok row = grind arith in
+    let given : exprs_of (items_view c.in_ok-head.rest.now) ≡ Some (map tree_of operands.items) = grind arith in
+    let fits : allows row.1 (length operands.items) ≡ true = grind arith in
+    rw (parts, found (operation_of (view head)) Shape row said, given) (op-tree row operands fits)
 
 pub read_keywords-returns-clause-ok : goal.read_keywords-returns-clause-ok
 unfolding keywords_of

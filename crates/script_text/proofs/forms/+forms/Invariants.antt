@@ -42,11 +42,20 @@ decreases-read_attr l = 4 * items_depth (items_view l.items.now) + 2
 abbrev pub decreases-read_setattr : goal.decreases-read_setattr
 decreases-read_setattr l = 4 * items_depth (items_view l.items.now) + 2
 
+abbrev pub decreases-read_delattr : goal.decreases-read_delattr
+decreases-read_delattr l = 4 * items_depth (items_view l.items.now) + 2
+
 abbrev pub decreases-read_call : goal.decreases-read_call
 decreases-read_call l = 4 * items_depth (items_view l.items.now) + 2
 
 abbrev pub decreases-read_op : goal.decreases-read_op
 decreases-read_op l = 4 * items_depth (items_view l.items.now) + 2
+
+abbrev pub decreases-read_if : goal.decreases-read_if
+decreases-read_if l = 4 * items_depth (items_view l.items.now) + 2
+
+abbrev pub decreases-read_seq : goal.decreases-read_seq
+decreases-read_seq l = 4 * items_depth (items_view l.items.now) + 2
 
 abbrev pub decreases-read_class : goal.decreases-read_class
 decreases-read_class l = 4 * items_depth (items_view l.items.now) + 2

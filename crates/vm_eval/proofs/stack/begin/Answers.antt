@@ -1,6 +1,6 @@
 use Rattle.std.proofs.Common.{refl}
 use Rattle.py_node.specs.declared.task.Task.TheVariants as task
-use Rattle.class_world.specs.Reading.{eval_job, attribute_job, descriptor_job, call_job, class_job, operator_job}
+use Rattle.class_world.specs.Reading.{eval_job, attribute_job, descriptor_job, call_job, class_job, operator_job, compare_job, protocol_job}
 use Rattle.class_world.proofs.Leaves.{leaves-among, leaves-open}
 use Rattle.eval_forms.specs.Say.{eval_say}
 use Rattle.eval_forms.specs.Rows.{eval_stands, of_eval_kept}
@@ -14,10 +14,14 @@ use Rattle.class_make.specs.Say.{class_job_say}
 use Rattle.class_make.specs.Rows.{class_stands, of_class_kept}
 use Rattle.proto_ops.specs.Say.{operator_say}
 use Rattle.proto_ops.specs.Rows.{operator_stands, of_operator_kept}
-use Rattle.plain_machine.specs.Plain.{ToEval, ToAttribute, ToDescriptor, ToCall, ToClass, ToOperator}
-use Rattle.vm_eval.specs.declared.stack.Kept.TheVariants.{ForEval, ForAttribute, ForDescriptor, ForCall, ForClass, ForOperator}
+use Rattle.proto_compare.specs.Say.{compare_job_say}
+use Rattle.proto_compare.specs.Rows.{compare_stands, of_compare_kept}
+use Rattle.proto_number.specs.Say.{number_job_say}
+use Rattle.proto_number.specs.Rows.{number_stands, of_number_kept}
+use Rattle.plain_machine.specs.Plain.{ToEval, ToAttribute, ToDescriptor, ToCall, ToClass, ToOperator, ToCompare, ToProtocol}
+use Rattle.vm_eval.specs.declared.stack.Kept.TheVariants.{ForEval, ForAttribute, ForDescriptor, ForCall, ForClass, ForOperator, ForCompare, ForNumber}
 use Rattle.vm_eval.specs.Say.{say, of_kept, bodies_in}
-use Rattle.vm_eval.proofs.Groups.{begins-among, not-yet-begins, eval-group, attribute-group, descriptor-group, call-group, class-group, operator-group}
+use Rattle.vm_eval.proofs.Groups.{begins-among, not-yet-begins, eval-group, attribute-group, descriptor-group, call-group, class-group, operator-group, compare-group, number-group}
 use Rattle.vm_eval.proofs.stack.begin.Goals as goal
 
 pub returns-in_ok-step-in-Eval-clause-goes : goal.returns-in_ok-step-in-Eval-clause-goes
@@ -50,20 +54,20 @@ returns-in_ok-step-in-Operator-clause-goes c =
     let step = c.in_ok-step-in-Operator in
     rw c.in-Operator.is (begins-among operator_say operator_stands ToOperator ForOperator operator-group (λ t. operator_job t c.in-Operator.task) _ _ step.step c.of_operator.result c.of_operator.ensures.step step.ensures.goes)
 
-pub returns-in-Compare-clause-goes : goal.returns-in-Compare-clause-goes
-unfolding say
-returns-in-Compare-clause-goes c =
-    rw (c.in-Compare.is, c.not_yet.ensures) (not-yet-begins (task.Compare c.in-Compare.field-0) c.args.world.now (λ t u. refl))
+pub returns-in_ok-step-in-Compare-clause-goes : goal.returns-in_ok-step-in-Compare-clause-goes
+returns-in_ok-step-in-Compare-clause-goes c =
+    let step = c.in_ok-step-in-Compare in
+    rw c.in-Compare.is (begins-among compare_job_say compare_stands ToCompare ForCompare compare-group (λ t. compare_job c.in-Compare.task) _ _ step.step c.of_compare.result c.of_compare.ensures.step step.ensures.goes)
 
-pub returns-in-Protocol-clause-goes : goal.returns-in-Protocol-clause-goes
-unfolding say
-returns-in-Protocol-clause-goes c =
-    rw (c.in-Protocol.is, c.not_yet-in-Protocol.ensures) (not-yet-begins (task.Protocol c.in-Protocol.field-0) c.args.world.now (λ t u. refl))
+pub returns-in_ok-step-in-Protocol-clause-goes : goal.returns-in_ok-step-in-Protocol-clause-goes
+returns-in_ok-step-in-Protocol-clause-goes c =
+    let step = c.in_ok-step-in-Protocol in
+    rw c.in-Protocol.is (begins-among number_job_say number_stands ToProtocol ForNumber number-group (λ t. protocol_job c.in-Protocol.task) _ _ step.step c.of_number.result c.of_number.ensures.step step.ensures.goes)
 
 pub returns-in-Object-clause-goes : goal.returns-in-Object-clause-goes
 unfolding say
 returns-in-Object-clause-goes c =
-    rw (c.in-Object.is, c.not_yet-in-Object.ensures) (not-yet-begins (task.Object c.in-Object.field-0) c.args.world.now (λ t u. refl))
+    rw (c.in-Object.is, c.not_yet.ensures) (not-yet-begins (task.Object c.in-Object.field-0) c.args.world.now (λ t u. refl))
 
 pub returns-in_ok-step-in-Eval-clause-safe : goal.returns-in_ok-step-in-Eval-clause-safe
 returns-in_ok-step-in-Eval-clause-safe c =
@@ -88,3 +92,11 @@ returns-in_ok-step-in-Operator-clause-safe c =
 pub returns-in_ok-step-in-Call-clause-safe : goal.returns-in_ok-step-in-Call-clause-safe
 returns-in_ok-step-in-Call-clause-safe c =
     leaves-open of_kept bodies_in of_call_kept bodies_of 0 0 _ _ c.in_ok-step-in-Call.step c.of_call.result refl c.of_call.ensures.says c.of_call.ensures.opens c.in_ok-step-in-Call.ensures.safe
+
+pub returns-in_ok-step-in-Compare-clause-safe : goal.returns-in_ok-step-in-Compare-clause-safe
+returns-in_ok-step-in-Compare-clause-safe c =
+    leaves-among of_kept bodies_in of_compare_kept 0 _ _ c.in_ok-step-in-Compare.step c.of_compare.result refl c.of_compare.ensures.says c.of_compare.ensures.opens c.in_ok-step-in-Compare.ensures.safe
+
+pub returns-in_ok-step-in-Protocol-clause-safe : goal.returns-in_ok-step-in-Protocol-clause-safe
+returns-in_ok-step-in-Protocol-clause-safe c =
+    leaves-among of_kept bodies_in of_number_kept 0 _ _ c.in_ok-step-in-Protocol.step c.of_number.result refl c.of_number.ensures.says c.of_number.ensures.opens c.in_ok-step-in-Protocol.ensures.safe

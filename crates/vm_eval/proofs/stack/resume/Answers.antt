@@ -12,11 +12,15 @@ use Rattle.class_make.specs.Say.{class_job_say}
 use Rattle.class_make.specs.Rows.{class_stands, of_class_kept}
 use Rattle.proto_ops.specs.Say.{operator_say}
 use Rattle.proto_ops.specs.Rows.{operator_stands, of_operator_kept}
-use Rattle.plain_machine.specs.Plain.{ToEval, ToAttribute, ToDescriptor, ToCall, ToClass, ToOperator}
-use Rattle.vm_eval.specs.declared.stack.Kept.TheVariants.{ForEval, ForAttribute, ForDescriptor, ForCall, ForClass, ForOperator}
+use Rattle.proto_compare.specs.Say.{compare_job_say}
+use Rattle.proto_compare.specs.Rows.{compare_stands, of_compare_kept}
+use Rattle.proto_number.specs.Say.{number_job_say}
+use Rattle.proto_number.specs.Rows.{number_stands, of_number_kept}
+use Rattle.plain_machine.specs.Plain.{ToEval, ToAttribute, ToDescriptor, ToCall, ToClass, ToOperator, ToCompare, ToProtocol}
+use Rattle.vm_eval.specs.declared.stack.Kept.TheVariants.{ForEval, ForAttribute, ForDescriptor, ForCall, ForClass, ForOperator, ForCompare, ForNumber}
 use Rattle.vm_eval.specs.Say.{of_kept, bodies_in}
 use Rattle.vm_eval.proofs.Asking.{native-resumes}
-use Rattle.vm_eval.proofs.Groups.{resumes-among, eval-group, attribute-group, descriptor-group, call-group, class-group, operator-group}
+use Rattle.vm_eval.proofs.Groups.{resumes-among, eval-group, attribute-group, descriptor-group, call-group, class-group, operator-group, compare-group, number-group}
 use Rattle.vm_eval.proofs.stack.resume.Goals as goal
 
 pub returns-in_ok-step-in-ForEval-clause-goes : goal.returns-in_ok-step-in-ForEval-clause-goes
@@ -77,3 +81,21 @@ pub returns-in_ok-step-in-ForNative-clause-goes : goal.returns-in_ok-step-in-For
 returns-in_ok-step-in-ForNative-clause-goes c =
     let step = c.in_ok-step-in-ForNative in
     native-resumes c.args.kept c.in-ForNative.kept c.args.answer _ _ step.step c.of_native.result c.in-ForNative.is c.of_native.ensures.step step.ensures.goes
+
+pub returns-in_ok-step-in-ForCompare-clause-goes : goal.returns-in_ok-step-in-ForCompare-clause-goes
+returns-in_ok-step-in-ForCompare-clause-goes c =
+    let step = c.in_ok-step-in-ForCompare in
+    resumes-among compare_job_say compare_stands ToCompare ForCompare compare-group c.args.kept c.in-ForCompare.kept c.args.answer _ _ step.step c.of_compare.result c.in-ForCompare.is c.of_compare.ensures.step step.ensures.goes
+
+pub returns-in_ok-step-in-ForNumber-clause-goes : goal.returns-in_ok-step-in-ForNumber-clause-goes
+returns-in_ok-step-in-ForNumber-clause-goes c =
+    let step = c.in_ok-step-in-ForNumber in
+    resumes-among number_job_say number_stands ToProtocol ForNumber number-group c.args.kept c.in-ForNumber.kept c.args.answer _ _ step.step c.of_number.result c.in-ForNumber.is c.of_number.ensures.step step.ensures.goes
+
+pub returns-in_ok-step-in-ForCompare-clause-safe : goal.returns-in_ok-step-in-ForCompare-clause-safe
+returns-in_ok-step-in-ForCompare-clause-safe c =
+    leaves-among of_kept bodies_in of_compare_kept (bodies_in c.args.kept) _ _ c.in_ok-step-in-ForCompare.step c.of_compare.result (ap bodies_in c.in-ForCompare.is) c.of_compare.ensures.says c.of_compare.ensures.opens c.in_ok-step-in-ForCompare.ensures.safe
+
+pub returns-in_ok-step-in-ForNumber-clause-safe : goal.returns-in_ok-step-in-ForNumber-clause-safe
+returns-in_ok-step-in-ForNumber-clause-safe c =
+    leaves-among of_kept bodies_in of_number_kept (bodies_in c.args.kept) _ _ c.in_ok-step-in-ForNumber.step c.of_number.result (ap bodies_in c.in-ForNumber.is) c.of_number.ensures.says c.of_number.ensures.opens c.in_ok-step-in-ForNumber.ensures.safe

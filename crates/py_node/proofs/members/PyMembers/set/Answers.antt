@@ -1,5 +1,4 @@
 use Rattle.std.proofs.Common.{sym, ap, get_or, slice_set, ◌∙◌, ◌++◌, ◌∷◌, []}
-use Rattle.py_node.specs.Attributes.{with_value}
 use Rattle.py_node.specs.Places.{is_same_place}
 use Rattle.py_node.proofs.FirstEntries.{value-put, value-added}
 use Rattle.py_node.proofs.members.PyMembers.set.Goals as goal

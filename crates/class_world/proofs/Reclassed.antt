@@ -1,0 +1,86 @@
+-- An object that gets another class, or another dict.
+use Rattle.std.proofs.Common.{◌≡◌, ℕ, ◌<◌, Bool, true, false, List, [], ◌∷◌, Option, Some, None, refl, sym, ap, ◌∙◌, subst, length, get_or}
+use Rattle.std.specs.Prelude.{◌&&◌, eqb, nat_lt, slice_get, slice_set, is_some, option_map, option_and_then}
+use Rattle.std.specs.List.{AllByRecursion}
+use Rattle.std.specs.Option.{option_or}
+use Rattle.std.proofs.lemmas.Bool.{eqb-true}
+use Rattle.py_node.specs.declared.built_in.BuiltIn.TheVariants.{Dict}
+use Rattle.py_node.specs.declared.members.MemberPlace.{MemberPlace}
+use Rattle.py_node.specs.declared.payload.Node.{Node as StoredNode}
+use Rattle.py_node.specs.declared.raised.Cause.TheVariants.{ImmutableType, LayoutDiffers}
+use Rattle.py_node.specs.declared.refs.PyObjectRef.{PyObjectRef}
+use Rattle.py_node.specs.declared.refs.PyTypeRef.{PyTypeRef}
+use Rattle.class_model.specs.Class.{Classes, class_at, is_class, is_along}
+use Rattle.class_model.specs.Layout.{layout, member_count, is_place, solid}
+use Rattle.class_model.specs.Slot.{is_heap_at}
+use Rattle.class_model.specs.Sound.{AreSound}
+use Rattle.class_model.proofs.Numbers.{some-of}
+use Rattle.class_model.proofs.Renamed.{solid-renamed}
+use Rattle.class_table.specs.Rebase.{is_same, refused_class, unless}
+use Rattle.plain_machine.specs.Plain.{Node}
+use Rattle.plain_machine.specs.Sound.{held_by}
+use Rattle.plain_machine.specs.World.{class_at as node_class}
+use Rattle.class_world.specs.Held.{Held}
+use Rattle.class_world.specs.Reading.{Reading, spelled, node_of, plain}
+use Rattle.class_world.specs.Sound.{IsNode, IsClass, IsOf, Holding, AreMembers, IsMember, Holds, AllHold, Sound, home_of, of_node, of_option, of_dict_ref, with_class_ref, with_dict_ref}
+use Rattle.class_world.proofs.Claims.{all-append, all-rest}
+use Rattle.class_world.proofs.Look.{node-read}
+use Rattle.class_world.proofs.OfClasses.{heap-seen}
+use Rattle.class_world.proofs.SameLayout.{layout-solid, held_by-solid}
+
+solid-seen : (w now : Held) → w ≡ now → (t : Reading) (x : ℕ) → solid (plain t now).classes x ≡ solid w.classes x
+unfolding plain
+solid-seen w now v t x = subst (λ u. solid (plain t u).classes x ≡ solid w.classes x) v (solid-renamed (spelled t) w.classes x)
+
+-- what is refused is so under the texts too
+pub reclass-seen : (w now : Held) → w ≡ now → (t : Reading) (c d : ℕ) → refused_class (plain t now).classes c d ≡ refused_class w.classes c d
+reclass-seen w now v t c d =
+    let a = heap-seen w now v t c in
+    let b = heap-seen w now v t d in
+    let s = solid-seen w now v t c in
+    let r = solid-seen w now v t d in
+    λ i. option_or (unless (a i && b i) ImmutableType) (unless (is_same (s i) (r i)) LayoutDiffers)
+
+module _ {K : Type 0} (t : Classes K) (ok : AreSound t) (c d : ℕ) (there : is_class t c ≡ true) (other : is_class t d ≡ true) (passed : refused_class t c d ≡ None) where
+  same : solid t c ≡ solid t d
+  same =
+      let a = some-of (solid t c) (ok.solid c there) in
+      let b = some-of (solid t d) (ok.solid d other) in
+      let e : is_same (Some a.0) (Some b.0) ≡ true = sym (λ i. is_same (a.1 i) (b.1 i)) ∙ go (is_heap_at (class_at t c) && is_heap_at (class_at t d)) (is_same (solid t c) (solid t d)) passed in
+      a.1 ∙ ap Some (eqb-true a.0 b.0 e) ∙ sym b.1
+    where
+      go : (x y : Bool) → option_or (unless x ImmutableType) (unless y LayoutDiffers) ≡ None → y ≡ true
+      go true true e = refl
+      go true false e = cc
+      go false true e = cc
+      go false false e = cc
+
+  pub same-layout : layout t c ≡ layout t d
+  same-layout =
+      let a = some-of (solid t c) (ok.solid c there) in
+      layout-solid t ok c a.0 there a.1 ∙ sym (layout-solid t ok d a.0 other (sym same ∙ a.1))
+
+  pub same-held : held_by t c ≡ held_by t d
+  same-held =
+      let a = some-of (solid t c) (ok.solid c there) in
+      held_by-solid t ok c a.0 there a.1 ∙ sym (held_by-solid t ok d a.0 other (sym same ∙ a.1))
+
+-- the places of one class are those of the other one
+members-moved : (w : Held) (c d : ℕ) → layout w.classes c ≡ layout w.classes d → (ms : List (MemberPlace × Option PyObjectRef)) → AllByRecursion (IsMember w c) ms → AllByRecursion (IsMember w d) ms
+members-moved w c d e [] h = h
+members-moved w c d e (m ∷ ms) h =
+    ((ap (λ o. is_along m.0.class.0 o && nat_lt m.0.index (member_count (class_at w.classes m.0.class.0))) (sym e) ∙ h.0.0, h.0.1), members-moved w c d e ms h.1)
+
+pub class-set-holds : (w : Held) (n : StoredNode) (class : PyTypeRef) → AreSound w.classes → AllHold w (of_node n) → Holds w (IsClass class.0) → refused_class w.classes n.class.0 class.0 ≡ None → AllHold w (of_node (with_class_ref n class))
+unfolding Holds
+class-set-holds w n class ok h there passed =
+    (there, (sym (same-held w.classes ok n.class.0 class.0 h.0 there passed) ∙ h.1.0, (members-moved w n.class.0 class.0 (same-layout w.classes ok n.class.0 class.0 h.0 there passed) n.members h.1.1.0, h.1.1.1)))
+
+pub dict-set-holds : (w : Held) (n : StoredNode) (dict : PyObjectRef) → AllHold w (of_node n) → Holds w (IsNode dict) → Holds w (Holding dict Dict) → AllHold w (of_node (with_dict_ref n dict))
+dict-set-holds w n dict h there holding =
+    (h.0, (h.1.0, (h.1.1.0, (there, (holding, all-rest w (of_option of_dict_ref n.dict) _ h.1.1.1)))))
+
+-- what is told of an object's class
+pub class-told : (w now : Held) → w ≡ now → (t : Reading) (r : PyObjectRef) (n : StoredNode) → slice_get w.nodes r.0 ≡ Some n → (d : ℕ) → option_and_then (λ c. refused_class (plain t now).classes c d) (node_class (plain t now) r) ≡ refused_class w.classes n.class.0 d
+class-told w now v t r n at d =
+    ap (λ o. option_and_then (λ c. refused_class (plain t now).classes c d) (option_map (λ (x : Node). x.class) o)) (node-read w now r n v at t) ∙ reclass-seen w now v t n.class.0 d

@@ -1,0 +1,5 @@
+pub mod Truth
+pub mod Numbers
+pub mod Lengths
+pub mod Say
+pub mod Rows
