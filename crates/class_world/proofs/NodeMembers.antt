@@ -84,6 +84,6 @@ module _ (w now : Held) (v : w ≡ now) (r : PyObjectRef) (n : StoredNode) (at :
         go : (o : Result A E) → OnOk o (new ≡ with_members n (with_value is_same_place n.members p (setter_value value))) → OnOk o ((t : Reading) → plain t (record w { nodes = slice_set w.nodes r.0 new }) ≡ with_value_at_place (plain t now) r (place_at (plain t now).classes c i) (setter_value value))
         go (Ok a) q = λ t.
             change-read w now v r n new (λ x. record x { members = with_place x.members p.class.0 p.index (setter_value value) }) t l is
-                (ap (node_of t) q ∙ ap (λ ms. record (node_of t n) { members = ms }) (places-set n.members p (setter_value value)))
+            (ap (node_of t) q ∙ ap (λ ms. record (node_of t n) { members = ms }) (places-set n.members p (setter_value value)))
             ∙ ap (λ o. with_value_at_place (plain t now) r o (setter_value value)) (sym (place-seen w now v t c i ∙ e))
         go (Err x) q = tt

@@ -17,6 +17,7 @@ use Rattle.class_model.specs.Sound.{AreSound}
 use Rattle.class_model.proofs.Numbers.{some-of}
 use Rattle.class_model.proofs.Renamed.{solid-renamed}
 use Rattle.class_table.specs.Rebase.{is_same, refused_class, unless}
+use Rattle.class_table.proofs.KeptLayouts.{layout-solid}
 use Rattle.plain_machine.specs.Plain.{Node}
 use Rattle.plain_machine.specs.Sound.{held_by}
 use Rattle.plain_machine.specs.World.{class_at as node_class}
@@ -26,7 +27,7 @@ use Rattle.class_world.specs.Sound.{IsNode, IsClass, IsOf, Holding, AreMembers, 
 use Rattle.class_world.proofs.Claims.{all-append, all-rest}
 use Rattle.class_world.proofs.Look.{node-read}
 use Rattle.class_world.proofs.OfClasses.{heap-seen}
-use Rattle.class_world.proofs.SameLayout.{layout-solid, held_by-solid}
+use Rattle.class_world.proofs.SameLayout.{held_by-layout}
 
 solid-seen : (w now : Held) → w ≡ now → (t : Reading) (x : ℕ) → solid (plain t now).classes x ≡ solid w.classes x
 unfolding plain
@@ -61,9 +62,7 @@ module _ {K : Type 0} (t : Classes K) (ok : AreSound t) (c d : ℕ) (there : is_
       layout-solid t ok c a.0 there a.1 ∙ sym (layout-solid t ok d a.0 other (sym same ∙ a.1))
 
   pub same-held : held_by t c ≡ held_by t d
-  same-held =
-      let a = some-of (solid t c) (ok.solid c there) in
-      held_by-solid t ok c a.0 there a.1 ∙ sym (held_by-solid t ok d a.0 other (sym same ∙ a.1))
+  same-held = held_by-layout t t c d same-layout
 
 -- the places of one class are those of the other one
 members-moved : (w : Held) (c d : ℕ) → layout w.classes c ≡ layout w.classes d → (ms : List (MemberPlace × Option PyObjectRef)) → AllByRecursion (IsMember w c) ms → AllByRecursion (IsMember w d) ms
