@@ -18,7 +18,7 @@ use Rattle.class_model.proofs.Failing.{breaks-to, breaks-from}
 use Rattle.class_model.proofs.OneBase.{least_order-no_base}
 use Rattle.mro_merge.proofs.Precedence.{broken-none}
 use Rattle.class_table.specs.declared.fault.ClassFault.{ClassFault}
-use Rattle.class_table.specs.declared.fault.ClassFault.TheVariants.{Refused, OutOfMemory}
+use Rattle.class_table.specs.declared.fault.ClassFault.TheVariants.{Refused, RefusedAt, OutOfMemory}
 use Rattle.class_table.specs.Refused.{refusal, WithMemory, IsEarly, is_base_at, most_derived, are_apart, refused_base, refused_after, refused_layout, refused_lines, refused_order, refused_bases}
 use Rattle.class_table.specs.Causes.{Fits, AllFit, LacksBase, HasLayoutConflict, HasDuplicate, AreLined, BreaksOrder, HasNoLine, AreTold}
 use Rattle.class_table.proofs.Orders.{lines-of}
@@ -317,6 +317,7 @@ module _ {K : Type 0} (t : Classes K) where
     told-late : (r : Result T ClassFault) (c : Cause) (W : Type 0) → WithMemory r (refusal r ≡ refused_bases t bs) → (refused_bases t bs ≡ Some c) ↔ W → WithMemory r ((refusal r ≡ Some c) ↔ W)
     told-late (Ok x) c W e w = (λ h. w.0 (sym e ∙ h), λ h. e ∙ w.1 h)
     told-late (Err (Refused d)) c W e w = (λ h. w.0 (sym e ∙ h), λ h. e ∙ w.1 h)
+    told-late (Err (RefusedAt d at)) c W e w = (λ h. w.0 (sym e ∙ h), λ h. e ∙ w.1 h)
     told-late (Err OutOfMemory) c W e w = tt
 
     told-early : (r : Result T ClassFault) (c : Cause) (W : Type 0) → IsEarly t bs (refusal r) → WithMemory r (refusal r ≡ refused_bases t bs) → (refused_order t bs ≡ Some c → ⊥) → (refused_layout t bs ≡ Some c) ↔ W → (refusal r ≡ Some c) ↔ W
@@ -325,6 +326,7 @@ module _ {K : Type 0} (t : Classes K) where
         to : (r : Result T ClassFault) → WithMemory r (refusal r ≡ refused_bases t bs) → refusal r ≡ Some c → W
         to (Ok x) e h = cc
         to (Err (Refused d)) e h = w.0 (from-layout bs c n (sym e ∙ h))
+        to (Err (RefusedAt d at)) e h = w.0 (from-layout bs c n (sym e ∙ h))
         to (Err OutOfMemory) e h = cc
 
     pub told : (r : Result T ClassFault) → IsEarly t bs (refusal r) → WithMemory r (refusal r ≡ refused_bases t bs) → AreTold t bs r

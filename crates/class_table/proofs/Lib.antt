@@ -8,6 +8,11 @@ pub mod Counts
 pub mod Edited
 pub mod Rebased
 pub mod Rebases
+pub mod Trials
+pub mod Blames
+pub mod Swapped
+pub mod Renewing
+pub mod Counted
 pub mod Changed
 pub mod Each
 pub mod Named

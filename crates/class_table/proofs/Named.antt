@@ -1,6 +1,6 @@
 -- A class that gets another name: all that is kept stays so.
-use Rattle.std.proofs.Common.{◌≡◌, ℕ, ◌<◌, Bool, true, false, cond, eqb, ◌||◌, List, [], ◌∷◌, map, length, get_or, set, Some, inl, inr, refl, sym, ap, subst, ◌∙◌}
-use Rattle.std.specs.Prelude.{nat_lt, option_map, slice_get}
+use Rattle.std.proofs.Common.{◌≡◌, ℕ, ◌<◌, true, false, cond, eqb, ◌||◌, List, [], ◌∷◌, map, length, get_or, set, inl, inr, refl, sym, ap, subst, ◌∙◌}
+use Rattle.std.specs.Prelude.{nat_lt, option_map}
 use Rattle.std.specs.List.{All}
 use Rattle.std.proofs.lemmas.List.{map-set}
 use Rattle.std.proofs.lemmas.Option.{slice_get-map}
@@ -11,10 +11,10 @@ use Rattle.py_node.specs.Slots.{all_slots}
 use Rattle.py_node.specs.Tree.{Text}
 use Rattle.class_model.specs.Order.{has}
 use Rattle.class_model.specs.Class.{Class, Classes, bases_of, lin, own_of, subclasses}
-use Rattle.class_model.specs.Layout.{has_members, is_solid, solid_within, solid, base, place_count, built_ins}
+use Rattle.class_model.specs.Layout.{has_members, is_solid, solid_within, solid, base, built_ins}
 use Rattle.class_model.specs.Slot.{is_name_of, is_heap_at, entry, entries}
 use Rattle.class_model.specs.BuiltIn.{natives_of}
-use Rattle.class_model.specs.Change.{with_changed, with_class_name}
+use Rattle.class_model.specs.Change.{with_class_name}
 use Rattle.class_model.specs.Sound.{AreSound}
 use Rattle.class_model.proofs.Numbers.{at-changed, length-changed}
 use Rattle.class_model.proofs.Agreed.{entry-agrees}

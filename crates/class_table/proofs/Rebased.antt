@@ -19,7 +19,7 @@ use Rattle.class_model.proofs.Lines.{keeps-members}
 
 -- a class is none of its own bases, and none of its bases derives from it
 module _ {K : Type 0} (t : Classes K) where
-  own-base : (n x : ℕ) (bs line : List ℕ) → bases_of t x ≡ Some bs → Includes bs x → linear (bases_of t) n x ≡ Some line → ⊥
+  pub own-base : (n x : ℕ) (bs line : List ℕ) → bases_of t x ≡ Some bs → Includes bs x → linear (bases_of t) n x ≡ Some line → ⊥
   own-base zero x bs line e h l = linear-zero (bases_of t) x line l
   own-base (suc n) x bs line e h l =
       let made = linear-made (bases_of t) n x line l in
@@ -28,7 +28,7 @@ module _ {K : Type 0} (t : Classes K) where
       let r = all_some-has (linear (bases_of t) n) made.direct made.lines x made.of_bases (subst P s h) in
       own-base n x bs r.0 e h r.2
 
-  past-head : (x b : ℕ) (l rest : List ℕ) → BeginsWith b l → (b ≡ x → ⊥) → Subsequence l (x ∷ rest) → Subsequence l rest
+  pub past-head : (x b : ℕ) (l rest : List ℕ) → BeginsWith b l → (b ≡ x → ⊥) → Subsequence l (x ∷ rest) → Subsequence l rest
   past-head x b [] rest h n s = absurd h
   past-head x b (y ∷ l) rest h n (inl p) = absurd (n (sym h ∙ p.0))
   past-head x b (y ∷ l) rest h n (inr s) = s

@@ -13,3 +13,6 @@ pub mod Given
 pub mod OneBase
 pub mod Name
 pub mod Rebase
+pub mod Steps
+pub mod Trial
+pub mod Renewed

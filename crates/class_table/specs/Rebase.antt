@@ -1,5 +1,5 @@
 -- Other bases for a class, and why they are refused.
-use Rattle.std.specs.Prelude.{ℕ, Bool, true, false, cond, ◌||◌, eqb, List, [], ◌∷◌, Option, Some, None, option_map, option_and_then}
+use Rattle.std.specs.Prelude.{ℕ, Bool, true, false, cond, ◌||◌, eqb, List, [], ◌∷◌, Option, Some, None, option_map, option_and_then, ◌≡◌, Result, Ok, Err}
 use Rattle.std.specs.Option.{option_or}
 use Rattle.py_node.specs.declared.raised.Cause.{Cause}
 use Rattle.py_node.specs.declared.raised.Cause.TheVariants.{EmptyBases, InheritanceCycle, LayoutDiffers, DuplicateBase}
@@ -8,6 +8,8 @@ use Rattle.class_model.specs.Class.{Classes, is_sub}
 use Rattle.class_model.specs.Layout.{is_empty, solid, base}
 use Rattle.class_model.specs.Change.{failing}
 use Rattle.class_table.specs.Refused.{refused_attr, refused_layout, most_derived}
+use Rattle.class_table.specs.declared.fault.ClassFault.{ClassFault}
+use Rattle.class_table.specs.declared.fault.ClassFault.TheVariants.{Refused, RefusedAt, OutOfMemory}
 
 -- whether one of some classes is the class or derives from it
 abbrev pub any_derives : {K : Type 0} → Classes K → List ℕ → ℕ → Bool
@@ -24,15 +26,18 @@ is_same (Some a) (Some b) = eqb a b
 abbrev pub unless : Bool → Cause → Option Cause
 unless passed cause = cond passed None (Some cause)
 
--- the tests that need no order, one after the other: a script made the class; it gets bases; none of them is the class or derives from it; base by base, it may have subclasses and its layout goes with those before it; the solid class of the best of them is that of the best base of now; none stands twice
+-- the tests of the bases together: base by base, it may have subclasses and its layout goes with those before it; the solid class of the best of them is that of the best base of now; none stands twice
+abbrev pub refused_shape : {K : Type 0} → Classes K → ℕ → List ℕ → Option Cause
+refused_shape t c bs =
+    option_or (refused_layout t bs) (
+    option_or (unless (is_same (most_derived t bs) (option_and_then (solid t) (base t c))) LayoutDiffers) (unless (is_distinct bs) DuplicateBase))
+
+-- the tests that need no order, one after the other: a script made the class; it gets bases; none of them is the class or derives from it; and those of the bases together
 abbrev pub refused_change : {K : Type 0} → Classes K → ℕ → List ℕ → Option Cause
 refused_change t c bs =
     option_or (refused_attr t c) (
     option_or (cond (is_empty bs) (Some EmptyBases) None) (
-    option_or (cond (any_derives t bs c) (Some InheritanceCycle) None) (
-    option_or (refused_layout t bs) (
-    option_or (unless (is_same (most_derived t bs) (option_and_then (solid t) (base t c))) LayoutDiffers) (
-    unless (is_distinct bs) DuplicateBase)))))
+    option_or (cond (any_derives t bs c) (Some InheritanceCycle) None) (refused_shape t c bs)))
 
 -- a refusal: its cause, and for a lost order the class that has none
 abbrev pub Refusal : Type 0
@@ -42,3 +47,14 @@ Refusal = Cause × Option ℕ
 abbrev pub refused_rebase : {K : Type 0} → Classes K → ℕ → List ℕ → Option Refusal
 refused_rebase t c bs =
     option_or (option_map (λ cause. (cause, None)) (refused_change t c bs)) (option_map (λ r. (r.1, Some r.0)) (failing t c bs))
+
+-- what an answer tells
+abbrev pub told : {T : Type 0} → Result T ClassFault → Option Refusal
+told (Ok x) = None
+told (Err (Refused cause)) = Some (cause, None)
+told (Err (RefusedAt cause c)) = Some (cause, Some c.0)
+told (Err OutOfMemory) = None
+
+-- the tests that need no order are told first, and also where memory is short
+abbrev pub IsToldFirst : {K : Type 0} → Classes K → ℕ → List ℕ → Option Refusal → Type 0
+IsToldFirst t c bs answer = (cause : Cause) → refused_change t c bs ≡ Some cause → answer ≡ Some (cause, None)

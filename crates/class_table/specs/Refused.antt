@@ -14,24 +14,27 @@ use Rattle.class_model.specs.Layout.{solid, best_of}
 use Rattle.class_model.specs.Change.{order_cause}
 use Rattle.class_model.specs.Slot.{is_heap_at}
 use Rattle.class_table.specs.declared.fault.ClassFault.{ClassFault}
-use Rattle.class_table.specs.declared.fault.ClassFault.TheVariants.{Refused, OutOfMemory}
+use Rattle.class_table.specs.declared.fault.ClassFault.TheVariants.{Refused, RefusedAt, OutOfMemory}
 
 -- the cause for which a call was refused, if it was
 abbrev pub refusal : {T : Type 0} → Result T ClassFault → Option Cause
 refusal (Ok x) = None
 refusal (Err (Refused cause)) = Some cause
+refusal (Err (RefusedAt cause c)) = Some cause
 refusal (Err OutOfMemory) = None
 
 -- said of every answer but want of memory
 abbrev pub WithMemory : {T : Type 0} → Result T ClassFault → Type 0 → Type 0
 WithMemory (Ok x) P = P
 WithMemory (Err (Refused cause)) P = P
+WithMemory (Err (RefusedAt cause c)) P = P
 WithMemory (Err OutOfMemory) P = Unit {0}
 
 -- the answer is never want of memory
 abbrev pub NeedsNoMemory : {T : Type 0} → Result T ClassFault → Type 0
 NeedsNoMemory (Ok x) = Unit {0}
 NeedsNoMemory (Err (Refused cause)) = Unit {0}
+NeedsNoMemory (Err (RefusedAt cause c)) = Unit {0}
 NeedsNoMemory (Err OutOfMemory) = ⊥
 
 -- the cause of a call that takes no memory

@@ -38,7 +38,11 @@ fn empty_slots(alloc: Global) -> Result<Vec<Option<SlotEntry>>, OutOfMemory>
 }
 
 // The class, and then what follows it.
-fn line(alloc: Global, number: PyTypeRef, rest: &[PyTypeRef]) -> Result<Vec<PyTypeRef>, OutOfMemory>
+pub(crate) fn line(
+    alloc: Global,
+    number: PyTypeRef,
+    rest: &[PyTypeRef],
+) -> Result<Vec<PyTypeRef>, OutOfMemory>
     ensures { IfOk result (λ v. numbers v.items ≡ number.0 ∷ numbers rest.now) }
 {
     let mut mro = Vec::new(alloc);

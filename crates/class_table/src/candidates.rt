@@ -1,10 +1,14 @@
 //! The candidates of an operator.
 
-ghost use Rattle.std.specs.Prelude.{◌≡◌};
-ghost use Rattle.class_model.specs.Slot.{in_turn, without_same};
+ghost use Rattle.std.specs.Prelude.{◌≡◌, true};
+ghost use Rattle.class_model.specs.Class.{is_class};
+ghost use Rattle.class_model.specs.Slot.{in_turn, without_same, candidates_of};
+ghost use Rattle.class_model.specs.BuiltIn.{natives_of};
+ghost use Rattle.class_table.specs.Keys.{table_keys};
 ghost use Rattle.class_table.specs.Turn.{list_of};
 
-use py_node::SlotEntry;
+use crate::table::ClassTable;
+use py_node::{PyTypeRef, SlotEntry, SlotId};
 
 /// What an operator is tried with, in turn.
 #[derive(Clone, Copy, PartialEq, Eq)]
@@ -14,7 +18,7 @@ pub struct Candidates {
 }
 
 // The right candidate, unless it is the same as the left one.
-pub(crate) fn without_same(left: Option<SlotEntry>, right: Option<SlotEntry>) -> Option<SlotEntry>
+fn without_same(left: Option<SlotEntry>, right: Option<SlotEntry>) -> Option<SlotEntry>
     ensures { result ≡ without_same left right }
 {
     match left {
@@ -27,11 +31,7 @@ pub(crate) fn without_same(left: Option<SlotEntry>, right: Option<SlotEntry>) ->
 }
 
 // Both in turn: the right one first, where its class derives from the other's.
-pub(crate) fn in_turn(
-    derived: bool,
-    left: Option<SlotEntry>,
-    right: Option<SlotEntry>,
-) -> Candidates
+fn in_turn(derived: bool, left: Option<SlotEntry>, right: Option<SlotEntry>) -> Candidates
     ensures { list_of result ≡ in_turn derived left right }
 {
     match left {
@@ -58,5 +58,22 @@ pub(crate) fn in_turn(
                 }
             }
         },
+    }
+}
+
+impl ClassTable {
+    /// The candidates of an operator, from the slots of the classes of its operands.
+    pub fn candidates(&self, left: SlotId, right: SlotId, a: PyTypeRef, b: PyTypeRef) -> Candidates
+        requires a { is_class self.now a.0 ≡ true }
+        requires b { is_class self.now b.0 ≡ true }
+        ensures { list_of result ≡ candidates_of table_keys natives_of self.now left right a.0 b.0 }
+    {
+        let first = self.slot(a, left);
+        let second = if a.0 == b.0 {
+            None
+        } else {
+            without_same(first, self.slot(b, right))
+        };
+        in_turn(self.fast_issubclass(b, a), first, second)
     }
 }

@@ -4,13 +4,15 @@ ghost use Rattle.std.specs.Prelude.{◌≡◌};
 ghost use Rattle.class_table.specs.Inherit.{fault_of};
 
 use mro_merge::MroFault;
-use py_node::{Cause, OutOfMemory};
+use py_node::{Cause, OutOfMemory, PyTypeRef};
 
 /// Why a class could not be made or changed.
 #[derive(Clone, Copy, PartialEq, Eq, Debug)]
 pub enum ClassFault {
     /// The rules forbid it.
     Refused(Cause),
+    /// A class that has no order under other bases, while all its bases have one.
+    RefusedAt(Cause, PyTypeRef),
     /// Memory could not be had.
     OutOfMemory,
 }

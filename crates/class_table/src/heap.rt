@@ -25,7 +25,7 @@ use py_node::{
 use std::alloc::Global;
 
 // Whether a class was made by a script.
-fn is_heap(classes: &[Stored], class: PyTypeRef) -> bool
+pub(crate) fn is_heap(classes: &[Stored], class: PyTypeRef) -> bool
     requires { is_ascending (classes_of classes.now) ≡ true }
     ensures { result ≡ is_heap_at (class_at (classes_of classes.now) class.0) }
 {

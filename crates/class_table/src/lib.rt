@@ -2,6 +2,7 @@
 #![tactic(auto)]
 
 pub mod add;
+pub mod blame;
 pub mod candidates;
 pub mod chain;
 pub mod collect;
@@ -17,15 +18,21 @@ pub mod one_base;
 pub mod place;
 pub mod put;
 pub mod read;
+pub mod rebase;
 pub mod refresh;
 pub mod rename;
+pub mod renew;
 pub mod start;
+pub mod steps;
 pub mod stored;
 pub mod table;
 pub mod take;
+pub mod trial;
+pub mod uncounted;
 
 pub use candidates::Candidates;
 pub use chain::BaseChain;
 pub use fault::ClassFault;
 pub use name::last_part;
+pub use steps::Steps;
 pub use table::ClassTable;

@@ -7,12 +7,15 @@ ghost use Rattle.class_model.specs.Order.{has};
 ghost use Rattle.class_model.specs.Class.{is_heap};
 ghost use Rattle.class_table.specs.Stored.{StoredClass, class_of};
 ghost use Rattle.class_table.specs.Keys.{numbers, number_of};
+ghost use Rattle.class_table.specs.Renewed.{with_renewed};
 
+use crate::renew::Renewed;
 use py_node::{
     OutOfMemory, PyAttributes, PyObjectRef, PyStrInterned, PyTypeFlags, PyTypeRef, SlotEntry,
     SlotId,
 };
 use std::marker::Model;
+use std::mem::swap;
 
 /// How many slots a class has.
 pub(crate) const SLOTS: usize = 73;
@@ -128,6 +131,13 @@ impl Stored {
         &self.mro
     }
 
+    // How many classes the linearisation has.
+    pub(crate) fn line_length(&self) -> usize
+        ensures { result ≡ length self.now.mro }
+    {
+        self.mro.len()
+    }
+
     // The class's direct bases, in order.
     pub(crate) fn bases(&self) -> &[PyTypeRef]
         ensures { numbers result.now ≡ self.now.bases }
@@ -209,6 +219,24 @@ impl Stored {
         self.subclasses.pop();
     }
 
+    // Gives the class other bases, and leaves what follows from them.
+    pub(crate) fn set_bases(&mut self, bases: Vec<PyTypeRef>)
+        ensures { self.new ≡ record self.old { bases = numbers bases.items } }
+    {
+        self.bases = bases;
+    }
+
+    // Gives the class what follows from other bases, but for its slots, and takes back what it had.
+    pub(crate) fn renew(&mut self, renewed: &mut Renewed)
+        ensures { self.new ≡ with_renewed renewed.old self.old }
+    {
+        swap(&mut self.mro, &mut renewed.mro);
+        swap(&mut self.near, &mut renewed.near);
+        swap(&mut self.subclasses, &mut renewed.subclasses);
+        self.base = renewed.base;
+        self.places = renewed.places;
+    }
+
     // Gives the class another name.
     pub(crate) fn set_name(&mut self, name: String)
         ensures { self.new ≡ record self.old { name = string_bytes name } }
@@ -239,7 +267,7 @@ impl Stored {
 }
 
 // Whether a class is among some.
-fn has(classes: &[PyTypeRef], class: PyTypeRef) -> bool
+pub(crate) fn has(classes: &[PyTypeRef], class: PyTypeRef) -> bool
     ensures { result ≡ has (numbers classes.now) class.0 }
 {
     for other in classes {

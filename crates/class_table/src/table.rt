@@ -10,20 +10,19 @@ ghost use Rattle.class_model.specs.Layout.{base, best_of, solid, built_ins, plac
 ghost use Rattle.class_model.specs.Chain.{base_chain, IsChain};
 ghost use Rattle.class_model.specs.Collect.{all_attributes};
 ghost use Rattle.class_model.specs.Sound.{AreSound};
-ghost use Rattle.class_model.specs.Slot.{entry, slot as slot_read, candidates_of, is_heap_at};
+ghost use Rattle.class_model.specs.Slot.{entry, slot as slot_read, is_heap_at};
 ghost use Rattle.class_model.specs.BuiltIn.{natives_of};
 ghost use Rattle.class_model.specs.Start.{built_in_classes};
-ghost use Rattle.class_model.specs.Change.{with_class, with_class_attr, without_class_attr, with_class_name};
+ghost use Rattle.class_model.specs.Change.{with_class, with_class_attr, without_class_attr, with_class_name, with_bases};
 ghost use Rattle.class_table.specs.Keys.{numbers, number_of, table_keys};
 ghost use Rattle.class_table.specs.Stored.{classes_of};
 ghost use Rattle.class_table.specs.New.{IsBelow, class_of_new};
 ghost use Rattle.class_table.specs.Refused.{refusal, cause_of, refused_layout, refused_bases, refused_attr, WithMemory, NeedsNoMemory, IsEarly, AreThere, heap_class};
+ghost use Rattle.class_table.specs.Rebase.{refused_rebase, told, IsToldFirst};
 ghost use Rattle.class_table.specs.Causes.{LacksBase, HasLayoutConflict, HasDuplicate, BreaksOrder, HasNoLine};
-ghost use Rattle.class_table.specs.Turn.{list_of};
 ghost use Rattle.class_table.specs.Given.{AreGiven};
 
 use crate::add::add;
-use crate::candidates::{Candidates, in_turn, without_same};
 use crate::chain::{BaseChain, base_of, chain};
 use crate::collect::{attributes_along, map_along};
 use crate::count::count_at;
@@ -33,8 +32,10 @@ use crate::inherit::{best_base, may_derive, only, solid_class};
 use crate::place::{find, number_in, stored_at, takes};
 use crate::put::put_in;
 use crate::read::{own_entry, read, value_along, value_past};
+use crate::rebase::rebase;
 use crate::rename::rename_in;
 use crate::start::new_class;
+use crate::steps::Steps;
 use crate::stored::{NewClass, Stored};
 use py_node::built_in::built_ins;
 use py_node::{
@@ -43,6 +44,7 @@ use py_node::{
 };
 use std::alloc::Global;
 use std::marker::Model;
+use std::sync::ledger::Ledger;
 
 /// Classes, in the order of their numbers. The names of their attributes are numbers too: those that are
 /// known, by which slots are read, have the numbers of `known_names`.
@@ -148,6 +150,7 @@ impl ClassTable {
             Ok(number) => Ok(number),
             Err(ClassFault::OutOfMemory) => Err(OutOfMemory),
             Err(ClassFault::Refused(_)) => unreachable!(),
+            Err(ClassFault::RefusedAt(_, _)) => unreachable!(),
         }
     }
 
@@ -259,6 +262,31 @@ impl ClassTable {
         rename_in(&mut self.classes, alloc, class, name)
     }
 
+    /// Other bases for a class that a script made. They are refused for the first of these causes: no script made
+    /// the class; there are none; one is the class or derives from it; base by base, one may have no subclasses or its
+    /// layout conflicts with those before it; the solid class of the best of them is not that of the best base of now;
+    /// one stands twice; and then at the least-numbered class that they leave without an order while all its bases have
+    /// one. Where they are refused or memory runs out, the table stays as it was. `steps` counts the merges and the
+    /// classes whose slots are found anew.
+    pub fn set_bases<L: Ledger>(
+        &mut self,
+        class: PyTypeRef,
+        bases: Vec<PyTypeRef>,
+        steps: &mut Steps<L>,
+    ) -> Result<(), ClassFault>
+        requires own { is_class self.old class.0 ≡ true }
+        requires there { AreThere self.old (numbers bases.items) }
+        ensures early { IsToldFirst self.old class.0 (numbers bases.items) (told result) }
+        ensures refused { WithMemory result (told result ≡ refused_rebase self.old class.0 (numbers bases.items)) }
+        ensures set { OnOk result (self.new ≡ with_bases self.old class.0 (numbers bases.items)) }
+        ensures err { OnErr result (self.new ≡ self.old) }
+        ensures merges { steps.old.merges ≤ steps.new.merges }
+        ensures probes { steps.old.probes ≤ steps.new.probes }
+    {
+        let alloc = self.alloc;
+        rebase(&mut self.classes, alloc, class, bases, steps)
+    }
+
     /// Gives a built-in class an own attribute, while a world is set up. What a script sets goes by
     /// `set_attr`, which refuses a built-in class.
     pub fn put_attr(
@@ -331,21 +359,6 @@ impl ClassTable {
         ensures { result ≡ entry table_keys natives_of self.now class.0 slot }
     {
         own_entry(&self.classes, class, slot)
-    }
-
-    /// The candidates of an operator, from the slots of the classes of its operands.
-    pub fn candidates(&self, left: SlotId, right: SlotId, a: PyTypeRef, b: PyTypeRef) -> Candidates
-        requires a { is_class self.now a.0 ≡ true }
-        requires b { is_class self.now b.0 ≡ true }
-        ensures { list_of result ≡ candidates_of table_keys natives_of self.now left right a.0 b.0 }
-    {
-        let first = self.slot(a, left);
-        let second = if a.0 == b.0 {
-            None
-        } else {
-            without_same(first, self.slot(b, right))
-        };
-        in_turn(self.fast_issubclass(b, a), first, second)
     }
 
     /// The classes that have a class among their bases, in order.

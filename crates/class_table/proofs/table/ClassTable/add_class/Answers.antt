@@ -1,6 +1,9 @@
-use Rattle.std.proofs.Common.{◌≡◌, None, sym, subst, arith}
+use Rattle.std.proofs.Common.{◌≡◌, ℕ, ◌≤◌, List, None, length, sym, subst, arith}
 use Rattle.std.proofs.lemmas.List.{length-map}
+use Rattle.py_node.specs.declared.refs.PyStrInterned.{PyStrInterned}
 use Rattle.py_node.specs.declared.refs.PyTypeRef.{PyTypeRef}
+use Rattle.class_model.specs.Class.{Classes}
+use Rattle.class_model.specs.Sound.{AreSound}
 use Rattle.class_table.specs.Keys.{numbers}
 use Rattle.class_table.specs.Stored.{classes_of}
 use Rattle.class_table.specs.New.{IsBelow}
@@ -9,11 +12,22 @@ use Rattle.class_table.proofs.Pushed.{there-of}
 use Rattle.class_table.proofs.Single.{one-ordered}
 use Rattle.class_table.proofs.table.ClassTable.add_class.Goals as goal
 
+-- at most one base has an order
+one-allowed : (t : Classes PyStrInterned) → AreSound t → (n : ℕ) (bases : List PyTypeRef) → length bases ≤ 1 → IsBelow t n (numbers bases) → refused_order t (numbers bases) ≡ None
+one-allowed t ok n bases one below =
+    let long = length-map bases (λ (r : PyTypeRef). r.0) in
+    one-ordered t (numbers bases) ok.order (omega (arith, long, one)) (there-of t n (numbers bases) below)
+
 pub unreachable-requires : goal.unreachable-requires
 unreachable-requires c =
-    let t = classes_of c.self.inside.classes.items in
-    let bs = numbers c.args.new.bases.items in
+    let bases = c.args.new.bases.items in
     let h = rw c.in-Err-Refused.field-0-is at c.in-Err-Refused.ensures.refused in
-    let long = length-map c.args.new.bases.items (λ (r : PyTypeRef). r.0) in
-    let none : refused_order t bs ≡ None = one-ordered t bs c.self.invariant.sound.order (omega (arith, long, c.requires.one)) (there-of t c.args.new.number.0 bs (subst (λ u. IsBelow u c.args.new.number.0 bs) (sym c.self.view_is) c.requires.below)) in
+    let none = one-allowed (classes_of c.self.inside.classes.items) c.self.invariant.sound c.args.new.number.0 bases c.requires.one (subst (λ u. IsBelow u c.args.new.number.0 (numbers bases)) (sym c.self.view_is) c.requires.below) in
+    cc (h, none)
+
+pub unreachable-requires-in-Err-RefusedAt : goal.unreachable-requires-in-Err-RefusedAt
+unreachable-requires-in-Err-RefusedAt c =
+    let bases = c.args.new.bases.items in
+    let h = rw c.in-Err-RefusedAt.field-0-is at c.in-Err-RefusedAt.ensures.refused in
+    let none = one-allowed (classes_of c.self.inside.classes.items) c.self.invariant.sound c.args.new.number.0 bases c.requires.one (subst (λ u. IsBelow u c.args.new.number.0 (numbers bases)) (sym c.self.view_is) c.requires.below) in
     cc (h, none)

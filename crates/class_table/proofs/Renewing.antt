@@ -1,0 +1,195 @@
+-- The table after other bases of a class and all that follows from them were put in place.
+use Rattle.std.proofs.Common.{◌≡◌, ℕ, ◌<◌, Bool, true, false, cond, List, [], ◌∷◌, zero, suc, length, get_or, set, Some, None, inl, inr, refl, sym, ap, subst, ◌∙◌, arith}
+use Rattle.std.specs.Prelude.{slice_get, option_map}
+use Rattle.std.specs.List.{All}
+use Rattle.std.proofs.lemmas.Bool.{false≢true}
+use Rattle.std.proofs.lemmas.List.{map-set, length-set}
+use Rattle.std.proofs.lemmas.Option.{slice_get-map, slice_get-get_or, slice_get_within}
+use Rattle.py_node.specs.declared.refs.PyStrInterned.{PyStrInterned}
+use Rattle.py_node.specs.Attributes.{AreNamesDistinct}
+use Rattle.class_model.specs.Order.{has}
+use Rattle.class_model.specs.Class.{Class, Classes, is_class, lin, subclasses}
+use Rattle.class_model.specs.Numbers.{is_ascending}
+use Rattle.class_model.specs.Layout.{base, solid, place_count}
+use Rattle.class_model.specs.Slot.{entries}
+use Rattle.class_model.specs.BuiltIn.{natives_of}
+use Rattle.class_model.specs.Change.{with_bases}
+use Rattle.class_model.specs.Sound.{AreSound}
+use Rattle.class_model.proofs.Held.{Includes-equal}
+use Rattle.class_model.proofs.Tests.{Decides-has}
+use Rattle.class_model.proofs.Numbers.{at-changed_away}
+use Rattle.class_model.proofs.Slots.{entries-along}
+use Rattle.class_table.specs.Keys.{table_keys, numbers, number_of}
+use Rattle.class_table.specs.Stored.{StoredClass, class_of, number_at, classes_of}
+use Rattle.class_table.specs.Coherent.{HasLines, IsCoherent}
+use Rattle.class_table.specs.Patch.{IsRefreshed, settled, refreshed_one}
+use Rattle.class_table.specs.Refused.{AreThere}
+use Rattle.class_table.specs.Rebase.{refused_rebase}
+use Rattle.class_table.specs.declared.renew.Renewed.{Renewed}
+use Rattle.class_table.specs.Renewed.{IsRenewed, AreRenewed, AreSwapped, with_renewed}
+use Rattle.class_table.proofs.Found.{number-within, read-number}
+use Rattle.class_table.proofs.Distinct.{all-changed}
+use Rattle.class_table.proofs.Places.{get-set_cases, same-maps}
+use Rattle.class_table.proofs.Refreshed.{there, length-entries, plain-refreshed}
+use Rattle.class_table.proofs.Changed.{with_changed-set}
+use Rattle.class_table.proofs.Each.{IsSoOf, coherent-each}
+use Rattle.class_table.proofs.Trials.{is-there}
+use Rattle.class_table.proofs.Passed.{sound-passed, solid-passed}
+
+some-at : {A : Type 0} (xs : List A) (i : ℕ) → i < length xs → (x : A) × (slice_get xs i ≡ Some x)
+some-at [] i l = absurd (omega arith)
+some-at (x ∷ xs) zero l = (x, refl)
+some-at (x ∷ xs) (suc i) l = some-at xs i (omega arith)
+
+module _ (kept : List StoredClass) (ok : IsCoherent kept) (c : ℕ) (bs : List ℕ) (here : is_class (classes_of kept) c ≡ true) (held : AreThere (classes_of kept) bs) (passed : refused_rebase (classes_of kept) c bs ≡ None) (renewed : List Renewed) (are : AreRenewed kept c bs renewed) (at : ℕ) (numbered : number_at kept at ≡ Some c) (k : StoredClass) (is : k ≡ get_or kept at k) where
+  u : Classes PyStrInterned
+  u = with_bases (classes_of kept) c bs
+
+  first : List StoredClass
+  first = set kept at (record k { bases = bs })
+
+  within : at < length kept
+  within = number-within kept at c numbered
+
+  called : k.number ≡ c
+  called = read-number kept at c k numbered is
+
+  plain-first : classes_of first ≡ u
+  unfolding u first
+  plain-first =
+      map-set class_of kept at (record k { bases = bs })
+      ∙ sym (with_changed-set (λ (j : Class PyStrInterned). record j { bases = bs }) 0 (classes_of kept) at (class_of k) ok.sound.ascending (slice_get-map class_of kept at ∙ ap (option_map class_of) (there kept at k within is)))
+      ∙ ap (λ n. with_bases (classes_of kept) n bs) called
+
+  sound-now : AreSound u
+  unfolding u
+  sound-now = sound-passed (classes_of kept) ok.sound c bs here held passed
+
+  module _ (mid : List StoredClass) (swapped : AreSwapped renewed (set kept at (record k { bases = bs })) mid) where
+    -- what a class had before
+    record Was (j : ℕ) (y : StoredClass) : Type 0 where
+      old : StoredClass
+      there : slice_get kept j ≡ Some old
+      now : Renewed
+      so : IsRenewed u old.number now
+      number : y.number ≡ old.number
+      mro : y.mro ≡ numbers now.mro.items
+      slots : y.slots ≡ old.slots
+      base : y.base ≡ number_of now.base
+      solid : y.solid ≡ old.solid
+      subclasses : y.subclasses ≡ numbers now.subclasses.items
+      places : y.places ≡ now.places
+
+    long : (j : ℕ) (y : StoredClass) → slice_get mid j ≡ Some y → j < length kept
+    long j y e =
+        let a = slice_get_within mid j y e in
+        let b = swapped.count in
+        let d = length-set kept at (record k { bases = bs }) in
+        omega (arith, a, b, d)
+
+    was-of : (j : ℕ) (y z old : StoredClass) (r : Renewed) → slice_get mid j ≡ Some y → slice_get (set kept at (record k { bases = bs })) j ≡ Some z → slice_get renewed j ≡ Some r → slice_get kept j ≡ Some old → z.number ≡ old.number → z.slots ≡ old.slots → z.solid ≡ old.solid → Was j y
+    unfolding u
+    was-of j y z old r e f h q n s d =
+        let x = swapped.at j z r f h in
+        let w : y ≡ with_renewed r z = cc in
+        record {
+          old = old;
+          there = q;
+          now = r;
+          so = are.at j old r q h;
+          number = ap (λ (v : StoredClass). v.number) w ∙ n;
+          mro = ap (λ (v : StoredClass). v.mro) w;
+          slots = ap (λ (v : StoredClass). v.slots) w ∙ s;
+          base = ap (λ (v : StoredClass). v.base) w;
+          solid = ap (λ (v : StoredClass). v.solid) w ∙ d;
+          subclasses = ap (λ (v : StoredClass). v.subclasses) w;
+          places = ap (λ (v : StoredClass). v.places) w;
+        }
+
+    was : (j : ℕ) (y : StoredClass) → slice_get mid j ≡ Some y → Was j y
+    was j y e =
+        let l = long j y e in
+        let d = length-set kept at (record k { bases = bs }) in
+        let z = some-at (set kept at (record k { bases = bs })) j (omega (arith, l, d)) in
+        let n = are.count in
+        let r = some-at renewed j (omega (arith, l, n)) in
+        elim (get-set_cases kept at (record k { bases = bs }) j z.0 z.1) [
+          | inl p ↦
+              was-of j y z.0 k r.0 e z.1 r.1 (ap (slice_get kept) p.0 ∙ there kept at k within is) (ap (λ (v : StoredClass). v.number) (sym p.1)) (ap (λ (v : StoredClass). v.slots) (sym p.1)) (ap (λ (v : StoredClass). v.solid) (sym p.1))
+          | inr p ↦ was-of j y z.0 z.0 r.0 e z.1 r.1 p.1 refl refl refl
+        ]
+
+    plain-mid : classes_of mid ≡ u
+    unfolding first
+    plain-mid =
+        same-maps class_of (set kept at (record k { bases = bs })) mid swapped.count (λ j z e.
+        let l = slice_get_within (set kept at (record k { bases = bs })) j z e in
+        let d = length-set kept at (record k { bases = bs }) in
+        let n = are.count in
+        let r = some-at renewed j (omega (arith, l, d, n)) in
+        (with_renewed r.0 z, swapped.at j z r.0 e r.1, refl)
+        )
+        ∙ plain-first
+
+    line-now : (j : ℕ) (y : StoredClass) → Was j y → lin u y.number ≡ Some y.mro
+    line-now j y w = ap (lin u) w.number ∙ w.so.mro ∙ ap Some (sym w.mro)
+
+    pub lines-mid : HasLines mid
+    lines-mid = record { ascending = ap is_ascending plain-mid ∙ sound-now.ascending; mro = λ j y e. ap (λ t. lin t y.number) plain-mid ∙ line-now j y (was j y e) }
+
+    pub full-mid : (j : ℕ) (y : StoredClass) → slice_get mid j ≡ Some y → length y.slots ≡ 73
+    full-mid j y e =
+        let w = was j y e in
+        ap length w.slots ∙ ap length (ok.slots j w.old w.there) ∙ length-entries (classes_of kept) w.old.number
+
+    -- a class that does not derive from the changed one keeps its slots
+    slots-away : (j : ℕ) (y : StoredClass) → Was j y → has y.mro c ≡ false → y.slots ≡ entries table_keys natives_of u y.number
+    unfolding u
+    slots-away j y w h =
+        w.slots
+        ∙ ok.slots j w.old w.there
+        ∙ ap (entries table_keys natives_of (classes_of kept)) (sym w.number)
+        ∙ sym (entries-along table_keys natives_of u (classes_of kept) y.number y.mro (line-now j y w) (λ x q. at-changed_away (λ (i : Class PyStrInterned). record i { bases = bs }) (λ i. refl) (classes_of kept) c x (λ i. false≢true (sym h ∙ (Decides-has y.mro c).1 (Includes-equal y.mro x c i q)))))
+
+    -- what is so of it
+    so-now : (j : ℕ) (y x : StoredClass) → Was j y → x ≡ record y { slots = x.slots } → x.slots ≡ entries table_keys natives_of u y.number → IsSoOf u x
+    unfolding u
+    so-now j y x w same slots =
+        let P : StoredClass → Type 0 = λ z. IsSoOf u z in
+        subst P (sym same) (record {
+          mro = line-now j y w;
+          slots = slots;
+          base = ap (base u) w.number ∙ w.so.base ∙ sym w.base;
+          solid = ap (solid u) w.number
+              ∙ solid-passed (classes_of kept) ok.sound c bs here held passed w.old.number (is-there kept ok c bs j w.old w.there)
+              ∙ ok.solid j w.old w.there
+              ∙ sym w.solid;
+          subclasses = w.subclasses ∙ w.so.subclasses ∙ ap (subclasses u) (sym w.number);
+          places = ap (place_count u) w.number ∙ w.so.places ∙ ap Some (sym w.places);
+        })
+
+    module _ (final : List StoredClass) (refreshed : IsRefreshed c mid final) where
+      pub plain-final : classes_of final ≡ with_bases (classes_of kept) c bs
+      unfolding u
+      plain-final = plain-refreshed c mid final refreshed ∙ plain-mid
+
+      anew : (j : ℕ) (y x : StoredClass) → Was j y → (b : Bool) → has y.mro c ≡ b → cond b (settled u y) y ≡ x → IsSoOf u x
+      anew j y x w true test e =
+          let slots : x.slots ≡ entries table_keys natives_of u y.number = ap (λ (z : StoredClass). z.slots) (sym e) in
+          so-now j y x w (sym e ∙ ap (λ ss. record y { slots = ss }) (sym slots)) slots
+      anew j y x w false test e =
+          let slots : x.slots ≡ y.slots = ap (λ (z : StoredClass). z.slots) (sym e) in
+          so-now j y x w (sym e ∙ ap (λ ss. record y { slots = ss }) (sym slots)) (slots ∙ slots-away j y w test)
+
+      each : (j : ℕ) (x : StoredClass) → slice_get final j ≡ Some x → IsSoOf u x
+      each j x e =
+          let l : j < length mid = let a = slice_get_within final j x e in let b = refreshed.count in omega (arith, a, b) in
+          let y = get_or mid j x in
+          let h : slice_get mid j ≡ Some y = slice_get-get_or mid j x l in
+          let q : refreshed_one (classes_of mid) c y ≡ x = let z = refreshed.at j y h in cc in
+          anew j y x (was j y h) (has y.mro c) refl (ap (λ (t : Classes PyStrInterned). refreshed_one t c y) (sym plain-mid) ∙ q)
+
+      pub coherent-final : IsCoherent final
+      unfolding u
+      coherent-final =
+          coherent-each final (λ j x e. let P : Classes PyStrInterned → Type 0 = λ t. IsSoOf t x in subst P (sym plain-final) (each j x e)) (subst AreSound (sym plain-final) sound-now) (subst (λ t. All (λ j. AreNamesDistinct j.attrs) t) (sym plain-final) (all-changed (λ j. AreNamesDistinct j.attrs) (λ j. record j { bases = bs }) (λ j d. d) (classes_of kept) c ok.attrs))

@@ -1,0 +1,236 @@
+-- The trial of other bases, class by class.
+use Rattle.std.proofs.Common.{◌≡◌, ℕ, ◌+◌, ◌<◌, ◌≤◌, ◌⊎◌, true, false, cond, List, [], ◌∷◌, map, length, get_or, set, eqb, Result, Ok, Err, Option, Some, None, inl, inr, refl, sym, ap, subst, ◌∙◌, arith}
+use Rattle.std.specs.Prelude.{slice_get, IfOk, is_some, option_map, option_and_then}
+use Rattle.std.proofs.lemmas.Bool.{false≢true, cases_eq, eq-eqb, ne_eqb}
+use Rattle.std.proofs.lemmas.Option.{get_or_from_slice_get, slice_get-get_or, slice_get_within}
+use Rattle.std.proofs.lemmas.List.{length-map, length-set}
+use Rattle.py_node.specs.declared.raised.Cause.{Cause}
+use Rattle.py_node.specs.declared.refs.PyStrInterned.{PyStrInterned}
+use Rattle.class_model.specs.Order.{has, least_order, all_some, Includes, Distinct, BeginsWith}
+use Rattle.class_model.specs.Class.{Class, Classes, class_at, is_class, bases_of, lin, is_along}
+use Rattle.class_model.specs.Change.{with_bases, order_cause}
+use Rattle.class_model.specs.Numbers.{numbers_of}
+use Rattle.class_model.proofs.Held.{Includes-equal, Subsequence-length, distinct-fewer}
+use Rattle.class_model.proofs.Numbers.{at-held}
+use Rattle.class_model.proofs.Tests.{Decides-has}
+use Rattle.class_model.proofs.Linear.{all_some-has, all_some-holds}
+use Rattle.class_model.proofs.Rule.{lin-rule, lin-begins, lin-distinct, lin-classes, lin-bases, lin-member}
+use Rattle.class_model.proofs.Changed.{lin-by}
+use Rattle.class_model.proofs.Lines.{all_some-some, bases-distinct, keeps-members}
+use Rattle.mro_merge.specs.Merge.{IsApart, IsRest, HasNoOrder}
+use Rattle.class_table.specs.Stored.{StoredClass, class_of, classes_of}
+use Rattle.class_table.specs.Coherent.{IsCoherent}
+use Rattle.class_table.specs.Refused.{AreThere}
+use Rattle.class_table.specs.Rebase.{any_derives}
+use Rattle.class_table.specs.declared.trial.Trial.{Trial}
+use Rattle.class_table.specs.Trial.{bases_under, IsTrial, IsToBlame, IsWithout, IsKnown, AreKnown, AreTried}
+use Rattle.class_table.proofs.Found.{place-class}
+use Rattle.class_table.proofs.Pushed.{each-there}
+use Rattle.class_table.proofs.Passed.{none-derives}
+use Rattle.class_table.proofs.Places.{get-set_cases}
+use Rattle.class_table.proofs.Rebased.{own-base, past-head, base-apart, bases-away, bases-here, line-away}
+
+-- a class that does not derive from the changed one keeps what is kept of it
+pub kept-away : (kept : List StoredClass) (ok : IsCoherent kept) (c : ℕ) (bs : List ℕ) (i : ℕ) (k : StoredClass) → slice_get kept i ≡ Some k → has k.mro c ≡ false → lin (with_bases (classes_of kept) c bs) k.number ≡ Some k.mro
+kept-away kept ok c bs i k e h = line-away (classes_of kept) c bs k.number k.mro (ok.mro i k e) h
+
+-- what was read at a place stands there
+pub read-is : {A : Type 0} (xs : List A) (i : ℕ) (x y : A) → x ≡ get_or xs i x → slice_get xs i ≡ Some y → x ≡ y
+read-is xs i x y e h = e ∙ get_or_from_slice_get xs i y x h
+
+pub read-at : {A : Type 0} (xs : List A) (i : ℕ) (x : A) → i < length xs → x ≡ get_or xs i x → slice_get xs i ≡ Some x
+read-at xs i x l e = slice_get-get_or xs i x l ∙ ap Some (sym e)
+
+-- a class one of whose bases has no order has none
+pub none-without : (t : Classes PyStrInterned) (x : ℕ) → IsWithout t x → lin t x ≡ None
+none-without t x w =
+    lin-rule t x
+    ∙ ap (option_and_then (λ bs. option_and_then (least_order x bs) (all_some (map (lin t) bs)))) w.of_class
+    ∙ ap (option_and_then (least_order x w.bases)) w.of_bases
+
+-- where one of some bases has no order, not all have one
+pub none-among : (f : ℕ → Option (List ℕ)) (bs : List ℕ) (b : ℕ) → Includes bs b → f b ≡ None → all_some (map f bs) ≡ None
+none-among f bs b h e = go (all_some (map f bs)) refl
+  where
+    go : (o : Option (List (List ℕ))) → all_some (map f bs) ≡ o → o ≡ None
+    go None q = refl
+    go (Some ls) q = let r = all_some-has f bs ls b q h in let s = r.2 in cc
+
+module _ (t : Classes PyStrInterned) (x : ℕ) (ds : List ℕ) (lines : List (List ℕ)) (of : bases_of t x ≡ Some ds) (is : map Some lines ≡ map (lin t) ds) where
+  all : all_some (map (lin t) ds) ≡ Some lines
+  all = ap all_some (sym is) ∙ all_some-some lines
+
+  -- the class stands in none of its bases' linearisations
+  apart : IsApart x lines
+  apart = λ l h k.
+      let r = all_some-holds (lin t) ds lines l all h in
+      let m = lin-member t r.0 l x r.2 k in
+      false≢true (sym (base-apart t x m.0 ds r.0 m.1 of r.1) ∙ ap (is_along x) r.2 ∙ (Decides-has l x).1 k)
+
+  -- the merge gives its linearisation
+  pub line-tried : (rest : List ℕ) → IsRest ds lines rest → lin t x ≡ Some (x ∷ rest)
+  line-tried rest r = lin-by t x ds lines (x ∷ rest) of all (r.computed x apart)
+
+  -- or there is none
+  pub blame-tried : (cause : Cause) → HasNoOrder ds lines → order_cause ds lines ≡ cause → IsToBlame t x cause
+  blame-tried cause n e = record {
+    bases = ds;
+    lines = lines;
+    of_class = of;
+    of_bases = sym is;
+    none =
+        lin-rule t x
+        ∙ ap (option_and_then (λ bs. option_and_then (least_order x bs) (all_some (map (lin t) bs)))) of
+        ∙ ap (option_and_then (least_order x ds)) all
+        ∙ n.computed x apart;
+    why = e;
+  }
+
+-- a base has a shorter linearisation
+shorter : {K : Type 0} (t : Classes K) (x : ℕ) (line bs : List ℕ) (b : ℕ) (l : List ℕ) → lin t x ≡ Some line → bases_of t x ≡ Some bs → Includes bs b → lin t b ≡ Some l → length l < length line
+shorter t x [] bs b l e f h g = absurd (lin-begins t x [] e)
+shorter t x (y ∷ rest) bs b l e f h g =
+    let is : y ≡ x = lin-begins t x (y ∷ rest) e in
+    let sub = keeps-members t x (y ∷ rest) b l e (lin-bases t x (y ∷ rest) bs b e f h) g in
+    let other : b ≡ y → ⊥ = λ i. own-base t (length t) x bs (y ∷ rest) f (Includes-equal bs b x (i ∙ is) h) e in
+    let n = Subsequence-length l rest (past-head t y b l rest (lin-begins t b l g) other sub) in
+    omega (arith, n)
+
+under-here : (c x : ℕ) (bs ds : List ℕ) → x ≡ c → cond (eqb x c) bs ds ≡ bs
+under-here c x bs ds e = ap (λ b. cond b bs ds) (eq-eqb x c e)
+
+under-away : (c x : ℕ) (bs ds : List ℕ) → (x ≡ c → ⊥) → cond (eqb x c) bs ds ≡ ds
+under-away c x bs ds n = ap (λ b. cond b bs ds) (ne_eqb x c n)
+
+module _ (kept : List StoredClass) (ok : IsCoherent kept) (c : ℕ) (bs : List ℕ) (i : ℕ) (k : StoredClass) (at : slice_get kept i ≡ Some k) where
+  class-is : class_at (classes_of kept) k.number ≡ Some (class_of k)
+  class-is = place-class kept ok.sound.ascending i k at
+
+  pub is-there : is_class (classes_of kept) k.number ≡ true
+  is-there = ap is_some class-is
+
+  pub own-bases : bases_of (classes_of kept) k.number ≡ Some k.bases
+  own-bases = ap (option_map (λ (j : Class PyStrInterned). j.bases)) class-is
+
+  -- the bases of a class under the change
+  pub bases-now : bases_of (with_bases (classes_of kept) c bs) k.number ≡ Some (bases_under c bs k)
+  bases-now = elim (cases_eq k.number c) [
+    | inl e ↦
+        ap (bases_of (with_bases (classes_of kept) c bs)) e
+        ∙ bases-here (classes_of kept) c bs (ap (is_class (classes_of kept)) (sym e) ∙ is-there)
+        ∙ ap Some (sym (under-here c k.number bs k.bases e))
+    | inr n ↦ bases-away (classes_of kept) c bs k.number n ∙ own-bases ∙ ap Some (sym (under-away c k.number bs k.bases n))
+  ]
+
+  pub distinct-now : Distinct bs → Distinct (bases_under c bs k)
+  distinct-now d = elim (cases_eq k.number c) [
+    | inl e ↦ subst Distinct (sym (under-here c k.number bs k.bases e)) d
+    | inr n ↦ subst Distinct (sym (under-away c k.number bs k.bases n)) (bases-distinct (classes_of kept) k.number k.mro k.bases (ok.mro i k at) own-bases)
+  ]
+
+  module _ (held : AreThere (classes_of kept) bs) (away : any_derives (classes_of kept) bs c ≡ false) where
+    pub there-now : (b : ℕ) → Includes (bases_under c bs k) b → is_class (classes_of kept) b ≡ true
+    there-now b h =
+        let P : List ℕ → Type 0 = λ ds. Includes ds b in
+        elim (cases_eq k.number c) [
+          | inl e ↦ each-there (classes_of kept) bs held b (subst P (under-here c k.number bs k.bases e) h)
+          | inr n ↦ ok.sound.there k.number b k.bases own-bases (subst P (under-away c k.number bs k.bases n) h)
+        ]
+
+    -- a base that derives from the changed class has a shorter linearisation
+    before : (b j : ℕ) (m : StoredClass) → Includes (bases_under c bs k) b → slice_get kept j ≡ Some m → m.number ≡ b → has m.mro c ≡ true → length m.mro < length k.mro
+    before b j m h e num d =
+        let P : List ℕ → Type 0 = λ ds. Includes ds b in
+        let line : lin (classes_of kept) b ≡ Some m.mro = ap (lin (classes_of kept)) (sym num) ∙ ok.mro j m e in
+        elim (cases_eq k.number c) [
+          | inl q ↦
+              let none = none-derives (classes_of kept) c bs away b (subst P (under-here c k.number bs k.bases q) h) in
+              absurd (false≢true (sym none ∙ ap (is_along c) line ∙ d))
+          | inr n ↦
+              shorter (classes_of kept) k.number k.mro k.bases b m.mro (ok.mro i k at) own-bases (subst P (under-away c k.number bs k.bases n) h) line
+        ]
+
+    -- so the trials of the bases are known
+    pub known-now : (trials : List Trial) → AreTried kept c bs (length k.mro) i trials → (b : ℕ) → Includes (bases_under c bs k) b → IsKnown kept c bs trials b
+    known-now trials tried b h = record {
+      count = tried.count;
+      at = λ j m r e f num d.
+          let Q : ℕ → Type 0 = λ x. IsTrial (with_bases (classes_of kept) c bs) x r in
+          subst Q num (tried.at j m r e f d (inl (before b j m h e num d)));
+    }
+
+-- what is so of an answer, as far as there is one
+pub if-ok : {T E : Type 0} (P Q : T → Type 0) (r : Result T E) → ((x : T) → P x → Q x) → IfOk r P → IfOk r Q
+if-ok P Q (Ok x) f h = f x h
+if-ok P Q (Err e) f h = tt
+
+module _ (kept : List StoredClass) (c : ℕ) (bs : List ℕ) where
+  -- one more trial
+  pub tried-set : (size at : ℕ) (trials : List Trial) (r : Trial) → AreTried kept c bs size at trials → ((k : StoredClass) → slice_get kept at ≡ Some k → IsTrial (with_bases (classes_of kept) c bs) k.number r) → AreTried kept c bs size (at + 1) (set trials at r)
+  tried-set size at trials r tried is = record {
+    count = length-set trials at r ∙ tried.count;
+    at = λ j k q e f d l. elim (get-set_cases trials at r j q f) [
+      | inl p ↦
+          let P : Trial → Type 0 = λ z. IsTrial (with_bases (classes_of kept) c bs) k.number z in
+          subst P p.1 (is k (ap (slice_get kept) (sym p.0) ∙ e))
+      | inr p ↦ tried.at j k q e p.1 d (elim l [ inl m ↦ inl m | inr m ↦ let n = p.0 in inr (m.0, let o = m.1 in next j at n o) ])
+    ];
+  }
+    where
+      next : (j at : ℕ) → (j ≡ at → ⊥) → j < at + 1 → j < at
+      next j at n o = omega (arith, n, o)
+
+  -- one that is not needed
+  pub tried-skip : (size at : ℕ) (trials : List Trial) → AreTried kept c bs size at trials → ((k : StoredClass) → slice_get kept at ≡ Some k → has k.mro c ≡ true → length k.mro ≡ size → ⊥) → AreTried kept c bs size (at + 1) trials
+  tried-skip size at trials tried unneeded = record {
+    count = tried.count;
+    at = λ j k q e f d l. elim l [
+      | inl m ↦ tried.at j k q e f d (inl m)
+      | inr m ↦ elim (cases_eq j at) [
+        | inl p ↦ absurd (unneeded k (ap (slice_get kept) (sym p) ∙ e) d m.0)
+        | inr n ↦ tried.at j k q e f d (inr (m.0, let o = m.1 in next j at n o))
+      ]
+    ];
+  }
+    where
+      next : (j at : ℕ) → (j ≡ at → ⊥) → j < at + 1 → j < at
+      next j at n o = omega (arith, n, o)
+
+  -- all of a length
+  pub tried-size : (size at : ℕ) (trials : List Trial) → AreTried kept c bs size at trials → length kept ≤ at → AreTried kept c bs (size + 1) 0 trials
+  tried-size size at trials tried all = record {
+    count = tried.count;
+    at = λ j k q e f d l. tried.at j k q e f d (elim l [
+      | inl m ↦ elim (cases_eq (length k.mro) size) [ inl p ↦ inr (p, let n = slice_get_within kept j k e in omega (arith, n, all)) | inr p ↦ inl (omega (arith, m, p)) ]
+      | inr m ↦ let n = m.1 in absurd (omega (arith, n))
+    ]);
+  }
+
+  module _ (ok : IsCoherent kept) where
+    -- none is shorter than one
+    pub tried-start : (trials : List Trial) → length trials ≡ length kept → AreTried kept c bs 1 0 trials
+    tried-start trials count = record {
+      count = count;
+      at = λ j k q e f d l. absurd (none k.number j k.mro (lin-begins (classes_of kept) k.number k.mro (ok.mro j k e)) l);
+    }
+      where
+        none : (x j : ℕ) (line : List ℕ) → BeginsWith x line → (length line < 1) ⊎ ((length line ≡ 1) × (j < 0)) → ⊥
+        none x j [] b l = b
+        none x j (y ∷ line) b (inl m) = omega (arith, m)
+        none x j (y ∷ line) b (inr m) = let n = m.1 in omega (arith, n)
+
+    -- none is longer than the table
+    fits : (i : ℕ) (k : StoredClass) → slice_get kept i ≡ Some k → length k.mro ≤ length kept
+    fits i k e =
+        let t = classes_of kept in
+        let line = ok.mro i k e in
+        let few = distinct-fewer k.mro (numbers_of t) (lin-distinct t k.number k.mro line) (λ x h. at-held t x (lin-classes t k.number k.mro x line h)) in
+        let a = length-map t (λ (j : Class PyStrInterned). j.number) in
+        let b = length-map kept class_of in
+        omega (arith, few, a, b)
+
+    pub tried-end : (n : ℕ) (trials : List Trial) → AreTried kept c bs (n + 1) 0 trials → length kept ≤ n → AreKnown kept c bs trials
+    tried-end n trials tried all = record {
+      count = tried.count;
+      at = λ j k q e f d. tried.at j k q e f d (inl (let m = fits j k e in omega (arith, m, all)));
+    }

@@ -1,0 +1,9 @@
+use Rattle.std.proofs.Common.{◌≡◌, drop}
+use Rattle.class_table.specs.Keys.{numbers}
+use Rattle.class_table.specs.Stored.{classes_of}
+use Rattle.class_table.specs.Rebase.{any_derives}
+use Rattle.class_table.proofs.rebase.any_derives.Given as goal
+
+abbrev pub invariant-loop-base : goal.invariant-loop-base
+invariant-loop-base l =
+    any_derives (classes_of l.classes) (numbers (drop l.base-index l.bases)) l.class.0 ≡ any_derives (classes_of l.classes) (numbers l.bases) l.class.0

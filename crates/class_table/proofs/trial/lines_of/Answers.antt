@@ -1,0 +1,19 @@
+use Rattle.class_table.specs.Keys.{numbers}
+use Rattle.std.proofs.Common.{sym}
+use Rattle.class_model.specs.Class.{lin}
+use Rattle.class_model.specs.Change.{with_bases}
+use Rattle.class_table.specs.Stored.{classes_of}
+use Rattle.class_table.proofs.Trials.{none-among}
+use Rattle.class_table.proofs.Along.{held-at}
+use Rattle.class_table.proofs.trial.lines_of.Goals as goal
+
+pub line_of-requires-clause-there : goal.line_of-requires-clause-there
+line_of-requires-clause-there c = c.requires.there _ (held-at c.args.bases.now c.loop-base.base-index (record { 0 = 0 }) c.loop-base-test.true)
+
+pub line_of-requires-clause-known : goal.line_of-requires-clause-known
+line_of-requires-clause-known c = c.requires.known _ (held-at c.args.bases.now c.loop-base.base-index (record { 0 = 0 }) c.loop-base-test.true)
+
+pub returns-in-None : goal.returns-in-None
+returns-in-None c =
+    let u = with_bases (classes_of c.args.change.classes.now) c.args.change.class.0 (numbers c.args.change.bases.now) in
+    none-among (lin u) (numbers c.args.bases.now) _ (held-at c.args.bases.now c.loop-base.base-index (record { 0 = 0 }) c.loop-base-test.true) (sym c.in-None.ensures)

@@ -1,0 +1,30 @@
+-- What other bases of a class make of what is kept of each class.
+use Rattle.std.specs.Prelude.{◌≡◌, ℕ, List, length, Some, slice_get}
+use Rattle.py_node.specs.declared.refs.PyStrInterned.{PyStrInterned}
+use Rattle.class_model.specs.Class.{Classes, lin, subclasses}
+use Rattle.class_model.specs.Layout.{base, place_count}
+use Rattle.class_model.specs.Change.{with_bases}
+use Rattle.class_table.specs.Keys.{numbers, number_of}
+use Rattle.class_table.specs.Stored.{StoredClass, classes_of}
+use Rattle.class_table.specs.declared.renew.Renewed.{Renewed}
+
+-- what is so of a class in the classes with the other bases
+pub record IsRenewed (t : Classes PyStrInterned) (x : ℕ) (r : Renewed) : Type 0 where
+  pub mro : lin t x ≡ Some (numbers r.mro.items)
+  pub base : base t x ≡ number_of r.base
+  pub subclasses : numbers r.subclasses.items ≡ subclasses t x
+  pub places : place_count t x ≡ Some r.places
+
+-- it is so of each class
+pub record AreRenewed (kept : List StoredClass) (c : ℕ) (bs : List ℕ) (renewed : List Renewed) : Type 0 where
+  pub count : length renewed ≡ length kept
+  pub at : (i : ℕ) (k : StoredClass) (r : Renewed) → slice_get kept i ≡ Some k → slice_get renewed i ≡ Some r → IsRenewed (with_bases (classes_of kept) c bs) k.number r
+
+-- a class with it
+abbrev pub with_renewed : Renewed → StoredClass → StoredClass
+with_renewed r k = record k { mro = numbers r.mro.items; base = number_of r.base; subclasses = numbers r.subclasses.items; places = r.places }
+
+-- each class got its own
+pub record AreSwapped (renewed : List Renewed) (old new : List StoredClass) : Type 0 where
+  pub count : length new ≡ length old
+  pub at : (i : ℕ) (k : StoredClass) (r : Renewed) → slice_get old i ≡ Some k → slice_get renewed i ≡ Some r → slice_get new i ≡ Some (with_renewed r k)

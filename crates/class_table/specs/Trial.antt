@@ -1,0 +1,70 @@
+-- What other bases of a class make of the linearisations.
+use Rattle.std.specs.Prelude.{◌≡◌, ℕ, ◌<◌, ◌⊎◌, true, cond, eqb, List, map, length, Option, Some, None, slice_get}
+use Rattle.std.specs.Borrow.{Bor}
+use Rattle.std.specs.Global.{Vec}
+use Rattle.py_node.specs.declared.refs.PyStrInterned.{PyStrInterned}
+use Rattle.py_node.specs.declared.refs.PyTypeRef.{PyTypeRef}
+use Rattle.py_node.specs.declared.raised.Cause.{Cause}
+use Rattle.class_model.specs.Order.{has, all_some}
+use Rattle.class_model.specs.Class.{Classes, bases_of, lin}
+use Rattle.class_model.specs.Change.{with_bases, order_cause}
+use Rattle.mro_merge.specs.Lists.{rows}
+use Rattle.class_table.specs.Keys.{numbers}
+use Rattle.class_table.specs.Stored.{StoredClass, classes_of}
+use Rattle.class_table.specs.declared.trial.Change.{Change}
+use Rattle.class_table.specs.declared.trial.Trial.{Trial}
+use Rattle.class_table.specs.declared.trial.Trial.TheVariants.{Line, Failed, Without}
+
+-- the bases of a class, where one class has others
+abbrev pub bases_under : ℕ → List ℕ → StoredClass → List ℕ
+bases_under c bs k = cond (eqb k.number c) bs k.bases
+
+-- the classes with the other bases
+abbrev pub changed : Change → Classes PyStrInterned
+changed change = with_bases (classes_of change.classes.now) change.class.0 (numbers change.bases.now)
+
+-- a class has no order while all its bases have one, for a cause
+pub record IsToBlame (t : Classes PyStrInterned) (x : ℕ) (cause : Cause) : Type 0 where
+  pub bases : List ℕ
+  pub lines : List (List ℕ)
+  pub of_class : bases_of t x ≡ Some bases
+  pub of_bases : map (lin t) bases ≡ map Some lines
+  pub none : lin t x ≡ None
+  pub why : order_cause bases lines ≡ cause
+
+-- a base of a class has no order
+pub record IsWithout (t : Classes PyStrInterned) (x : ℕ) : Type 0 where
+  pub bases : List ℕ
+  pub of_class : bases_of t x ≡ Some bases
+  pub of_bases : all_some (map (lin t) bases) ≡ None
+
+-- what is so of a class in the classes with the other bases
+abbrev pub IsTrial : Classes PyStrInterned → ℕ → Trial → Type 0
+IsTrial t x (Line line) = lin t x ≡ Some (numbers line.items)
+IsTrial t x (Failed cause) = IsToBlame t x cause
+IsTrial t x Without = IsWithout t x
+
+-- the trial of a class is known, where it derives from the changed one
+pub record IsKnown (kept : List StoredClass) (c : ℕ) (bs : List ℕ) (trials : List Trial) (x : ℕ) : Type 0 where
+  pub count : length trials ≡ length kept
+  pub at : (i : ℕ) (k : StoredClass) (r : Trial) → slice_get kept i ≡ Some k → slice_get trials i ≡ Some r → k.number ≡ x → has k.mro c ≡ true → IsTrial (with_bases (classes_of kept) c bs) x r
+
+-- it is known of each class that derives from the changed one
+pub record AreKnown (kept : List StoredClass) (c : ℕ) (bs : List ℕ) (trials : List Trial) : Type 0 where
+  pub count : length trials ≡ length kept
+  pub at : (i : ℕ) (k : StoredClass) (r : Trial) → slice_get kept i ≡ Some k → slice_get trials i ≡ Some r → has k.mro c ≡ true → IsTrial (with_bases (classes_of kept) c bs) k.number r
+
+-- it is known of those whose linearisations of now are shorter than this, and of the first of those that are as long
+pub record AreTried (kept : List StoredClass) (c : ℕ) (bs : List ℕ) (size first : ℕ) (trials : List Trial) : Type 0 where
+  pub count : length trials ≡ length kept
+  pub at : (i : ℕ) (k : StoredClass) (r : Trial) → slice_get kept i ≡ Some k → slice_get trials i ≡ Some r → has k.mro c ≡ true → (length k.mro < size) ⊎ ((length k.mro ≡ size) × (i < first)) → IsTrial (with_bases (classes_of kept) c bs) k.number r
+
+-- a line that is lent, by its numbers
+abbrev pub line_lent : Option (Bor (List PyTypeRef)) → Option (List ℕ)
+line_lent None = None
+line_lent (Some line) = Some (numbers line.now)
+
+-- the linearisations of some bases, if all have one
+abbrev pub AreLinesFor : Classes PyStrInterned → List ℕ → Option (Vec (Vec PyTypeRef)) → Type 0
+AreLinesFor t bs None = all_some (map (lin t) bs) ≡ None
+AreLinesFor t bs (Some lines) = map Some (rows lines.items) ≡ map (lin t) bs

@@ -1,0 +1,207 @@
+//! Other bases for a class: all or nothing.
+
+ghost use Rattle.std.specs.Prelude.{◌≡◌, true, None, Some, IfOk, OnOk, OnErr};
+ghost use Rattle.class_model.specs.Order.{is_distinct};
+ghost use Rattle.class_model.specs.Class.{is_class};
+ghost use Rattle.class_model.specs.Layout.{best_of};
+ghost use Rattle.class_model.specs.Change.{with_bases};
+ghost use Rattle.class_table.specs.Keys.{numbers, number_of};
+ghost use Rattle.class_table.specs.Stored.{StoredClass, classes_of};
+ghost use Rattle.class_table.specs.Coherent.{IsCoherent};
+ghost use Rattle.class_table.specs.Refused.{cause_of, WithMemory, AreThere};
+ghost use Rattle.class_table.specs.Rebase.{any_derives, is_same, refused_shape, refused_change, refused_rebase, told, IsToldFirst};
+ghost use Rattle.class_table.specs.Steps.{NoneFalls};
+ghost use Rattle.class_table.specs.Renewed.{AreRenewed};
+
+use crate::blame::blamed;
+use crate::chain::base_of;
+use crate::fault::ClassFault;
+use crate::heap::is_heap;
+use crate::inherit::{best_base, inherited};
+use crate::place::{place, stored_at};
+use crate::refresh::settle_all;
+use crate::renew::{Renewed, renew_all, swap_in};
+use crate::steps::Steps;
+use crate::stored::{Stored, has};
+use crate::trial::{Change, trials};
+use py_node::{Cause, PyTypeRef};
+use std::alloc::Global;
+use std::sync::ledger::Ledger;
+
+// Whether one of some classes is a class or derives from it.
+fn any_derives(classes: &[Stored], bases: &[PyTypeRef], class: PyTypeRef) -> bool
+    requires coherent { IsCoherent classes.now }
+    requires there { AreThere (classes_of classes.now) (numbers bases.now) }
+    ensures { result ≡ any_derives (classes_of classes.now) (numbers bases.now) class.0 }
+{
+    for base in bases {
+        if stored_at(classes, *base).derives(class) {
+            return true;
+        }
+    }
+    false
+}
+
+// Whether no class stands twice among some.
+fn is_distinct(bases: &[PyTypeRef]) -> bool
+    ensures { result ≡ is_distinct (numbers bases.now) }
+{
+    for i in 0..bases.len() {
+        if has(&bases[i + 1..], bases[i]) {
+            return false;
+        }
+    }
+    true
+}
+
+// Whether there are two classes that are one, or none.
+fn is_same(class: Option<PyTypeRef>, other: Option<PyTypeRef>) -> bool
+    ensures { result ≡ is_same (number_of class) (number_of other) }
+{
+    match class {
+        None => other.is_none(),
+        Some(first) => match other {
+            None => false,
+            Some(second) => first.0 == second.0,
+        },
+    }
+}
+
+// The best of some bases, where they pass the tests that need no order, or the first test that fails.
+fn test_change(
+    classes: &[Stored],
+    class: PyTypeRef,
+    bases: &[PyTypeRef],
+) -> Result<PyTypeRef, Cause>
+    requires coherent { IsCoherent classes.now }
+    requires own { is_class (classes_of classes.now) class.0 ≡ true }
+    requires there { AreThere (classes_of classes.now) (numbers bases.now) }
+    ensures best { IfOk result (λ b. best_of (classes_of classes.now) (numbers bases.now) ≡ Some b.0) }
+    ensures refused { cause_of result ≡ refused_change (classes_of classes.now) class.0 (numbers bases.now) }
+{
+    if !is_heap(classes, class) {
+        return Err(Cause::ImmutableType);
+    }
+    if bases.is_empty() {
+        return Err(Cause::EmptyBases);
+    }
+    if any_derives(classes, bases, class) {
+        return Err(Cause::InheritanceCycle);
+    }
+    test_shape(classes, class, bases)
+}
+
+// The same of a class that a script made, with bases none of which derives from it.
+fn test_shape(classes: &[Stored], class: PyTypeRef, bases: &[PyTypeRef]) -> Result<PyTypeRef, Cause>
+    requires coherent { IsCoherent classes.now }
+    requires own { is_class (classes_of classes.now) class.0 ≡ true }
+    requires there { AreThere (classes_of classes.now) (numbers bases.now) }
+    ensures best { IfOk result (λ b. best_of (classes_of classes.now) (numbers bases.now) ≡ Some b.0) }
+    ensures refused { cause_of result ≡ refused_shape (classes_of classes.now) class.0 (numbers bases.now) }
+{
+    let best = match best_base(classes, bases) {
+        Ok(best) => best,
+        Err(cause) => return Err(cause),
+    };
+    let solid = inherited(classes, Some(best));
+    let old = inherited(classes, base_of(classes, class));
+    if !is_same(solid, old) {
+        return Err(Cause::LayoutDiffers);
+    }
+    if !is_distinct(bases) {
+        return Err(Cause::DuplicateBase);
+    }
+    Ok(best)
+}
+
+// What the change makes of each class, where it passes the tests that need no order, or why one is left without an order.
+fn plan<L: Ledger>(
+    change: Change<'_>,
+    alloc: Global,
+    best: PyTypeRef,
+    steps: &mut Steps<L>,
+) -> Result<Vec<Renewed>, ClassFault>
+    requires coherent { IsCoherent change.classes.now }
+    requires own { is_class (classes_of change.classes.now) change.class.0 ≡ true }
+    requires there { AreThere (classes_of change.classes.now) (numbers change.bases.now) }
+    requires early { refused_change (classes_of change.classes.now) change.class.0 (numbers change.bases.now) ≡ None }
+    requires best { best_of (classes_of change.classes.now) (numbers change.bases.now) ≡ Some best.0 }
+    ensures renewed { IfOk result (λ v.
+        AreRenewed change.entry.classes.now change.entry.class.0 (numbers change.entry.bases.now) v.items) }
+    ensures refused { WithMemory result (told result ≡
+        refused_rebase (classes_of change.entry.classes.now) change.entry.class.0 (numbers change.entry.bases.now)) }
+    ensures steps { NoneFalls steps.old steps.new }
+{
+    let trials = match trials(change, alloc, steps) {
+        Ok(trials) => trials,
+        Err(_) => return Err(ClassFault::OutOfMemory),
+    };
+    match blamed(change, &trials) {
+        Ok(()) => {}
+        Err(fault) => return Err(fault),
+    }
+    match renew_all(change, alloc, &trials, best) {
+        Ok(renewed) => Ok(renewed),
+        Err(_) => Err(ClassFault::OutOfMemory),
+    }
+}
+
+// Changes the bases of a class, where they pass every test, and what follows in each class. It takes no memory.
+fn change_bases<L: Ledger>(
+    classes: &mut [Stored],
+    class: PyTypeRef,
+    bases: Vec<PyTypeRef>,
+    renewed: Vec<Renewed>,
+    steps: &mut Steps<L>,
+)
+    requires coherent { IsCoherent classes.old }
+    requires own { is_class (classes_of classes.old) class.0 ≡ true }
+    requires there { AreThere (classes_of classes.old) (numbers bases.items) }
+    requires passed { refused_rebase (classes_of classes.old) class.0 (numbers bases.items) ≡ None }
+    requires renewed { AreRenewed classes.old class.0 (numbers bases.items) renewed.items }
+    ensures coherent { IsCoherent classes.new }
+    ensures set { classes_of classes.new ≡ with_bases (classes_of classes.old) class.0 (numbers bases.items) }
+    ensures steps { NoneFalls steps.old steps.new }
+{
+    let at = place(classes, class);
+    classes[at].set_bases(bases);
+    swap_in(classes, renewed);
+    settle_all(classes, class, steps);
+}
+
+// Gives a class other bases: first the tests, then all that takes memory, then the change.
+pub(crate) fn rebase<L: Ledger>(
+    classes: &mut Vec<Stored>,
+    alloc: Global,
+    class: PyTypeRef,
+    bases: Vec<PyTypeRef>,
+    steps: &mut Steps<L>,
+) -> Result<(), ClassFault>
+    requires coherent { IsCoherent classes.old.items }
+    requires own { is_class (classes_of classes.old.items) class.0 ≡ true }
+    requires there { AreThere (classes_of classes.old.items) (numbers bases.items) }
+    ensures coherent { OnOk result (IsCoherent classes.new.items) }
+    ensures early { IsToldFirst (classes_of classes.old.items) class.0 (numbers bases.items) (told result) }
+    ensures refused { WithMemory result (told result ≡
+        refused_rebase (classes_of classes.old.items) class.0 (numbers bases.items)) }
+    ensures set { OnOk result (classes_of classes.new.items ≡
+        with_bases (classes_of classes.old.items) class.0 (numbers bases.items)) }
+    ensures err { OnErr result (classes.new.items ≡ classes.old.items) }
+    ensures steps { NoneFalls steps.old steps.new }
+{
+    let best = match test_change(classes, class, &bases) {
+        Ok(best) => best,
+        Err(cause) => return Err(ClassFault::Refused(cause)),
+    };
+    let change = Change {
+        classes,
+        class,
+        bases: &bases,
+    };
+    let renewed = match plan(change, alloc, best, steps) {
+        Ok(renewed) => renewed,
+        Err(fault) => return Err(fault),
+    };
+    change_bases(classes, class, bases, renewed, steps);
+    Ok(())
+}

@@ -1,0 +1,157 @@
+//! What other bases of a class make of what is kept of each class: made before anything is changed, then put in place.
+
+ghost use Rattle.std.specs.Prelude.{◌≡◌, ◌<◌, ℕ, true, length, None, Some, IfOk, slice_get};
+ghost use Rattle.class_model.specs.Class.{is_class, lin, subclasses};
+ghost use Rattle.class_model.specs.Layout.{best_of, base};
+ghost use Rattle.class_model.specs.Numbers.{is_ascending};
+ghost use Rattle.class_table.specs.Keys.{numbers, number_of};
+ghost use Rattle.class_table.specs.Stored.{StoredClass, classes_of};
+ghost use Rattle.class_table.specs.Coherent.{IsCoherent};
+ghost use Rattle.class_table.specs.Refused.{AreThere};
+ghost use Rattle.class_table.specs.Rebase.{refused_rebase};
+ghost use Rattle.class_table.specs.Trial.{changed, AreKnown};
+ghost use Rattle.class_table.specs.Renewed.{IsRenewed, AreRenewed, AreSwapped};
+
+use crate::count::count_along;
+use crate::place::find_place;
+use crate::stored::{Stored, has};
+use crate::trial::{Change, Trial, bases_under, line_of};
+use py_node::{OutOfMemory, PyTypeRef};
+use std::alloc::Global;
+
+/// What other bases make of what is kept of a class, but for its slots.
+#[derive(Drop)]
+pub(crate) struct Renewed {
+    pub(crate) mro: Vec<PyTypeRef>,
+    pub(crate) near: Vec<usize>,
+    pub(crate) base: Option<PyTypeRef>,
+    pub(crate) subclasses: Vec<PyTypeRef>,
+    pub(crate) places: usize,
+}
+
+// The classes that have a class among their bases under the change.
+fn subclasses_under(
+    change: Change<'_>,
+    alloc: Global,
+    number: PyTypeRef,
+) -> Result<Vec<PyTypeRef>, OutOfMemory>
+    requires { is_ascending (classes_of change.classes.now) ≡ true }
+    ensures { IfOk result (λ v. numbers v.items ≡ subclasses (changed change.entry) number.0) }
+{
+    let mut found = Vec::new(alloc);
+    for at in 0..change.classes.len() {
+        let stored = &change.classes[at];
+        if has(bases_under(change, stored), number) {
+            found.push(stored.number())?;
+        }
+    }
+    Ok(found)
+}
+
+// Where each class of a linearisation is likely kept. Each is a guess.
+fn places_along(
+    classes: &[Stored],
+    alloc: Global,
+    line: &[PyTypeRef],
+) -> Result<Vec<usize>, OutOfMemory>
+    requires { is_ascending (classes_of classes.now) ≡ true }
+{
+    let mut places = Vec::new(alloc);
+    for class in line {
+        places.push(find_place(classes, *class).unwrap_or(0))?;
+    }
+    Ok(places)
+}
+
+// What the change makes of a class that has this linearisation and this best base.
+fn renew(
+    change: Change<'_>,
+    alloc: Global,
+    number: PyTypeRef,
+    line: &[PyTypeRef],
+    best: Option<PyTypeRef>,
+) -> Result<Renewed, OutOfMemory>
+    requires coherent { IsCoherent change.classes.now }
+    requires line { lin (changed change) number.0 ≡ Some (numbers line.now) }
+    requires base { base (changed change) number.0 ≡ number_of best }
+    ensures { IfOk result (λ r. IsRenewed (changed change.entry) number.0 r) }
+{
+    Ok(Renewed {
+        mro: Vec::from_slice(alloc, line)?,
+        near: places_along(change.classes, alloc, line)?,
+        base: best,
+        subclasses: subclasses_under(change, alloc, number)?,
+        places: count_along(change.classes, 0, line)?,
+    })
+}
+
+// The best base of the class at a place under the change: for the changed class the best of the new ones.
+fn base_under(change: Change<'_>, best: PyTypeRef, at: usize) -> Option<PyTypeRef>
+    requires coherent { IsCoherent change.classes.now }
+    requires own { is_class (classes_of change.classes.now) change.class.0 ≡ true }
+    requires there { AreThere (classes_of change.classes.now) (numbers change.bases.now) }
+    requires passed { refused_rebase (classes_of change.classes.now) change.class.0 (numbers change.bases.now) ≡ None }
+    requires best { best_of (classes_of change.classes.now) (numbers change.bases.now) ≡ Some best.0 }
+    requires inside { at < length change.classes.now }
+    ensures { (k : StoredClass) → slice_get change.entry.classes.now at ≡ Some k →
+        base (changed change.entry) k.number ≡ number_of result }
+{
+    let stored = &change.classes[at];
+    if stored.number().0 == change.class.0 {
+        Some(best)
+    } else {
+        stored.base()
+    }
+}
+
+// The linearisation of a class under the change, which leaves each an order.
+fn line_under<'a>(change: Change<'a>, trials: &'a [Trial], class: PyTypeRef) -> &'a [PyTypeRef]
+    requires coherent { IsCoherent change.classes.now }
+    requires own { is_class (classes_of change.classes.now) change.class.0 ≡ true }
+    requires there { AreThere (classes_of change.classes.now) (numbers change.bases.now) }
+    requires passed { refused_rebase (classes_of change.classes.now) change.class.0 (numbers change.bases.now) ≡ None }
+    requires known { AreKnown change.classes.now change.class.0 (numbers change.bases.now) trials.now }
+    requires class { is_class (classes_of change.classes.now) class.0 ≡ true }
+    ensures { lin (changed change.entry) class.0 ≡ Some (numbers result.now) }
+{
+    match line_of(change, trials, class) {
+        None => unreachable!(),
+        Some(line) => line,
+    }
+}
+
+// What the change makes of each class.
+pub(crate) fn renew_all(
+    change: Change<'_>,
+    alloc: Global,
+    trials: &[Trial],
+    best: PyTypeRef,
+) -> Result<Vec<Renewed>, OutOfMemory>
+    requires coherent { IsCoherent change.classes.now }
+    requires own { is_class (classes_of change.classes.now) change.class.0 ≡ true }
+    requires there { AreThere (classes_of change.classes.now) (numbers change.bases.now) }
+    requires passed { refused_rebase (classes_of change.classes.now) change.class.0 (numbers change.bases.now) ≡ None }
+    requires best { best_of (classes_of change.classes.now) (numbers change.bases.now) ≡ Some best.0 }
+    requires known { AreKnown change.classes.now change.class.0 (numbers change.bases.now) trials.now }
+    ensures { IfOk result (λ v.
+        AreRenewed change.entry.classes.now change.entry.class.0 (numbers change.entry.bases.now) v.items) }
+{
+    let mut all = Vec::new(alloc);
+    for at in 0..change.classes.len() {
+        let number = change.classes[at].number();
+        let line = line_under(change, trials, number);
+        let base = base_under(change, best, at);
+        all.push(renew(change, alloc, number, line, base)?)?;
+    }
+    Ok(all)
+}
+
+// Puts what the change makes of each class in its place. It takes no memory.
+pub(crate) fn swap_in(classes: &mut [Stored], mut renewed: Vec<Renewed>)
+    requires { length renewed.items ≡ length classes.old }
+    ensures { AreSwapped renewed.items classes.old classes.new }
+{
+    for at in 0..classes.len() {
+        classes[at].renew(&mut renewed[at]);
+    }
+}
