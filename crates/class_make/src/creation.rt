@@ -90,6 +90,7 @@ fn new_class(
     match world.new_heap(name.as_str(), bases, attrs, members, meta) {
         Err(ClassFault::OutOfMemory) => Err(OutOfMemory),
         Err(ClassFault::Refused(cause)) => Ok(Step::raise(cause)),
+        Err(ClassFault::RefusedAt(cause, _)) => Ok(Step::raise(cause)),
         Ok(class) => {
             define_functions(world, class, &values);
             add_own_members(world, class, &names)?;

@@ -3,7 +3,7 @@ use Rattle.std.proofs.Common.{◌≡◌, ℕ, List, Option, Some, None, Result, 
 use Rattle.std.specs.Option.{option_or}
 use Rattle.py_node.specs.declared.raised.Cause.{Cause}
 use Rattle.class_table.specs.declared.fault.ClassFault.{ClassFault}
-use Rattle.class_table.specs.declared.fault.ClassFault.TheVariants.{Refused, OutOfMemory}
+use Rattle.class_table.specs.declared.fault.ClassFault.TheVariants.{Refused, RefusedAt, OutOfMemory}
 use Rattle.class_table.specs.Refused.{refusal, WithMemory, refused_layout, refused_order, refused_bases}
 use Rattle.plain_machine.specs.Plain.{Bindings}
 use Rattle.class_world.specs.Held.{Held}
@@ -15,6 +15,7 @@ use Rattle.class_world.proofs.OfClasses.{bases-seen}
 with-same : {T : Type 0} (r : Result T ClassFault) (a b : Option Cause) → a ≡ b → WithMemory r (refusal r ≡ a) → WithMemory r (refusal r ≡ b)
 with-same (Ok x) a b e h = h ∙ e
 with-same (Err (Refused cause)) a b e h = h ∙ e
+with-same (Err (RefusedAt cause c)) a b e h = h ∙ e
 with-same (Err OutOfMemory) a b e h = tt
 
 or-none : (o : Option Cause) → o ≡ option_or o None

@@ -41,7 +41,7 @@ fn refusal(
     let metaclass = world.built_in(BuiltIn::TypeType);
     match world.new_heap("A", bases, attrs, Vec::new(alloc), metaclass) {
         Ok(_) => Ok(None),
-        Err(ClassFault::Refused(cause)) => Ok(Some(cause)),
+        Err(ClassFault::Refused(cause) | ClassFault::RefusedAt(cause, _)) => Ok(Some(cause)),
         Err(ClassFault::OutOfMemory) => Err(OutOfMemory),
     }
 }

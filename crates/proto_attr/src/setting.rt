@@ -121,6 +121,7 @@ fn own_set(
         PySetterValue::Assign(value) => match world.set_attr(class, name, value) {
             Ok(()) => Ok(Step::End(Ok(Answer::Done))),
             Err(ClassFault::Refused(_)) => Ok(Step::raise(Cause::ImmutableType)),
+            Err(ClassFault::RefusedAt(_, _)) => Ok(Step::raise(Cause::ImmutableType)),
             Err(ClassFault::OutOfMemory) => Err(OutOfMemory),
         },
         PySetterValue::Delete => {
