@@ -3,7 +3,7 @@ use Rattle.std.proofs.Common.{◌++◌, Option, Some, None, subst, sym, ◌≡�
 use Rattle.py_node.specs.declared.refs.PyObjectRef.{PyObjectRef}
 use Rattle.plain_machine.specs.Plain.{PlainWorld, Bindings, Said}
 use Rattle.plain_machine.specs.Takes.{with_one, with_two}
-use Rattle.native_calls.specs.Say.{with_get}
+use Rattle.native_calls.specs.Parts.{with_get}
 use Rattle.class_world.specs.Held.{Held}
 use Rattle.class_world.specs.Sound.{AreNodes, Holds}
 

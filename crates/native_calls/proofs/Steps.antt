@@ -13,7 +13,7 @@ use Rattle.py_node.specs.declared.task.Answer.{Answer}
 use Rattle.py_node.specs.declared.task.Task.{Task}
 use Rattle.py_node.specs.declared.task.Step.{Step}
 use Rattle.py_node.specs.declared.task.Step.TheVariants.{Ask, End}
-use Rattle.plain_machine.specs.Plain.{PlainWorld, Said, Asks, Ends, Ended, Told, Answered, ReadObjects, DoGetAttr, ToAttribute, ToNative}
+use Rattle.plain_machine.specs.Plain.{PlainWorld, Said, Asks, Ends, Ended, Told, Answered, ReadObjects, DoGetAttr, DoSuperCheck, ToAttribute, ToDescriptor, ToNative}
 use Rattle.plain_machine.specs.World.{ref}
 use Rattle.class_world.specs.declared.world.World.{World}
 use Rattle.class_world.specs.Reading.{Reading, Reads, bindings, plain, task_of, ended_of}
@@ -22,15 +22,20 @@ use Rattle.plain_machine.specs.Rows.{fresh}
 use Rattle.proto_descr.specs.Rows as descriptors
 use Rattle.proto_descr.specs.Rows.{EndsSo, StepsAs}
 use Rattle.proto_descr.specs.Say.{class_method_by}
-use Rattle.native_calls.specs.declared.NativeKept.TheVariants.{Pass, AfterGet, AfterDoc}
+use Rattle.proto_descr.specs.Supers.{start_asked, super_bound}
+use Rattle.plain_machine.specs.Row.{none}
+use Rattle.plain_machine.specs.Takes.{native_end}
+use Rattle.py_node.specs.declared.task.Answer.TheVariants.{Value}
+use Rattle.native_calls.specs.declared.NativeKept.TheVariants.{Pass, AfterGet, AfterDoc, Answering, Binding}
 use Rattle.native_calls.specs.declared.NativeKept.{NativeKept}
-use Rattle.native_calls.specs.declared.way.Kind.TheVariants.{ClassMethod}
+use Rattle.native_calls.specs.declared.NativeKept.TheVariants as kept
+use Rattle.native_calls.specs.declared.way.Kind.TheVariants.{ClassMethod, Super}
 use Rattle.native_calls.specs.declared.way.Way.{Way}
-use Rattle.native_calls.specs.declared.way.Way.TheVariants.{Binds, Wraps}
+use Rattle.native_calls.specs.declared.way.Way.TheVariants.{Binds, Marked, Wraps}
 use Rattle.native_calls.specs.declared.way.Wrapper.{Wrapper}
 use Rattle.native_calls.specs.declared.way.Wrapper.TheVariants.{Class, Static}
-use Rattle.native_calls.specs.Say.{asking_job_say, asking_rest, by_way, class_of_wrapper, way_of, way_rest}
-use Rattle.native_calls.specs.Asks.{Does, Resumes, asking_stands, passed}
+use Rattle.native_calls.specs.Say.{asking_job_say, asking_rest, by_way, class_of_wrapper, none_end, none_said, way_of, way_rest}
+use Rattle.native_calls.specs.Asks.{Does, Resumes, answering, asking_stands, marking, passed}
 
 ends-so : (s : Said) (r : Result Answer Fault) (new : PlainWorld) → EndsSo s r new → s ≡ Ends new (ended_of r)
 ends-so (Asks w learnt task) r new h = absurd h
@@ -51,6 +56,14 @@ passed-resumes k f r old new (Ask asked kept) h = λ t q.
 passed-resumes k f r old new (End s) h = λ t q.
     let e = h t q in
     let p = asking_stands t (AfterGet k f) in
+    (e.0, subst (λ said. Steps asking_job_say (asking_stands t) t p.task (p.told ++ Answered (ended_of r) ∷ []) said (End s) new) (sym e.1) (refl, refl))
+
+-- a `super` that goes on with its class and the object, given where it starts
+pub super-resumes : (c : PyTypeRef) (o : PyObjectRef) (r : Result Answer Fault) (old new : World) (s : Result Answer Fault) → descriptors.EndsAs (λ t w. super_bound w (ref c.0) o (ended_of r)) old new s → Resumes (Binding c o) r old new (End s)
+unfolding asking_job_say
+super-resumes c o r old new s h = λ t q.
+    let e = descriptor-ends (λ t w. super_bound w (ref c.0) o (ended_of r)) old new s h t q in
+    let p = asking_stands t (Binding c o) in
     (e.0, subst (λ said. Steps asking_job_say (asking_stands t) t p.task (p.told ++ Answered (ended_of r) ∷ []) said (End s) new) (sym e.1) (refl, refl))
 
 -- what is said is what is said of what it takes
@@ -75,6 +88,45 @@ pub class-does : (n : NativeEntry) (said : Reading → PlainWorld → Said) (w :
 unfolding asking_job_say
 class-does n said w k f asked way same task = λ args kw t q.
     (q, subst (λ s. Steps asking_job_say (asking_stands t) t (ToNative n args (kw t)) [] s (Ask asked (AfterGet k f)) w) (sym (same t)) (task t q, refl, record { says = λ u s more. ap (λ y. way_rest u (k ∷ f ∷ []) y s more) way }))
+
+-- a `super` that is told where to start for an object
+pub super-does : (n : NativeEntry) (said : Reading → PlainWorld → Said) (w : World) (m : PyObjectRef) (c : PyTypeRef) (o : PyObjectRef) (asked : Task) → way_of n ≡ Binds Super → ((t : Reading) → said t (plain t w) ≡ start_asked (plain t w) m c.0 o) → ((t : Reading) → task_of t asked ≡ ToDescriptor (DoSuperCheck c.0 o)) → Does n said w w (Ask asked (Binding c o))
+unfolding asking_job_say
+super-does n said w m c o asked way same task = λ args kw t q.
+    (q, subst (λ s. Steps asking_job_say (asking_stands t) t (ToNative n args (kw t)) [] s (Ask asked (Binding c o)) w) (sym (same t)) (task t, refl, record { says = λ u s more. ap (λ y. way_rest u (m ∷ ref c.0 ∷ o ∷ []) y s more) way }))
+
+-- a native that asks what it ends as, where its way reads nothing before that
+pub passed-does : (n : NativeEntry) (said : Reading → PlainWorld → Said) (way : Way) (old new : World) (step : Step (Unit {0})) → way_of n ≡ way → ((u : PlainWorld) (s : Ended) (more : Told) → way_rest u [] way s more ≡ native_end u s more) → StepsAs said old new step → Does n said old new (passed step)
+unfolding asking_job_say
+passed-does n said way old new (Ask asked kept) is ends h = λ args kw t q.
+    let e = h t q in
+    (e.0, subst (λ s. Steps asking_job_say (asking_stands t) t (ToNative n args (kw t)) [] s (Ask asked Pass) new) (sym e.1) (refl, refl, record { says = λ u s more. ap (λ y. way_rest u [] y s more) is ∙ ends u s more }))
+passed-does n said way old new (End r) is ends h = λ args kw t q.
+    let e = h t q in
+    (e.0, subst (λ s. Steps asking_job_say (asking_stands t) t (ToNative n args (kw t)) [] s (End r) new) (sym e.1) (refl, refl))
+
+-- one that tells whether another object is abstract
+pub marking-does : (n : NativeEntry) (said : Reading → PlainWorld → Said) (b : Wrapper) (old new : World) (step : Step (Unit {0})) → way_of n ≡ Marked b → StepsAs said old new step → Does n said old new (marking step)
+unfolding asking_job_say
+marking-does n said b old new (Ask asked held) is h = λ args kw t q.
+    let e = h t q in
+    (e.0, subst (λ s. Steps asking_job_say (asking_stands t) t (ToNative n args (kw t)) [] s (Ask asked kept.Marked) new) (sym e.1) (refl, refl, record { says = λ u s more. ap (λ y. way_rest u [] y s more) is }))
+marking-does n said b old new (End r) is h = λ args kw t q.
+    let e = h t q in
+    (e.0, subst (λ s. Steps asking_job_say (asking_stands t) t (ToNative n args (kw t)) [] s (End r) new) (sym e.1) (refl, refl))
+
+-- and one that answers None
+pub answering-does : (n : NativeEntry) (said : Reading → PlainWorld → Said) (way : Way) (old new : World) (step : Step (Unit {0})) → way_of n ≡ way → ((u : PlainWorld) (s : Ended) (more : Told) → way_rest u [] way s more ≡ none_end u s more) → StepsAs said old new step → Does n (λ t u. none_said (said t u)) old new (answering step)
+unfolding asking_job_say
+answering-does n said way old new (Ask asked kept) is ends h = λ args kw t q.
+    let e = h t q in
+    (e.0, subst (λ s. Steps asking_job_say (asking_stands t) t (ToNative n args (kw t)) [] (none_said s) (Ask asked Answering) new) (sym e.1) (refl, refl, record { says = λ u s more. ap (λ y. way_rest u [] y s more) is ∙ ends u s more }))
+answering-does n said way old new (End (Ok a)) is ends h = λ args kw t q.
+    let e = h t q in
+    (e.0, subst (λ s. Steps asking_job_say (asking_stands t) t (ToNative n args (kw t)) [] (none_said s) (End (Ok (Value none))) new) (sym e.1) (refl, refl))
+answering-does n said way old new (End (Err x)) is ends h = λ args kw t q.
+    let e = h t q in
+    (e.0, subst (λ s. Steps asking_job_say (asking_stands t) t (ToNative n args (kw t)) [] (none_said s) (End (Err x)) new) (sym e.1) (refl, refl))
 
 -- a new class method or static method that asks for the doc of what it is to wrap
 pub doc-does : (n : NativeEntry) (said : Reading → PlainWorld → Said) (w : World) (b : Wrapper) (c : PyTypeRef) (f : PyObjectRef) (asked : Task) → way_of n ≡ Wraps b → ((t : Reading) → said t (plain t w) ≡ Asks (plain t w) (ReadObjects (ref c.0 ∷ f ∷ []) ∷ []) (ToAttribute (DoGetAttr f (known_text Doc)))) → ((t : Reading) → Reads t w → task_of t asked ≡ ToAttribute (DoGetAttr f (known_text Doc))) → Does n said w w (Ask asked (AfterDoc b c f))

@@ -1,20 +1,24 @@
 -- What the contracts of natives say that may ask a task.
-use Rattle.std.specs.Prelude.{Bool, List, [], ◌∷◌, Result, Option, Some, None}
+use Rattle.std.specs.Prelude.{List, [], ◌∷◌, Result, Ok, Err, Option, Some, None}
 use Rattle.py_node.specs.declared.refs.PyObjectRef.{PyObjectRef}
 use Rattle.py_node.specs.declared.raised.Raised.{Raised as Fault}
 use Rattle.py_node.specs.declared.known.Known.TheVariants.{Get}
 use Rattle.py_node.specs.Known.{known_text}
 use Rattle.py_node.specs.declared.built_in.BuiltIn.TheVariants as built_in
 use Rattle.py_node.specs.declared.entry.NativeEntry.{NativeEntry}
-use Rattle.py_node.specs.declared.entry.NativeEntry.TheVariants.{NewOf, NewWrapper, OfWrapper}
+use Rattle.py_node.specs.declared.entry.NativeEntry.TheVariants.{GetterOf, NewOf, NewWrapper, OfDescriptor, OfSuper, OfWrapper}
+use Rattle.py_node.specs.declared.entry.Detail.TheVariants.{IsAbstract}
+use Rattle.py_node.specs.declared.entry.DescriptorNative.TheVariants.{GetSetSet}
+use Rattle.py_node.specs.declared.entry.SuperNative.TheVariants as super
 use Rattle.py_node.specs.declared.entry.WrapperNative.TheVariants.{ClassGet}
 use Rattle.py_node.specs.declared.task.Answer.{Answer}
+use Rattle.py_node.specs.declared.task.Answer.TheVariants.{Value}
 use Rattle.py_node.specs.declared.task.Task.{Task}
 use Rattle.py_node.specs.declared.task.Step.{Step}
 use Rattle.py_node.specs.declared.task.Step.TheVariants.{Ask, End}
-use Rattle.plain_machine.specs.Plain.{Datum, PlainWorld, PlainTask, Bindings, DoGetAttr, ToAttribute, ToNative, Answered, Made, ReadObjects, Said, Asks, Ends}
+use Rattle.plain_machine.specs.Plain.{PlainWorld, PlainTask, Bindings, DoGetAttr, ToAttribute, ToNative, Answered, Made, ReadObjects, Said, Asks, Ends}
 use Rattle.plain_machine.specs.World.{ref}
-use Rattle.plain_machine.specs.Row.{value}
+use Rattle.plain_machine.specs.Row.{value, none}
 use Rattle.plain_machine.specs.Rows.{Pending, fresh}
 use Rattle.class_world.specs.declared.world.World.{World}
 use Rattle.class_world.specs.Reading.{Reading, task_of}
@@ -22,18 +26,8 @@ use Rattle.class_world.specs.Rows as rows
 use Rattle.class_world.specs.Rows.{Group, Follows}
 use Rattle.class_world.specs.Sound.{Claim, IsClass, IsNode, IsOf}
 use Rattle.native_calls.specs.declared.NativeKept.{NativeKept}
-use Rattle.native_calls.specs.declared.NativeKept.TheVariants.{Pass, AfterGet, AfterDoc, AfterSet}
-use Rattle.native_calls.specs.declared.way.Kind.{Kind}
-use Rattle.native_calls.specs.declared.way.Kind.TheVariants as kind
-use Rattle.native_calls.specs.Say.{asking_job_say, class_of_wrapper, is_function, is_method_descriptor, is_getset, is_class_method, is_static_method}
-
--- what an object must be that a native binds
-abbrev pub is_of_kind : Kind → Option Datum → Bool
-is_of_kind kind.Function d = is_function d
-is_of_kind kind.Native d = is_method_descriptor d
-is_of_kind kind.GetSet d = is_getset d
-is_of_kind kind.ClassMethod d = is_class_method d
-is_of_kind kind.StaticMethod d = is_static_method d
+use Rattle.native_calls.specs.declared.NativeKept.TheVariants.{Pass, AfterGet, AfterDoc, AfterSet, Answering, Binding, Marked}
+use Rattle.native_calls.specs.Say.{asking_job_say, class_of_wrapper}
 
 -- what is asked for a class method that wraps this, if it is one
 abbrev pub class_asked : PlainWorld → Option PyObjectRef → PyObjectRef → PyObjectRef → Said
@@ -47,6 +41,9 @@ asking_stands t (AfterGet k f) = record { task = ToNative (OfWrapper ClassGet) [
 asking_stands t (AfterDoc b c f) = record { task = ToNative (NewOf (class_of_wrapper b)) [] []; told = ReadObjects (ref c.0 ∷ f ∷ []) ∷ [] }
 asking_stands t (AfterSet new) =
     record { task = ToNative (NewOf built_in.ClassMethod) [] []; told = ReadObjects (ref 0 ∷ ref 0 ∷ []) ∷ (Answered (value (ref 0)) ∷ (Made new ∷ [])) }
+asking_stands t Answering = record { task = ToNative (OfDescriptor GetSetSet) [] []; told = [] }
+asking_stands t (Binding c o) = record { task = ToNative (OfSuper super.Get) [] []; told = ReadObjects (ref 0 ∷ ref c.0 ∷ o ∷ []) ∷ [] }
+asking_stands t Marked = record { task = ToNative (GetterOf built_in.ClassMethod IsAbstract) [] []; told = [] }
 
 -- what is said of what is kept
 abbrev pub of_native_kept : NativeKept → List Claim
@@ -54,6 +51,9 @@ of_native_kept Pass = []
 of_native_kept (AfterGet k f) = IsNode k ∷ IsNode f ∷ []
 of_native_kept (AfterDoc b c f) = IsClass c.0 ∷ IsOf c.0 (class_of_wrapper b) ∷ IsNode f ∷ []
 of_native_kept (AfterSet new) = IsNode new ∷ []
+of_native_kept Answering = []
+of_native_kept Marked = []
+of_native_kept (Binding c o) = IsClass c.0 ∷ IsNode o ∷ []
 
 -- the group: its jobs, what they say, what goes on, and what is claimed of that
 abbrev pub native_group : Group Task PlainTask NativeKept
@@ -74,3 +74,14 @@ Does n said old new step =
 abbrev pub passed : Step (Unit {0}) → Step NativeKept
 passed (Ask asked kept) = Ask asked Pass
 passed (End r) = End r
+
+-- the same, where it answers None, whatever it asked gave
+abbrev pub answering : Step (Unit {0}) → Step NativeKept
+answering (Ask asked kept) = Ask asked Answering
+answering (End (Ok a)) = End (Ok (Value none))
+answering (End (Err x)) = End (Err x)
+
+-- the same, where what can't tell whether it is abstract is not
+abbrev pub marking : Step (Unit {0}) → Step NativeKept
+marking (Ask asked kept) = Ask asked Marked
+marking (End r) = End r

@@ -12,8 +12,9 @@ ghost use Rattle.class_world.specs.Rows.{EndsAs, LeavesEnd};
 ghost use Rattle.class_world.specs.Sound.{AllHold, AreNodes, Holds, IsNode, of_option, of_node_ref};
 ghost use Rattle.proto_descr.specs.Rows.{StepsAs, nothing_held};
 ghost use Rattle.proto_descr.specs.Say.{class_method_get};
-ghost use Rattle.native_calls.specs.Asks.{Does, Resumes, class_asked, is_of_kind, of_native_kept};
-ghost use Rattle.native_calls.specs.Say.{function_get_by_name, native_get_by_name, getset_get_by_name, class_method_by_name, static_method_by_name, get_by_name, way_of, with_get};
+ghost use Rattle.native_calls.specs.Asks.{Does, Resumes, class_asked, of_native_kept};
+ghost use Rattle.native_calls.specs.Parts.{with_get};
+ghost use Rattle.native_calls.specs.Say.{function_get_by_name, native_get_by_name, getset_get_by_name, class_method_by_name, static_method_by_name, get_by_name, is_of_kind, way_of};
 
 use crate::way::Kind;
 use crate::{NativeKept, passed};
@@ -28,7 +29,7 @@ use py_node::{
 };
 
 // What is bound, to which object, and for which class.
-type Bound = (PyObjectRef, PyObjectRef, Option<PyObjectRef>);
+pub(crate) type Bound = (PyObjectRef, PyObjectRef, Option<PyObjectRef>);
 
 /// What a function gives for an object, and for a class if there is one.
 pub(crate) fn function_get_by_name(
@@ -153,7 +154,7 @@ pub(crate) fn resume_class_method(
 }
 
 // What is bound, to which object, and for which class, or why the arguments are refused.
-fn bound(
+pub(crate) fn bound(
     world: &World,
     kind: Kind,
     args: &[PyObjectRef],
@@ -182,7 +183,7 @@ fn bound(
 }
 
 // The object that is bound to, and the class if there is one, or why the arguments are refused.
-fn object_and_class(
+pub(crate) fn object_and_class(
     args: &[PyObjectRef],
     kw: &[(PyStrInterned, PyObjectRef)],
 ) -> Result<(PyObjectRef, Option<PyObjectRef>), Raised>
@@ -208,7 +209,7 @@ fn object_and_class(
 }
 
 // Whether an object is of this kind.
-fn is_of_kind(world: &World, kind: Kind, object: PyObjectRef) -> bool
+pub(crate) fn is_of_kind(world: &World, kind: Kind, object: PyObjectRef) -> bool
     requires { Holds world.now (IsNode object) }
     ensures { (t : Reading) → is_of_kind kind (datum_at (plain t world.now) object) ≡ result }
 {
@@ -217,6 +218,9 @@ fn is_of_kind(world: &World, kind: Kind, object: PyObjectRef) -> bool
         Kind::Function => matches!(payload, Payload::Function(_)),
         Kind::Native => matches!(payload, Payload::MethodDescriptor(_)),
         Kind::GetSet => matches!(payload, Payload::GetSet(_)),
+        Kind::Member => matches!(payload, Payload::Member(_)),
+        Kind::Property => matches!(payload, Payload::Property(_)),
+        Kind::Super => matches!(payload, Payload::Super(_)),
         Kind::ClassMethod => matches!(payload, Payload::ClassMethod(_)),
         Kind::StaticMethod => matches!(payload, Payload::StaticMethod(_)),
     }

@@ -7,7 +7,7 @@ ghost use Rattle.class_world.specs.Reading.{Reading, bindings};
 ghost use Rattle.class_world.specs.Sound.{AllHold, AreNodes, Holds};
 ghost use Rattle.py_node.specs.declared.task.Task.TheVariants as task;
 ghost use Rattle.proto_descr.specs.Rows.{nothing_held};
-ghost use Rattle.native_calls.specs.Asks.{Begins, Resumes, Does, of_native_kept, passed};
+ghost use Rattle.native_calls.specs.Asks.{Begins, Resumes, Does, of_native_kept, answering, marking, passed};
 ghost use Rattle.native_calls.specs.Say.{by_way, way_of};
 
 use crate::bind::{
@@ -16,19 +16,29 @@ use crate::bind::{
 };
 use crate::call::call_by_name;
 use crate::create::new_by_name;
+use crate::mark::mark_by_name;
+use crate::parts::{member_get_by_name, property_get_by_name};
+use crate::set::{delete_by_name, set_by_name};
+use crate::supers::{resume_super, super_attribute_by_name, super_get_by_name, super_init_by_name};
 use crate::way::{Kind, Way, Wrapper, way_of};
 use crate::wrap::{ask_for_doc, give_doc};
+use crate::wrapped::part_of_wrapped;
 use class_world::{Fixed, World};
 use py_node::task::{Args, Keywords};
 use py_node::{
-    Answer, NativeEntry, OutOfMemory, PyObjectRef, PyStrInterned, PyTypeRef, Raised, Step,
+    Answer, Detail, NativeEntry, OutOfMemory, PyObjectRef, PyStrInterned, PyTypeRef, Raised, Step,
 };
 
 mod bind;
 mod call;
 mod create;
+mod mark;
+mod parts;
+mod set;
+mod supers;
 pub mod way;
 mod wrap;
+mod wrapped;
 
 pub use way::asks;
 
@@ -43,6 +53,12 @@ pub enum NativeKept {
     AfterDoc(Wrapper, PyTypeRef, PyObjectRef),
     /// It was made, and is given the doc.
     AfterSet(PyObjectRef),
+    /// It answers None, whatever it asked gave.
+    Answering,
+    /// It answers False, where it can't be told whether what it asked is abstract.
+    Marked,
+    /// A `super` is told where to start for an object to which it is to be bound: its class, and the object.
+    Binding(PyTypeRef, PyObjectRef),
 }
 
 /// The first step of one of these natives.
@@ -58,6 +74,34 @@ pub fn begin(
 {
     match way_of(entry) {
         Way::Binds(kind) => binds(world, entry, kind, &args, &kw),
+        Way::Sets(setting) => {
+            let step = set_by_name(world, setting, &args, &kw)?;
+            Ok(answering(world, step))
+        }
+        Way::Deletes(setting) => {
+            let step = delete_by_name(world, setting, &args, &kw)?;
+            Ok(answering(world, step))
+        }
+        Way::Reads(wrapper, detail) => {
+            let step = part_of_wrapped(world, wrapper, detail, &args, &kw);
+            Ok(passed(step))
+        }
+        Way::Marked(wrapper) => {
+            let step = part_of_wrapped(world, wrapper, Detail::IsAbstract, &args, &kw);
+            Ok(marking(step))
+        }
+        Way::Marks(class) => {
+            let step = mark_by_name(world, class, &args, &kw);
+            Ok(answering(world, step))
+        }
+        Way::Looks => {
+            let step = super_attribute_by_name(world, &args, &kw)?;
+            Ok(passed(step))
+        }
+        Way::Starts => {
+            let step = super_init_by_name(world, &args, &kw)?;
+            Ok(passed(step))
+        }
         Way::Wraps(wrapper) => Ok(ask_for_doc(world, entry, wrapper, &args, &kw)),
         Way::Makes => {
             let step = new_by_name(world, &args, kw)?;
@@ -97,6 +141,15 @@ fn binds(
             let step = getset_get_by_name(world, args, kw)?;
             Ok(passed(step))
         }
+        Kind::Member => {
+            let step = member_get_by_name(world, args, kw)?;
+            Ok(passed(step))
+        }
+        Kind::Property => {
+            let step = property_get_by_name(world, args, kw)?;
+            Ok(passed(step))
+        }
+        Kind::Super => Ok(super_get_by_name(world, entry, args, kw)),
         Kind::ClassMethod => Ok(class_method_by_name(world, entry, args, kw)),
         Kind::StaticMethod => {
             let ended = static_method_by_name(world, args, kw);
@@ -126,6 +179,15 @@ pub fn resume(
             Err(raised) => Ok(Step::End(Err(raised))),
             Ok(_done) => Ok(Step::End(Ok(Answer::Value(new)))),
         },
+        NativeKept::Answering => match answer {
+            Err(raised) => Ok(Step::End(Err(raised))),
+            Ok(_any) => Ok(Step::End(Ok(Answer::Value(world.fixed(Fixed::None))))),
+        },
+        NativeKept::Marked => match answer {
+            Err(_) => Ok(Step::End(Ok(Answer::Value(world.truth(false))))),
+            other => Ok(Step::End(other)),
+        },
+        NativeKept::Binding(class, object) => resume_super(world, class, object, answer),
     }
 }
 
@@ -148,6 +210,30 @@ pub(crate) fn passed(step: Step<()>) -> Step<NativeKept>
 {
     match step {
         Step::Ask(task, _) => Step::Ask(task, NativeKept::Pass),
+        Step::End(answer) => Step::End(answer),
+    }
+}
+
+// The same, where a native answers None, whatever it asked gave.
+fn answering(world: &World, step: Step<()>) -> Step<NativeKept>
+    requires { AllHold world.now (of_step nothing_held step) }
+    ensures step { result ≡ answering step }
+    ensures safe { AllHold world.now (of_step of_native_kept result) }
+{
+    match step {
+        Step::Ask(task, _) => Step::Ask(task, NativeKept::Answering),
+        Step::End(Ok(_any)) => Step::End(Ok(Answer::Value(world.fixed(Fixed::None)))),
+        Step::End(Err(raised)) => Step::End(Err(raised)),
+    }
+}
+
+// The same, where what can't tell whether it is abstract is not.
+fn marking(step: Step<()>) -> Step<NativeKept>
+    ensures step { result ≡ marking step }
+    ensures says { of_step of_native_kept result ≡ of_step nothing_held step }
+{
+    match step {
+        Step::Ask(task, _) => Step::Ask(task, NativeKept::Marked),
         Step::End(answer) => Step::End(answer),
     }
 }
