@@ -1,5 +1,5 @@
 -- What the words of operations say of the values of their operands.
-use Rattle.std.specs.Prelude.{ℤ, Bool, cond, not, eqb, is_some, List, [], ◌∷◌, Option, Some, None, Ok}
+use Rattle.std.specs.Prelude.{ℤ, cond, not, eqb, is_some, List, [], ◌∷◌, Option, Some, None, Ok}
 use Rattle.py_node.specs.declared.refs.PyObjectRef.{PyObjectRef}
 use Rattle.py_node.specs.declared.raised.Cause.TheVariants.{ArgCount, IndexRange, IterEnd, SelfType}
 use Rattle.py_node.specs.declared.entry.SlotId.TheVariants.{Call}

@@ -1,5 +1,5 @@
 -- How a comparison goes on where one operand's class says nothing.
-use Rattle.std.proofs.Common.{◌≡◌, [], ◌∷◌, true, false, cond, Bool, Ok, refl, ap, subst, sym}
+use Rattle.std.proofs.Common.{◌≡◌, [], ◌∷◌, true, false, cond, Ok, refl, ap}
 use Rattle.py_node.specs.declared.refs.PyObjectRef.{PyObjectRef}
 use Rattle.py_node.specs.declared.protocol.CompareTask.TheVariants as compare
 use Rattle.py_node.specs.declared.task.Answer.TheVariants.{Value, Truth}

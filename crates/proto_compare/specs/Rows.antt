@@ -1,5 +1,5 @@
 -- What the contracts of the rows of comparisons say.
-use Rattle.std.specs.Prelude.{ℕ, Bool, false, cond, List, [], ◌∷◌, Result, None, Ok}
+use Rattle.std.specs.Prelude.{ℕ, Bool, false, cond, List, [], ◌∷◌, Result, Ok}
 use Rattle.py_node.specs.declared.raised.Raised.{Raised as Fault}
 use Rattle.py_node.specs.declared.refs.PyObjectRef.{PyObjectRef}
 use Rattle.py_node.specs.declared.protocol.CompareTask.{CompareTask}

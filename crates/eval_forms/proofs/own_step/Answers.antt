@@ -1,5 +1,5 @@
 use Rattle.std.specs.Prelude.{IfOk}
-use Rattle.std.proofs.Common.{length, map, refl, ap, sym, subst, ◌∙◌}
+use Rattle.std.proofs.Common.{length, map, ap, sym, subst, ◌∙◌}
 use Rattle.plain_machine.specs.Plain.{PlainWorld}
 use Rattle.class_world.specs.Reading.{Reading, spelled}
 use Rattle.class_world.proofs.Stored.{ok-map}

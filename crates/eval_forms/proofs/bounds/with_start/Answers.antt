@@ -1,9 +1,8 @@
-use Rattle.std.proofs.Common.{◌≡◌, [], ◌∷◌, ◌++◌, Ok, refl, sym, ap, ◌∙◌, subst}
-use Rattle.py_node.specs.declared.task.Answer.TheVariants.{Value}
+use Rattle.std.proofs.Common.{sym, subst}
 use Rattle.py_node.specs.declared.task.Step.TheVariants.{Ask, End}
-use Rattle.plain_machine.specs.Plain.{Asks, Ends, Answered, DoIndex, ToProtocol}
-use Rattle.plain_machine.specs.Row.{pass, value}
-use Rattle.class_world.specs.Reading.{plain, ended_of}
+use Rattle.plain_machine.specs.Plain.{DoIndex, ToProtocol}
+use Rattle.plain_machine.specs.Row.{pass}
+use Rattle.class_world.specs.Reading.{plain}
 use Rattle.eval_forms.specs.declared.EvalKept.TheVariants.{Start, Stop}
 use Rattle.eval_forms.specs.Rows.{Resumes}
 use Rattle.eval_forms.proofs.Counting.{asks-stop, ends-start}

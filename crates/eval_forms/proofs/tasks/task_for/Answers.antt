@@ -1,4 +1,4 @@
-use Rattle.std.proofs.Common.{ap, sym, ◌∙◌, arith}
+use Rattle.std.proofs.Common.{ap, sym, ◌∙◌}
 use Rattle.eval_forms.specs.Words.{task_for}
 use Rattle.eval_forms.proofs.Sequels.{one-item, two-items, three-items}
 use Rattle.eval_forms.proofs.tasks.task_for.Goals as goal
