@@ -1,6 +1,6 @@
 -- The function whose body runs, as a reading has it, and that it is an object.
-use Rattle.std.proofs.Common.{◌≡◌, ℕ, zero, suc, List, [], ◌∷◌, length, Option, Some, None, refl, arith, get_or, map, IfSome}
-use Rattle.std.proofs.Common.{subst, sym}
+use Rattle.std.proofs.Common.{◌≡◌, ℕ, zero, suc, List, [], ◌∷◌, length, Some, refl, arith, get_or, map, IfSome}
+use Rattle.std.proofs.Common.{subst}
 use Rattle.py_node.specs.declared.refs.PyStrInterned.{PyStrInterned}
 use Rattle.plain_machine.specs.Running.{running}
 use Rattle.plain_machine.specs.World.{in_last}

@@ -8,7 +8,7 @@ use Rattle.plain_machine.specs.World.{with_node_changed}
 use Rattle.plain_machine.specs.Change.{with_object_changed}
 use Rattle.class_world.specs.Held.{Held}
 use Rattle.class_world.specs.Reading.{Reading, node_of, plain}
-use Rattle.class_world.specs.Sound.{class_in, Holds, AllHold, Grows, Sound, of_node}
+use Rattle.class_world.specs.Sound.{class_in, AllHold, Grows, Sound, of_node}
 use Rattle.class_world.proofs.Claims.{all-grow}
 use Rattle.class_world.proofs.Growth.{Lasting, lasting, like-itself, grows, grows-lasts}
 use Rattle.class_world.proofs.Changes.{fixed-grow, built_in-grow}

@@ -1,5 +1,5 @@
 -- Members of objects in a world: what is read of them, and how one is set.
-use Rattle.std.proofs.Common.{◌≡◌, ℕ, ◌<◌, true, List, Option, Some, None, Result, Ok, Err, OnOk, OnErr, IfSome, refl, sym, ap, ◌∙◌, subst, length, get_or}
+use Rattle.std.proofs.Common.{◌≡◌, ℕ, ◌<◌, true, Option, Some, None, Result, Ok, Err, OnOk, OnErr, IfSome, refl, sym, ap, ◌∙◌, subst, length, get_or}
 use Rattle.std.specs.Prelude.{slice_get, slice_set, option_map, option_and_then}
 use Rattle.py_node.specs.declared.members.MemberPlace.{MemberPlace}
 use Rattle.py_node.specs.declared.payload.Node.{Node as StoredNode}
@@ -14,12 +14,11 @@ use Rattle.plain_machine.specs.Plain.{Node}
 use Rattle.plain_machine.specs.Change.{with_place}
 use Rattle.plain_machine.specs.Members.{value_at_place, with_value_at_place}
 use Rattle.plain_machine.specs.Objects.{derives, is_instance}
-use Rattle.plain_machine.specs.World.{node_at, class_at}
 use Rattle.class_world.specs.Claims.{of_setter}
 use Rattle.class_world.specs.Held.{Held}
 use Rattle.class_world.specs.Reading.{Reading, spelled, node_of, plain, setter_value}
 use Rattle.class_world.specs.Sound.{IsNode, StandsThere, with_members, Holds, AllHold, Grows, Sound, of_node}
-use Rattle.class_world.proofs.Claims.{each-get, opened}
+use Rattle.class_world.proofs.Claims.{each-get}
 use Rattle.class_world.proofs.Growth.{lasting}
 use Rattle.class_world.proofs.Look.{node-read, node-holds}
 use Rattle.class_world.proofs.MemberPlaces.{member-is, members-set, places-set}

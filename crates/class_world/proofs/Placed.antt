@@ -1,12 +1,12 @@
 -- Places of objects: which of them a descriptor's class gives, and classes with the same ones.
-use Rattle.std.proofs.Common.{◌≡◌, ℕ, ◌+◌, ◌-◌, ◌<◌, ◌⊎◌, Bool, true, false, cond, eqb, inl, inr, List, [], ◌∷◌, ◌++◌, length, Option, Some, None, refl, sym, ap, ◌∙◌, subst, arith}
+use Rattle.std.proofs.Common.{◌≡◌, ℕ, ◌-◌, ◌<◌, Bool, true, false, cond, inl, inr, List, [], ◌∷◌, Option, Some, None, refl, sym, ap, ◌∙◌, subst, arith}
 use Rattle.std.specs.Prelude.{◌&&◌, nat_lt, option_map, option_and_then}
 use Rattle.std.proofs.lemmas.Bool.{ltb-true, lt-ltb}
 use Rattle.std.proofs.lemmas.List.{length-map}
-use Rattle.class_model.specs.Order.{Includes, Distinct, Subsequence}
-use Rattle.class_model.specs.Class.{Class, Classes, class_at, is_along, is_sub, lin, renamed}
+use Rattle.class_model.specs.Order.{Includes}
+use Rattle.class_model.specs.Class.{Classes, class_at, is_along, is_sub, lin, renamed}
 use Rattle.class_model.specs.Layout.{is_solid, layout_along, layout, member_count, is_place, place_along, place_at}
-use Rattle.class_model.proofs.Held.{Includes-left, Includes-right, Includes-sides, Includes-equal}
+use Rattle.class_model.proofs.Held.{Includes-left, Includes-right, Includes-sides}
 use Rattle.class_model.proofs.Tests.{Decides-has}
 use Rattle.class_model.proofs.Best.{sub-trans}
 use Rattle.class_model.proofs.Renamed.{layout-renamed, at-renamed}

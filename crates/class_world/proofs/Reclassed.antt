@@ -1,6 +1,6 @@
 -- An object that gets another class, or another dict.
-use Rattle.std.proofs.Common.{◌≡◌, ℕ, ◌<◌, Bool, true, false, List, [], ◌∷◌, Option, Some, None, refl, sym, ap, ◌∙◌, subst, length, get_or}
-use Rattle.std.specs.Prelude.{◌&&◌, eqb, nat_lt, slice_get, slice_set, is_some, option_map, option_and_then}
+use Rattle.std.proofs.Common.{◌≡◌, ℕ, Bool, true, false, List, [], ◌∷◌, Option, Some, None, refl, sym, ap, ◌∙◌, subst}
+use Rattle.std.specs.Prelude.{◌&&◌, nat_lt, slice_get, option_map, option_and_then}
 use Rattle.std.specs.List.{AllByRecursion}
 use Rattle.std.specs.Option.{option_or}
 use Rattle.std.proofs.lemmas.Bool.{eqb-true}
@@ -11,7 +11,7 @@ use Rattle.py_node.specs.declared.raised.Cause.TheVariants.{ImmutableType, Layou
 use Rattle.py_node.specs.declared.refs.PyObjectRef.{PyObjectRef}
 use Rattle.py_node.specs.declared.refs.PyTypeRef.{PyTypeRef}
 use Rattle.class_model.specs.Class.{Classes, class_at, is_class, is_along}
-use Rattle.class_model.specs.Layout.{layout, member_count, is_place, solid}
+use Rattle.class_model.specs.Layout.{layout, member_count, solid}
 use Rattle.class_model.specs.Slot.{is_heap_at}
 use Rattle.class_model.specs.Sound.{AreSound}
 use Rattle.class_model.proofs.Numbers.{some-of}
@@ -22,9 +22,9 @@ use Rattle.plain_machine.specs.Plain.{Node}
 use Rattle.plain_machine.specs.Sound.{held_by}
 use Rattle.plain_machine.specs.World.{class_at as node_class}
 use Rattle.class_world.specs.Held.{Held}
-use Rattle.class_world.specs.Reading.{Reading, spelled, node_of, plain}
-use Rattle.class_world.specs.Sound.{IsNode, IsClass, IsOf, Holding, AreMembers, IsMember, Holds, AllHold, Sound, home_of, of_node, of_option, of_dict_ref, with_class_ref, with_dict_ref}
-use Rattle.class_world.proofs.Claims.{all-append, all-rest}
+use Rattle.class_world.specs.Reading.{Reading, spelled, plain}
+use Rattle.class_world.specs.Sound.{IsNode, IsClass, Holding, IsMember, Holds, AllHold, of_node, of_option, of_dict_ref, with_class_ref, with_dict_ref}
+use Rattle.class_world.proofs.Claims.{all-rest}
 use Rattle.class_world.proofs.Look.{node-read}
 use Rattle.class_world.proofs.OfClasses.{heap-seen}
 use Rattle.class_world.proofs.SameLayout.{held_by-layout}

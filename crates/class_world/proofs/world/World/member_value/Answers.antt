@@ -1,5 +1,4 @@
-use Rattle.std.proofs.Common.{Some, sym, ap, ◌∙◌}
-use Rattle.std.specs.Prelude.{option_map}
+use Rattle.std.proofs.Common.{sym, ap, ◌∙◌}
 use Rattle.plain_machine.specs.Members.{value_at_place}
 use Rattle.class_world.specs.contracts.world.World.{the_view}
 use Rattle.class_world.specs.Reading.{plain}

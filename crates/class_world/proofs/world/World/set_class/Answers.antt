@@ -1,11 +1,10 @@
-use Rattle.std.proofs.Common.{◌≡◌, Some, None, refl, sym, ap, ◌∙◌}
+use Rattle.std.proofs.Common.{◌≡◌, None, refl, sym, ap, ◌∙◌}
 use Rattle.class_table.specs.Rebase.{refused_class}
 use Rattle.class_table.specs.Refused.{cause_of}
 use Rattle.class_world.specs.contracts.world.World.{the_view}
-use Rattle.class_world.specs.Reading.{node_of}
 use Rattle.class_world.specs.Sound.{Holds, IsNode, IsClass, of_node, with_class_ref}
 use Rattle.class_world.proofs.Claims.{got, opened-one, each-get}
-use Rattle.class_world.proofs.Growth.{grows-seen, lasting}
+use Rattle.class_world.proofs.Growth.{grows-seen}
 use Rattle.class_world.proofs.NodeChanges.{change-grows, change-sound, change-read}
 use Rattle.class_world.proofs.Reclassed.{class-set-holds, class-told}
 use Rattle.class_world.proofs.world.World.set_class.Goals as goal

@@ -1,4 +1,4 @@
-use Rattle.std.proofs.Common.{◌≡◌, Some, sym, ap, ◌∙◌, refl}
+use Rattle.std.proofs.Common.{◌≡◌, Some, sym, ap, ◌∙◌}
 use Rattle.class_model.specs.Layout.{place_at}
 use Rattle.plain_machine.specs.Members.{with_value_at_place}
 use Rattle.class_world.specs.contracts.world.World.{the_view}
