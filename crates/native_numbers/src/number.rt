@@ -62,7 +62,11 @@ fn number_by(
 }
 
 /// A number as an int: an int of no other class is itself.
-pub fn as_int(world: &mut World, o: PyObjectRef, z: i128) -> Result<Result<Answer, Raised>, OutOfMemory>
+pub fn as_int(
+    world: &mut World,
+    o: PyObjectRef,
+    z: i128,
+) -> Result<Result<Answer, Raised>, OutOfMemory>
     requires { Holds world.old (IsNode o) }
     ensures ends { IfOk result (λ r. EndsAs (λ t u. as_int u o z) world.old world.new r) }
     ensures safe { LeavesEnd world.old world.new result }

@@ -59,10 +59,7 @@ fn object_repr(
 }
 
 // The hash of an object is its number, of 64 bits with their sign.
-fn object_hash(
-    args: &[PyObjectRef],
-    kw: &[(PyStrInterned, PyObjectRef)],
-) -> Result<Answer, Raised>
+fn object_hash(args: &[PyObjectRef], kw: &[(PyStrInterned, PyObjectRef)]) -> Result<Answer, Raised>
     ensures ends { (w : World) → EndsAs (λ t u. object_hash u args.now (bindings t kw.now)) w w result }
     ensures holds { (w : Held) → AllHold w (of_ended result) }
 {

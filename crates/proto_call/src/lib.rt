@@ -7,8 +7,8 @@ ghost use Rattle.class_world.specs.Claims.{of_call_task, of_ended, LeavesOpen};
 ghost use Rattle.proto_call.specs.Rows.{Begins, Resumes, of_call_kept, bodies_of};
 
 use crate::body::begin_body;
-use crate::call::{begin_call, named_end};
 pub use crate::call::native_call;
+use crate::call::{begin_call, named_end};
 use crate::create::{begin_new, begin_type_call, resume_type_call};
 use crate::init::{begin_init, resume_init};
 use crate::object::{begin_object, native_end};
