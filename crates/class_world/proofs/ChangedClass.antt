@@ -1,17 +1,17 @@
 -- One class that is changed, and keeps its number, its bases and its members.
-use Rattle.std.proofs.Common.{◌≡◌, ℕ, ◌^◌, true, false, cond, eqb, List, [], ◌∷◌, ◌++◌, Result, Ok, Err, OnOk, OnErr, IfOk, refl, sym, ap, ◌∙◌, subst}
+use Rattle.std.proofs.Common.{◌≡◌, ℕ, ◌^◌, true, false, cond, eqb, List, [], ◌∷◌, Result, Ok, Err, OnOk, OnErr, IfOk, refl, sym, ap, ◌∙◌, subst}
 use Rattle.std.specs.Prelude.{Bool, is_some}
 use Rattle.py_node.specs.declared.refs.PyStrInterned.{PyStrInterned}
 use Rattle.py_node.specs.Attributes.{without_key, is_same_name}
 use Rattle.py_node.specs.Tree.{Text}
-use Rattle.class_model.specs.Class.{Class, Classes, class_at, is_class, own_of, has_flag, rekeyed, renamed}
-use Rattle.class_model.specs.Change.{with_changed, without_class_attr}
+use Rattle.class_model.specs.Class.{Class, Classes, class_at, own_of, has_flag, rekeyed, renamed}
+use Rattle.class_model.specs.Change.{with_changed, without_class_attr, with_class_name}
 use Rattle.class_model.proofs.Kept.{is_class-kept, lin-kept, is_place-kept}
 use Rattle.plain_machine.specs.World.{is_text}
-use Rattle.plain_machine.specs.Change.{without_own_attr}
+use Rattle.plain_machine.specs.Change.{SetName, apply, without_own_attr}
 use Rattle.class_world.specs.Held.{Held}
-use Rattle.class_world.specs.Reading.{Reading, Reads, bindings, spelled, plain}
-use Rattle.class_world.specs.Sound.{Holds, AllHold, Sound, of_binding, of_class, of_dict, of_each}
+use Rattle.class_world.specs.Reading.{Reading, Reads, spelled, plain}
+use Rattle.class_world.specs.Sound.{AllHold, Sound, of_binding, of_class, of_dict, of_each}
 use Rattle.class_world.proofs.Claims.{all-append, all-first, all-rest}
 use Rattle.class_world.proofs.Homes.{by_line}
 use Rattle.class_world.proofs.Growth.{Like, like-itself}
@@ -30,6 +30,14 @@ changed-read t f g same (k ∷ ks) c =
       | true ↦ ap (λ k. k ∷ renamed (spelled t) ks) (same k)
       | false ↦ ap (λ ks. rekeyed (spelled t) k ∷ ks) (changed-read t f g same ks c)
     ]
+
+-- and so in the plain world, unless the change was refused
+pub change-read : {A E : Type 0} (f : HeldClass → HeldClass) (g : Reading → Class Text → Class Text) → ((t : Reading) (k : HeldClass) → rekeyed (spelled t) (f k) ≡ g t (rekeyed (spelled t) k)) → (w now : Held) (c : ℕ) (ks : List HeldClass) (o : Result A E) → OnOk o (ks ≡ with_changed f w.classes c) → w ≡ now → OnOk o ((t : Reading) → plain t (record w { classes = ks }) ≡ record (plain t now) { classes = with_changed (g t) (plain t now).classes c })
+unfolding plain
+change-read f g same w now c ks (Ok a) p v = λ t.
+    subst (λ n. plain t (record w { classes = ks }) ≡ record (plain t n) { classes = with_changed (g t) (plain t n).classes c }) v
+    (ap (λ (ks : Classes Text). record (plain t w) { classes = ks }) (ap (renamed (spelled t)) p ∙ changed-read t f (g t) (same t) w.classes c))
+change-read f g same w now c ks (Err e) p v = tt
 
 pub changed-holds : (w : Held) (f : HeldClass → HeldClass) → ((k : HeldClass) → AllHold w (of_class k) → AllHold w (of_class (f k))) → (ks : List HeldClass) (c : ℕ) → AllHold w (of_each of_class ks) → AllHold w (of_each of_class (with_changed f ks c))
 changed-holds w f keep [] c h = tt
@@ -72,11 +80,15 @@ without-holds w x k h =
     (h.0, (h.1.0, all-append w dict (of_each of_binding (without_key is_same_name k.attrs x)) (all-first w dict _ h.1.1) (without_key-holds w k.attrs x (all-rest w dict _ h.1.1))))
 
 pub without-read : {A E : Type 0} (w now : Held) (c : ℕ) (x : PyStrInterned) (ks : List HeldClass) (o : Result A E) → OnOk o (ks ≡ without_class_attr is_same_name w.classes c x) → w ≡ now → OnOk o ((t : Reading) → plain t (record w { classes = ks }) ≡ without_own_attr (plain t now) c (t.text x.0))
-unfolding plain
-without-read w now c x ks (Ok a) p v = λ t.
-    subst (λ n. plain t (record w { classes = ks }) ≡ without_own_attr (plain t n) c (t.text x.0)) v
-    (ap (λ ks. record (plain t w) { classes = ks }) (ap (renamed (spelled t)) p ∙ changed-read t (without x) (λ k. record k { attrs = without_key is_text k.attrs (spelled t x) }) (λ k. ap (λ bs. record (rekeyed (spelled t) k) { attrs = bs }) (without_key-read t k.attrs x)) w.classes c))
-without-read w now c x ks (Err e) p v = tt
+without-read w now c x ks o p v =
+    change-read (without x) (λ t k. record k { attrs = without_key is_text k.attrs (spelled t x) }) (λ t k. ap (λ bs. record (rekeyed (spelled t) k) { attrs = bs }) (without_key-read t k.attrs x)) w now c ks o p v
+
+-- a class with another name
+abbrev pub called : Text → HeldClass → HeldClass
+called x k = record k { name = x }
+
+pub called-read : {A E : Type 0} (w now : Held) (c : ℕ) (x : Text) (ks : List HeldClass) (o : Result A E) → OnOk o (ks ≡ with_class_name w.classes c x) → w ≡ now → OnOk o ((t : Reading) → plain t (record w { classes = ks }) ≡ apply (plain t now) (SetName c x))
+called-read w now c x ks o p v = change-read (called x) (λ t k. record k { name = x }) (λ t k. refl) w now c ks o p v
 
 -- whether it was there
 pub own-told : {E : Type 0} (w now : Held) (v : w ≡ now) (c : ℕ) (x : PyStrInterned) (o : Result Bool E) → IfOk o (λ b. b ≡ is_some (own_of (λ k. is_same_name k x) (class_at w.classes c))) → IfOk o (λ b. (t : Reading) → Reads t now → b ≡ is_some (own_of (λ y. is_text y (t.text x.0)) (class_at (plain t now).classes c)))

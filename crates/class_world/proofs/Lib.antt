@@ -35,5 +35,6 @@ pub mod ChangedClass
 pub mod NodeChanges
 pub mod Placed
 pub mod SameLayout
+pub mod NewBases
 pub mod NodeMembers
 pub mod Reclassed

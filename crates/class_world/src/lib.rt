@@ -4,6 +4,7 @@
 pub mod args;
 mod attributes_of_built_ins;
 pub mod built_ins;
+mod class_changes;
 pub mod class_lines;
 mod definer;
 pub mod dicts;

@@ -1,0 +1,43 @@
+use Rattle.class_table.specs.Keys.{numbers}
+use Rattle.class_world.specs.contracts.world.World.{the_view}
+use Rattle.class_world.specs.Sound.{IsClass, of_class_ref, of_each}
+use Rattle.class_world.proofs.Claims.{opened, opened-one}
+use Rattle.class_world.proofs.Growth.{grows-seen}
+use Rattle.class_world.proofs.ClassChanges.{classes-grow, bases-there}
+use Rattle.class_world.proofs.NewBases.{first-seen, told-seen, bases-like, bases-sound, bases-set}
+use Rattle.class_world.proofs.OneBase.{class-there}
+use Rattle.class_world.proofs.world.World.set_bases.Goals as goal
+
+pub set_bases-requires-clause-own : goal.set_bases-requires-clause-own
+set_bases-requires-clause-own g c = class-there _ _ (opened-one (the_view c.self.inside) c.args.self.now (IsClass c.args.class.0) c.self.view_is c.requires.class)
+
+pub set_bases-requires-clause-there : goal.set_bases-requires-clause-there
+set_bases-requires-clause-there g c =
+    let w = the_view c.self.inside in
+    bases-there w c.args.bases.items (opened w c.args.self.now (of_each of_class_ref c.args.bases.items) c.self.view_is c.requires.bases)
+
+pub invariant_of-self : goal.invariant_of-self
+invariant_of-self g c =
+    let w = the_view c.self.inside in
+    let here = class-there w c.args.class.0 (opened-one w c.args.self.now (IsClass c.args.class.0) c.self.view_is c.requires.class) in
+    let there = bases-there w c.args.bases.items (opened w c.args.self.now (of_each of_class_ref c.args.bases.items) c.self.view_is c.requires.bases) in
+    bases-sound w c.args.class.0 (numbers c.args.bases.items) c.sound.ensures.sound here there c.set_bases.new.self c.set_bases.result c.set_bases.ensures.set c.set_bases.ensures.err c.set_bases.ensures.refused c.self.invariant
+
+pub returns-clause-early : goal.returns-clause-early
+returns-clause-early g c =
+    first-seen (the_view c.self.inside) c.args.self.now c.self.view_is c.args.class.0 (numbers c.args.bases.items) _ c.set_bases.ensures.early
+
+pub returns-clause-refused : goal.returns-clause-refused
+returns-clause-refused g c =
+    told-seen (the_view c.self.inside) c.args.self.now c.self.view_is c.args.class.0 (numbers c.args.bases.items) c.set_bases.result c.set_bases.ensures.refused
+
+pub returns-clause-set : goal.returns-clause-set
+returns-clause-set g c =
+    bases-set (the_view c.self.inside) c.args.self.now c.args.class.0 (numbers c.args.bases.items) c.set_bases.new.self c.set_bases.result c.set_bases.ensures.set c.self.view_is
+
+pub returns-clause-grows : goal.returns-clause-grows
+returns-clause-grows g c =
+    let w = the_view c.self.inside in
+    let here = class-there w c.args.class.0 (opened-one w c.args.self.now (IsClass c.args.class.0) c.self.view_is c.requires.class) in
+    let there = bases-there w c.args.bases.items (opened w c.args.self.now (of_each of_class_ref c.args.bases.items) c.self.view_is c.requires.bases) in
+    grows-seen w _ _ c.self.view_is (classes-grow w c.set_bases.new.self (bases-like w c.args.class.0 (numbers c.args.bases.items) c.sound.ensures.sound here there c.set_bases.new.self c.set_bases.result c.set_bases.ensures.set c.set_bases.ensures.err c.set_bases.ensures.refused))

@@ -1,0 +1,24 @@
+use Rattle.std.proofs.Common.{refl}
+use Rattle.class_world.specs.contracts.world.World.{the_view}
+use Rattle.class_world.specs.Sound.{IsClass}
+use Rattle.class_world.proofs.Claims.{opened-one}
+use Rattle.class_world.proofs.Growth.{grows-seen}
+use Rattle.class_world.proofs.ClassChanges.{classes-grow}
+use Rattle.class_world.proofs.ChangedClass.{called, called-read, change-like, change-sound}
+use Rattle.class_world.proofs.OneBase.{class-there}
+use Rattle.class_world.proofs.world.World.set_name.Goals as goal
+
+pub set_name-requires : goal.set_name-requires
+set_name-requires c = class-there _ _ (opened-one (the_view c.self.inside) c.args.self.now (IsClass c.args.class.0) c.self.view_is c.requires)
+
+pub invariant_of-self : goal.invariant_of-self
+invariant_of-self c =
+    change-sound (called c.args.name.now) (λ k. refl) (λ k. refl) (λ k. refl) (the_view c.self.inside) c.args.class.0 c.set_name.new.self c.set_name.result c.set_name.ensures.named c.set_name.ensures.err (λ k h. h) c.self.invariant
+
+pub returns-clause-named : goal.returns-clause-named
+returns-clause-named c = called-read (the_view c.self.inside) c.args.self.now c.args.class.0 c.args.name.now c.set_name.new.self c.set_name.result c.set_name.ensures.named c.self.view_is
+
+pub returns-clause-grows : goal.returns-clause-grows
+returns-clause-grows c =
+    let w = the_view c.self.inside in
+    grows-seen w _ _ c.self.view_is (classes-grow w c.set_name.new.self (change-like (called c.args.name.now) (λ k. refl) (λ k. refl) (λ k. refl) w c.args.class.0 c.set_name.new.self c.set_name.result c.set_name.ensures.named c.set_name.ensures.err))

@@ -1,0 +1,58 @@
+//! Another name and other bases for a class of a world.
+
+ghost use Rattle.std.specs.Prelude.{◌≡◌, ◌≤◌, OnOk, OnErr};
+ghost use Rattle.class_table.specs.Keys.{numbers};
+ghost use Rattle.class_table.specs.Refused.{WithMemory};
+ghost use Rattle.class_table.specs.Rebase.{refused_rebase, told, IsToldFirst};
+ghost use Rattle.plain_machine.specs.Change.{SetBases, SetName, apply};
+ghost use Rattle.class_world.specs.Reading.{Reading, Reads, plain};
+ghost use Rattle.class_world.specs.Sound.{IsClass, Holds, AllHold, Grows, of_class_ref, of_each};
+
+use crate::world::World;
+use class_table::{ClassFault, Steps};
+use py_node::{OutOfMemory, PyTypeRef};
+use std::sync::ledger::Ledger;
+
+#[tactic(auto, unfolding(crate::specs::Reading::plain))]
+impl World {
+    /// Gives a class another name. Where memory runs out, the world stays as it was.
+    pub fn set_name(&mut self, class: PyTypeRef, name: &str) -> Result<(), OutOfMemory>
+        requires { Holds self.old (IsClass class.0) }
+        ensures named { OnOk result ((t : Reading) → plain t self.new ≡
+            apply (plain t self.old) (SetName class.0 name.now)) }
+        ensures err { OnErr result (self.new ≡ self.old) }
+        ensures reads { (t : Reading) → Reads t self.new → Reads t self.old }
+        ensures grows { Grows self.old self.new }
+    {
+        self.classes.set_name(class, name)
+    }
+
+    /// Gives a class other bases. The tests that need no order are told first, and also where memory is short: a script
+    /// made the class; it gets bases; none of them is the class or derives from it; each may have subclasses and its
+    /// layout goes with those before it; the class keeps its solid class; none stands twice. Then the least-numbered
+    /// class is told that would have no order while all its bases have one. Where it is refused, and where memory runs
+    /// out, the world stays as it was. Each class keeps its layout, and no count of steps falls.
+    pub fn set_bases<L: Ledger>(
+        &mut self,
+        class: PyTypeRef,
+        bases: Vec<PyTypeRef>,
+        steps: &mut Steps<L>,
+    ) -> Result<(), ClassFault>
+        requires class { Holds self.old (IsClass class.0) }
+        requires bases { AllHold self.old (of_each of_class_ref bases.items) }
+        ensures early { (t : Reading) →
+            IsToldFirst (plain t self.old).classes class.0 (numbers bases.items) (told result) }
+        ensures refused { (t : Reading) → WithMemory result (told result ≡
+            refused_rebase (plain t self.old).classes class.0 (numbers bases.items)) }
+        ensures set { OnOk result ((t : Reading) → plain t self.new ≡
+            apply (plain t self.old) (SetBases class.0 (numbers bases.items))) }
+        ensures err { OnErr result (self.new ≡ self.old) }
+        ensures merges { steps.old.merges ≤ steps.new.merges }
+        ensures probes { steps.old.probes ≤ steps.new.probes }
+        ensures reads { (t : Reading) → Reads t self.new → Reads t self.old }
+        ensures grows { Grows self.old self.new }
+    {
+        self.classes.sound();
+        self.classes.set_bases(class, bases, steps)
+    }
+}
