@@ -7,3 +7,5 @@ pub mod Bases
 pub mod Keyed
 pub mod Owned
 pub mod Followed
+pub mod Setting
+pub mod Collected

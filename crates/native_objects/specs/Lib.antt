@@ -8,3 +8,5 @@ pub mod Attributes
 pub mod Details
 pub mod DetailParts
 pub mod Getters
+pub mod Setters
+pub mod DetailSetters

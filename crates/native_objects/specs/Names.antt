@@ -1,5 +1,5 @@
 -- What classes are called, and the texts of objects that name a class.
-use Rattle.std.specs.Prelude.{ℕ, Bool, true, false, cond, ◌++◌, codes, Option, Some, None, Result, Ok}
+use Rattle.std.specs.Prelude.{ℕ, Bool, true, false, cond, eqb, ◌||◌, [], ◌∷◌, ◌++◌, codes, Option, Some, None, Result, Ok}
 use Rattle.std.specs.Fmt.{digits}
 use Rattle.py_node.specs.declared.refs.PyObjectRef.{PyObjectRef}
 use Rattle.py_node.specs.declared.raised.Raised.{Raised as Fault}
@@ -34,6 +34,11 @@ given w c x = unless_getset w (own_of (λ y. is_text y x) (class_numbered w.clas
 abbrev pub text_or : PlainWorld → Option PyObjectRef → Text → Option Text
 text_or w None x = Some x
 text_or w (Some v) x = text_of (datum_at w v)
+
+-- whether a text has a null character, which no name of a class has
+abbrev pub has_null : Text → Bool
+has_null [] = false
+has_null (b ∷ bs) = eqb b 0 || has_null bs
 
 -- the name of a class within its module
 abbrev pub qualname : PlainWorld → ℕ → Option Text

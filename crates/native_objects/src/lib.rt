@@ -2,7 +2,9 @@
 #![tactic(auto, using(class_world::proofs::Items::item_holds))]
 
 mod attributes;
+mod class_setters;
 mod descriptors;
+mod detail_setters;
 mod details;
 mod getters;
 mod lists;
@@ -10,13 +12,17 @@ mod makers;
 mod names;
 mod object;
 mod property;
+mod rebase;
+mod setters;
 mod take;
 mod types;
 
 pub use descriptors::{callable_native, descriptor_native, super_native, wrapper_native};
+pub use detail_setters::setter_of_native;
 pub use details::getter_of_native;
 pub use getters::getter_native;
 pub use makers::{heir, maker_native};
 pub use object::object_native;
 pub use property::property_native;
+pub use setters::setter_native;
 pub use types::type_native;

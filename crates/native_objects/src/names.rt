@@ -174,8 +174,8 @@ fn text_or(
     }
 }
 
-// The text that an object is, if it is one.
-fn text_of(world: &World, object: PyObjectRef) -> Result<Option<String>, OutOfMemory>
+/// The text that an object is, if it is one.
+pub(crate) fn text_of(world: &World, object: PyObjectRef) -> Result<Option<String>, OutOfMemory>
     requires { Holds world.now (IsNode object) }
     ensures { IfOk result (λ o. (t : Reading) →
         text_of (datum_at (plain t world.now) object) ≡ option_map string_bytes o) }

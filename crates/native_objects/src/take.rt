@@ -1,15 +1,16 @@
 //! What a native takes: a class, alone or with one argument, or an object of a kind.
 
-ghost use Rattle.std.specs.Prelude.{◌≡◌, ◌∷◌, ℕ, Option, Err, IfErr, IfOk, option_map};
+ghost use Rattle.std.specs.Prelude.{◌≡◌, ◌∷◌, ℕ, Option, Err, IfErr, IfOk, IfSome, option_map};
 ghost use Rattle.py_node.specs.Tree.{Text};
 ghost use Rattle.py_node.specs.declared.payload.PyProperty.{PyProperty as Parts};
 ghost use Rattle.py_node.specs.declared.built_in.BuiltIn.TheVariants.{Property, StaticMethod};
-ghost use Rattle.plain_machine.specs.Plain.{Said, Ends};
+ghost use Rattle.plain_machine.specs.Plain.{PlainWorld, Said, Ends};
 ghost use Rattle.py_node.specs.declared.refs.PyObjectRef.{PyObjectRef as Object};
+ghost use Rattle.class_world.specs.Held.{Held};
 ghost use Rattle.class_world.specs.Reading.{Reading, bindings, plain, spelled};
 ghost use Rattle.class_world.specs.Sound.{AllHold, AreNodes, Holding, IsClass, IsName, IsNode, Holds, of_option, of_start};
 ghost use Rattle.native_objects.specs.Properties.{of_property};
-ghost use Rattle.native_objects.specs.Takes.{with_class, with_lone_class, with_class_and, with_own, method_in, member_in, property_in, static_in, super_in};
+ghost use Rattle.native_objects.specs.Takes.{with_class, with_lone_class, with_class_and, with_class_and_given, with_one_or_two, with_own, method_in, member_in, property_in, static_in, super_in};
 
 use class_world::World;
 use class_world::takes::{one, two};
@@ -68,6 +69,55 @@ pub(crate) fn class_and(
     let class = own_class(world, args)?;
     let (_, other) = two(args, kw)?;
     Ok((class, other))
+}
+
+/// The only argument, or the first one with a second, or why the arguments are refused.
+pub(crate) fn one_or_two(
+    args: &[PyObjectRef],
+    kw: &[(PyStrInterned, PyObjectRef)],
+) -> Result<(PyObjectRef, Option<PyObjectRef>), Raised>
+    ensures given { IfOk result (λ p. (t : Reading) (w : PlainWorld) (go : Object → Option Object → Said) →
+        with_one_or_two w args.now (bindings t kw.now) go ≡ go p.0 p.1) }
+    ensures refused { IfErr result (λ x. (t : Reading) (w : PlainWorld) (go : Object → Option Object → Said) →
+        with_one_or_two w args.now (bindings t kw.now) go ≡ Ends w (Err x)) }
+    ensures first { IfOk result (λ p. (w : Held) → Holds w (AreNodes args.now) → Holds w (IsNode p.0)) }
+    ensures second { IfOk result (λ p. (w : Held) → Holds w (AreNodes args.now) →
+        IfSome p.1 (λ r. Holds w (IsNode r))) }
+{
+    if args.len() == 2 {
+        match two(args, kw) {
+            Err(raised) => Err(raised),
+            Ok((object, value)) => Ok((object, Some(value))),
+        }
+    } else {
+        match one(args, kw) {
+            Err(raised) => Err(raised),
+            Ok(object) => Ok((object, None)),
+        }
+    }
+}
+
+/// The class that the first argument is, and the second argument, if there is one, or why the arguments are refused.
+pub(crate) fn class_and_given(
+    world: &World,
+    args: &[PyObjectRef],
+    kw: &[(PyStrInterned, PyObjectRef)],
+) -> Result<(PyTypeRef, Option<PyObjectRef>), Raised>
+    requires { Holds world.now (AreNodes args.now) }
+    ensures given { IfOk result (λ p. (t : Reading) (go : ℕ → Option Object → Said) →
+        with_class_and_given (plain t world.now) args.now (bindings t kw.now) go ≡ go p.0.0 p.1) }
+    ensures refused { IfErr result (λ x. (t : Reading) (go : ℕ → Option Object → Said) →
+        with_class_and_given (plain t world.now) args.now (bindings t kw.now) go ≡ Ends (plain t world.now) (Err x)) }
+    ensures class { IfOk result (λ p. Holds world.now (IsClass p.0.0)) }
+    ensures node { IfOk result (λ p. IfSome p.1 (λ r. Holds world.now (IsNode r))) }
+{
+    match own_class(world, args) {
+        Err(raised) => Err(raised),
+        Ok(class) => match one_or_two(args, kw) {
+            Err(raised) => Err(raised),
+            Ok((_object, given)) => Ok((class, given)),
+        },
+    }
 }
 
 /// The native as a method that the first argument is, with its class and its name, or why it is refused.
