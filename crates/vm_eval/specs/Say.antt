@@ -3,7 +3,7 @@ use Rattle.std.specs.Prelude.{ℕ, cond, List, [], Result}
 use Rattle.py_node.specs.declared.refs.PyObjectRef.{PyObjectRef}
 use Rattle.py_node.specs.declared.built_in.BuiltIn.TheVariants.{Int, Str}
 use Rattle.py_node.specs.declared.entry.NativeEntry.{NativeEntry}
-use Rattle.py_node.specs.declared.entry.NativeEntry.TheVariants.{OfFixed, OfNumber, OfArithmetic, OfBits, OfStr, Compare, OfTuple, OfList, OfDict, OfIterator, OfCallable, OfDescriptor, OfProperty, OfWrapper, OfSuper, NewOf, Getter, GetterOf}
+use Rattle.py_node.specs.declared.entry.NativeEntry.TheVariants.{OfFixed, OfNumber, OfArithmetic, OfBits, OfStr, Compare, OfTuple, OfList, OfDict, OfIterator, OfCallable, OfDescriptor, OfProperty, OfWrapper, OfSuper, NewOf, Getter, Setter, GetterOf, SetterOf}
 use Rattle.py_node.specs.declared.raised.Raised.{Raised as Fault}
 use Rattle.py_node.specs.declared.task.Answer.{Answer}
 use Rattle.py_node.specs.declared.task.Task.{Task}
@@ -40,6 +40,8 @@ use Rattle.native_texts.specs.Say.{text_say, compare_text_say}
 use Rattle.native_objects.specs.Descriptors.{callable_say, descriptor_native_say, property_say, wrapper_say, super_say}
 use Rattle.native_objects.specs.Makers.{maker_say}
 use Rattle.native_objects.specs.Getters.{getter_say}
+use Rattle.native_objects.specs.Setters.{setter_say}
+use Rattle.native_objects.specs.DetailSetters.{setter_of_say}
 use Rattle.native_objects.specs.Details.{getter_of_say}
 use Rattle.vm_eval.specs.declared.stack.Kept.{Kept}
 use Rattle.vm_eval.specs.declared.stack.Kept.TheVariants.{ForEval, ForAttribute, ForDescriptor, ForCall, ForClass, ForOperator, ForCompare, ForNumber, ForNative}
@@ -64,7 +66,9 @@ native_by w (OfWrapper n) args kw = wrapper_say w n args kw
 native_by w (OfSuper n) args kw = super_say w n args kw
 native_by w (NewOf b) args kw = maker_say w b args
 native_by w (Getter p) args kw = getter_say w p args kw
+native_by w (Setter p) args kw = setter_say w p args kw
 native_by w (GetterOf b d) args kw = getter_of_say w b d args kw
+native_by w (SetterOf b d) args kw = setter_of_say w b d args kw
 native_by w _ args kw = Ends w not_yet
 
 -- a native asks a task, or ends at once

@@ -16,7 +16,7 @@ use native_containers::{dict_native, iterator_native, list_native, tuple_native}
 use native_numbers::{arithmetic_native, bits_native, compare_native, fixed_native, number_native};
 use native_objects::{
     callable_native, descriptor_native, getter_native, getter_of_native, maker_native,
-    property_native, super_native, wrapper_native,
+    property_native, setter_native, setter_of_native, super_native, wrapper_native,
 };
 use native_texts::{compare_text, text_native};
 use py_node::task::{Args, Keywords};
@@ -87,7 +87,9 @@ fn native(
         NativeEntry::OfSuper(native) => super_native(world, native, args, kw),
         NativeEntry::NewOf(class) => maker_native(world, class, args),
         NativeEntry::Getter(property) => getter_native(world, property, args, kw),
+        NativeEntry::Setter(property) => setter_native(world, property, args, kw),
         NativeEntry::GetterOf(class, detail) => getter_of_native(world, class, detail, args, kw),
+        NativeEntry::SetterOf(class, detail) => setter_of_native(world, class, detail, args, kw),
         _ => Ok(Err(Raised::new(Cause::NotYet))),
     }
 }
