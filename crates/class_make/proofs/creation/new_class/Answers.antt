@@ -42,7 +42,7 @@ returns-in-Err-RefusedAt-clause-goes c =
     let p = c.args.plan in
     let n = string_bytes p.name in
     let b = numbers p.bases.items in
-    rw c.raise.ensures (
+    rw c.raise-in-Err-RefusedAt.ensures (
     makes-from c.args.kw.items (λ t u. made_unless (refusal u b (bindings t p.attrs)) p.meta.0 n b (map (spelled t) c.args.names.items) (bindings t c.args.kw.items) (u, bindings t p.attrs)) (λ t u. Ends u (fault cause)) old new new _ (λ t r.
     let q = e.reads t r in
     let why = rw c.in-Err-RefusedAt.field-0-is at (e.refused t q) in
