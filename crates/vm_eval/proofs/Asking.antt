@@ -4,7 +4,10 @@ use Rattle.py_node.specs.declared.raised.Raised.{Raised as Fault}
 use Rattle.py_node.specs.declared.refs.PyObjectRef.{PyObjectRef}
 use Rattle.py_node.specs.declared.built_in.BuiltIn.TheVariants.{ClassMethod, StaticMethod}
 use Rattle.py_node.specs.declared.entry.NativeEntry.{NativeEntry}
-use Rattle.py_node.specs.declared.entry.NativeEntry.TheVariants.{NewOf, NewWrapper, OfWrapper}
+use Rattle.py_node.specs.declared.entry.NativeEntry.TheVariants.{GetterOf, NewOf, NewWrapper, OfDescriptor, OfSuper, OfWrapper}
+use Rattle.py_node.specs.declared.entry.Detail.TheVariants.{IsAbstract}
+use Rattle.py_node.specs.declared.entry.DescriptorNative.TheVariants.{GetSetSet}
+use Rattle.py_node.specs.declared.entry.SuperNative.TheVariants as super
 use Rattle.py_node.specs.declared.entry.WrapperNative.TheVariants.{ClassGet}
 use Rattle.py_node.specs.declared.task.Answer.{Answer}
 use Rattle.py_node.specs.declared.task.Step.{Step}
@@ -16,7 +19,7 @@ use Rattle.class_world.specs.Reading.{Reading, plain, ended_of}
 use Rattle.class_world.specs.Rows.{Steps, Goes}
 use Rattle.proto_descr.specs.Say.{start_with}
 use Rattle.native_calls.specs.declared.NativeKept.{NativeKept}
-use Rattle.native_calls.specs.declared.NativeKept.TheVariants.{Pass, AfterGet, AfterDoc, AfterSet}
+use Rattle.native_calls.specs.declared.NativeKept.TheVariants.{Pass, AfterGet, AfterDoc, AfterSet, Answering, Binding, Marked}
 use Rattle.native_calls.specs.declared.way.Wrapper.TheVariants.{Class, Static}
 use Rattle.native_calls.specs.Say.{asks, asking_by, asking_rest, asking_job_say}
 use Rattle.native_calls.specs.Asks.{asking_stands}
@@ -36,6 +39,9 @@ kept-says t (AfterGet k f) w told = asking-says w (OfWrapper ClassGet) [] [] tol
 kept-says t (AfterDoc Class c f) w told = asking-says w (NewOf ClassMethod) [] [] told refl
 kept-says t (AfterDoc Static c f) w told = asking-says w (NewOf StaticMethod) [] [] told refl
 kept-says t (AfterSet r) w told = asking-says w (NewOf ClassMethod) [] [] told refl
+kept-says t Answering w told = asking-says w (OfDescriptor GetSetSet) [] [] told refl
+kept-says t (Binding c o) w told = asking-says w (OfSuper super.Get) [] [] told refl
+kept-says t Marked w told = asking-says w (GetterOf ClassMethod IsAbstract) [] [] told refl
 
 steps-native : (t : Reading) (j : PlainTask) (told : Told) (said : Said) (step : Step NativeKept) (new : World) → ((w : PlainWorld) (more : Told) → say w j more ≡ asking_job_say w j more) → Steps asking_job_say (asking_stands t) t j told said step new → Steps say (stands t) t j told said (step_among ForNative step) new
 unfolding stands

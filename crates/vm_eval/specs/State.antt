@@ -27,6 +27,7 @@ MarkedBy old new (Err e) = IsTrue new.failed
 abbrev pub MarkedAs : {T : Type 0} → State → State → Result T ClassFault → Type 0
 MarkedAs old new (Ok x) = new.failed ≡ old.failed
 MarkedAs old new (Err (class_fault.Refused cause)) = new.failed ≡ old.failed
+MarkedAs old new (Err (class_fault.RefusedAt cause c)) = new.failed ≡ old.failed
 MarkedAs old new (Err class_fault.OutOfMemory) = IsTrue new.failed
 
 -- the world has one more class, of a script
