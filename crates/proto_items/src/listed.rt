@@ -1,8 +1,9 @@
 //! The list that a mapping's method gave, or a new one of its items.
 #![tactic(auto, unfolding(crate::specs::Say::items_job_say, py_node::specs::BuiltIns::place_of))]
 
-ghost use Rattle.std.specs.Prelude.{◌≡◌, IfOk, Ok};
+ghost use Rattle.std.specs.Prelude.{◌≡◌, ◌≤◌, length, IfOk, Ok};
 ghost use Rattle.py_node.specs.declared.protocol.ProtocolTask.TheVariants as protocol;
+ghost use Rattle.plain_machine.specs.Row.{most_items};
 ghost use Rattle.class_world.specs.Claims.{of_ended, of_step, Leaves};
 ghost use Rattle.class_world.specs.Sound.{AllHold, AreNodes, Holds, IsNode};
 ghost use Rattle.proto_items.specs.Rows.{Resumes, of_items_kept};
@@ -79,6 +80,7 @@ fn one_more(
     requires iterator { Holds world.now (IsNode iterator) }
     requires items { Holds world.now (AreNodes items.items) }
     requires item { Holds world.now (IsNode item) }
+    requires short { length items.items ≤ most_items }
     ensures goes { IfOk result (λ step.
         Resumes (ItemsKept.Gathering iterator items) (Ok (Answer.Value item)) world.now world.now step) }
     ensures safe { Leaves of_items_kept world.now world.now result }
