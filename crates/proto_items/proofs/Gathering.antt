@@ -24,7 +24,7 @@ use Rattle.native_containers.specs.Say.{list_made}
 use Rattle.py_node.specs.Faults.{raised}
 use Rattle.proto_base.specs.Each.{all_items}
 use Rattle.proto_items.specs.declared.ItemsKept.{ItemsKept}
-use Rattle.proto_items.specs.declared.ItemsKept.TheVariants.{Gathering}
+use Rattle.proto_items.specs.declared.ItemsKept.TheVariants.{Gathering, Iterating}
 use Rattle.proto_items.specs.Rows.{Resumes, answered, gathered, items_stands, loaded}
 use Rattle.proto_items.specs.Say.{items_job_say}
 
@@ -33,7 +33,7 @@ append-none [] = refl
 append-none (x ∷ xs) = ap (λ l. x ∷ l) (append-none xs)
 
 module _ (u : PlainWorld) (it : PyObjectRef) (go : List PyObjectRef → Row) where
-  abbrev one : List PyObjectRef → PyObjectRef → Told → Bool → _
+  abbrev one : List PyObjectRef → PyObjectRef → Told → Bool → Said
   one ss r more b = cond b (all_items u it (ss ++ r ∷ []) go more) (Ends u (fault TooLong))
 
   -- items that were given are passed over
@@ -49,15 +49,13 @@ module _ (u : PlainWorld) (it : PyObjectRef) (go : List PyObjectRef → Row) whe
   -- too many are refused
   given-long : (ss rs : List PyObjectRef) (more : Told) → length ss ≤ most_items → most_items < length ss + length rs → all_items u it ss go (map answered rs ++ more) ≡ Ends u (fault TooLong)
   given-long ss [] more l m = absurd (omega arith)
-  given-long ss (r ∷ rs) more l m = by (nat_lt (length ss) most_items) refl
+  given-long ss (r ∷ rs) more l m = by (nat_lt (length ss) most_items) refl (λ below.
+      let long = length-append ss (r ∷ []) in
+      given-long (ss ++ r ∷ []) rs more (omega (arith, long, below)) (omega (arith, long, m)))
     where
-      by : (b : Bool) → nat_lt (length ss) most_items ≡ b → all_items u it ss go (map answered (r ∷ rs) ++ more) ≡ Ends u (fault TooLong)
-      by false e = ap (one ss r (map answered rs ++ more)) e
-      by true e =
-          let below = ltb-true (length ss) most_items e in
-          let long = length-append ss (r ∷ []) in
-          ap (one ss r (map answered rs ++ more)) e
-          ∙ given-long (ss ++ r ∷ []) rs more (omega (arith, long, below)) (omega (arith, long, m))
+      by : (b : Bool) → nat_lt (length ss) most_items ≡ b → (length ss < most_items → all_items u it (ss ++ r ∷ []) go (map answered rs ++ more) ≡ Ends u (fault TooLong)) → all_items u it ss go (map answered (r ∷ rs) ++ more) ≡ Ends u (fault TooLong)
+      by false e next = ap (one ss r (map answered rs ++ more)) e
+      by true e next = ap (one ss r (map answered rs ++ more)) e ∙ next (ltb-true (length ss) most_items e)
 
 -- a new list of the items
 abbrev list_row : PlainWorld → List PyObjectRef → Row
@@ -66,11 +64,11 @@ list_row u rs = make u the_list (AList rs)
 module _ (it : PyObjectRef) (rs : List PyObjectRef) where
   told-all : (u : PlainWorld) (more : Told) → length rs ≤ most_items → items_job_say u (DoKeys none) (gathered it rs ++ more) ≡ all_items u it rs (list_row u) more
   unfolding items_job_say
-  told-all u more h = given-all u it (list_row u) [] rs more h
+  told-all u more h = given-all u it (list_row u) [] rs more (omega (arith, h))
 
   told-long : (u : PlainWorld) (more : Told) → most_items < length rs → items_job_say u (DoKeys none) (gathered it rs ++ more) ≡ Ends u (fault TooLong)
   unfolding items_job_say
-  told-long u more h = given-long u it (list_row u) [] rs more (omega arith) h
+  told-long u more h = given-long u it (list_row u) [] rs more (omega arith) (omega (arith, h))
 
   -- an item more is asked for, unless there are too many then
   at-item : (u : PlainWorld) (v : PyObjectRef) (b : Bool) → length rs ≤ most_items → nat_lt (length rs) most_items ≡ b → items_job_say u (DoKeys none) (gathered it rs ++ answered v ∷ []) ≡ cond b (pass u (ToProtocol (DoNext it))) (Ends u (fault TooLong))
@@ -81,6 +79,12 @@ module _ (it : PyObjectRef) (rs : List PyObjectRef) where
 
 abbrev StepsAt : Reading → PyObjectRef → List PyObjectRef → Result Answer Fault → Said → World → Step ItemsKept → Type 0
 StepsAt t it rs r said new step = Steps items_job_say (items_stands t) t (DoKeys none) (gathered it rs ++ Answered (ended_of r) ∷ []) said step new
+
+-- an iteration begins, and nothing was given yet
+pub first-asked : (w : World) (it : PyObjectRef) (items : Vec PyObjectRef) → items.items ≡ [] → Resumes Iterating (Ok (Value it)) w w (Ask (task.Protocol (protocol.Next it)) (Gathering it items))
+unfolding items_job_say
+first-asked w it items is = λ t r.
+    (r, (refl, refl, record { says = λ u s more. ap (λ rs. items_job_say u (DoKeys none) (gathered it rs ++ Answered s ∷ more)) (sym is) }))
 
 module _ (w : World) (it : PyObjectRef) (items : Vec PyObjectRef) where
   abbrev rs : List PyObjectRef
@@ -102,8 +106,8 @@ module _ (w : World) (it : PyObjectRef) (items : Vec PyObjectRef) where
 
   pub one-too-many : (v : PyObjectRef) → length rs ≤ most_items → most_items ≤ length rs → Resumes (Gathering it items) (Ok (Value v)) w w (End (Err (raised TooLong)))
   one-too-many v l m = λ t q.
-      let none : nat_lt (length rs) most_items ≡ false = ltb-false (length rs) most_items m in
-      (q, subst (λ said. StepsAt t it rs (Ok (Value v)) said w (End (Err (raised TooLong)))) (sym (at-item it rs (plain t w) v false l none)) (refl, refl))
+      let full : nat_lt (length rs) most_items ≡ false = ltb-false (length rs) most_items m in
+      (q, subst (λ said. StepsAt t it rs (Ok (Value v)) said w (End (Err (raised TooLong)))) (sym (at-item it rs (plain t w) v false l full)) (refl, refl))
 
   -- the iteration is over
   pub all-gathered : (new : World) (r : Result Answer Fault) → length rs ≤ most_items → EndsAs (λ t u. list_made u rs) w new r → Resumes (Gathering it items) (Ok Exhausted) w new (End r)

@@ -93,12 +93,13 @@ fn new_slice(world: &mut World, start: i64, stop: i64) -> Result<PyObjectRef, Ou
 {
     let numbers = world.built_in(BuiltIn::Int);
     let slices = world.built_in(BuiltIn::Slice);
-    let start = world.make_node(numbers, Payload::Number(start as i128))?;
-    let stop = world.make_node(numbers, Payload::Number(stop as i128))?;
-    let slice = PySlice {
-        start: Some(start),
-        stop: Some(stop),
+    let first = world.make_node(numbers, Payload::Number(start as i128))?;
+    let last = world.make_node(numbers, Payload::Number(stop as i128))?;
+    let bounds = PySlice {
+        start: Some(first),
+        stop: Some(last),
         step: None,
     };
-    world.make_node(slices, Payload::Slice(slice))
+    let slice = world.make_node(slices, Payload::Slice(bounds))?;
+    Ok(slice)
 }
