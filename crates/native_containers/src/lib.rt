@@ -10,11 +10,14 @@ mod list;
 mod made;
 mod pairs;
 mod sequence;
-mod take;
+pub mod take;
 mod tuple;
 
 pub use dict::dict_native;
+pub use entries::{keys_of, values_of};
 pub use iterator::iterator_native;
 pub use list::list_native;
+pub use made::new_list;
+pub use pairs::new_pairs;
 pub use take::items;
 pub use tuple::tuple_native;

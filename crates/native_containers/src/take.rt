@@ -59,7 +59,7 @@ pub fn items(world: &World, object: PyObjectRef) -> &[PyObjectRef]
 }
 
 /// The entries of a dict.
-pub(crate) fn entries(world: &World, object: PyObjectRef) -> &[(PyObjectRef, PyObjectRef)]
+pub fn entries(world: &World, object: PyObjectRef) -> &[(PyObjectRef, PyObjectRef)]
     requires { Holds world.now (IsNode object) }
     ensures same { (t : Reading) → entries_at (plain t world.now) object ≡ result.now }
     ensures holds { AllHold world.now (of_entries result.now) }
