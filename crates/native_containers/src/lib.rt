@@ -16,4 +16,5 @@ mod tuple;
 pub use dict::dict_native;
 pub use iterator::iterator_native;
 pub use list::list_native;
+pub use take::items;
 pub use tuple::tuple_native;

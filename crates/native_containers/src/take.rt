@@ -46,7 +46,7 @@ fn holds(payload: &Payload, kind: Kind) -> bool
 }
 
 /// The items of a tuple or a list.
-pub(crate) fn items(world: &World, object: PyObjectRef) -> &[PyObjectRef]
+pub fn items(world: &World, object: PyObjectRef) -> &[PyObjectRef]
     requires { Holds world.now (IsNode object) }
     ensures same { (t : Reading) → items_at (plain t world.now) object ≡ result.now }
     ensures holds { Holds world.now (AreNodes result.now) }
