@@ -7,10 +7,10 @@ mod init;
 mod iterator;
 mod keys;
 mod list;
-mod made;
+pub mod made;
 mod pairs;
-mod sequence;
-mod take;
+pub mod sequence;
+pub mod take;
 mod tuple;
 
 pub use dict::dict_native;
