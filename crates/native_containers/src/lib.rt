@@ -7,9 +7,9 @@ mod init;
 mod iterator;
 mod keys;
 mod list;
-mod made;
+pub mod made;
 mod pairs;
-mod sequence;
+pub mod sequence;
 pub mod take;
 mod tuple;
 
