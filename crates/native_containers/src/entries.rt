@@ -26,7 +26,7 @@ pub(crate) fn keys_of(
 }
 
 /// The values, in the order of the keys.
-pub(crate) fn values_of(
+pub fn values_of(
     alloc: Global,
     entries: &[(PyObjectRef, PyObjectRef)],
 ) -> Result<Args, OutOfMemory>

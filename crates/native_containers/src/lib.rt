@@ -2,15 +2,15 @@
 #![tactic(auto, using(class_world::proofs::Items::item_holds))]
 
 mod dict;
-mod entries;
+pub mod entries;
 mod init;
 mod iterator;
-mod keys;
+pub mod keys;
 mod list;
-mod made;
+pub mod made;
 mod pairs;
 mod sequence;
-mod take;
+pub mod take;
 mod tuple;
 
 pub use dict::dict_native;

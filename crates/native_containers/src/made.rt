@@ -27,7 +27,7 @@ pub(crate) fn ends_none(world: &World) -> Result<Answer, Raised>
 
 /// Ends with a new tuple.
 #[tactic(auto, unfolding(py_node::specs::BuiltIns::place_of))]
-pub(crate) fn new_tuple(
+pub fn new_tuple(
     world: &mut World,
     items: Args,
 ) -> Result<Result<Answer, Raised>, OutOfMemory>
@@ -40,7 +40,7 @@ pub(crate) fn new_tuple(
 
 /// Ends with a new list.
 #[tactic(auto, unfolding(py_node::specs::BuiltIns::place_of))]
-pub(crate) fn new_list(
+pub fn new_list(
     world: &mut World,
     items: Args,
 ) -> Result<Result<Answer, Raised>, OutOfMemory>

@@ -16,7 +16,7 @@ use py_node::{Cause, Payload, PyObjectRef, PyStrInterned, Raised};
 
 /// A kind of objects whose natives are here.
 #[derive(Clone, Copy)]
-pub(crate) enum Kind {
+pub enum Kind {
     Tuple,
     List,
     Dict,
@@ -24,7 +24,7 @@ pub(crate) enum Kind {
 }
 
 /// Whether an object is of a kind.
-pub(crate) fn is_of(world: &World, kind: Kind, object: PyObjectRef) -> bool
+pub fn is_of(world: &World, kind: Kind, object: PyObjectRef) -> bool
     requires { Holds world.now (IsNode object) }
     ensures is { (t : Reading) → is_of kind (datum_at (plain t world.now) object) ≡ result }
     ensures holding { IsTrue result → Holds world.now (Holding object (home_of_kind kind)) }
@@ -46,7 +46,7 @@ fn holds(payload: &Payload, kind: Kind) -> bool
 }
 
 /// The items of a tuple or a list.
-pub(crate) fn items(world: &World, object: PyObjectRef) -> &[PyObjectRef]
+pub fn items(world: &World, object: PyObjectRef) -> &[PyObjectRef]
     requires { Holds world.now (IsNode object) }
     ensures same { (t : Reading) → items_at (plain t world.now) object ≡ result.now }
     ensures holds { Holds world.now (AreNodes result.now) }
@@ -59,7 +59,7 @@ pub(crate) fn items(world: &World, object: PyObjectRef) -> &[PyObjectRef]
 }
 
 /// The entries of a dict.
-pub(crate) fn entries(world: &World, object: PyObjectRef) -> &[(PyObjectRef, PyObjectRef)]
+pub fn entries(world: &World, object: PyObjectRef) -> &[(PyObjectRef, PyObjectRef)]
     requires { Holds world.now (IsNode object) }
     ensures same { (t : Reading) → entries_at (plain t world.now) object ≡ result.now }
     ensures holds { AllHold world.now (of_entries result.now) }
@@ -125,7 +125,7 @@ pub(crate) fn lone(
 }
 
 /// The first argument, which must be of a kind, and one more, or why the arguments are refused.
-pub(crate) fn own_and(
+pub fn own_and(
     world: &World,
     kind: Kind,
     args: &[PyObjectRef],
