@@ -1,13 +1,15 @@
 //! Repetition by name.
 
-ghost use Rattle.std.specs.Prelude.{◌≡◌, [], ◌∷◌, Err, IfErr, IfOk, Ok};
+ghost use Rattle.std.specs.Prelude.{◌≡◌, [], ◌∷◌, Err, IfErr, IfOk, IfSome, Ok, option_map};
 ghost use Rattle.plain_machine.specs.Plain.{Asks, Bindings, DoIndex, Ends, ReadObjects, ToProtocol};
 ghost use Rattle.plain_machine.specs.Takes.{with_two};
+ghost use Rattle.plain_machine.specs.World.{datum_at};
 ghost use Rattle.class_world.specs.Claims.{Leaves};
 ghost use Rattle.class_world.specs.Reading.{Reading, plain};
 ghost use Rattle.class_world.specs.Sound.{AllHold, AreNodes, Holds, IsNode};
+ghost use Rattle.native_base.specs.Repeats.{sequence_for};
 ghost use Rattle.native_repeats.specs.Rows.{Resumes, of_place, of_repeat_kept};
-ghost use Rattle.native_repeats.specs.Say.{repeat_by_name};
+ghost use Rattle.native_repeats.specs.Say.{items_read, repeat_by_name};
 
 use crate::RepeatKept;
 use crate::count::count_in;
@@ -37,27 +39,46 @@ pub(crate) fn own_items(
 {
     match args {
         [] => Ok(Err(Raised::new(Cause::ArgCount))),
-        [object, ..] => match world.payload(*object) {
-            Payload::Text(_) => match entry {
-                NativeEntry::OfStr(_) => Ok(Ok((*object, Vec::new(world.alloc())))),
-                _ => Ok(Err(Raised::new(Cause::SelfType))),
-            },
-            Payload::Tuple(items) => match entry {
-                NativeEntry::OfTuple(_) => {
-                    let items = copy_args(world.alloc(), items)?;
-                    Ok(Ok((*object, items)))
-                }
-                _ => Ok(Err(Raised::new(Cause::SelfType))),
-            },
-            Payload::List(items) => match entry {
-                NativeEntry::OfList(_) => {
-                    let items = copy_args(world.alloc(), items)?;
-                    Ok(Ok((*object, items)))
-                }
-                _ => Ok(Err(Raised::new(Cause::SelfType))),
-            },
-            _ => Ok(Err(Raised::new(Cause::SelfType))),
+        [object, ..] => match items_of(world, entry, *object)? {
+            None => Ok(Err(Raised::new(Cause::SelfType))),
+            Some(items) => Ok(Ok((*object, items))),
         },
+    }
+}
+
+// The items of an object that a native repeats, if it is of its kind. A text has none.
+fn items_of(
+    world: &World,
+    entry: NativeEntry,
+    object: PyObjectRef,
+) -> Result<Option<Args>, OutOfMemory>
+    requires { Holds world.now (IsNode object) }
+    ensures items { IfOk result (λ o. (t : Reading) →
+        option_map items_read (sequence_for entry (datum_at (plain t world.now) object)) ≡
+        option_map (λ rs. rs.items) o) }
+    ensures nodes { IfOk result (λ o. IfSome o (λ rs. Holds world.now (AreNodes rs.items))) }
+    ensures place { IfOk result (λ o. IfSome o (λ rs. AllHold world.now (of_place entry object))) }
+{
+    match entry {
+        NativeEntry::OfStr(_) => match world.payload(object) {
+            Payload::Text(_) => Ok(Some(Vec::new(world.alloc()))),
+            _ => Ok(None),
+        },
+        NativeEntry::OfTuple(_) => match world.payload(object) {
+            Payload::Tuple(items) => {
+                let items = copy_args(world.alloc(), items)?;
+                Ok(Some(items))
+            }
+            _ => Ok(None),
+        },
+        NativeEntry::OfList(_) => match world.payload(object) {
+            Payload::List(items) => {
+                let items = copy_args(world.alloc(), items)?;
+                Ok(Some(items))
+            }
+            _ => Ok(None),
+        },
+        _ => Ok(None),
     }
 }
 
