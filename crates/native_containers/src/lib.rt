@@ -2,10 +2,10 @@
 #![tactic(auto, using(class_world::proofs::Items::item_holds))]
 
 mod dict;
-mod entries;
+pub mod entries;
 mod init;
 mod iterator;
-mod keys;
+pub mod keys;
 mod list;
 pub mod made;
 mod pairs;
