@@ -11,7 +11,6 @@ use Rattle.plain_machine.specs.World.{datum_at}
 use Rattle.native_base.specs.Say.{in_length, text_made}
 use Rattle.native_containers.specs.declared.take.Kind.{Kind}
 use Rattle.native_containers.specs.declared.take.Kind.TheVariants as kind
-use Rattle.native_containers.specs.Take.{items_at}
 use Rattle.native_numbers.specs.Numbers.{number_hash}
 use Rattle.native_objects.specs.Takes.{with_own}
 use Rattle.native_texts.specs.Say.{text_of, or_no_text}
@@ -21,6 +20,20 @@ use Rattle.native_parts.specs.declared.take.Container.{Container}
 use Rattle.native_parts.specs.declared.take.Container.TheVariants as container
 use Rattle.native_parts.specs.declared.wrapped.Wrapper.{Wrapper}
 use Rattle.native_parts.specs.declared.wrapped.Wrapper.TheVariants.{Class, Static}
+
+-- keys with their values, one after another
+abbrev pub flattened : Entries → List PyObjectRef
+flattened es = flat_map (λ e. e.0 ∷ e.1 ∷ []) es
+
+-- the parts of a container, which are asked in order
+abbrev pub parts_in : Option Datum → List PyObjectRef
+parts_in (Some (ATuple rs)) = rs
+parts_in (Some (AList rs)) = rs
+parts_in (Some (ADict es)) = flattened es
+parts_in _ = []
+
+abbrev pub parts_at : PlainWorld → PyObjectRef → List PyObjectRef
+parts_at w o = parts_in (datum_at w o)
 
 abbrev pub hash_task : PyObjectRef → PlainTask
 hash_task r = ToObject (DoHash r)
@@ -37,23 +50,12 @@ abbrev pub hash_row : PlainWorld → ℤ → List PyObjectRef → Row
 hash_row w h rs = each_number w hash_task hashed_on h rs (λ z. end w (number z))
 
 abbrev pub tuple_hash : PlainWorld → List PyObjectRef → Bindings → Row
-tuple_hash w args kw = taking_one kind.Tuple w args kw (λ o. read_objects (items_at w o) (hash_row w (pos 1)))
+tuple_hash w args kw = taking_one kind.Tuple w args kw (λ o. read_objects (parts_at w o) (hash_row w (pos 1)))
 
 abbrev pub kind_of : Container → Kind
 kind_of container.Tuple = kind.Tuple
 kind_of container.List = kind.List
 kind_of container.Dict = kind.Dict
-
--- keys with their values, one after another
-abbrev pub flattened : Entries → List PyObjectRef
-flattened es = flat_map (λ e. e.0 ∷ e.1 ∷ []) es
-
--- the parts of a container, whose texts are asked for in order
-abbrev pub parts_in : Option Datum → List PyObjectRef
-parts_in (Some (ATuple rs)) = rs
-parts_in (Some (AList rs)) = rs
-parts_in (Some (ADict es)) = flattened es
-parts_in _ = []
 
 -- the text that an object holds, if any
 abbrev pub text_at : PlainWorld → PyObjectRef → Text
@@ -99,7 +101,7 @@ abbrev pub text_row : PlainWorld → Container → List PyObjectRef → List PyO
 text_row w c vs rs = each_value w repr_task rs (λ ws. as_said (text_ends w c (vs ++ ws)))
 
 abbrev pub container_repr : PlainWorld → Container → List PyObjectRef → Bindings → Row
-container_repr w c args kw = taking_one (kind_of c) w args kw (λ o. read_objects (parts_in (datum_at w o)) (text_row w c []))
+container_repr w c args kw = taking_one (kind_of c) w args kw (λ o. read_objects (parts_at w o) (text_row w c []))
 
 -- the text of a class method or a static method has that of what it wraps
 abbrev pub wrapped_in : Wrapper → Option Datum → Option PyObjectRef

@@ -135,7 +135,10 @@ pub fn resume(
             other => Ok(Step::End(other)),
         },
         PartsKept::Filling(list) => match answer {
-            Ok(Answer::Objects(items)) => Ok(fill(world, list, items)),
+            Ok(Answer::Objects(items)) => {
+                let ended = fill(world, list, items);
+                Ok(Step::End(ended))
+            }
             other => Ok(Step::End(other)),
         },
     }

@@ -4,8 +4,10 @@ ghost use Rattle.std.specs.Prelude.{◌≡◌, Ok, Err, IfErr, IfOk};
 ghost use Rattle.py_node.specs.declared.built_in.BuiltIn.TheVariants as built_in;
 ghost use Rattle.py_node.specs.declared.entry.NativeEntry.TheVariants.{NewOf, OfList};
 ghost use Rattle.py_node.specs.declared.entry.ListNative.TheVariants as list;
-ghost use Rattle.class_world.specs.Claims.{of_step, Leaves};
+ghost use Rattle.class_world.specs.Claims.{of_ended, Leaves};
+ghost use Rattle.class_world.specs.Rows.{EndsAs};
 ghost use Rattle.class_world.specs.Sound.{AllHold, AreNodes, Grows, Holding, Holds, IsClass, IsNode, IsOf};
+ghost use Rattle.native_parts.specs.Makers.{list_filled};
 ghost use Rattle.native_parts.specs.Rows.{Resumes, Starts, of_parts_kept};
 
 use crate::PartsKept;
@@ -131,8 +133,8 @@ pub(crate) fn begin_list(
         Err(raised) => Ok(Step::End(Err(raised))),
         Ok(None) => {
             let items = Vec::new(world.alloc());
-            world.set_payload(list, Payload::List(items));
-            Ok(Step::End(Ok(Answer::Value(world.fixed(Fixed::None)))))
+            let ended = fill(world, list, items);
+            Ok(Step::End(ended))
         }
         Ok(Some(object)) => Ok(Step::Ask(
             Task::Protocol(ProtocolTask::Collect(object)),
@@ -141,15 +143,15 @@ pub(crate) fn begin_list(
     }
 }
 
-/// The items of a list were given.
-pub(crate) fn fill(world: &mut World, list: PyObjectRef, items: Args) -> Step<PartsKept>
+/// A list gets these items in the place of its own.
+pub(crate) fn fill(world: &mut World, list: PyObjectRef, items: Args) -> Result<Answer, Raised>
     requires list { Holds world.old (IsNode list) }
     requires holding { Holds world.old (Holding list built_in.List) }
     requires items { Holds world.old (AreNodes items.items) }
-    ensures goes { Resumes (PartsKept.Filling list) (Ok (Answer.Objects items)) world.old world.new result }
+    ensures ends { EndsAs (λ t u. list_filled u list items.items) world.old world.new result }
     ensures grows { Grows world.old world.new }
-    ensures safe { AllHold world.new (of_step of_parts_kept result) }
+    ensures holds { AllHold world.new (of_ended result) }
 {
     world.set_payload(list, Payload::List(items));
-    Step::End(Ok(Answer::Value(world.fixed(Fixed::None))))
+    Ok(Answer::Value(world.fixed(Fixed::None)))
 }

@@ -12,7 +12,7 @@ ghost use Rattle.native_containers.specs.Take.{is_of, with_lone, with_own};
 ghost use Rattle.native_containers.specs.declared.take.Kind.TheVariants as kind;
 ghost use Rattle.native_parts.specs.Makers.{with_one_at_most};
 ghost use Rattle.native_parts.specs.Rows.{chosen};
-ghost use Rattle.native_parts.specs.Texts.{flattened, kind_of, parts_in, text_at};
+ghost use Rattle.native_parts.specs.Texts.{flattened, kind_of, parts_at, text_at};
 
 use class_world::World;
 use class_world::args::copy_args;
@@ -109,7 +109,7 @@ pub(crate) fn one_at_most(
 /// The parts of a container, in order.
 pub(crate) fn parts_of(world: &World, object: PyObjectRef) -> Result<Args, OutOfMemory>
     requires { Holds world.now (IsNode object) }
-    ensures parts { IfOk result (λ v. (t : Reading) → parts_in (datum_at (plain t world.now) object) ≡ v.items) }
+    ensures parts { IfOk result (λ v. (t : Reading) → parts_at (plain t world.now) object ≡ v.items) }
     ensures holds { IfOk result (λ v. Holds world.now (AreNodes v.items)) }
 {
     let alloc = world.alloc();
@@ -132,8 +132,9 @@ fn flattened(
 {
     let mut parts = Vec::new(alloc);
     for entry in entries {
-        parts.push(entry.0)?;
-        parts.push(entry.1)?;
+        let (key, value) = *entry;
+        parts.push(key)?;
+        parts.push(value)?;
     }
     Ok(parts)
 }
