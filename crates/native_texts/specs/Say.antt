@@ -25,6 +25,11 @@ abbrev pub text_of : Option Datum → Option Text
 text_of (Some (AText x)) = Some x
 text_of _ = None
 
+-- the text that is there, or an empty one
+abbrev pub or_no_text : Option Text → Text
+or_no_text None = []
+or_no_text (Some x) = x
+
 -- there must be an object, and it must hold a text
 abbrev pub with_own_text : PlainWorld → List PyObjectRef → (Text → Said) → Said
 with_own_text w [] go = Ends w (fault ArgCount)

@@ -6,7 +6,8 @@ use Rattle.plain_machine.specs.Plain.{ANumber, PlainWorld, Bindings, OperatorJob
 use Rattle.plain_machine.specs.World.{datum_at, number_of}
 use Rattle.plain_machine.specs.Args.{two_of}
 use Rattle.plain_machine.specs.Known.{the_int}
-use Rattle.plain_machine.specs.Row.{Row, end, value, not_implemented, fits, fault, not_yet, make}
+use Rattle.plain_machine.specs.Row.{Row, end, value, not_implemented, fits, fault, make}
+use Rattle.native_base.specs.Repeats.{native_repeat}
 use Rattle.proto_ops.specs.Binary.{binop1_say, enter_say, binary_say, inplace_op1_say, inplace_say, unary_say}
 use Rattle.proto_ops.specs.Sequences.{add_say, concat_say, inplace_add_say, inplace_concat_say, mul_say, inplace_mul_say, repeat_say, inplace_repeat_say}
 use Rattle.proto_ops.specs.Powers.{enter_power_say, power_say, inplace_power_say}
@@ -48,7 +49,7 @@ operator_say w (DoMul a b) told = mul_say w a b told
 operator_say w (DoRepeat a z) told = repeat_say w a z told
 operator_say w (DoInplaceMul a b) told = inplace_mul_say w a b told
 operator_say w (DoInplaceRepeat a z) told = inplace_repeat_say w a z told
-operator_say w (DoNativeRepeat n a z) told = end w not_yet told
+operator_say w (DoNativeRepeat n a z) told = native_repeat w n a z
 operator_say w (DoEnterPower s a b c) told = enter_power_say w s a b c told
 operator_say w (DoPower a b c) told = power_say w a b c told
 operator_say w (DoInplacePower a b c) told = inplace_power_say w a b c told

@@ -1,5 +1,5 @@
 -- The rows of all groups.
-use Rattle.std.specs.Prelude.{ℕ, cond, List, [], Result}
+use Rattle.std.specs.Prelude.{ℕ, Bool, true, false, cond, List, [], Result}
 use Rattle.py_node.specs.declared.refs.PyObjectRef.{PyObjectRef}
 use Rattle.py_node.specs.declared.built_in.BuiltIn.TheVariants.{Int, Str}
 use Rattle.py_node.specs.declared.entry.NativeEntry.{NativeEntry}
@@ -9,8 +9,8 @@ use Rattle.py_node.specs.declared.task.Answer.{Answer}
 use Rattle.py_node.specs.declared.task.Task.{Task}
 use Rattle.py_node.specs.declared.task.Step.{Step}
 use Rattle.py_node.specs.declared.task.Step.TheVariants.{Ask, End}
-use Rattle.plain_machine.specs.Plain.{PlainWorld, Bindings, Said, Ends, PlainTask, ToEval, ToAttribute, ToDescriptor, ToCall, ToClass, ToOperator, ToCompare, ToProtocol, ToObject, ToNative, Saying}
-use Rattle.plain_machine.specs.Row.{Row, end, not_yet}
+use Rattle.plain_machine.specs.Plain.{PlainWorld, Bindings, Said, Ends, PlainTask, ProtocolJob, DoIsTrue, DoIndex, DoWhole, DoLength, DoHint, DoGetIter, DoNext, DoCollect, DoContains, DoCount, DoFind, ToEval, ToAttribute, ToDescriptor, ToCall, ToClass, ToOperator, ToCompare, ToProtocol, ToObject, ToNative, Saying}
+use Rattle.plain_machine.specs.Row.{Row, not_yet}
 use Rattle.plain_machine.specs.Rows.{Pending, fresh, given}
 use Rattle.class_world.specs.declared.world.World.{World}
 use Rattle.class_world.specs.Reading.{Reading, task_of, ended_of}
@@ -32,6 +32,13 @@ use Rattle.proto_compare.specs.Say.{compare_job_say}
 use Rattle.proto_compare.specs.Rows.{compare_stands, of_compare_kept}
 use Rattle.proto_number.specs.Say.{number_job_say}
 use Rattle.proto_number.specs.Rows.{number_stands, of_number_kept}
+use Rattle.proto_iter.specs.Say.{iter_job_say}
+use Rattle.proto_items.specs.Say.{items_job_say}
+use Rattle.proto_object.specs.Say.{object_job_say}
+use Rattle.native_items.specs.Say.{asks_for_items, items_native_say}
+use Rattle.native_parts.specs.Say.{asks_for_parts, parts_native_say}
+use Rattle.native_compare.specs.Say.{compares_items, compare_native_say}
+use Rattle.native_repeats.specs.Say.{repeats, repeat_native_say}
 use Rattle.native_containers.specs.Say.{tuple_say, list_say, dict_say, iterator_say}
 use Rattle.native_numbers.specs.Say.{fixed_say, number_say, arithmetic_say, bits_say, compare_say}
 use Rattle.native_calls.specs.Say.{asks, asking_by, asking_rest}
@@ -71,11 +78,40 @@ native_by w (GetterOf b d) args kw = getter_of_say w b d args kw
 native_by w (SetterOf b d) args kw = setter_of_say w b d args kw
 native_by w _ args kw = Ends w not_yet
 
--- a native asks a task, or ends at once
-abbrev pub native_say : PlainWorld → NativeEntry → List PyObjectRef → Bindings → Row
-native_say w n args kw = start_with (cond (asks n) (asking_by w n args kw) (native_by w n args kw)) (asking_rest w n)
+-- a native that is none of a group of its own asks a task, or ends at once
+abbrev pub lone_native_say : PlainWorld → NativeEntry → List PyObjectRef → Bindings → Row
+lone_native_say w n args kw = start_with (cond (asks n) (asking_by w n args kw) (native_by w n args kw)) (asking_rest w n)
 
--- what a task's row says, by the group that the task is in. A group without rows is not there yet
+abbrev pub native_say : PlainWorld → NativeEntry → List PyObjectRef → Bindings → Row
+native_say w n args kw =
+    cond (asks_for_items n) (items_native_say w n args kw) (
+    cond (asks_for_parts n) (parts_native_say w n args kw) (
+    cond (compares_items n) (compare_native_say w n args kw) (
+    cond (repeats n) (repeat_native_say w n args kw) (lone_native_say w n args kw))))
+
+-- tasks on numbers, those on iterations, and those on items
+abbrev pub is_of_numbers : ProtocolJob → Bool
+is_of_numbers (DoIsTrue o) = true
+is_of_numbers (DoIndex o) = true
+is_of_numbers (DoWhole o) = true
+is_of_numbers (DoLength o) = true
+is_of_numbers (DoHint o d) = true
+is_of_numbers _ = false
+
+abbrev pub is_of_iterations : ProtocolJob → Bool
+is_of_iterations (DoGetIter o) = true
+is_of_iterations (DoNext o) = true
+is_of_iterations (DoCollect o) = true
+is_of_iterations (DoContains o x) = true
+is_of_iterations (DoCount o x) = true
+is_of_iterations (DoFind o x) = true
+is_of_iterations _ = false
+
+abbrev pub protocol_say : PlainWorld → ProtocolJob → Row
+protocol_say w job =
+    cond (is_of_numbers job) (number_job_say w job) (cond (is_of_iterations job) (iter_job_say w job) (items_job_say w job))
+
+-- what a task's row says, by the group that the task is in
 unfoldable pub say : Saying PlainTask
 say w (ToEval job) = eval_say w job
 say w (ToAttribute job) = attribute_say w job
@@ -84,8 +120,8 @@ say w (ToCall job) = call_job_say w job
 say w (ToClass job) = class_job_say w job
 say w (ToOperator job) = operator_say w job
 say w (ToCompare job) = compare_job_say w job
-say w (ToProtocol job) = number_job_say w job
-say w (ToObject job) = end w not_yet
+say w (ToProtocol job) = protocol_say w job
+say w (ToObject job) = object_job_say w job
 say w (ToNative n args kw) = native_say w n args kw
 
 -- a row of a group, among all rows

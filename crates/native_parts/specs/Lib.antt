@@ -1,0 +1,4 @@
+pub mod Texts
+pub mod Makers
+pub mod Numbers
+pub mod Say

@@ -1,0 +1,2 @@
+//! How texts, tuples and lists are repeated.
+#![tactic(auto)]

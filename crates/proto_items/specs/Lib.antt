@@ -1,0 +1,4 @@
+pub mod Items
+pub mod Slices
+pub mod Views
+pub mod Say

@@ -1,0 +1,2 @@
+//! The rows of iterations, each a small automaton: `begin` and `resume`.
+#![tactic(auto)]

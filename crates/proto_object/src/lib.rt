@@ -1,0 +1,2 @@
+//! The rows of what all objects can do, each a small automaton: `begin` and `resume`.
+#![tactic(auto)]
