@@ -31,10 +31,14 @@ abbrev pub is_none : Option PyObjectRef → Bool
 is_none None = false
 is_none (Some r) = eqb r.0 none.0
 
+-- the entry by which the class's objects have a hash
+abbrev pub hash_entry : Option SlotEntry → Option SlotEntry
+hash_entry (Some entry.Unhashable) = None
+hash_entry e = e
+
 abbrev pub hash_by : PlainWorld → Bool → Option SlotEntry → PyObjectRef → Said
 hash_by w true e o = Ends w (fault Unhashable)
 hash_by w false None o = Ends w (fault Unhashable)
-hash_by w false (Some entry.Unhashable) o = Ends w (fault Unhashable)
 hash_by w false (Some e) o = pass w (entered e known.Hash o [])
 
 -- a native tells the number. What a special method gives must hold one, of which the lowest 64 bits count
@@ -47,7 +51,8 @@ hash_rest w (Ok (AsValue r)) = end w (hashed (number_of (datum_at w r)))
 hash_rest w other = end w other
 
 abbrev pub hash_say : PlainWorld → PyObjectRef → Row
-hash_say w o = start (hash_by w (is_none (special_at w o (known_text known.Hash))) (slot_at w o Hash) o) (hash_rest w)
+hash_say w o =
+    start (hash_by w (is_none (special_at w o (known_text known.Hash))) (hash_entry (slot_at w o Hash)) o) (hash_rest w)
 
 -- the answer must hold a text
 abbrev pub text_or_fault : Option Text → PyObjectRef → Cause → Ended

@@ -13,6 +13,7 @@ ghost use Rattle.proto_object.specs.Rows.{Begins, Resumes, of_object_kept};
 
 use crate::ObjectKept;
 use crate::asked::{attribute, says};
+use crate::ways::is_of;
 use class_world::{Fixed, World};
 use py_node::protocol::ObjectTask;
 use py_node::{Answer, Cause, Kind, Known, PyObjectRef, Raised, Step, Task};
@@ -64,7 +65,7 @@ fn other_class(world: &World, o: PyObjectRef, k: PyObjectRef, c: PyObjectRef) ->
         (class_number (datum_at (plain t world.now) c)) ≡ result }
 {
     match (world.class_number(k), world.class_number(c)) {
-        (Some(k), Some(c)) => world.class_of(o).0 != k.0 && world.is_sub(k, c),
+        (Some(k), Some(c)) => !is_of(world, o, k.0) && world.is_sub(k, c),
         _ => false,
     }
 }
@@ -108,10 +109,17 @@ pub(crate) fn has_bases(
 }
 
 /// What the object gives as its class must derive from what is no class, by their bases. None doesn't.
-pub(crate) fn class_of_other(c: PyObjectRef, answer: Result<Answer, Raised>) -> Step<ObjectKept>
-    ensures { (w : World) → Holds w (IsNode c) → AllHold w (of_ended answer) →
-        Resumes (ObjectKept.AfterOther c) answer w w result × AllHold w (of_step of_object_kept result) }
+pub(crate) fn class_of_other(
+    world: &World,
+    c: PyObjectRef,
+    answer: Result<Answer, Raised>,
+) -> Step<ObjectKept>
+    requires c { Holds world.now (IsNode c) }
+    requires answer { AllHold world.now (of_ended answer) }
+    ensures goes { Resumes (ObjectKept.AfterOther c) answer world.now world.now result }
+    ensures safe { AllHold world.now (of_step of_object_kept result) }
 {
+    let _class = world.class_of(c);
     match answer {
         Ok(Answer::Value(k)) => {
             if k.0 == Fixed::None.node().0 {

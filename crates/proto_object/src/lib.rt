@@ -94,13 +94,13 @@ pub fn resume(
         ObjectKept::AfterRepr => Ok(Step::End(text_given(world, Cause::ReprType, answer))),
         ObjectKept::AfterStr => Ok(Step::End(text_given(world, Cause::StrType, answer))),
         ObjectKept::AfterFormat => Ok(Step::End(text_given(world, Cause::FormatType, answer))),
-        ObjectKept::AfterCheck => Ok(check_given(answer)),
+        ObjectKept::AfterCheck => Ok(check_given(world, answer)),
         ObjectKept::Each(turn, items, next) => Ok(next_turn(world, turn, items, next, answer)),
         ObjectKept::AfterClass(o, c) => Ok(class_given(world, o, c, answer)),
         ObjectKept::AfterBases(o, c) => Ok(has_bases(world, o, c, answer)),
-        ObjectKept::AfterOther(c) => Ok(class_of_other(c, answer)),
+        ObjectKept::AfterOther(c) => Ok(class_of_other(world, c, answer)),
         ObjectKept::AfterFirst(d, c) => Ok(first_has_bases(world, d, c, answer)),
-        ObjectKept::AfterSecond(d, c) => Ok(second_has_bases(d, c, answer)),
+        ObjectKept::AfterSecond(d, c) => Ok(second_has_bases(world, d, c, answer)),
         ObjectKept::AfterOwn(c) => with_own_bases(world, c, answer),
     }
 }

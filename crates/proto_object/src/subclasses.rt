@@ -52,13 +52,18 @@ pub(crate) fn first_has_bases(
 
 /// Both have bases: by these the first must derive from the second.
 pub(crate) fn second_has_bases(
+    world: &World,
     d: PyObjectRef,
     c: PyObjectRef,
     answer: Result<Answer, Raised>,
 ) -> Step<ObjectKept>
-    ensures { (w : World) → Holds w (IsNode d) → Holds w (IsNode c) → AllHold w (of_ended answer) →
-        Resumes (ObjectKept.AfterSecond d c) answer w w result × AllHold w (of_step of_object_kept result) }
+    requires d { Holds world.now (IsNode d) }
+    requires c { Holds world.now (IsNode c) }
+    requires answer { AllHold world.now (of_ended answer) }
+    ensures goes { Resumes (ObjectKept.AfterSecond d c) answer world.now world.now result }
+    ensures safe { AllHold world.now (of_step of_object_kept result) }
 {
+    let _class = world.class_of(d);
     match answer {
         Ok(Answer::Value(_)) => {
             let task = Task::Object(ObjectTask::AbsSub(d, c));

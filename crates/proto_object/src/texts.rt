@@ -9,7 +9,7 @@ ghost use Rattle.class_world.specs.Sound.{AllHold, Holds, IsNode};
 ghost use Rattle.plain_machine.specs.Plain.{Ends};
 ghost use Rattle.plain_machine.specs.World.{datum_at};
 ghost use Rattle.native_texts.specs.Say.{text_of};
-ghost use Rattle.proto_object.specs.Texts.{hash_rest, is_none, is_unspecified, text_only};
+ghost use Rattle.proto_object.specs.Texts.{hash_entry, hash_rest, is_none, is_unspecified, text_only};
 ghost use Rattle.proto_object.specs.Rows.{Begins, of_object_kept};
 
 use crate::ObjectKept;
@@ -33,8 +33,8 @@ pub(crate) fn begin_hash(world: &World, o: PyObjectRef) -> Result<Step<ObjectKep
     if is_none(method(world, o, Known::Hash)) {
         return Ok(Step::raise(Cause::Unhashable));
     }
-    match world.slot(o, SlotId::Hash) {
-        None | Some(SlotEntry::Unhashable) => Ok(Step::raise(Cause::Unhashable)),
+    match hash_entry(world.slot(o, SlotId::Hash)) {
+        None => Ok(Step::raise(Cause::Unhashable)),
         Some(entry) => {
             let task = entered(world, entry, Known::Hash, o, &[])?;
             Ok(Step::Ask(task, ObjectKept::AfterHash))
@@ -49,6 +49,16 @@ fn is_none(value: Option<PyObjectRef>) -> bool
     match value {
         None => false,
         Some(value) => value.0 == Fixed::None.node().0,
+    }
+}
+
+// The entry by which the class's objects have a hash: there is none where the slot is marked so.
+fn hash_entry(entry: Option<SlotEntry>) -> Option<SlotEntry>
+    ensures { result ≡ hash_entry entry }
+{
+    match entry {
+        Some(SlotEntry::Unhashable) => None,
+        other => other,
     }
 }
 

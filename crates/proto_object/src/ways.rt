@@ -2,13 +2,15 @@
 //! class may say so, and a tuple stands for each of its objects.
 #![tactic(auto, unfolding(crate::specs::Say::object_job_say, py_node::specs::BuiltIns::place_of))]
 
-ghost use Rattle.std.specs.Prelude.{◌≡◌, IfOk};
+ghost use Rattle.std.specs.Prelude.{◌≡◌, ◌&&◌, eqb, IfOk};
 ghost use Rattle.py_node.specs.declared.protocol.ObjectTask.TheVariants as object;
+ghost use Rattle.plain_machine.specs.Known.{the_type};
 ghost use Rattle.plain_machine.specs.World.{datum_at};
 ghost use Rattle.class_world.specs.Claims.{of_ended, of_step, Leaves};
 ghost use Rattle.class_world.specs.Reading.{Reading, Reads, plain};
 ghost use Rattle.class_world.specs.Sound.{AllHold, AreNodes, Holds, IsNode};
 ghost use Rattle.native_containers.specs.Take.{items_at};
+ghost use Rattle.proto_base.specs.Entered.{is_exactly};
 ghost use Rattle.proto_object.specs.Classes.{is_tuple, way_of};
 ghost use Rattle.proto_object.specs.Rows.{Begins, Resumes, of_object_kept, way_number};
 
@@ -65,6 +67,22 @@ fn is_tuple(world: &World, object: PyObjectRef) -> bool
     }
 }
 
+// Whether this is the number of an object's class.
+pub(crate) fn is_of(world: &World, object: PyObjectRef, number: u64) -> bool
+    requires { Holds world.now (IsNode object) }
+    ensures { (t : Reading) → is_exactly (plain t world.now) object number ≡ result }
+{
+    world.class_of(object).0 == number
+}
+
+// Whether the second is just a class, and the first the same one.
+fn is_one_class(world: &World, d: PyObjectRef, c: PyObjectRef) -> bool
+    requires { Holds world.now (IsNode c) }
+    ensures { (t : Reading) → is_exactly (plain t world.now) c the_type && eqb d.0 c.0 ≡ result }
+{
+    is_exactly(world, c, BuiltIn::TypeType) && d.0 == c.0
+}
+
 /// Whether an object is an instance of a class, or of one of several.
 pub(crate) fn begin_is_instance(
     world: &World,
@@ -76,7 +94,7 @@ pub(crate) fn begin_is_instance(
     ensures goes { IfOk result (λ step. Begins (object.IsInstance o c) world.now world.now step) }
     ensures safe { Leaves of_object_kept world.now world.now result }
 {
-    let at_once = world.class_of(o).0 == c.0;
+    let at_once = is_of(world, o, c.0);
     match way_of(world, at_once, Known::Instancecheck, c) {
         Way::AtOnce => Ok(says(true)),
         Way::Plainly => {
@@ -106,7 +124,7 @@ pub(crate) fn begin_is_subclass(
     ensures goes { IfOk result (λ step. Begins (object.IsSubclass d c) world.now world.now step) }
     ensures safe { Leaves of_object_kept world.now world.now result }
 {
-    let at_once = is_exactly(world, c, BuiltIn::TypeType) && d.0 == c.0;
+    let at_once = is_one_class(world, d, c);
     match way_of(world, at_once, Known::Subclasscheck, c) {
         Way::AtOnce => Ok(says(true)),
         Way::Plainly => {
@@ -140,10 +158,12 @@ fn items_of(world: &World, object: PyObjectRef) -> Result<Args, OutOfMemory>
 }
 
 /// What the class's class says was called: the truth value of what it gave is the answer.
-pub(crate) fn check_given(answer: Result<Answer, Raised>) -> Step<ObjectKept>
-    ensures { (w : World) → AllHold w (of_ended answer) →
-        Resumes ObjectKept.AfterCheck answer w w result × AllHold w (of_step of_object_kept result) }
+pub(crate) fn check_given(world: &World, answer: Result<Answer, Raised>) -> Step<ObjectKept>
+    requires { AllHold world.now (of_ended answer) }
+    ensures goes { Resumes ObjectKept.AfterCheck answer world.now world.now result }
+    ensures safe { AllHold world.now (of_step of_object_kept result) }
 {
+    let _classes = world.classes();
     match answer {
         Ok(Answer::Value(v)) => {
             let task = Task::Protocol(ProtocolTask::IsTrue(v));
