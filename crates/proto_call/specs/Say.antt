@@ -1,7 +1,7 @@
 -- What the rows of calls say.
 use Rattle.std.specs.Prelude.{ℕ, zero, suc, Bool, true, false, cond, not, eqb, ◌&&◌, ◌||◌, List, [], ◌∷◌, Option, Some, None, is_some, is_none, map, Ok}
 use Rattle.py_node.specs.declared.refs.PyObjectRef.{PyObjectRef}
-use Rattle.py_node.specs.declared.raised.Cause.TheVariants.{AbstractMethods, ArgCount, CannotCreate, InitNotNone, NoSpecial, NotCallable, SelfType, UnexpectedKeyword, UnsafeNew}
+use Rattle.py_node.specs.declared.raised.Cause.TheVariants.{AbstractMethods, ArgCount, CannotCreate, FormatSpec, InitNotNone, NoSpecial, NotCallable, SelfType, UnexpectedKeyword, UnsafeNew}
 use Rattle.py_node.specs.declared.entry.SlotId.TheVariants.{Call, Init, New}
 use Rattle.py_node.specs.declared.entry.SlotEntry.{SlotEntry}
 use Rattle.py_node.specs.declared.entry.SlotEntry.TheVariants.{Native, Wrapper}
@@ -12,6 +12,7 @@ use Rattle.py_node.specs.declared.entry.ObjectNative.TheVariants as object
 use Rattle.py_node.specs.declared.entry.TypeNative.TheVariants as type
 use Rattle.py_node.specs.declared.entry.CallableNative.TheVariants as callable
 use Rattle.py_node.specs.declared.entry.WrapperNative.TheVariants as wrapper
+use Rattle.py_node.specs.declared.task.PyComparisonOp.TheVariants as operation
 use Rattle.py_node.specs.Attributes.{value_of, with_value}
 use Rattle.py_node.specs.Tree.{Text, Tree}
 use Rattle.py_node.specs.Replies.{Started}
@@ -20,7 +21,7 @@ use Rattle.py_node.specs.Known.{known_text}
 use Rattle.class_model.specs.Class.{found}
 use Rattle.class_model.specs.Slot.{slot}
 use Rattle.class_model.specs.BuiltIn.{natives_of}
-use Rattle.plain_machine.specs.Plain.{Datum, AnObject, AClass, AFunction, AMethod, ANativeFunction, ABuiltinMethod, AMethodDescriptor, AStaticMethod, ATuple, ANumber, AsNumber, PlainWorld, Bindings, DoEval, CallJob, DoCall, DoBody, DoTypeCall, DoNew, DoInit, DoObject, DoGeneric, DoGenericSet, DoSpecial, PlainTask, ToEval, ToAttribute, ToCall, Ended, Chose, Said, Asks, Ends}
+use Rattle.plain_machine.specs.Plain.{Datum, AnObject, AClass, AFunction, AMethod, ANativeFunction, ABuiltinMethod, AMethodDescriptor, AStaticMethod, ATuple, ANumber, AsNumber, PlainWorld, Bindings, DoEval, CallJob, DoCall, DoBody, DoTypeCall, DoNew, DoInit, DoObject, DoGeneric, DoGenericSet, DoSpecial, DoIsTrue, DoCmp, DoRepr, DoStr, DoDir, PlainTask, ToEval, ToAttribute, ToCall, ToCompare, ToProtocol, ToObject, Ended, Answered, Chose, Said, Asks, Ends}
 use Rattle.plain_machine.specs.World.{is_text, datum_at, slot_at, text_keys, with_node, next_node, with_scope, without_scope}
 use Rattle.plain_machine.specs.Objects.{class_object, class_number, is_instance, nearest_built_in}
 use Rattle.plain_machine.specs.Args.{filled}
@@ -29,7 +30,7 @@ use Rattle.plain_machine.specs.Known.{the_object, the_type, the_int, the_tuple}
 use Rattle.plain_machine.specs.Native.{native_task}
 use Rattle.plain_machine.specs.Show.{show}
 use Rattle.native_objects.specs.Objects.{object_native_say}
-use Rattle.plain_machine.specs.Row.{Row, start, fork, ask, pass, end, value, done, fault, not_yet, none, on_value, on_done, make}
+use Rattle.plain_machine.specs.Row.{Row, start, fork, ask, pass, end, value, done, fault, not_yet, none, truth, is_not_implemented, on_value, on_truth, on_done, make}
 
 abbrev pub is_empty : {A : Type 0} → List A → Bool
 is_empty [] = true
@@ -236,6 +237,30 @@ object_set_attr w args kw = with_three w args kw (λ o n v. with_text w n (λ x.
 abbrev pub object_del_attr : PlainWorld → List PyObjectRef → Bindings → Said
 object_del_attr w args kw = with_two w args kw (λ o n. with_text w n (λ x. pass w (ToAttribute (DoGenericSet o x None))))
 
+-- an object's text is what shows it, unless its class says otherwise. No specification of it is known but the empty one
+abbrev pub object_str : PlainWorld → List PyObjectRef → Bindings → Said
+object_str w args kw = with_one w args kw (λ o. pass w (ToObject (DoRepr o)))
+
+abbrev pub formatted : PlainWorld → PyObjectRef → Text → Said
+formatted w o x = cond (is_empty x) (pass w (ToObject (DoStr o))) (Ends w (fault FormatSpec))
+
+abbrev pub object_format : PlainWorld → List PyObjectRef → Bindings → Said
+object_format w args kw = with_two w args kw (λ o s. with_text w s (formatted w o))
+
+abbrev pub object_dir : PlainWorld → List PyObjectRef → Bindings → Said
+object_dir w args kw = with_one w args kw (λ o. pass w (ToObject (DoDir o)))
+
+-- whether an object is unlike another: unless it is equal, where its class can tell that
+abbrev pub object_ne : PlainWorld → List PyObjectRef → Bindings → Said
+object_ne w args kw = with_two w args kw (λ a b. Asks w (Chose 0 ∷ []) (ToCompare (DoCmp a b operation.Eq)))
+
+abbrev pub unlike_given : PlainWorld → Ended → Row
+unlike_given w r = on_truth w r (λ b. end w (value (truth (not b))))
+
+abbrev pub unlike_rest : PlainWorld → Ended → Row
+unlike_rest w r =
+    on_value w r (λ x. cond (is_not_implemented x) (end w (value x)) (ask w (ToProtocol (DoIsTrue x)) (unlike_given w)))
+
 -- those that ask no task say what they end with
 abbrev pub object_by : PlainWorld → ObjectNative → List PyObjectRef → Bindings → Said
 object_by w object.New args kw = object_new w args
@@ -244,10 +269,20 @@ object_by w object.InitSubclass args kw = object_init_subclass w args kw
 object_by w object.GetAttribute args kw = object_get_attribute w args kw
 object_by w object.SetAttr args kw = object_set_attr w args kw
 object_by w object.DelAttr args kw = object_del_attr w args kw
+object_by w object.Str args kw = object_str w args kw
+object_by w object.Format args kw = object_format w args kw
+object_by w object.Dir args kw = object_dir w args kw
+object_by w object.Ne args kw = object_ne w args kw
 object_by w n args kw = object_native_say w n args kw
 
+-- goes on with the answer to what was asked, in the first of two ways, or in the second where that was chosen
+abbrev pub either_way : Said → (Ended → Row) → (Ended → Row) → Row
+either_way said first second (Answered r ∷ more) = first r more
+either_way said first second (Chose n ∷ (Answered r ∷ more)) = second r more
+either_way said first second _ = said
+
 abbrev pub object_say : PlainWorld → ObjectNative → List PyObjectRef → Bindings → Row
-object_say w n args kw = start (object_by w n args kw) (native_end w)
+object_say w n args kw = either_way (object_by w n args kw) (native_end w) (unlike_rest w)
 
 unfoldable pub call_job_say : PlainWorld → CallJob → Row
 call_job_say w (DoCall f args kw) told = call_say w f args kw told

@@ -12,6 +12,7 @@ use crate::call::{begin_call, named_end};
 use crate::create::{begin_new, begin_type_call, resume_type_call};
 use crate::init::{begin_init, resume_init};
 use crate::object::{begin_object, native_end};
+use crate::shown::{equal_given, unlike_given};
 use class_world::World;
 use py_node::task::{Args, Keywords};
 use py_node::{Answer, CallTask, OutOfMemory, PyObjectRef, PyTypeRef, Raised, Step};
@@ -23,6 +24,7 @@ mod create;
 mod init;
 mod object;
 mod parameters;
+mod shown;
 
 /// What a row of a call keeps while it waits for an answer.
 #[derive(Drop)]
@@ -33,6 +35,10 @@ pub enum CallKept {
     Named,
     /// The answer is that of a native: where there is no object, it is None.
     Native,
+    /// Of whether an object is unlike another: whether it is equal was asked.
+    AfterEqual,
+    /// Of the same: whether what was given counts as true was asked.
+    AfterTruth,
     /// A body runs: its scope is taken away at its end.
     Scope,
     /// The call of a class waits for the object: the class, the arguments and the keywords.
@@ -74,6 +80,8 @@ pub fn resume(
         CallKept::Pass => Ok(Step::End(answer)),
         CallKept::Named => named_end(world, answer),
         CallKept::Native => Ok(native_end(world, answer)),
+        CallKept::AfterEqual => Ok(equal_given(world, answer)),
+        CallKept::AfterTruth => Ok(unlike_given(world, answer)),
         CallKept::Scope => {
             world.close_scope();
             Ok(Step::End(answer))

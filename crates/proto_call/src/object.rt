@@ -13,6 +13,7 @@ ghost use Rattle.plain_machine.specs.Known.{the_object};
 ghost use Rattle.proto_call.specs.Rows.{Begins, Resumes, Closes, Does, OpensNone, LeavesNone};
 
 use crate::CallKept;
+use crate::shown::{object_dir, object_format, object_ne, object_str};
 use class_world::takes::{one, three, two};
 use class_world::{Fixed, World};
 use native_objects::object_native;
@@ -56,6 +57,10 @@ fn object_by(
         ObjectNative::GetAttribute => object_get_attribute(world, args, kw),
         ObjectNative::SetAttr => object_set_attr(world, args, kw),
         ObjectNative::DelAttr => object_del_attr(world, args, kw),
+        ObjectNative::Str => Ok(object_str(world, args, kw)),
+        ObjectNative::Format => Ok(object_format(world, args, kw)),
+        ObjectNative::Dir => Ok(object_dir(world, args, kw)),
+        ObjectNative::Ne => Ok(object_ne(world, args, kw)),
         native => Ok(Step::End(object_native(world, native, args, kw)?)),
     }
 }
