@@ -26,6 +26,7 @@ use Rattle.class_world.proofs.Claims.{all-first, all-rest, each-get}
 use Rattle.class_world.proofs.Homes.{by_line}
 use Rattle.class_world.proofs.MemberPlaces.{member-is}
 use Rattle.class_world.proofs.Apart.{apart-read}
+use Rattle.class_world.proofs.Counts.{offset-seen}
 use Rattle.class_world.proofs.Bound.{value-read}
 
 module _ {A : Type 0} (P : A → Type 0) where

@@ -41,7 +41,7 @@ module _ {K : Type 0} (f : Class K → Class K) (numbers : (k : Class K) → (f 
       offset-agrees (with_changed f t c) t x o (layout-agrees (with_changed f t c) t x (lin-kept f numbers t c bases members x) (λ line y e h. solid-kept y)) (member_count-kept f numbers t c members)
 
 module _ {K : Type 0} where
-  members-append : (t : Classes K) (xs ys : List ℕ) → members_in t (xs ++ ys) ≡ members_in t xs + members_in t ys
+  pub members-append : (t : Classes K) (xs ys : List ℕ) → members_in t (xs ++ ys) ≡ members_in t xs + members_in t ys
   members-append t [] ys = omega arith
   members-append t (x ∷ xs) ys = let r = members-append t xs ys in omega (arith, r)
 
