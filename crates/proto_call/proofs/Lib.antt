@@ -1,3 +1,4 @@
 pub mod Decide
 pub mod Filling
 pub mod Entered
+pub mod Unequal

@@ -12,7 +12,7 @@ use crate::call::{begin_call, named_end};
 use crate::create::{begin_new, begin_type_call, resume_type_call};
 use crate::init::{begin_init, resume_init};
 use crate::object::{begin_object, native_end};
-use crate::texts::turned;
+use crate::texts::equal_given;
 use class_world::World;
 use py_node::task::{Args, Keywords};
 use py_node::{Answer, CallTask, OutOfMemory, PyObjectRef, PyTypeRef, Raised, Step};
@@ -80,10 +80,7 @@ pub fn resume(
         CallKept::Pass => Ok(Step::End(answer)),
         CallKept::Named => named_end(world, answer),
         CallKept::Native => Ok(native_end(world, answer)),
-        CallKept::Unequal => match answer {
-            Ok(Answer::Value(x)) => Ok(turned(world, x)),
-            other => Ok(Step::End(other)),
-        },
+        CallKept::Unequal => Ok(equal_given(world, answer)),
         CallKept::Turned => match answer {
             Ok(Answer::Truth(b)) => Ok(Step::End(Ok(Answer::Value(world.truth(!b))))),
             other => Ok(Step::End(other)),

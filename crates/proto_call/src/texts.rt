@@ -3,7 +3,8 @@
 ghost use Rattle.std.specs.Prelude.{◌≡◌, Ok};
 ghost use Rattle.py_node.specs.declared.entry.ObjectNative.TheVariants as object;
 ghost use Rattle.class_world.specs.Reading.{Reading, bindings};
-ghost use Rattle.class_world.specs.Sound.{AreNodes, Holds, IsNode};
+ghost use Rattle.class_world.specs.Claims.{of_ended};
+ghost use Rattle.class_world.specs.Sound.{AllHold, AreNodes, Holds, IsNode};
 ghost use Rattle.plain_machine.specs.Row.{is_not_implemented};
 ghost use Rattle.proto_call.specs.Say.{object_dir, object_format, object_ne, object_str};
 ghost use Rattle.proto_call.specs.Rows.{Does, OpensNone, Resumes};
@@ -13,7 +14,7 @@ use class_world::takes::{one, two};
 use class_world::{Fixed, World};
 use py_node::{
     Answer, Cause, CompareTask, ObjectTask, Payload, ProtocolTask, PyComparisonOp, PyObjectRef,
-    PyStrInterned, Step, Task,
+    PyStrInterned, Raised, Step, Task,
 };
 
 // The text of an object is that by which it is represented.
@@ -92,8 +93,23 @@ pub(crate) fn object_ne(
     }
 }
 
-// What the class says counts as true or not, if it says anything.
-pub(crate) fn turned(world: &World, x: PyObjectRef) -> Step<CallKept>
+// What the class says of their being equal, which must be an object.
+pub(crate) fn equal_given(world: &World, answer: Result<Answer, Raised>) -> Step<CallKept>
+    requires { AllHold world.now (of_ended answer) }
+    ensures goes { Resumes CallKept.Unequal answer world.now world.now result }
+    ensures safe { OpensNone world.now result }
+{
+    match answer {
+        Err(raised) => Step::End(Err(raised)),
+        Ok(given) => match given {
+            Answer::Value(x) => turned(world, x),
+            other => Step::End(Ok(other)),
+        },
+    }
+}
+
+// That counts as true or not, if it says anything.
+fn turned(world: &World, x: PyObjectRef) -> Step<CallKept>
     requires { Holds world.now (IsNode x) }
     ensures goes { Resumes CallKept.Unequal (Ok (Answer.Value x)) world.now world.now result }
     ensures safe { OpensNone world.now result }
