@@ -43,13 +43,13 @@ module _ (u : PlainWorld) (it x : PyObjectRef) where
   contains-so-far (suc n) more = contains-so-far n more
 
   count-so-far : (n m : ℕ) (more : Told) → seeking u search.Count it x m (rounds true n more) ≡ seeking u search.Count it x (m + n) more
-  count-so-far zero m more = refl
+  count-so-far zero m more = let k : m ≡ m + 0 = omega arith in ap (λ j. seeking u search.Count it x j more) k
   count-so-far (suc n) m more =
       let k : (m + 1) + n ≡ m + suc n = omega arith in
       count-so-far n (m + 1) more ∙ ap (λ j. seeking u search.Count it x j more) k
 
   find-so-far : (n m : ℕ) (more : Told) → seeking u search.Find it x m (rounds false n more) ≡ seeking u search.Find it x (m + n) more
-  find-so-far zero m more = refl
+  find-so-far zero m more = let k : m ≡ m + 0 = omega arith in ap (λ j. seeking u search.Find it x j more) k
   find-so-far (suc n) m more =
       let k : (m + 1) + n ≡ m + suc n = omega arith in
       find-so-far n (m + 1) more ∙ ap (λ j. seeking u search.Find it x j more) k
