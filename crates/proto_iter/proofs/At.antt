@@ -18,3 +18,6 @@ ends-same k r s w e h = subst (λ a. Resumes k r w w (End a)) (sym e) h
 
 pub answer-holds : (w : World) (r q : Result Answer Fault) → r ≡ q → AllHold w (of_ended r) → AllHold w (of_ended q)
 answer-holds w r q e h = subst (λ a. AllHold w (of_ended a)) e h
+
+pub steps-so : (k : IterKept) (r : Result Answer Fault) (w : World) (step said : Step IterKept) → step ≡ said → Resumes k r w w said → Resumes k r w w step
+steps-so k r w step said e h = subst (λ s. Resumes k r w w s) (sym e) h

@@ -1,4 +1,4 @@
-use Rattle.std.proofs.Common.{◌≡◌, Bool, Ok, inl, refl, ap, ◌∙◌, sym, ℕ}
+use Rattle.std.proofs.Common.{inl, refl}
 use Rattle.proto_iter.specs.Rows.{turn_of}
 use Rattle.proto_iter.proofs.seek.turn.Goals as goal
 
