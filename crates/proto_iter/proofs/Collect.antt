@@ -1,21 +1,24 @@
 -- How all items of an iteration are collected.
-use Rattle.std.proofs.Common.{◌≡◌, List, [], ◌∷◌, ◌++◌, Bool, true, false, cond, Result, Ok, refl, sym, ap, ◌∙◌}
+use Rattle.std.proofs.Common.{◌≡◌, List, [], ◌∷◌, ◌++◌, Bool, true, false, cond, Result, Ok, Err, refl, sym, ap, ◌∙◌}
 use Rattle.std.specs.Prelude.{length, nat_le}
 use Rattle.std.specs.Global.{Vec}
 use Rattle.py_node.specs.declared.raised.Cause.TheVariants.{TooLong}
 use Rattle.py_node.specs.declared.refs.PyObjectRef.{PyObjectRef}
 use Rattle.py_node.specs.declared.protocol.ProtocolTask.TheVariants as protocol
-use Rattle.py_node.specs.declared.task.Answer.TheVariants.{Value, Exhausted, Objects}
+use Rattle.py_node.specs.declared.task.Answer.{Answer}
+use Rattle.py_node.specs.declared.task.Answer.TheVariants.{Value, Exhausted, Objects, Method}
+use Rattle.py_node.specs.declared.task.PyMethod.TheVariants as method
+use Rattle.py_node.specs.declared.raised.Raised.{Raised as Fault}
 use Rattle.py_node.specs.declared.task.Step.TheVariants.{Ask, End}
 use Rattle.py_node.specs.declared.task.Task.TheVariants as task
 use Rattle.plain_machine.specs.Plain.{PlainWorld, AsExhausted, Answered, DoNext, Ended, Ends, Said, Told, ToProtocol}
 use Rattle.plain_machine.specs.Row.{end, fault, most_items, pass, value}
-use Rattle.class_world.specs.Reading.{Reading, plain}
+use Rattle.class_world.specs.Reading.{Reading, ended_of, plain}
 use Rattle.class_world.specs.declared.world.World.{World}
 use Rattle.proto_base.proofs.Each.{items-so-far, told-more}
 use Rattle.proto_base.specs.Each.{all_items, objects}
 use Rattle.proto_iter.specs.declared.IterKept.TheVariants.{Collecting}
-use Rattle.proto_iter.specs.Rows.{Resumes}
+use Rattle.proto_iter.specs.Rows.{IsNoItem, Resumes}
 use Rattle.proto_iter.specs.Say.{iter_job_say}
 use Rattle.proto_iter.proofs.Steps.{asks-so, ends-so, told_more}
 
@@ -47,3 +50,16 @@ module _ (it : PyObjectRef) (items : Vec PyObjectRef) where
   pub ends-all : (w : World) → Resumes (Collecting it items) (Ok Exhausted) w w (End (Ok (Objects items)))
   ends-all w =
       ends-so (Collecting it items) (Ok Exhausted) (Ok (Objects items)) w (λ t. collecting-on it items t (plain t w) (Answered (Ok AsExhausted) ∷ []))
+
+  -- another answer ends it
+  no-item : (r : Result Answer Fault) (u : PlainWorld) → IsNoItem r → all_items u it items.items (λ rs. end u (objects rs)) (Answered (ended_of r) ∷ []) ≡ Ends u (ended_of r)
+  no-item (Ok (Value v)) u is = absurd is
+  no-item (Ok Exhausted) u is = absurd is
+  no-item (Ok (Method (method.Function a b))) u is = refl
+  no-item (Ok (Method (method.Attribute a))) u is = refl
+  no-item (Ok _) u is = refl
+  no-item (Err y) u is = refl
+
+  pub ends-other : (r : Result Answer Fault) (w : World) → IsNoItem r → Resumes (Collecting it items) r w w (End r)
+  ends-other r w is =
+      ends-so (Collecting it items) r r w (λ t. collecting-on it items t (plain t w) (Answered (ended_of r) ∷ []) ∙ no-item r (plain t w) is)

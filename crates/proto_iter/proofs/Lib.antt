@@ -1,3 +1,4 @@
 pub mod Steps
+pub mod At
 pub mod Collect
 pub mod Search

@@ -8,7 +8,8 @@ use Rattle.py_node.specs.declared.refs.PyObjectRef.{PyObjectRef}
 use Rattle.py_node.specs.declared.protocol.CompareTask.TheVariants as compare
 use Rattle.py_node.specs.declared.protocol.ProtocolTask.TheVariants as protocol
 use Rattle.py_node.specs.declared.task.Answer.{Answer}
-use Rattle.py_node.specs.declared.task.Answer.TheVariants.{Value, Truth, Exhausted}
+use Rattle.py_node.specs.declared.task.Answer.TheVariants.{Value, Truth, Exhausted, Method}
+use Rattle.py_node.specs.declared.task.PyMethod.TheVariants as method
 use Rattle.py_node.specs.declared.task.Step.TheVariants.{Ask, End}
 use Rattle.py_node.specs.declared.task.Task.TheVariants as task
 use Rattle.plain_machine.specs.Plain.{PlainWorld, AsValue, AsTruth, AsExhausted, Answered, Ended, Ends, Told}
@@ -21,7 +22,7 @@ use Rattle.proto_iter.specs.declared.seek.Search.{Search}
 use Rattle.proto_iter.specs.declared.seek.Search.TheVariants as search
 use Rattle.proto_iter.specs.declared.seek.Seeking.{Seeking}
 use Rattle.proto_iter.specs.Iteration.{counted}
-use Rattle.proto_iter.specs.Rows.{CountsAlike, Resumes, counts_equal, last_of, nil, rounds, search_job, seeking, turn_of, way_told}
+use Rattle.proto_iter.specs.Rows.{CountsAlike, IsNoItem, IsNoTruth, Resumes, counts_equal, last_of, nil, rounds, search_job, seeking, turn_of, way_told}
 use Rattle.proto_iter.specs.Say.{iter_job_say}
 use Rattle.proto_iter.proofs.Steps.{asks-so, ends-so, told_more}
 
@@ -43,13 +44,13 @@ module _ (u : PlainWorld) (it x : PyObjectRef) where
   contains-so-far (suc n) more = contains-so-far n more
 
   count-so-far : (n m : ℕ) (more : Told) → seeking u search.Count it x m (rounds true n more) ≡ seeking u search.Count it x (m + n) more
-  count-so-far zero m more = refl
+  count-so-far zero m more = let k : m ≡ m + 0 = omega arith in ap (λ j. seeking u search.Count it x j more) k
   count-so-far (suc n) m more =
       let k : (m + 1) + n ≡ m + suc n = omega arith in
       count-so-far n (m + 1) more ∙ ap (λ j. seeking u search.Count it x j more) k
 
   find-so-far : (n m : ℕ) (more : Told) → seeking u search.Find it x m (rounds false n more) ≡ seeking u search.Find it x (m + n) more
-  find-so-far zero m more = refl
+  find-so-far zero m more = let k : m ≡ m + 0 = omega arith in ap (λ j. seeking u search.Find it x j more) k
   find-so-far (suc n) m more =
       let k : (m + 1) + n ≡ m + suc n = omega arith in
       find-so-far n (m + 1) more ∙ ap (λ j. seeking u search.Find it x j more) k
@@ -90,6 +91,21 @@ module _ (u : PlainWorld) (it x : PyObjectRef) where
   forgotten : (s : Search) (n : ℕ) (v : PyObjectRef) (r : Ended) (more : Told) → seeking u s it x n (Answered (value v) ∷ (Answered r ∷ more)) ≡ seeking u s it x n (Answered (value nil) ∷ (Answered r ∷ more))
   forgotten s n v (Ok (AsTruth b)) more = refl
   forgotten s n v _ more = refl
+
+  no-item : (s : Search) (n : ℕ) (r : Result Answer Fault) → IsNoItem r → seeking u s it x n (Answered (ended_of r) ∷ []) ≡ Ends u (ended_of r)
+  no-item s n (Ok (Value v)) is = absurd is
+  no-item s n (Ok Exhausted) is = absurd is
+  no-item s n (Ok (Method (method.Function a b))) is = refl
+  no-item s n (Ok (Method (method.Attribute a))) is = refl
+  no-item s n (Ok _) is = refl
+  no-item s n (Err y) is = refl
+
+  no-truth : (s : Search) (n : ℕ) (r : Result Answer Fault) → IsNoTruth r → seeking u s it x n (Answered (value nil) ∷ (Answered (ended_of r) ∷ [])) ≡ Ends u (ended_of r)
+  no-truth s n (Ok (Truth b)) is = absurd is
+  no-truth s n (Ok (Method (method.Function a b))) is = refl
+  no-truth s n (Ok (Method (method.Attribute a))) is = refl
+  no-truth s n (Ok _) is = refl
+  no-truth s n (Err y) is = refl
 
 turn-from : (s : Search) (n m : ℕ) (b : Bool) → turn_of s n b ≡ Ok m → turn_of s (from_number s n) b ≡ Ok (from_number s m)
 turn-from search.Contains n m true e = cc
@@ -143,6 +159,11 @@ module _ (s : Seeking) where
       asks-so (Next s) (Equal s) (Ok (Value v)) (task.Compare (compare.BoolEq v s.needle)) w (λ t. next-on t (plain t w) (Answered (value v) ∷ [])) (λ t u r more.
       next-on t u (Answered (value v) ∷ (Answered r ∷ more)) ∙ forgotten u s.iterator s.needle s.search (from_number s.search s.number) v r more ∙ sym (equal-on t u (Answered r ∷ more)))
 
+  -- another answer ends it
+  pub ends-other : (r : Result Answer Fault) (w : World) → IsNoItem r → Resumes (Next s) r w w (End r)
+  ends-other r w is =
+      ends-so (Next s) r r w (λ t. next-on t (plain t w) (Answered (ended_of r) ∷ []) ∙ no-item (plain t w) s.iterator s.needle s.search (from_number s.search s.number) r is)
+
   -- there is no item any more
   pub ends-last : (e : Result Answer Fault) (w : World) → ended_of e ≡ last_of s.search s.number → Resumes (Next s) (Ok Exhausted) w w (End e)
   ends-last e w h =
@@ -155,6 +176,11 @@ module _ (s : Seeking) where
       equal-on t u (Answered (says b) ∷ more) ∙ ap (λ r. turned u r (λ j. seeking u s.search s.iterator s.needle j more)) (turn-from s.search s.number m b e) in
       asks-so (Equal s) (Next (record s { number = n })) (Ok (Truth b)) (task.Protocol (protocol.Next s.iterator)) w (λ t. on t (plain t w) []) (λ t u r more.
       on t u (Answered r ∷ more) ∙ alike u s.iterator s.needle s.search m n a (Answered r ∷ more) ∙ sym (on-told s.search s.iterator s.needle n [] u (Answered r ∷ more)))
+
+  -- another answer ends it
+  pub ends-untrue : (r : Result Answer Fault) (w : World) → IsNoTruth r → Resumes (Equal s) r w w (End r)
+  ends-untrue r w is =
+      ends-so (Equal s) r r w (λ t. equal-on t (plain t w) (Answered (ended_of r) ∷ []) ∙ no-truth (plain t w) s.iterator s.needle s.search (from_number s.search s.number) r is)
 
   -- or it ends
   pub ends-turn : (b : Bool) (e : Result Answer Fault) (w : World) → turn_of s.search s.number b ≡ Err (ended_of e) → Resumes (Equal s) (Ok (Truth b)) w w (End e)

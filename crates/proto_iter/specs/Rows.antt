@@ -1,8 +1,9 @@
 -- What the contracts of the rows of iterations say.
-use Rattle.std.specs.Prelude.{◌≡◌, ℕ, zero, suc, ◌^◌, ◌≤◌, ◌⊎◌, Bool, true, false, List, [], ◌∷◌, Result}
+use Rattle.std.specs.Prelude.{◌≡◌, ℕ, zero, suc, ◌^◌, ◌≤◌, ◌⊎◌, Bool, true, false, List, [], ◌∷◌, Option, Some, None, Result, Ok}
 use Rattle.py_node.specs.declared.raised.Raised.{Raised as Fault}
 use Rattle.py_node.specs.declared.refs.PyObjectRef.{PyObjectRef}
 use Rattle.py_node.specs.declared.task.Answer.{Answer}
+use Rattle.py_node.specs.declared.task.Answer.TheVariants.{Value, Truth, Exhausted}
 use Rattle.py_node.specs.declared.protocol.ProtocolTask.{ProtocolTask}
 use Rattle.py_node.specs.declared.task.Step.{Step}
 use Rattle.py_node.specs.declared.raised.Cause.TheVariants.{NotFound}
@@ -71,6 +72,21 @@ sought_told s more = way_told s.search (Answered (value s.iterator) ∷ rounds (
 -- numbers of items with which a search goes on alike: they are one, or both are too great to be told
 abbrev pub CountsAlike : ℕ → ℕ → Type 0
 CountsAlike n m = (n ≡ m) ⊎ ((2 ^ 63 ≤ n) × (2 ^ 63 ≤ m))
+
+-- an answer that is this item, or that there is none, and one that is neither
+abbrev pub IsItem : Option PyObjectRef → Result Answer Fault → Type 0
+IsItem (Some v) r = r ≡ Ok (Value v)
+IsItem None r = r ≡ Ok Exhausted
+
+abbrev pub IsNoItem : Result Answer Fault → Type 0
+IsNoItem (Ok (Value v)) = ⊥
+IsNoItem (Ok Exhausted) = ⊥
+IsNoItem _ = Unit {0}
+
+-- an answer that is no truth value
+abbrev pub IsNoTruth : Result Answer Fault → Type 0
+IsNoTruth (Ok (Truth b)) = ⊥
+IsNoTruth _ = Unit {0}
 
 -- the row that goes on, at each answer, just as the row that the code keeps this for
 abbrev pub iter_stands : Reading → IterKept → Pending ProtocolJob

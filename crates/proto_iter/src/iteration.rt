@@ -1,11 +1,11 @@
 //! How an iteration begins, its next item, and all its items.
 #![tactic(auto, unfolding(crate::specs::Say::iter_job_say))]
 
-ghost use Rattle.std.specs.Prelude.{◌≡◌, IfOk, Ok};
+ghost use Rattle.std.specs.Prelude.{◌≡◌, IfErr, IfOk, Ok};
 ghost use Rattle.py_node.specs.declared.protocol.ProtocolTask.TheVariants as protocol;
 ghost use Rattle.class_world.specs.Claims.{of_ended, of_step, Leaves};
 ghost use Rattle.class_world.specs.Sound.{AllHold, AreNodes, Holds, IsNode};
-ghost use Rattle.proto_iter.specs.Rows.{Begins, Resumes, of_iter_kept};
+ghost use Rattle.proto_iter.specs.Rows.{Begins, IsItem, IsNoItem, Resumes, of_iter_kept};
 
 use crate::IterKept;
 use class_world::World;
@@ -113,6 +113,21 @@ pub(crate) fn begin_items(world: &World, iterator: PyObjectRef) -> Step<IterKept
     )
 }
 
+/// The item that was answered, if there was one, or else another answer as it is.
+pub(crate) fn item_of(
+    answer: Result<Answer, Raised>,
+) -> Result<Option<PyObjectRef>, Result<Answer, Raised>>
+    ensures item { IfOk result (λ o. IsItem o answer) }
+    ensures same { IfErr result (λ other. other ≡ answer) }
+    ensures other { IfErr result (λ _. IsNoItem answer) }
+{
+    match answer {
+        Ok(Answer::Value(item)) => Ok(Some(item)),
+        Ok(Answer::Exhausted) => Ok(None),
+        other => Err(other),
+    }
+}
+
 /// One more item, after which the next one is asked for, or the end.
 pub(crate) fn item_collected(
     world: &World,
@@ -127,8 +142,8 @@ pub(crate) fn item_collected(
         Resumes (IterKept.Collecting iterator items) answer world.now world.now step) }
     ensures safe { Leaves of_iter_kept world.now world.now result }
 {
-    match answer {
-        Ok(Answer::Value(item)) => {
+    match item_of(answer) {
+        Ok(Some(item)) => {
             let mut more = items;
             more.push(item)?;
             if !is_within_limit(more.len()) {
@@ -140,7 +155,7 @@ pub(crate) fn item_collected(
                 IterKept::Collecting(iterator, more),
             ))
         }
-        Ok(Answer::Exhausted) => Ok(Step::End(Ok(Answer::Objects(items)))),
-        other => Ok(Step::End(other)),
+        Ok(None) => Ok(Step::End(Ok(Answer::Objects(items)))),
+        Err(other) => Ok(Step::End(other)),
     }
 }

@@ -7,9 +7,10 @@ ghost use Rattle.class_world.specs.Claims.{of_ended, of_step};
 ghost use Rattle.class_world.specs.Reading.{ended_of};
 ghost use Rattle.class_world.specs.Sound.{AllHold, Holds, IsNode};
 ghost use Rattle.proto_iter.specs.Iteration.{counted};
-ghost use Rattle.proto_iter.specs.Rows.{CountsAlike, Resumes, last_of, of_iter_kept, of_seeking, turn_of};
+ghost use Rattle.proto_iter.specs.Rows.{CountsAlike, IsNoTruth, Resumes, last_of, of_iter_kept, of_seeking, turn_of};
 
 use crate::IterKept;
+use crate::iteration::item_of;
 use class_world::World;
 use py_node::protocol::{CompareTask, ProtocolTask};
 use py_node::{Answer, Cause, PyObjectRef, Raised, Step, Task};
@@ -76,13 +77,13 @@ pub(crate) fn item_given(seeking: Seeking, answer: Result<Answer, Raised>) -> St
     ensures safe { (w : World) → AllHold w (of_seeking seeking) → AllHold w (of_ended answer) →
         AllHold w (of_step of_iter_kept result) }
 {
-    match answer {
-        Ok(Answer::Value(item)) => {
+    match item_of(answer) {
+        Ok(Some(item)) => {
             let task = CompareTask::BoolEq(item, seeking.needle);
             Step::Ask(Task::Compare(task), IterKept::Equal(seeking))
         }
-        Ok(Answer::Exhausted) => Step::End(last(seeking.search, seeking.number)),
-        other => Step::End(other),
+        Ok(None) => Step::End(last(seeking.search, seeking.number)),
+        Err(other) => Step::End(other),
     }
 }
 
@@ -92,17 +93,37 @@ pub(crate) fn equal_given(seeking: Seeking, answer: Result<Answer, Raised>) -> S
     ensures safe { (w : World) → AllHold w (of_seeking seeking) → AllHold w (of_ended answer) →
         AllHold w (of_step of_iter_kept result) }
 {
+    match truth_of(answer) {
+        Ok(equal) => turned(seeking, equal),
+        Err(other) => Step::End(other),
+    }
+}
+
+// The truth value that was answered, or else another answer as it is.
+fn truth_of(answer: Result<Answer, Raised>) -> Result<bool, Result<Answer, Raised>>
+    ensures truth { IfOk result (λ b. answer ≡ Ok (Answer.Truth b)) }
+    ensures same { IfErr result (λ other. other ≡ answer) }
+    ensures other { IfErr result (λ _. IsNoTruth answer) }
+{
     match answer {
-        Ok(Answer::Truth(equal)) => match turn(seeking.search, seeking.number, equal) {
-            Ok(number) => next_item(Seeking {
-                search: seeking.search,
-                iterator: seeking.iterator,
-                needle: seeking.needle,
-                number,
-            }),
-            Err(ended) => Step::End(ended),
-        },
-        other => Step::End(other),
+        Ok(Answer::Truth(equal)) => Ok(equal),
+        other => Err(other),
+    }
+}
+
+// An item was equal, or was not.
+fn turned(seeking: Seeking, equal: bool) -> Step<IterKept>
+    ensures goes { (w : World) → Resumes (IterKept.Equal seeking) (Ok (Answer.Truth equal)) w w result }
+    ensures safe { (w : World) → AllHold w (of_seeking seeking) → AllHold w (of_step of_iter_kept result) }
+{
+    match turn(seeking.search, seeking.number, equal) {
+        Ok(number) => next_item(Seeking {
+            search: seeking.search,
+            iterator: seeking.iterator,
+            needle: seeking.needle,
+            number,
+        }),
+        Err(ended) => Step::End(ended),
     }
 }
 
