@@ -37,3 +37,27 @@ pub returns-in-DelAttr-clause-goes : goal.returns-in-DelAttr-clause-goes
 returns-in-DelAttr-clause-goes c =
     let f = c.object_del_attr in
     subst (λ n. IfOk f.result (λ step. Does (λ t u. object_by u n c.args.args.now (bindings t c.args.kw.now)) c.args.world.now f.new.world step)) (sym c.in-DelAttr.is) f.ensures.goes
+
+pub returns-in-Str-clause-goes : goal.returns-in-Str-clause-goes
+returns-in-Str-clause-goes c =
+    let now = c.args.world.now in
+    let f = c.object_str in
+    subst (λ n. Does (λ t u. object_by u n c.args.args.now (bindings t c.args.kw.now)) now now f.result) (sym c.in-Str.is) f.ensures.goes
+
+pub returns-in-Format-clause-goes : goal.returns-in-Format-clause-goes
+returns-in-Format-clause-goes c =
+    let now = c.args.world.now in
+    let f = c.object_format in
+    subst (λ n. Does (λ t u. object_by u n c.args.args.now (bindings t c.args.kw.now)) now now f.result) (sym c.in-Format.is) f.ensures.goes
+
+pub returns-in-Dir-clause-goes : goal.returns-in-Dir-clause-goes
+returns-in-Dir-clause-goes c =
+    let now = c.args.world.now in
+    let f = c.object_dir in
+    subst (λ n. Does (λ t u. object_by u n c.args.args.now (bindings t c.args.kw.now)) now now f.result) (sym c.in-Dir.is) f.ensures.goes
+
+pub returns-in-Ne-clause-goes : goal.returns-in-Ne-clause-goes
+returns-in-Ne-clause-goes c =
+    let now = c.args.world.now in
+    let f = c.object_ne in
+    subst (λ n. Does (λ t u. object_by u n c.args.args.now (bindings t c.args.kw.now)) now now f.result) (sym c.in-Ne.is) f.ensures.goes
