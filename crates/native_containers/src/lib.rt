@@ -2,18 +2,22 @@
 #![tactic(auto, using(class_world::proofs::Items::item_holds))]
 
 mod dict;
-mod entries;
+pub mod entries;
 mod init;
 mod iterator;
-mod keys;
+pub mod keys;
 mod list;
-mod made;
+pub mod made;
 mod pairs;
-mod sequence;
-mod take;
+pub mod sequence;
+pub mod take;
 mod tuple;
 
 pub use dict::dict_native;
+pub use entries::{keys_of, values_of};
 pub use iterator::iterator_native;
 pub use list::list_native;
+pub use made::new_list;
+pub use pairs::new_pairs;
+pub use take::items;
 pub use tuple::tuple_native;
