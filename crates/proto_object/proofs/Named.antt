@@ -21,8 +21,8 @@ use Rattle.class_world.specs.declared.world.World.{World}
 use Rattle.class_world.specs.Reading.{Reading, Reads, bindings, ended_of, plain, spelled}
 use Rattle.class_world.specs.Rows.{EndsAs, Steps}
 use Rattle.class_world.specs.Sound.{IsName, AllHold, Holds, of_binding, of_each}
-use Rattle.native_objects.specs.Attributes.{keyed}
-use Rattle.proto_object.specs.Texts.{names_made, other_keys, own_keys}
+use Rattle.native_objects.specs.Attributes.{keyed, or_no_attributes}
+use Rattle.proto_object.specs.Texts.{attributes_for, dir_by, names_made, other_keys, own_keys}
 use Rattle.proto_object.specs.Say.{object_job_say}
 use Rattle.proto_object.specs.Rows.{Begins, object_stands}
 
@@ -73,3 +73,16 @@ module _ {A : Type 0} (p : A → Bool) where
 
   pub skips : (ys : List A) (x : A) (xs : List A) → p x ≡ false → ys ++ filter p xs ≡ ys ++ filter p (x ∷ xs)
   skips ys x xs e = ap (λ b. ys ++ cond b (x ∷ filter p xs) (filter p xs)) (sym e)
+
+-- the row of an object's names ends so
+pub dir-ends : (old new : World) (o : PyObjectRef) (said : Reading → PlainWorld → Said) (r : Result Answer Fault) → ((t : Reading) → Reads t old → object_job_say (plain t old) (DoDir o) [] ≡ said t (plain t old)) → EndsAs said old new r → Begins (object.Dir o) old new (End r)
+dir-ends old new o said r same h = λ t q.
+    let k = h t q in
+    (k.0, subst (λ s. Steps object_job_say (object_stands t) t (DoDir o) [] s (End r) new) (sym (same t k.0 ∙ k.1)) (refl, refl))
+
+pub dir-said : (u : PlainWorld) (o : PyObjectRef) (c : ℕ) (attrs : List (Text × PyObjectRef)) (keys others : List PyObjectRef) → class_at u o ≡ Some c → all_attributes is_text u.classes c ≡ Some attrs → own_keys u (dict_of u o) ≡ keys → other_keys u attrs keys ≡ others → object_job_say u (DoDir o) [] ≡ names_made others (keyed u [] attrs)
+unfolding object_job_say
+dir-said u o c attrs keys others class all own other =
+    (λ i. dir_by u (attributes_for u (class i)) (own i))
+    ∙ (λ i. dir_by u (or_no_attributes (all i)) keys)
+    ∙ ap (λ rs. names_made rs (keyed u [] attrs)) other

@@ -26,7 +26,7 @@ use Rattle.proto_object.specs.declared.turns.Turn.TheVariants.{InstanceOf, Subcl
 use Rattle.proto_object.specs.Classes.{by_way, way_of}
 use Rattle.proto_object.specs.Say.{object_job_say}
 use Rattle.proto_object.specs.Rows.{Begins, object_stands, turn_job, turn_step}
-use Rattle.proto_object.proofs.Turns.{noting-one, noting-two, takes-turn}
+use Rattle.proto_object.proofs.InTurn.{noting-one, noting-two, takes-turn}
 
 -- the way of a test, whether an object is an instance of a class
 abbrev instance_way : World → PyObjectRef → PyObjectRef → ℕ → Type 0
