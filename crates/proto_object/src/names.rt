@@ -1,7 +1,7 @@
 //! The names of an object's attributes.
 #![tactic(auto, unfolding(crate::specs::Say::object_job_say, py_node::specs::BuiltIns::place_of))]
 
-ghost use Rattle.std.specs.Prelude.{◌≡◌, [], IfOk};
+ghost use Rattle.std.specs.Prelude.{◌≡◌, ◌++◌, [], IfOk};
 ghost use Rattle.py_node.specs.declared.protocol.ObjectTask.TheVariants as object;
 ghost use Rattle.plain_machine.specs.Dicts.{dict_of};
 ghost use Rattle.class_world.specs.Claims.{Leaves};
@@ -22,6 +22,7 @@ use py_node::task::Args;
 use py_node::{
     Answer, BuiltIn, OutOfMemory, Payload, PyAttributes, PyObjectRef, Raised, Step,
 };
+use std::alloc::Global;
 
 /// The names of the attributes of an object's class, as new texts, and then the keys of its dict that are none of
 /// them, as a new list.
@@ -106,7 +107,21 @@ fn new_names(
     ensures safe { LeavesEnd world.old world.new result }
 {
     let entries = key_all(world, attrs)?;
-    let mut names = keys_of(world.alloc(), &entries)?;
-    names.extend_from_slice(others)?;
+    let keys = keys_of(world.alloc(), &entries)?;
+    let names = joined(world.alloc(), &keys, others)?;
     new_object(world, BuiltIn::List, Payload::List(names))
+}
+
+// Some objects, and others after them.
+fn joined(
+    alloc: Global,
+    first: &[PyObjectRef],
+    second: &[PyObjectRef],
+) -> Result<Args, OutOfMemory>
+    ensures { IfOk result (λ v. v.items ≡ first.now ++ second.now) }
+{
+    let mut all = Vec::new(alloc);
+    all.extend_from_slice(first)?;
+    all.extend_from_slice(second)?;
+    Ok(all)
 }
