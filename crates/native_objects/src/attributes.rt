@@ -141,8 +141,8 @@ fn new_key(world: &mut World, name: PyStrInterned) -> Result<PyObjectRef, OutOfM
     world.make_node(class, Payload::Text(text))
 }
 
-// The keys alone.
-fn keys_of(
+/// The keys alone.
+pub fn keys_of(
     alloc: Global,
     entries: &[(PyObjectRef, PyObjectRef)],
 ) -> Result<Vec<PyObjectRef>, OutOfMemory>

@@ -17,7 +17,7 @@ mod setters;
 mod take;
 mod types;
 
-pub use attributes::key_all;
+pub use attributes::{key_all, keys_of};
 pub use descriptors::{callable_native, descriptor_native, super_native, wrapper_native};
 pub use detail_setters::setter_of_native;
 pub use details::getter_of_native;
