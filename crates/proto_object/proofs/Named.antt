@@ -40,7 +40,7 @@ pub one-name : (t : Reading) (bs : Bound) (x : PyStrInterned) (text : Text) → 
 one-name t [] x text e = refl
 one-name t (b ∷ bs) x text e =
     let same : is_text text (t.text b.0.0) ≡ is_same_name b.0 x =
-        ap (λ z. is_text z (t.text b.0.0)) (sym e) ∙ t.same x.0 b.0.0 ∙ eqb-turned x.0 b.0.0 in
+    ap (λ z. is_text z (t.text b.0.0)) (sym e) ∙ t.same x.0 b.0.0 ∙ eqb-turned x.0 b.0.0 in
     ap (λ q. cond q (Some b.1) (value_of (λ y. is_text text y) (bindings t bs))) same
     ∙ ap (cond (is_same_name b.0 x) (Some b.1)) (one-name t bs x text e)
 
@@ -62,7 +62,7 @@ no-name t w (b ∷ bs) text r none h =
     let at = stands-at w.names b.0.0 h.0 in
     let test = bytes_eq-Decides text (t.text b.0.0) in
     let other : is_text text (t.text b.0.0) ≡ false =
-        otherwise _ (λ e. none b.0.0 (at.1 ∙ ap Some (sym (r.names b.0.0 at.0 at.1) ∙ sym (test.0 e)))) in
+    otherwise _ (λ e. none b.0.0 (at.1 ∙ ap Some (sym (r.names b.0.0 at.0 at.1) ∙ sym (test.0 e)))) in
     ap (λ q. cond q (Some b.1) (value_of (λ y. is_text text y) (bindings t bs))) other ∙ no-name t w bs text r none h.1.1
 
 -- one more item of a list, of which those are kept that pass a test

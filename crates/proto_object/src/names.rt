@@ -19,17 +19,12 @@ use native_containers::keys_of;
 use native_containers::take::entries;
 use native_objects::key_all;
 use py_node::task::Args;
-use py_node::{
-    Answer, BuiltIn, OutOfMemory, Payload, PyAttributes, PyObjectRef, Raised, Step,
-};
+use py_node::{Answer, BuiltIn, OutOfMemory, Payload, PyAttributes, PyObjectRef, Raised, Step};
 use std::alloc::Global;
 
 /// The names of the attributes of an object's class, as new texts, and then the keys of its dict that are none of
 /// them, as a new list.
-pub(crate) fn begin_dir(
-    world: &mut World,
-    o: PyObjectRef,
-) -> Result<Step<ObjectKept>, OutOfMemory>
+pub(crate) fn begin_dir(world: &mut World, o: PyObjectRef) -> Result<Step<ObjectKept>, OutOfMemory>
     requires { Holds world.old (IsNode o) }
     ensures goes { IfOk result (λ step. Begins (object.Dir o) world.old world.new step) }
     ensures safe { Leaves of_object_kept world.old world.new result }
@@ -113,11 +108,7 @@ fn new_names(
 }
 
 // Some objects, and others after them.
-fn joined(
-    alloc: Global,
-    first: &[PyObjectRef],
-    second: &[PyObjectRef],
-) -> Result<Args, OutOfMemory>
+fn joined(alloc: Global, first: &[PyObjectRef], second: &[PyObjectRef]) -> Result<Args, OutOfMemory>
     ensures { IfOk result (λ v. v.items ≡ first.now ++ second.now) }
 {
     let mut all = Vec::new(alloc);
