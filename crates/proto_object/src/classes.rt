@@ -1,7 +1,7 @@
 //! Instances of a class in the plain way: by the object's class, or else by what it gives as its class.
 #![tactic(auto, unfolding(crate::specs::Say::object_job_say))]
 
-ghost use Rattle.std.specs.Prelude.{◌≡◌, option_map};
+ghost use Rattle.std.specs.Prelude.{◌≡◌};
 ghost use Rattle.py_node.specs.declared.protocol.ObjectTask.TheVariants as object;
 ghost use Rattle.plain_machine.specs.Objects.{class_number};
 ghost use Rattle.plain_machine.specs.World.{datum_at};
