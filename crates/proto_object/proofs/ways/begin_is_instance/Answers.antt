@@ -21,9 +21,9 @@ returns-in-Plainly-clause-goes c =
 pub returns-in_ok-items-in-ByEach-clause-goes : goal.returns-in_ok-items-in-ByEach-clause-goes
 returns-in_ok-items-in-ByEach-clause-goes c =
     let a = c.args in
-    rw c.take_turn.ensures.step (instance-each a.world.now a.o a.c c.in_ok-items.items (λ t r. ap (λ b. way_of (plain t a.world.now) b Instancecheck a.c) (c.is_of-at_once.ensures t) ∙ c.way_of.ensures t r ∙ ap way_number c.in-ByEach.is) c.in_ok-items.ensures.items)
+    rw c.take_turn.ensures.step (instance-each a.world.now a.o a.c c.in_ok-items-in-ByEach.items (λ t r. ap (λ b. way_of (plain t a.world.now) b Instancecheck a.c) (c.is_of-at_once.ensures t) ∙ c.way_of.ensures t r ∙ ap way_number c.in-ByEach.is) c.in_ok-items-in-ByEach.ensures.items)
 
 pub returns-in_ok-args-in-Called-clause-goes : goal.returns-in_ok-args-in-Called-clause-goes
 returns-in_ok-args-in-Called-clause-goes c =
     let a = c.args in
-    instance-called a.world.now a.o a.c c.special-task.result (λ t r. ap (λ b. way_of (plain t a.world.now) b Instancecheck a.c) (c.is_of-at_once.ensures t) ∙ c.way_of.ensures t r ∙ ap way_number c.in-Called.is) (λ t r. c.special-task.ensures.task t r ∙ ap (λ rs. ToAttribute (DoSpecial a.c (known_text Instancecheck) rs [])) c.in_ok-args.ensures.items)
+    instance-called a.world.now a.o a.c c.special-task.result (λ t r. ap (λ b. way_of (plain t a.world.now) b Instancecheck a.c) (c.is_of-at_once.ensures t) ∙ c.way_of.ensures t r ∙ ap way_number c.in-Called.is) (λ t r. c.special-task.ensures.task t r ∙ ap (λ rs. ToAttribute (DoSpecial a.c (known_text Instancecheck) rs [])) c.in_ok-args-in-Called.ensures.items)
