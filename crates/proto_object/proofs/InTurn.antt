@@ -11,7 +11,7 @@ use Rattle.plain_machine.specs.Plain.{PlainWorld, ObjectJob, DoAbsSub, ATuple, A
 use Rattle.plain_machine.specs.Row.{noting, value}
 use Rattle.plain_machine.specs.World.{ref, datum_at}
 use Rattle.class_world.specs.declared.world.World.{World}
-use Rattle.class_world.specs.Reading.{Reading, Reads, plain}
+use Rattle.class_world.specs.Reading.{Reading, plain}
 use Rattle.class_world.specs.Rows.{Steps}
 use Rattle.class_world.specs.Held.{Held}
 use Rattle.class_world.specs.Sound.{AllHold, AreNodes, IsNode, Holds}

@@ -1,5 +1,5 @@
 -- The names of attributes, and the keys that are none of them.
-use Rattle.std.proofs.Common.{◌≡◌, ℕ, zero, suc, ◌+◌, ◌<◌, Bool, true, false, cond, not, List, [], ◌∷◌, ◌++◌, length, filter, map, drop, get_or, Option, Some, None, Ok, refl, sym, ap, ◌∙◌, subst, arith, append_assoc}
+use Rattle.std.proofs.Common.{◌≡◌, ℕ, zero, suc, ◌+◌, ◌<◌, Bool, true, false, cond, not, List, [], ◌∷◌, ◌++◌, length, filter, drop, get_or, Option, Some, None, refl, sym, ap, ◌∙◌, subst, arith, append_assoc}
 use Rattle.std.specs.Prelude.{eqb, slice_get, is_some}
 use Rattle.std.proofs.lemmas.Slice.Eq.{bytes_eq-Decides}
 use Rattle.std.proofs.lemmas.Bool.{eq-eqb, eqb-true}
@@ -15,14 +15,14 @@ use Rattle.py_node.specs.declared.payload.Payload.{Payload}
 use Rattle.py_node.specs.declared.payload.Payload.TheVariants as payload
 use Rattle.class_model.specs.Collect.{all_attributes}
 use Rattle.plain_machine.specs.Dicts.{dict_of, is_text_datum}
-use Rattle.plain_machine.specs.Plain.{Datum, AText, PlainWorld, DoDir, Said, Ends}
+use Rattle.plain_machine.specs.Plain.{Datum, AText, PlainWorld, DoDir, Said}
 use Rattle.plain_machine.specs.World.{is_text, class_at, datum_at}
 use Rattle.std.specs.Prelude.{Result}
 use Rattle.class_world.specs.Held.{Held}
 use Rattle.class_world.specs.declared.world.World.{World}
-use Rattle.class_world.specs.Reading.{Reading, Reads, bindings, datum, ended_of, plain, spelled}
+use Rattle.class_world.specs.Reading.{Reading, Reads, bindings, datum, plain}
 use Rattle.class_world.specs.Rows.{EndsAs, Steps}
-use Rattle.class_world.specs.Sound.{IsName, IsNode, AreNodes, AllHold, Holds, of_binding, of_each}
+use Rattle.class_world.specs.Sound.{IsNode, AreNodes, AllHold, Holds, of_binding, of_each}
 use Rattle.class_world.proofs.Claims.{more-nodes}
 use Rattle.native_objects.specs.Attributes.{keyed, or_no_attributes}
 use Rattle.proto_object.specs.Texts.{attributes_for, dir_by, has_name, names_made, other_keys, own_keys}
@@ -139,18 +139,24 @@ AreOthers w attrs keys others i =
 
 module _ (w : World) (attrs : Bound) (keys others : List PyObjectRef) (i : ℕ) (d : PyObjectRef) (b : Bool) (below : i < length keys) (sofar : AreOthers w attrs keys others i) (named : (t : Reading) → Reads t w → has_name (plain t w) (bindings t attrs) (get_or keys i d) ≡ b) where
   pub others-more : Holds w (AreNodes keys) → not b ≡ true → AreOthers w attrs keys (others ++ get_or keys i d ∷ []) (i + 1)
-  others-more h q = (more-nodes w others (get_or keys i d) sofar.0 (node-at w keys i d h below), λ t r.
-    let p : PyObjectRef → Bool = λ k. not (has_name (plain t w) (bindings t attrs) k) in
-    keeps p others (get_or keys i d) (drop (i + 1) keys) (ap not (named t r) ∙ q)
-    ∙ ap (λ l. others ++ filter p l) (sym (drop-at keys i d below))
-    ∙ sofar.1 t r)
+  others-more h q = (
+    more-nodes w others (get_or keys i d) sofar.0 (node-at w keys i d h below),
+    λ t r.
+        let p : PyObjectRef → Bool = λ k. not (has_name (plain t w) (bindings t attrs) k) in
+        keeps p others (get_or keys i d) (drop (i + 1) keys) (ap not (named t r) ∙ q)
+        ∙ ap (λ l. others ++ filter p l) (sym (drop-at keys i d below))
+        ∙ sofar.1 t r,
+  )
 
   pub others-same : not b ≡ false → AreOthers w attrs keys others (i + 1)
-  others-same q = (sofar.0, λ t r.
-    let p : PyObjectRef → Bool = λ k. not (has_name (plain t w) (bindings t attrs) k) in
-    skips p others (get_or keys i d) (drop (i + 1) keys) (ap not (named t r) ∙ q)
-    ∙ ap (λ l. others ++ filter p l) (sym (drop-at keys i d below))
-    ∙ sofar.1 t r)
+  others-same q = (
+    sofar.0,
+    λ t r.
+        let p : PyObjectRef → Bool = λ k. not (has_name (plain t w) (bindings t attrs) k) in
+        skips p others (get_or keys i d) (drop (i + 1) keys) (ap not (named t r) ∙ q)
+        ∙ ap (λ l. others ++ filter p l) (sym (drop-at keys i d below))
+        ∙ sofar.1 t r,
+  )
 
 -- the row of an object's names ends so
 pub dir-ends : (old new : World) (o : PyObjectRef) (said : Reading → PlainWorld → Said) (r : Result Answer Fault) → ((t : Reading) → Reads t old → object_job_say (plain t old) (DoDir o) [] ≡ said t (plain t old)) → EndsAs said old new r → Begins (object.Dir o) old new (End r)

@@ -1,8 +1,6 @@
-use Rattle.std.proofs.Common.{◌≡◌, Some, ap, sym, subst, ◌∙◌}
+use Rattle.std.proofs.Common.{Some, ap, sym, ◌∙◌}
 use Rattle.std.specs.Prelude.{is_some, slice_get, string_bytes}
 use Rattle.class_world.specs.Reading.{bindings, datum, plain}
-use Rattle.plain_machine.specs.World.{is_text}
-use Rattle.py_node.specs.Attributes.{value_of}
 use Rattle.proto_object.proofs.Named.{no-name, one-name, other-no-name, text-named}
 use Rattle.proto_object.proofs.names.has_name.Goals as goal
 

@@ -1,4 +1,4 @@
-use Rattle.std.proofs.Common.{◌+◌, ◌++◌, true, false, refl, ap, sym, subst, ◌∙◌}
+use Rattle.std.proofs.Common.{◌+◌, ◌++◌, true, false, refl, ap, sym, subst}
 use Rattle.class_world.specs.Reading.{bindings, plain}
 use Rattle.class_world.proofs.Claims.{no-nodes}
 use Rattle.proto_object.specs.Texts.{other_keys}
@@ -25,6 +25,6 @@ loop-key-preserved c =
     let keys = a.keys.now in
     let next = l.key-index + 1 in
     elim c.if-not-has_name.branch [
-      then-not-has_name+in_ok-push b ↦ subst (λ v. AreOthers w bs keys v.items next) (sym b.others-is) (subst (λ rs. AreOthers w bs keys rs next) (sym b.in_ok-push.ensures.items) (others-more w bs keys l.others.items l.key-index (record { 0 = 0 }) false c.loop-key-test.true l.invariant b.if-not-has_name.ensures c.requires.keys refl))
-    | else-not-has_name b ↦ subst (λ v. AreOthers w bs keys v.items next) (sym b.others-is) (others-same w bs keys l.others.items l.key-index (record { 0 = 0 }) true c.loop-key-test.true l.invariant b.if-not-has_name.ensures refl)
+      | then-not-has_name+in_ok-push b ↦ subst (λ v. AreOthers w bs keys v.items next) (sym b.others-is) (subst (λ rs. AreOthers w bs keys rs next) (sym b.in_ok-push.ensures.items) (others-more w bs keys l.others.items l.key-index (record { 0 = 0 }) false c.loop-key-test.true l.invariant b.if-not-has_name.ensures c.requires.keys refl))
+      | else-not-has_name b ↦ subst (λ v. AreOthers w bs keys v.items next) (sym b.others-is) (others-same w bs keys l.others.items l.key-index (record { 0 = 0 }) true c.loop-key-test.true l.invariant b.if-not-has_name.ensures refl)
     ]

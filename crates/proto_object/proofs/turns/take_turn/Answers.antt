@@ -1,4 +1,4 @@
-use Rattle.std.proofs.Common.{◌≡◌, ◌+◌, ap, sym, ◌∙◌, [], ◌∷◌, drop, Some, None}
+use Rattle.std.proofs.Common.{◌≡◌, ◌+◌, ap, sym, ◌∙◌, Some, None}
 use Rattle.std.specs.Prelude.{slice_get}
 use Rattle.py_node.specs.declared.task.Step.TheVariants.{Ask}
 use Rattle.py_node.specs.declared.task.Task.TheVariants as task

@@ -1,4 +1,4 @@
-use Rattle.std.proofs.Common.{ap, ◌∙◌, [], ◌∷◌}
+use Rattle.std.proofs.Common.{ap, ◌∙◌, []}
 use Rattle.py_node.specs.declared.known.Known.TheVariants.{Instancecheck}
 use Rattle.py_node.specs.Known.{known_text}
 use Rattle.plain_machine.specs.Plain.{DoSpecial, ToAttribute}
