@@ -1,3 +1,3 @@
-pub mod Turns
-pub mod Ways
+pub mod InTurn
+pub mod ByWay
 pub mod Named

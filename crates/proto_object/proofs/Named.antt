@@ -1,8 +1,8 @@
 -- The names of attributes, and the keys that are none of them.
-use Rattle.std.proofs.Common.{◌≡◌, ℕ, zero, suc, ◌<◌, Bool, true, false, cond, not, List, [], ◌∷◌, ◌++◌, length, filter, map, Some, None, Ok, refl, sym, ap, ◌∙◌, subst, arith, append_assoc}
+use Rattle.std.proofs.Common.{◌≡◌, ℕ, zero, suc, ◌+◌, ◌<◌, Bool, true, false, cond, not, List, [], ◌∷◌, ◌++◌, length, filter, drop, get_or, Option, Some, None, refl, sym, ap, ◌∙◌, subst, arith, append_assoc}
 use Rattle.std.specs.Prelude.{eqb, slice_get, is_some}
 use Rattle.std.proofs.lemmas.Slice.Eq.{bytes_eq-Decides}
-use Rattle.std.proofs.lemmas.Bool.{true≢false}
+use Rattle.std.proofs.lemmas.Bool.{eq-eqb, eqb-true}
 use Rattle.py_node.specs.declared.refs.PyObjectRef.{PyObjectRef}
 use Rattle.py_node.specs.declared.refs.PyStrInterned.{PyStrInterned}
 use Rattle.py_node.specs.declared.protocol.ObjectTask.TheVariants as object
@@ -11,36 +11,42 @@ use Rattle.py_node.specs.declared.task.Answer.{Answer}
 use Rattle.py_node.specs.declared.task.Step.TheVariants.{End}
 use Rattle.py_node.specs.Attributes.{is_same_name, value_of}
 use Rattle.py_node.specs.Tree.{Text}
+use Rattle.py_node.specs.declared.payload.Payload.{Payload}
+use Rattle.py_node.specs.declared.payload.Payload.TheVariants as payload
 use Rattle.class_model.specs.Collect.{all_attributes}
-use Rattle.plain_machine.specs.Dicts.{dict_of}
-use Rattle.plain_machine.specs.Plain.{PlainWorld, DoDir, Said, Ends}
-use Rattle.plain_machine.specs.World.{is_text, class_at}
+use Rattle.plain_machine.specs.Dicts.{dict_of, is_text_datum}
+use Rattle.plain_machine.specs.Plain.{Datum, AText, PlainWorld, DoDir, Said}
+use Rattle.plain_machine.specs.World.{is_text, class_at, datum_at}
 use Rattle.std.specs.Prelude.{Result}
 use Rattle.class_world.specs.Held.{Held}
 use Rattle.class_world.specs.declared.world.World.{World}
-use Rattle.class_world.specs.Reading.{Reading, Reads, bindings, ended_of, plain, spelled}
+use Rattle.class_world.specs.Reading.{Reading, Reads, bindings, datum, plain}
 use Rattle.class_world.specs.Rows.{EndsAs, Steps}
-use Rattle.class_world.specs.Sound.{IsName, AllHold, Holds, of_binding, of_each}
-use Rattle.native_objects.specs.Attributes.{keyed}
-use Rattle.proto_object.specs.Texts.{names_made, other_keys, own_keys}
+use Rattle.class_world.specs.Sound.{IsNode, AreNodes, AllHold, Holds, of_binding, of_each}
+use Rattle.class_world.proofs.Claims.{more-nodes}
+use Rattle.native_objects.specs.Attributes.{keyed, or_no_attributes}
+use Rattle.proto_object.specs.Texts.{attributes_for, dir_by, has_name, names_made, other_keys, own_keys}
 use Rattle.proto_object.specs.Say.{object_job_say}
 use Rattle.proto_object.specs.Rows.{Begins, object_stands}
 
-Bound : Type 0
+abbrev pub Bound : Type 0
 Bound = List (PyStrInterned × PyObjectRef)
 
+one-truth : (a b : Bool) → (a ≡ true → b ≡ true) → (b ≡ true → a ≡ true) → a ≡ b
+one-truth true b f g = sym (f refl)
+one-truth false true f g = g refl
+one-truth false false f g = refl
+
 eqb-turned : (n m : ℕ) → eqb n m ≡ eqb m n
-eqb-turned zero zero = refl
-eqb-turned zero (suc m) = refl
-eqb-turned (suc n) zero = refl
-eqb-turned (suc n) (suc m) = eqb-turned n m
+eqb-turned n m =
+    one-truth (eqb n m) (eqb m n) (λ e. eq-eqb m n (sym (eqb-true n m e))) (λ e. eq-eqb n m (sym (eqb-true m n e)))
 
 -- a key that is the text of a name
 pub one-name : (t : Reading) (bs : Bound) (x : PyStrInterned) (text : Text) → t.text x.0 ≡ text → value_of (λ y. is_text text y) (bindings t bs) ≡ value_of (λ k. is_same_name k x) bs
 one-name t [] x text e = refl
 one-name t (b ∷ bs) x text e =
     let same : is_text text (t.text b.0.0) ≡ is_same_name b.0 x =
-        ap (λ z. is_text z (t.text b.0.0)) (sym e) ∙ t.same x.0 b.0.0 ∙ eqb-turned x.0 b.0.0 in
+    ap (λ z. is_text z (t.text b.0.0)) (sym e) ∙ t.same x.0 b.0.0 ∙ eqb-turned x.0 b.0.0 in
     ap (λ q. cond q (Some b.1) (value_of (λ y. is_text text y) (bindings t bs))) same
     ∙ ap (cond (is_same_name b.0 x) (Some b.1)) (one-name t bs x text e)
 
@@ -62,7 +68,7 @@ no-name t w (b ∷ bs) text r none h =
     let at = stands-at w.names b.0.0 h.0 in
     let test = bytes_eq-Decides text (t.text b.0.0) in
     let other : is_text text (t.text b.0.0) ≡ false =
-        otherwise _ (λ e. none b.0.0 (at.1 ∙ ap Some (sym (r.names b.0.0 at.0 at.1) ∙ sym (test.0 e)))) in
+    otherwise _ (λ e. none b.0.0 (at.1 ∙ ap Some (sym (r.names b.0.0 at.0 at.1) ∙ sym (test.0 e)))) in
     ap (λ q. cond q (Some b.1) (value_of (λ y. is_text text y) (bindings t bs))) other ∙ no-name t w bs text r none h.1.1
 
 -- one more item of a list, of which those are kept that pass a test
@@ -73,3 +79,94 @@ module _ {A : Type 0} (p : A → Bool) where
 
   pub skips : (ys : List A) (x : A) (xs : List A) → p x ≡ false → ys ++ filter p xs ≡ ys ++ filter p (x ∷ xs)
   skips ys x xs e = ap (λ b. ys ++ cond b (x ∷ filter p xs) (filter p xs)) (sym e)
+
+-- what is no text is no name
+not-text : (t : Reading) (p : Payload) → ((x : _) → p ≡ payload.Text x → ⊥) → (y : Text) → is_text_datum y (Some (datum t p)) ≡ false
+not-text t payload.Object h y = refl
+not-text t (payload.Class c) h y = refl
+not-text t (payload.Number z) h y = refl
+not-text t (payload.Text s) h y = absurd (h s refl)
+not-text t (payload.Tuple rs) h y = refl
+not-text t (payload.List rs) h y = refl
+not-text t (payload.Dict es) h y = refl
+not-text t (payload.Function f) h y = refl
+not-text t (payload.Method m) h y = refl
+not-text t (payload.NativeFunction f) h y = refl
+not-text t (payload.BuiltinMethod m) h y = refl
+not-text t (payload.MethodDescriptor m) h y = refl
+not-text t (payload.GetSet g) h y = refl
+not-text t (payload.ClassMethod r) h y = refl
+not-text t (payload.StaticMethod r) h y = refl
+not-text t (payload.Member m) h y = refl
+not-text t (payload.Property p) h y = refl
+not-text t (payload.Super s) h y = refl
+not-text t (payload.Iterator i) h y = refl
+not-text t (payload.Slice s) h y = refl
+
+under-none : (d : Option Datum) (bs : List (Text × PyObjectRef)) → ((y : Text) → is_text_datum y d ≡ false) → is_some (value_of (λ y. is_text_datum y d) bs) ≡ false
+under-none d [] h = refl
+under-none d (b ∷ bs) h =
+    ap (λ q. is_some (cond q (Some b.1) (value_of (λ y. is_text_datum y d) bs))) (h b.0) ∙ under-none d bs h
+
+pub other-no-name : (t : Reading) (u : PlainWorld) (bs : List (Text × PyObjectRef)) (key : PyObjectRef) (p : Payload) → datum_at u key ≡ Some (datum t p) → ((x : _) → p ≡ payload.Text x → ⊥) → has_name u bs key ≡ false
+other-no-name t u bs key p e h =
+    ap (λ d. is_some (value_of (λ y. is_text_datum y d) bs)) e ∙ under-none (Some (datum t p)) bs (not-text t p h)
+
+-- a key that holds a text is named as the text is
+pub text-named : (u : PlainWorld) (bs : List (Text × PyObjectRef)) (key : PyObjectRef) (text : Text) → datum_at u key ≡ Some (AText text) → has_name u bs key ≡ is_some (value_of (λ y. is_text text y) bs)
+text-named u bs key text e = ap (λ d. is_some (value_of (λ y. is_text_datum y d) bs)) e
+
+-- the first of some items that are left
+drop-at : {A : Type 0} (xs : List A) (i : ℕ) (d : A) → i < length xs → drop i xs ≡ get_or xs i d ∷ drop (i + 1) xs
+drop-at [] i d l = absurd (omega arith)
+drop-at (x ∷ xs) zero d l = refl
+drop-at (x ∷ xs) (suc i) d l =
+    let next : i + 1 ≡ suc i = omega arith in
+    let later : suc i + 1 ≡ suc (suc i) = omega arith in
+    drop-at xs i d (omega arith)
+    ∙ ap (λ n. get_or xs i d ∷ drop n xs) next
+    ∙ ap (λ n. get_or xs i d ∷ drop n (x ∷ xs)) (sym later)
+
+pub node-at : (w : Held) (rs : List PyObjectRef) (i : ℕ) (d : PyObjectRef) → Holds w (AreNodes rs) → i < length rs → Holds w (IsNode (get_or rs i d))
+unfolding Holds
+node-at w rs i d h l = h i d l
+
+-- the keys that are none of the names, as far as a place
+abbrev pub AreOthers : World → Bound → List PyObjectRef → List PyObjectRef → ℕ → Type 0
+AreOthers w attrs keys others i =
+    Holds w (AreNodes others)
+    × ((t : Reading) → Reads t w → others ++ filter (λ k. not (has_name (plain t w) (bindings t attrs) k)) (drop i keys) ≡ other_keys (plain t w) (bindings t attrs) keys)
+
+module _ (w : World) (attrs : Bound) (keys others : List PyObjectRef) (i : ℕ) (d : PyObjectRef) (b : Bool) (below : i < length keys) (sofar : AreOthers w attrs keys others i) (named : (t : Reading) → Reads t w → has_name (plain t w) (bindings t attrs) (get_or keys i d) ≡ b) where
+  pub others-more : Holds w (AreNodes keys) → not b ≡ true → AreOthers w attrs keys (others ++ get_or keys i d ∷ []) (i + 1)
+  others-more h q = (
+    more-nodes w others (get_or keys i d) sofar.0 (node-at w keys i d h below),
+    λ t r.
+        let p : PyObjectRef → Bool = λ k. not (has_name (plain t w) (bindings t attrs) k) in
+        keeps p others (get_or keys i d) (drop (i + 1) keys) (ap not (named t r) ∙ q)
+        ∙ ap (λ l. others ++ filter p l) (sym (drop-at keys i d below))
+        ∙ sofar.1 t r,
+  )
+
+  pub others-same : not b ≡ false → AreOthers w attrs keys others (i + 1)
+  others-same q = (
+    sofar.0,
+    λ t r.
+        let p : PyObjectRef → Bool = λ k. not (has_name (plain t w) (bindings t attrs) k) in
+        skips p others (get_or keys i d) (drop (i + 1) keys) (ap not (named t r) ∙ q)
+        ∙ ap (λ l. others ++ filter p l) (sym (drop-at keys i d below))
+        ∙ sofar.1 t r,
+  )
+
+-- the row of an object's names ends so
+pub dir-ends : (old new : World) (o : PyObjectRef) (said : Reading → PlainWorld → Said) (r : Result Answer Fault) → ((t : Reading) → Reads t old → object_job_say (plain t old) (DoDir o) [] ≡ said t (plain t old)) → EndsAs said old new r → Begins (object.Dir o) old new (End r)
+dir-ends old new o said r same h = λ t q.
+    let k = h t q in
+    (k.0, subst (λ s. Steps object_job_say (object_stands t) t (DoDir o) [] s (End r) new) (sym (same t k.0 ∙ k.1)) (refl, refl))
+
+pub dir-said : (u : PlainWorld) (o : PyObjectRef) (c : ℕ) (attrs : List (Text × PyObjectRef)) (keys others : List PyObjectRef) → class_at u o ≡ Some c → all_attributes is_text u.classes c ≡ Some attrs → own_keys u (dict_of u o) ≡ keys → other_keys u attrs keys ≡ others → object_job_say u (DoDir o) [] ≡ names_made others (keyed u [] attrs)
+unfolding object_job_say
+dir-said u o c attrs keys others class all own other =
+    (λ i. dir_by u (attributes_for u (class i)) (own i))
+    ∙ (λ i. dir_by u (or_no_attributes (all i)) keys)
+    ∙ ap (λ rs. names_made rs (keyed u [] attrs)) other

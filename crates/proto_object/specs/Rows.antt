@@ -1,5 +1,5 @@
 -- What the contracts of the rows of what all objects can do say.
-use Rattle.std.specs.Prelude.{ℕ, zero, suc, false, List, [], ◌∷◌, drop, Result, Ok}
+use Rattle.std.specs.Prelude.{ℕ, false, List, [], ◌∷◌, drop, Result, Ok}
 use Rattle.py_node.specs.declared.raised.Raised.{Raised as Fault}
 use Rattle.py_node.specs.declared.refs.PyObjectRef.{PyObjectRef}
 use Rattle.py_node.specs.declared.protocol.ObjectTask.{ObjectTask}

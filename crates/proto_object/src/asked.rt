@@ -1,6 +1,6 @@
 //! What several rows ask or read: a special method, an attribute, a truth value that is told.
 
-ghost use Rattle.std.specs.Prelude.{◌≡◌, IfSome};
+ghost use Rattle.std.specs.Prelude.{◌≡◌, [], IfSome};
 ghost use Rattle.py_node.specs.Known.{known_text};
 ghost use Rattle.plain_machine.specs.Objects.{special_at};
 ghost use Rattle.plain_machine.specs.Plain.{ToAttribute, DoSpecial};

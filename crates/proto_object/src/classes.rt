@@ -1,7 +1,7 @@
 //! Instances of a class in the plain way: by the object's class, or else by what it gives as its class.
 #![tactic(auto, unfolding(crate::specs::Say::object_job_say))]
 
-ghost use Rattle.std.specs.Prelude.{◌≡◌, option_map};
+ghost use Rattle.std.specs.Prelude.{◌≡◌};
 ghost use Rattle.py_node.specs.declared.protocol.ObjectTask.TheVariants as object;
 ghost use Rattle.plain_machine.specs.Objects.{class_number};
 ghost use Rattle.plain_machine.specs.World.{datum_at};
@@ -26,12 +26,16 @@ pub(crate) fn begin_inst(world: &World, o: PyObjectRef, c: PyObjectRef) -> Step<
     ensures safe { AllHold world.now (of_step of_object_kept result) }
 {
     match world.class_number(c) {
-        None => Step::Ask(attribute(world, c, Known::Bases), ObjectKept::AfterBases(o, c)),
+        None => {
+            let bases = attribute(world, c, Known::Bases);
+            Step::Ask(bases, ObjectKept::AfterBases(o, c))
+        }
         Some(class) => {
             if world.is_instance(o, class) {
                 says(true)
             } else {
-                Step::Ask(attribute(world, o, Known::Class), ObjectKept::AfterClass(o, c))
+                let given = attribute(world, o, Known::Class);
+                Step::Ask(given, ObjectKept::AfterClass(o, c))
             }
         }
     }
@@ -102,7 +106,8 @@ pub(crate) fn has_bases(
 {
     match answer {
         Ok(Answer::Value(_)) => {
-            Step::Ask(attribute(world, o, Known::Class), ObjectKept::AfterOther(c))
+            let given = attribute(world, o, Known::Class);
+            Step::Ask(given, ObjectKept::AfterOther(c))
         }
         other => Step::End(without_bases(other)),
     }

@@ -16,7 +16,7 @@ pub mod turns;
 pub mod ways;
 
 use class_world::World;
-use classes::{begin_inst, class_of_other, class_given, has_bases};
+use classes::{begin_inst, class_given, class_of_other, has_bases};
 use names::begin_dir;
 use py_node::protocol::ObjectTask;
 use py_node::task::Args;

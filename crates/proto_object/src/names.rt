@@ -1,7 +1,7 @@
 //! The names of an object's attributes.
 #![tactic(auto, unfolding(crate::specs::Say::object_job_say, py_node::specs::BuiltIns::place_of))]
 
-ghost use Rattle.std.specs.Prelude.{◌≡◌, filter, map, not, IfOk};
+ghost use Rattle.std.specs.Prelude.{◌≡◌, ◌++◌, [], IfOk};
 ghost use Rattle.py_node.specs.declared.protocol.ObjectTask.TheVariants as object;
 ghost use Rattle.plain_machine.specs.Dicts.{dict_of};
 ghost use Rattle.class_world.specs.Claims.{Leaves};
@@ -15,41 +15,40 @@ ghost use Rattle.proto_object.specs.Rows.{Begins, of_object_kept};
 use crate::ObjectKept;
 use class_world::World;
 use native_base::give::new_object;
-use native_objects::{key_all, keys_of};
+use native_containers::keys_of;
+use native_containers::take::entries;
+use native_objects::key_all;
 use py_node::task::Args;
-use py_node::{
-    Answer, BuiltIn, OutOfMemory, Payload, PyAttributes, PyObjectRef, Raised, Step,
-};
+use py_node::{Answer, BuiltIn, OutOfMemory, Payload, PyAttributes, PyObjectRef, Raised, Step};
+use std::alloc::Global;
 
 /// The names of the attributes of an object's class, as new texts, and then the keys of its dict that are none of
 /// them, as a new list.
-pub(crate) fn begin_dir(
-    world: &mut World,
-    o: PyObjectRef,
-) -> Result<Step<ObjectKept>, OutOfMemory>
+pub(crate) fn begin_dir(world: &mut World, o: PyObjectRef) -> Result<Step<ObjectKept>, OutOfMemory>
     requires { Holds world.old (IsNode o) }
     ensures goes { IfOk result (λ step. Begins (object.Dir o) world.old world.new step) }
     ensures safe { Leaves of_object_kept world.old world.new result }
 {
     let attrs = world.get_attributes(world.class_of(o))?;
-    let others = other_keys(world, &attrs, own_entries(world, o))?;
+    let keys = own_keys(world, o)?;
+    let others = other_keys(world, &attrs, &keys)?;
     let ended = new_names(world, &attrs, &others)?;
     Ok(Step::End(ended))
 }
 
-// The entries of an object's dict, if it has one.
-fn own_entries(world: &World, o: PyObjectRef) -> &[(PyObjectRef, PyObjectRef)]
+// The keys of an object's dict, if it has one.
+fn own_keys(world: &World, o: PyObjectRef) -> Result<Args, OutOfMemory>
     requires { Holds world.now (IsNode o) }
-    ensures keys { (t : Reading) → own_keys (plain t world.now) (dict_of (plain t world.now) o) ≡
-        map (λ e. e.0) result.now }
-    ensures holds { Holds world.now (AreNodes (map (λ e. e.0) result.now)) }
+    ensures keys { IfOk result (λ v. (t : Reading) →
+        own_keys (plain t world.now) (dict_of (plain t world.now) o) ≡ v.items) }
+    ensures holds { IfOk result (λ v. Holds world.now (AreNodes v.items)) }
 {
     match world.dict_of(o) {
-        None => &[],
-        Some(dict) => match world.payload(dict) {
-            Payload::Dict(entries) => entries,
-            _ => &[],
-        },
+        None => Ok(Vec::new(world.alloc())),
+        Some(dict) => {
+            let keys = keys_of(world.alloc(), entries(world, dict))?;
+            Ok(keys)
+        }
     }
 }
 
@@ -57,18 +56,18 @@ fn own_entries(world: &World, o: PyObjectRef) -> &[(PyObjectRef, PyObjectRef)]
 fn other_keys(
     world: &World,
     attrs: &PyAttributes,
-    entries: &[(PyObjectRef, PyObjectRef)],
+    keys: &[PyObjectRef],
 ) -> Result<Args, OutOfMemory>
     requires attrs { AllHold world.now (of_each of_binding attrs.now) }
-    requires keys { Holds world.now (AreNodes (map (λ e. e.0) entries.now)) }
+    requires keys { Holds world.now (AreNodes keys.now) }
     ensures others { IfOk result (λ v. (t : Reading) → Reads t world.now →
-        other_keys (plain t world.now) (bindings t attrs.now) (map (λ e. e.0) entries.now) ≡ v.items) }
+        other_keys (plain t world.now) (bindings t attrs.now) keys.now ≡ v.items) }
     ensures holds { IfOk result (λ v. Holds world.now (AreNodes v.items)) }
 {
     let mut others = Vec::new(world.alloc());
-    for entry in entries {
-        if !has_name(world, attrs, entry.0) {
-            others.push(entry.0)?;
+    for key in keys {
+        if !has_name(world, attrs, *key) {
+            others.push(*key)?;
         }
     }
     Ok(others)
@@ -103,7 +102,17 @@ fn new_names(
     ensures safe { LeavesEnd world.old world.new result }
 {
     let entries = key_all(world, attrs)?;
-    let mut names = keys_of(world.alloc(), &entries)?;
-    names.extend_from_slice(others)?;
+    let keys = keys_of(world.alloc(), &entries)?;
+    let names = joined(world.alloc(), &keys, others)?;
     new_object(world, BuiltIn::List, Payload::List(names))
+}
+
+// Some objects, and others after them.
+fn joined(alloc: Global, first: &[PyObjectRef], second: &[PyObjectRef]) -> Result<Args, OutOfMemory>
+    ensures { IfOk result (λ v. v.items ≡ first.now ++ second.now) }
+{
+    let mut all = Vec::new(alloc);
+    all.extend_from_slice(first)?;
+    all.extend_from_slice(second)?;
+    Ok(all)
 }

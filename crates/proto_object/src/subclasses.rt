@@ -25,7 +25,10 @@ pub(crate) fn begin_sub(world: &World, d: PyObjectRef, c: PyObjectRef) -> Step<O
 {
     match (world.class_number(d), world.class_number(c)) {
         (Some(class), Some(other)) => says(world.is_sub(class, other)),
-        _ => Step::Ask(attribute(world, d, Known::Bases), ObjectKept::AfterFirst(d, c)),
+        _ => {
+            let bases = attribute(world, d, Known::Bases);
+            Step::Ask(bases, ObjectKept::AfterFirst(d, c))
+        }
     }
 }
 
@@ -44,7 +47,8 @@ pub(crate) fn first_has_bases(
 {
     match answer {
         Ok(Answer::Value(_)) => {
-            Step::Ask(attribute(world, c, Known::Bases), ObjectKept::AfterSecond(d, c))
+            let bases = attribute(world, c, Known::Bases);
+            Step::Ask(bases, ObjectKept::AfterSecond(d, c))
         }
         other => Step::End(without_bases(other)),
     }
@@ -83,7 +87,8 @@ pub(crate) fn begin_derived(world: &World, d: PyObjectRef, c: PyObjectRef) -> St
     if d.0 == c.0 {
         says(true)
     } else {
-        Step::Ask(attribute(world, d, Known::Bases), ObjectKept::AfterOwn(c))
+        let bases = attribute(world, d, Known::Bases);
+        Step::Ask(bases, ObjectKept::AfterOwn(c))
     }
 }
 

@@ -1,7 +1,7 @@
 //! An object's hash, and its texts.
 #![tactic(auto, unfolding(crate::specs::Say::object_job_say, py_node::specs::BuiltIns::place_of))]
 
-ghost use Rattle.std.specs.Prelude.{◌≡◌, IfOk};
+ghost use Rattle.std.specs.Prelude.{◌≡◌, [], IfOk};
 ghost use Rattle.py_node.specs.declared.protocol.ObjectTask.TheVariants as object;
 ghost use Rattle.class_world.specs.Claims.{of_ended, of_step, Leaves};
 ghost use Rattle.class_world.specs.Reading.{Reading, ended_of, plain};

@@ -19,6 +19,7 @@ use crate::asked::{method, says, special};
 use crate::turns::{Turn, take_turn};
 use class_world::World;
 use class_world::args::{alone, copy_args};
+use native_containers::items;
 use proto_base::is_exactly;
 use py_node::protocol::{ObjectTask, ProtocolTask};
 use py_node::task::Args;
@@ -149,12 +150,8 @@ fn items_of(world: &World, object: PyObjectRef) -> Result<Args, OutOfMemory>
     ensures items { IfOk result (λ v. (t : Reading) → items_at (plain t world.now) object ≡ v.items) }
     ensures holds { IfOk result (λ v. Holds world.now (AreNodes v.items)) }
 {
-    let alloc = world.alloc();
-    match world.payload(object) {
-        Payload::Tuple(items) => copy_args(alloc, items),
-        Payload::List(items) => copy_args(alloc, items),
-        _ => Ok(Vec::new(alloc)),
-    }
+    let copy = copy_args(world.alloc(), items(world, object))?;
+    Ok(copy)
 }
 
 /// What the class's class says was called: the truth value of what it gave is the answer.

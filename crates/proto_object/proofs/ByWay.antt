@@ -1,5 +1,5 @@
 -- The ways of a test by a class.
-use Rattle.std.proofs.Common.{◌≡◌, ℕ, List, [], ◌∷◌, ◌++◌, ◌&&◌, Bool, true, Ok, refl, sym, ap, ◌∙◌, subst}
+use Rattle.std.proofs.Common.{◌≡◌, ℕ, [], ◌∷◌, ◌&&◌, true, Ok, refl, sym, ap, subst}
 use Rattle.std.specs.Prelude.{eqb}
 use Rattle.std.specs.Global.{Vec}
 use Rattle.py_node.specs.declared.refs.PyObjectRef.{PyObjectRef}
@@ -12,7 +12,7 @@ use Rattle.py_node.specs.declared.task.Step.TheVariants.{Ask, End}
 use Rattle.py_node.specs.declared.task.Task.{Task}
 use Rattle.py_node.specs.declared.task.Task.TheVariants as task
 use Rattle.plain_machine.specs.Known.{the_type}
-use Rattle.plain_machine.specs.Plain.{PlainWorld, DoSpecial, DoIsInstance, DoInst, DoIsSubclass, DoSub, ToAttribute, ToObject, Answered, Chose, ReadObjects, Told}
+use Rattle.plain_machine.specs.Plain.{DoSpecial, DoIsInstance, DoInst, DoIsSubclass, DoSub, ToAttribute, ToObject, Chose, ReadObjects}
 use Rattle.plain_machine.specs.Row.{noting}
 use Rattle.class_world.specs.declared.world.World.{World}
 use Rattle.class_world.specs.Reading.{Reading, Reads, plain, task_of}
@@ -26,7 +26,7 @@ use Rattle.proto_object.specs.declared.turns.Turn.TheVariants.{InstanceOf, Subcl
 use Rattle.proto_object.specs.Classes.{by_way, way_of}
 use Rattle.proto_object.specs.Say.{object_job_say}
 use Rattle.proto_object.specs.Rows.{Begins, object_stands, turn_job, turn_step}
-use Rattle.proto_object.proofs.Turns.{noting-one, noting-two, takes-turn}
+use Rattle.proto_object.proofs.InTurn.{noting-one, noting-two, takes-turn}
 
 -- the way of a test, whether an object is an instance of a class
 abbrev instance_way : World → PyObjectRef → PyObjectRef → ℕ → Type 0

@@ -1,5 +1,6 @@
 -- Items that are asked one after another.
-use Rattle.std.proofs.Common.{◌≡◌, ℕ, zero, suc, ◌+◌, List, [], ◌∷◌, ◌++◌, drop, refl, sym, ap, ◌∙◌, subst, arith, true, false, Some, Ok}
+use Rattle.std.proofs.Common.{◌≡◌, ℕ, zero, suc, ◌+◌, List, [], ◌∷◌, ◌++◌, drop, refl, sym, ap, ◌∙◌, subst, arith, true, false, Some, None, Ok}
+use Rattle.std.specs.Prelude.{slice_get}
 use Rattle.std.specs.Global.{Vec}
 use Rattle.std.proofs.lemmas.List.{append-nil}
 use Rattle.py_node.specs.declared.refs.PyObjectRef.{PyObjectRef}
@@ -10,8 +11,11 @@ use Rattle.plain_machine.specs.Plain.{PlainWorld, ObjectJob, DoAbsSub, ATuple, A
 use Rattle.plain_machine.specs.Row.{noting, value}
 use Rattle.plain_machine.specs.World.{ref, datum_at}
 use Rattle.class_world.specs.declared.world.World.{World}
-use Rattle.class_world.specs.Reading.{Reading, Reads, plain}
+use Rattle.class_world.specs.Reading.{Reading, plain}
 use Rattle.class_world.specs.Rows.{Steps}
+use Rattle.class_world.specs.Held.{Held}
+use Rattle.class_world.specs.Sound.{AllHold, AreNodes, IsNode, Holds}
+use Rattle.class_world.specs.Claims.{of_object_task}
 use Rattle.proto_base.specs.Each.{says, any_of}
 use Rattle.proto_object.specs.declared.ObjectKept.{ObjectKept}
 use Rattle.proto_object.specs.declared.ObjectKept.TheVariants.{AfterOwn, Each}
@@ -19,7 +23,7 @@ use Rattle.proto_object.specs.declared.turns.Turn.{Turn}
 use Rattle.proto_object.specs.declared.turns.Turn.TheVariants.{InstanceOf, SubclassOf, Derives}
 use Rattle.proto_object.specs.Classes.{tuple_once}
 use Rattle.proto_object.specs.Say.{object_job_say}
-use Rattle.proto_object.specs.Rows.{Resumes, object_stands, turn_job, turn_stands, turn_step}
+use Rattle.proto_object.specs.Rows.{Resumes, asked_of, object_stands, of_turn, turn_job, turn_stands, turn_step}
 
 -- what is left after one item
 left-after : {A : Type 0} (xs : List A) (n : ℕ) (r : A) (rs : List A) → drop n xs ≡ r ∷ rs → drop (suc n) xs ≡ rs
@@ -106,3 +110,24 @@ bases-go w c b items is = λ t r.
     let step = turn_step (Derives c) rs (Each (Derives c) items 1) in
     let first = Answered (value b) in
     (r, subst (λ d. Steps object_job_say (object_stands t) t job (first ∷ []) (tuple_once u d (any_of u (turn_job (Derives c)) says) []) step w) (sym (is t)) (noting-two t w job first (ReadObjects rs) (any_of u (turn_job (Derives c)) says rs []) step (takes-turn t w job (first ∷ (ReadObjects rs ∷ [])) (Derives c) items 0 rs refl (λ v more. refl))))
+
+-- the item at a place, and those after it
+pub drop-got : {A : Type 0} (xs : List A) (i : ℕ) (x : A) → slice_get xs i ≡ Some x → drop i xs ≡ x ∷ drop (i + 1) xs
+drop-got [] i x e = cc
+drop-got (y ∷ xs) zero x e = let same : y ≡ x = cc in ap (λ z. z ∷ xs) same
+drop-got (y ∷ xs) (suc i) x e =
+    let next : i + 1 ≡ suc i = omega arith in
+    let later : suc i + 1 ≡ suc (suc i) = omega arith in
+    drop-got xs i x e ∙ ap (λ n. x ∷ drop n xs) next ∙ ap (λ n. x ∷ drop n (y ∷ xs)) (sym later)
+
+pub drop-none : {A : Type 0} (xs : List A) (i : ℕ) → slice_get xs i ≡ None → drop i xs ≡ []
+drop-none [] zero e = refl
+drop-none [] (suc i) e = refl
+drop-none (y ∷ xs) zero e = cc
+drop-none (y ∷ xs) (suc i) e = drop-none xs i e
+
+-- what is asked of an item that is there, and what is kept meanwhile
+pub asked-holds : (w : Held) (turn : Turn) (r : PyObjectRef) (items : List PyObjectRef) → AllHold w (of_turn turn) → Holds w (IsNode r) → Holds w (AreNodes items) → AllHold w (of_object_task (asked_of turn r) ++ (AreNodes items ∷ of_turn turn))
+asked-holds w (InstanceOf o) r items h k a = (h.0, (k, (a, h)))
+asked-holds w (SubclassOf d) r items h k a = (h.0, (k, (a, h)))
+asked-holds w (Derives c) r items h k a = (k, (h.0, (a, h)))

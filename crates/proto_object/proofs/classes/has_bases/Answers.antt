@@ -1,0 +1,10 @@
+use Rattle.std.proofs.Common.{[], ◌∷◌}
+use Rattle.class_world.specs.Claims.{of_task}
+use Rattle.class_world.specs.Sound.{IsNode}
+use Rattle.class_world.proofs.Claims.{all-append}
+use Rattle.proto_object.proofs.classes.has_bases.Goals as goal
+
+pub returns-in-Ok-Value-clause-safe : goal.returns-in-Ok-Value-clause-safe
+returns-in-Ok-Value-clause-safe c =
+    let a = c.args in
+    all-append a.world.now (of_task c.attribute-given.result) (IsNode a.c ∷ []) c.attribute-given.ensures.holds (c.requires.c, tt)

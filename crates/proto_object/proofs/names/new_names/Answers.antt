@@ -1,0 +1,44 @@
+use Rattle.std.proofs.Common.{◌≡◌, ◌++◌, [], ap, sym, subst, rules, ◌∙◌}
+use Rattle.py_node.specs.BuiltIns.{place_of}
+use Rattle.py_node.specs.declared.payload.Payload.TheVariants as payload
+use Rattle.plain_machine.specs.Known.{the_list}
+use Rattle.plain_machine.specs.Plain.{AList}
+use Rattle.class_world.specs.Reading.{bindings, datum, plain}
+use Rattle.class_world.specs.Sound.{AreNodes, Holds}
+use Rattle.class_world.proofs.Growth.{grows-on}
+use Rattle.native_base.specs.Say.{object_made}
+use Rattle.native_containers.specs.Say.{keys_of}
+use Rattle.native_containers.proofs.Payloads.{nodes-append}
+use Rattle.native_objects.specs.Attributes.{keyed}
+use Rattle.native_objects.proofs.Ended.{ends-then}
+use Rattle.proto_object.specs.Texts.{names_made}
+use Rattle.proto_object.proofs.names.new_names.Goals as goal
+
+pub new_object-requires-clause-holds : goal.new_object-requires-clause-holds
+new_object-requires-clause-holds c =
+    let mid = c.key_all.new.world in
+    let others = c.args.others.now in
+    let first : c.deref.result.now ≡ c.in_ok-entries.entries.items = search rules in
+    let second : c.deref-2.result.now ≡ c.in_ok-keys.keys.items = search rules in
+    let names = c.in_ok-names.ensures ∙ ap (λ rs. rs ++ others) (second ∙ c.in_ok-keys.ensures ∙ ap keys_of first) in
+    (subst (λ rs. Holds mid (AreNodes rs)) (sym names) (nodes-append mid (keys_of c.in_ok-entries.entries.items) others c.in_ok-entries.ensures.holds.0 (c.key_all.ensures.grows.still (AreNodes others) c.requires.others)), tt)
+
+pub returns-clause-ends : goal.returns-clause-ends
+unfolding place_of
+returns-clause-ends c =
+    let w = c.args.world.now in
+    let mid = c.key_all.new.world in
+    let others = c.args.others.now in
+    let list = c.in_ok-names.names in
+    let first : c.deref.result.now ≡ c.in_ok-entries.entries.items = search rules in
+    let second : c.deref-2.result.now ≡ c.in_ok-keys.keys.items = search rules in
+    let names = c.in_ok-names.ensures ∙ ap (λ rs. rs ++ others) (second ∙ c.in_ok-keys.ensures ∙ ap keys_of first) in
+    ends-then (λ t u. names_made others (keyed u [] (bindings t c.args.attrs.now))) (λ t u. object_made u the_list (datum t (payload.List list))) w mid c.new_object.new.world c.new_object.result (λ t r. (
+      c.key_all.ensures.reads t r,
+      ap (names_made others) (c.in_ok-entries.ensures.keyed t r) ∙ ap (λ rs. object_made (plain t mid) the_list (AList rs)) (sym names),
+    )) c.new_object.ensures.ends
+
+pub returns-clause-safe : goal.returns-clause-safe
+returns-clause-safe c =
+    let h = c.new_object.ensures.safe in
+    (grows-on c.args.world.now c.key_all.new.world c.new_object.new.world c.key_all.ensures.grows h.0, h.1)

@@ -1,0 +1,19 @@
+use Rattle.std.proofs.Common.{ap, sym, subst, ◌∙◌}
+use Rattle.class_world.specs.Reading.{plain}
+use Rattle.class_world.specs.Sound.{AreNodes, Holds}
+use Rattle.native_containers.specs.Say.{keys_of}
+use Rattle.class_world.proofs.Claims.{no-nodes}
+use Rattle.proto_object.specs.Texts.{own_keys}
+use Rattle.proto_object.proofs.names.own_keys.Goals as goal
+
+pub returns-in_ok-keys-in-Some-clause-keys : goal.returns-in_ok-keys-in-Some-clause-keys
+returns-in_ok-keys-in-Some-clause-keys c = λ t.
+    let u = plain t c.args.world.now in
+    ap (own_keys u) (c.dict_of.ensures.dict t ∙ c.in-Some.is) ∙ ap keys_of (c.entries.ensures.same t) ∙ sym c.in_ok-keys-in-Some.ensures
+
+pub returns-in_ok-keys-in-Some-clause-holds : goal.returns-in_ok-keys-in-Some-clause-holds
+returns-in_ok-keys-in-Some-clause-holds c =
+    subst (λ rs. Holds c.args.world.now (AreNodes rs)) (sym c.in_ok-keys-in-Some.ensures) c.entries.ensures.holds.0
+
+pub returns-in-None-clause-holds : goal.returns-in-None-clause-holds
+returns-in-None-clause-holds c = rw c.new.ensures.items (no-nodes c.args.world.now)

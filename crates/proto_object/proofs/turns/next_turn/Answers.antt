@@ -1,0 +1,12 @@
+use Rattle.std.proofs.Common.{◌≡◌, ◌+◌, drop, false, Ok, rules, subst, sym}
+use Rattle.py_node.specs.declared.task.Answer.TheVariants.{Truth}
+use Rattle.proto_object.specs.declared.ObjectKept.TheVariants.{Each}
+use Rattle.proto_object.specs.Rows.{Resumes, turn_step}
+use Rattle.proto_object.proofs.InTurn.{next-goes}
+use Rattle.proto_object.proofs.turns.next_turn.Goals as goal
+
+pub returns-in-Ok-Truth-false-clause-goes : goal.returns-in-Ok-Truth-false-clause-goes
+returns-in-Ok-Truth-false-clause-goes c =
+    let a = c.args in
+    let is : a.answer ≡ Ok (Truth false) = search rules in
+    rw c.take_turn.ensures.step (subst (λ q. Resumes (Each a.turn a.items a.next) q a.world.now a.world.now (turn_step a.turn (drop a.next a.items.items) (Each a.turn a.items (a.next + 1)))) (sym is) (next-goes a.world.now a.turn a.items a.next))

@@ -1,0 +1,29 @@
+use Rattle.std.proofs.Common.{ap, ◌∙◌, []}
+use Rattle.py_node.specs.declared.known.Known.TheVariants.{Instancecheck}
+use Rattle.py_node.specs.Known.{known_text}
+use Rattle.plain_machine.specs.Plain.{DoSpecial, ToAttribute}
+use Rattle.class_world.specs.Reading.{plain}
+use Rattle.proto_object.specs.Classes.{way_of}
+use Rattle.proto_object.specs.Rows.{way_number}
+use Rattle.proto_object.proofs.ByWay.{instance-at-once, instance-called, instance-each, instance-plainly}
+use Rattle.proto_object.proofs.ways.begin_is_instance.Goals as goal
+
+pub returns-in-AtOnce-clause-goes : goal.returns-in-AtOnce-clause-goes
+returns-in-AtOnce-clause-goes c =
+    let a = c.args in
+    rw c.says.ensures (instance-at-once a.world.now a.o a.c (λ t r. ap (λ b. way_of (plain t a.world.now) b Instancecheck a.c) (c.is_of-at_once.ensures t) ∙ c.way_of.ensures t r ∙ ap way_number c.in-AtOnce.is))
+
+pub returns-in-Plainly-clause-goes : goal.returns-in-Plainly-clause-goes
+returns-in-Plainly-clause-goes c =
+    let a = c.args in
+    instance-plainly a.world.now a.o a.c (λ t r. ap (λ b. way_of (plain t a.world.now) b Instancecheck a.c) (c.is_of-at_once.ensures t) ∙ c.way_of.ensures t r ∙ ap way_number c.in-Plainly.is)
+
+pub returns-in_ok-items-in-ByEach-clause-goes : goal.returns-in_ok-items-in-ByEach-clause-goes
+returns-in_ok-items-in-ByEach-clause-goes c =
+    let a = c.args in
+    rw c.take_turn.ensures.step (instance-each a.world.now a.o a.c c.in_ok-items-in-ByEach.items (λ t r. ap (λ b. way_of (plain t a.world.now) b Instancecheck a.c) (c.is_of-at_once.ensures t) ∙ c.way_of.ensures t r ∙ ap way_number c.in-ByEach.is) c.in_ok-items-in-ByEach.ensures.items)
+
+pub returns-in_ok-args-in-Called-clause-goes : goal.returns-in_ok-args-in-Called-clause-goes
+returns-in_ok-args-in-Called-clause-goes c =
+    let a = c.args in
+    instance-called a.world.now a.o a.c c.special-task.result (λ t r. ap (λ b. way_of (plain t a.world.now) b Instancecheck a.c) (c.is_of-at_once.ensures t) ∙ c.way_of.ensures t r ∙ ap way_number c.in-Called.is) (λ t r. c.special-task.ensures.task t r ∙ ap (λ rs. ToAttribute (DoSpecial a.c (known_text Instancecheck) rs [])) c.in_ok-args-in-Called.ensures.items)
