@@ -63,8 +63,8 @@ pub left-here : (k later : ComparedKept) (x y : PyObjectRef) → k.next < length
 left-here k later x y a b first second next =
     let next-is : suc k.next ≡ later.next = omega arith in
     let rest = ap (λ n. zip (drop n k.first.items) (drop n k.second.items)) next-is
-        ∙ ap (λ v. zip (drop later.next v.items) (drop later.next k.second.items)) (sym first)
-        ∙ ap (λ v. zip (drop later.next later.first.items) (drop later.next v.items)) (sym second) in
+    ∙ ap (λ v. zip (drop later.next v.items) (drop later.next k.second.items)) (sym first)
+    ∙ ap (λ v. zip (drop later.next later.first.items) (drop later.next v.items)) (sym second) in
     ap (λ xs. zip xs (drop k.next k.second.items)) (drop-cons k.first.items k.next x a)
     ∙ ap (λ ys. zip (get_or k.first.items k.next x ∷ drop (suc k.next) k.first.items) ys) (drop-cons k.second.items k.next y b)
     ∙ ap (λ ps. (get_or k.first.items k.next x, get_or k.second.items k.next y) ∷ ps) rest
@@ -92,15 +92,19 @@ steps-as t p w step a b e h = subst (λ s. StepsAt t p s w step) (sym e) h
 pub asks-two : (k later : ComparedKept) (w : World) (x y : PyObjectRef) (job : CompareTask) → left k ≡ (x, y) ∷ left later → later.way ≡ k.way → later.last ≡ k.last → compare_job job ≡ asked k.way x y → TakesTurn k w (Ask (task.Compare job) later)
 asks-two k later w x y job here way last asks = λ t p turning.
     let u = plain t w in
-    let goes : StepsAt t p (in_turn u k.way k.last ((x, y) ∷ left later) []) w (Ask (task.Compare job) later) = (ap ToCompare asks, refl, record {
-      says = λ v r more.
-          ap (λ told. compared_job_say v p.task told) (append_assoc p.told [] (Answered r ∷ more))
-          ∙ turning v (Answered r ∷ more)
-          ∙ ap (λ ps. in_turn v k.way k.last ps (Answered r ∷ more)) here
-          ∙ ap (λ m. answered v m k.last r (in_turn v m k.last (left later)) more) (sym way)
-          ∙ ap (λ b. answered v later.way b r (in_turn v later.way b (left later)) more) (sym last)
-          ∙ sym (kept-on t later v r more);
-    }) in
+    let goes : StepsAt t p (in_turn u k.way k.last ((x, y) ∷ left later) []) w (Ask (task.Compare job) later) = (
+      ap ToCompare asks,
+      refl,
+      record {
+        says = λ v r more.
+            ap (λ told. compared_job_say v p.task told) (append_assoc p.told [] (Answered r ∷ more))
+            ∙ turning v (Answered r ∷ more)
+            ∙ ap (λ ps. in_turn v k.way k.last ps (Answered r ∷ more)) here
+            ∙ ap (λ m. answered v m k.last r (in_turn v m k.last (left later)) more) (sym way)
+            ∙ ap (λ b. answered v later.way b r (in_turn v later.way b (left later)) more) (sym last)
+            ∙ sym (kept-on t later v r more);
+      },
+    ) in
     steps-as t p w (Ask (task.Compare job) later) (in_turn u k.way k.last (left k) []) (in_turn u k.way k.last ((x, y) ∷ left later) []) (ap (λ ps. in_turn u k.way k.last ps []) here) goes
 
 -- none are left
@@ -129,9 +133,9 @@ compares-turns n k w step is start takes = λ t p reads comparing.
     let all : zip xs ys ≡ left k = ap (λ i. zip (drop i xs) (drop i ys)) (sym start) in
     let on = λ (v : PlainWorld) (more : Told). ap (λ c. by_turns v c (zip xs ys) more) is ∙ ap (λ ps. in_turn v k.way k.last ps more) all in
     let turning : Turning k q = λ v more.
-        ap (λ told. compared_job_say v p.task told) (append_assoc p.told (ReadObjects xs ∷ (ReadObjects ys ∷ [])) more)
-        ∙ comparing v xs ys more
-        ∙ on v more in
+    ap (λ told. compared_job_say v p.task told) (append_assoc p.told (ReadObjects xs ∷ (ReadObjects ys ∷ [])) more)
+    ∙ comparing v xs ys more
+    ∙ on v more in
     let u = plain t w in
     noted t p xs ys w step (by_turns u (turns_of n (length xs) (length ys)) (zip xs ys) []) (steps-as t q w step (by_turns u (turns_of n (length xs) (length ys)) (zip xs ys) []) (in_turn u k.way k.last (left k) []) (on u []) (takes t q turning))
 
@@ -145,8 +149,7 @@ compares-told n xs ys w b o is same = λ t p reads comparing.
 pub resumes-turn : (k : ComparedKept) (r : Result Answer Fault) (w : World) (step : Step ComparedKept) → ((u : PlainWorld) (more : Told) → answered u k.way k.last (ended_of r) (in_turn u k.way k.last (left k)) more ≡ in_turn u k.way k.last (left k) more) → TakesTurn k w step → Resumes k r w w step
 resumes-turn k r w step on takes = λ t reads.
     let p : Pending PlainTask = record { task = (compared_stands t k).task; told = (compared_stands t k).told ++ Answered (ended_of r) ∷ [] } in
-    let here = λ (u : PlainWorld) (more : Told). kept-on t k u (ended_of r) more ∙ on u more in
-    (
+    let here = λ (u : PlainWorld) (more : Told). kept-on t k u (ended_of r) more ∙ on u more in (
       reads,
       steps-as t p w step (compared_job_say (plain t w) p.task p.told) (in_turn (plain t w) k.way k.last (left k) []) (here (plain t w) []) (takes t p here),
     )
@@ -154,8 +157,7 @@ resumes-turn k r w step on takes = λ t reads.
 -- or ends
 pub resumes-end : (k : ComparedKept) (r s : Result Answer Fault) (w : World) → ((u : PlainWorld) (more : Told) → answered u k.way k.last (ended_of r) (in_turn u k.way k.last (left k)) more ≡ Ends u (ended_of s)) → Resumes k r w w (End s)
 resumes-end k r s w ends = λ t reads.
-    let p : Pending PlainTask = record { task = (compared_stands t k).task; told = (compared_stands t k).told ++ Answered (ended_of r) ∷ [] } in
-    (
+    let p : Pending PlainTask = record { task = (compared_stands t k).task; told = (compared_stands t k).told ++ Answered (ended_of r) ∷ [] } in (
       reads,
       steps-as t p w (End s) (compared_job_say (plain t w) p.task p.told) (Ends (plain t w) (ended_of s)) (kept-on t k (plain t w) (ended_of r) [] ∙ ends (plain t w) []) (refl, refl),
     )

@@ -16,20 +16,14 @@ use std::alloc::Global;
 pub(crate) type Entries = Vec<(PyObjectRef, PyObjectRef)>;
 
 /// The keys, in order.
-pub fn keys_of(
-    alloc: Global,
-    entries: &[(PyObjectRef, PyObjectRef)],
-) -> Result<Args, OutOfMemory>
+pub fn keys_of(alloc: Global, entries: &[(PyObjectRef, PyObjectRef)]) -> Result<Args, OutOfMemory>
     ensures { IfOk result (λ rs. rs.items ≡ keys_of entries.now) }
 {
     Ok(entries.iter().map(|entry| entry.0).collect(alloc)?)
 }
 
 /// The values, in the order of the keys.
-pub fn values_of(
-    alloc: Global,
-    entries: &[(PyObjectRef, PyObjectRef)],
-) -> Result<Args, OutOfMemory>
+pub fn values_of(alloc: Global, entries: &[(PyObjectRef, PyObjectRef)]) -> Result<Args, OutOfMemory>
     ensures { IfOk result (λ rs. rs.items ≡ values_of entries.now) }
 {
     Ok(entries.iter().map(|entry| entry.1).collect(alloc)?)

@@ -27,10 +27,7 @@ pub fn ends_none(world: &World) -> Result<Answer, Raised>
 
 /// Ends with a new tuple.
 #[tactic(auto, unfolding(py_node::specs::BuiltIns::place_of))]
-pub fn new_tuple(
-    world: &mut World,
-    items: Args,
-) -> Result<Result<Answer, Raised>, OutOfMemory>
+pub fn new_tuple(world: &mut World, items: Args) -> Result<Result<Answer, Raised>, OutOfMemory>
     requires { Holds world.old (AreNodes items.items) }
     ensures ends { IfOk result (λ r. EndsAs (λ t u. tuple_made u items.items) world.old world.new r) }
     ensures safe { LeavesEnd world.old world.new result }
@@ -40,10 +37,7 @@ pub fn new_tuple(
 
 /// Ends with a new list.
 #[tactic(auto, unfolding(py_node::specs::BuiltIns::place_of))]
-pub fn new_list(
-    world: &mut World,
-    items: Args,
-) -> Result<Result<Answer, Raised>, OutOfMemory>
+pub fn new_list(world: &mut World, items: Args) -> Result<Result<Answer, Raised>, OutOfMemory>
     requires { Holds world.old (AreNodes items.items) }
     ensures ends { IfOk result (λ r. EndsAs (λ t u. list_made u items.items) world.old world.new r) }
     ensures safe { LeavesEnd world.old world.new result }
@@ -52,11 +46,7 @@ pub fn new_list(
 }
 
 /// Gives a list other items, and ends with None, unless they are too many.
-pub fn change_list(
-    world: &mut World,
-    list: PyObjectRef,
-    items: Args,
-) -> Result<Answer, Raised>
+pub fn change_list(world: &mut World, list: PyObjectRef, items: Args) -> Result<Answer, Raised>
     requires list { Holds world.old (IsNode list) }
     requires holding { Holds world.old (Holding list List) }
     requires items { Holds world.old (AreNodes items.items) }

@@ -13,8 +13,8 @@ ghost use Rattle.native_details.specs.Rows.{Does, Resumes, of_detail_kept};
 ghost use Rattle.native_details.specs.Say.{listed, or_false, property_abstract, setter_at};
 
 use crate::DetailKept;
-use class_world::takes::one;
 use class_world::World;
+use class_world::takes::one;
 use native_objects::own_property;
 use py_node::{
     Answer, AttributeTask, Known, NativeEntry, OperatorTask, Payload, PyNumberBinaryOp,
@@ -41,7 +41,10 @@ pub(crate) fn begin_abstract(
         return Step::End(Err(raised));
     }
     match parts.fget {
-        Some(getter) => Step::Ask(ask_whether(world, getter), DetailKept::AfterGetter(property)),
+        Some(getter) => Step::Ask(
+            ask_whether(world, getter),
+            DetailKept::AfterGetter(property),
+        ),
         None => match parts.fset {
             Some(setter) => {
                 let missing = world.truth(false);

@@ -151,7 +151,7 @@ fn own_member(
     requires { Holds world.now (AreNodes args.now) }
     ensures given { IfOk result (λ p. (t : Reading) (go : Object → ℕ × Option Text → Said) →
         with_own kept_name (plain t world.now) args.now go
-            ≡ go p.0 (p.1.class.0, spelled_option t p.1.qualname)) }
+        ≡ go p.0 (p.1.class.0, spelled_option t p.1.qualname)) }
     ensures refused { IfErr result (λ x. (t : Reading) (go : Object → ℕ × Option Text → Said) →
         with_own kept_name (plain t world.now) args.now go ≡ Ends (plain t world.now) (Err x)) }
     ensures node { IfOk result (λ p. Holds world.now (IsNode p.0)) }

@@ -159,11 +159,7 @@ fn new_character(world: &mut World, character: char) -> Result<PyObjectRef, OutO
 }
 
 // The task that asks an object for the item of a new number.
-fn ask_item(
-    world: &mut World,
-    object: PyObjectRef,
-    place: u64,
-) -> Result<Task, OutOfMemory>
+fn ask_item(world: &mut World, object: PyObjectRef, place: u64) -> Result<Task, OutOfMemory>
     requires { Holds world.old (IsNode object) }
     ensures made { IfOk result (λ task. (t : Reading) →
         plain t world.new ≡ with_node (plain t world.old) the_int (ANumber (pos place))) }
@@ -192,12 +188,7 @@ fn next_place(place: u64) -> Option<u64>
 }
 
 // Moves an iterator to another place, or ends it.
-fn set_place(
-    world: &mut World,
-    object: PyObjectRef,
-    iterator: SequenceIterator,
-    place: Option<u64>,
-)
+fn set_place(world: &mut World, object: PyObjectRef, iterator: SequenceIterator, place: Option<u64>)
     requires object { Holds world.old (IsNode object) }
     requires holding { Holds world.old (Holding object Iterator) }
     requires iterator { Holds world.old (IsNode iterator.object) }

@@ -17,10 +17,7 @@ use py_node::{Answer, Cause, Known, OutOfMemory, Payload, PyObjectRef, PyTypeRef
 use std::alloc::Global;
 
 /// Ends with a new text, unless it is too long.
-pub fn limited_text(
-    world: &mut World,
-    text: String,
-) -> Result<Result<Answer, Raised>, OutOfMemory>
+pub fn limited_text(world: &mut World, text: String) -> Result<Result<Answer, Raised>, OutOfMemory>
     ensures ends { IfOk result (λ r. EndsAs (λ t u. text_made u (in_length (string_bytes text)))
         world.old world.new r) }
     ensures safe { LeavesEnd world.old world.new result }

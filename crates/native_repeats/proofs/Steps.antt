@@ -58,8 +58,7 @@ pub begins-index : (n : NativeEntry) (args : Vec PyObjectRef) (kw : Vec (PyStrIn
 unfolding repeat_job_say
 begins-index n args kw w k a i same says two = λ t q.
     let u = plain t w in
-    let said = says t (bindings t kw.items) ∙ two t u (index_asked u k.object k.items.items) in
-    (
+    let said = says t (bindings t kw.items) ∙ two t u (index_asked u k.object k.items.items) in (
       q,
       subst (λ s. Steps repeat_job_say (repeat_stands t) t (ToNative n args.items (bindings t kw.items)) [] s (Ask (task.Protocol (protocol.Index i)) k) w) (sym said) (
         refl,

@@ -17,9 +17,7 @@ use crate::repeated::repeat_kept;
 use class_world::World;
 use class_world::args::copy_args;
 use py_node::task::Args;
-use py_node::{
-    Answer, Cause, NativeEntry, OutOfMemory, Payload, PyObjectRef, Raised, Step,
-};
+use py_node::{Answer, Cause, NativeEntry, OutOfMemory, Payload, PyObjectRef, Raised, Step};
 
 /// What a native is to repeat, with its items as they stand, or why it is refused.
 pub(crate) fn own_items(

@@ -13,18 +13,17 @@ mod by_name;
 mod count;
 mod repeated;
 
-pub use count::{check_repeat_or_overflow_error, count_in};
-pub use repeated::native_repeat;
-
 use crate::by_name::{given, own_items};
 use class_world::World;
 use class_world::takes::two;
+pub use count::{check_repeat_or_overflow_error, count_in};
 use py_node::protocol::ProtocolTask;
 use py_node::task::{Args, Keywords};
 use py_node::{
     Answer, ListNative, NativeEntry, OutOfMemory, PyObjectRef, Raised, Step, StrNative, Task,
     TupleNative,
 };
+pub use repeated::native_repeat;
 
 /// What a repetition by name keeps while it waits for the index that tells how often.
 #[derive(Drop)]

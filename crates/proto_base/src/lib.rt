@@ -36,12 +36,7 @@ pub fn entered(
         _ => {
             let args = copy_args(alloc, args)?;
             let kw = Vec::new(alloc);
-            Ok(Task::Attribute(AttributeTask::Special(
-                object,
-                world.known(name),
-                args,
-                kw,
-            )))
+            Ok(Task::Attribute(AttributeTask::Special(object, world.known(name), args, kw)))
         }
     }
 }

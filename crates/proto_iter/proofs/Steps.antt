@@ -26,12 +26,14 @@ ends-so kept r s w says = λ t reads.
 pub asks-so : (kept next : IterKept) (r : Result Answer Fault) (asked : Task) (w : World) → ((t : Reading) → told_more t kept (plain t w) (Answered (ended_of r) ∷ []) ≡ Asks (plain t w) [] (task_of t asked)) → ((t : Reading) (u : PlainWorld) (s : Ended) (more : Told) → told_more t kept u (Answered (ended_of r) ∷ (Answered s ∷ more)) ≡ told_more t next u (Answered s ∷ more)) → Resumes kept r w w (Ask asked next)
 asks-so kept next r asked w says on = λ t reads.
     let task = (iter_stands t kept).task in
-    let told = (iter_stands t kept).told in
-    (reads, subst (λ said. Steps iter_job_say (iter_stands t) t task (told ++ Answered (ended_of r) ∷ []) said (Ask asked next) w) (sym (says t)) (
-      refl,
-      refl,
-      record {
-        says = λ u s more.
-            ap (λ ts. iter_job_say u task (ts ++ Answered s ∷ more)) (append-nil (told ++ Answered (ended_of r) ∷ [])) ∙ ap (iter_job_say u task) (append_assoc told (Answered (ended_of r) ∷ []) (Answered s ∷ more)) ∙ on t u s more;
-      },
-    ))
+    let told = (iter_stands t kept).told in (
+      reads,
+      subst (λ said. Steps iter_job_say (iter_stands t) t task (told ++ Answered (ended_of r) ∷ []) said (Ask asked next) w) (sym (says t)) (
+        refl,
+        refl,
+        record {
+          says = λ u s more.
+              ap (λ ts. iter_job_say u task (ts ++ Answered s ∷ more)) (append-nil (told ++ Answered (ended_of r) ∷ [])) ∙ ap (iter_job_say u task) (append_assoc told (Answered (ended_of r) ∷ []) (Answered s ∷ more)) ∙ on t u s more;
+        },
+      ),
+    )

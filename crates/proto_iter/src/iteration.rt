@@ -15,9 +15,7 @@ use native_base::give::new_iterator;
 use native_containers::items;
 use proto_base::{entered, is_plain};
 use py_node::protocol::ProtocolTask;
-use py_node::{
-    Answer, Cause, Kind, Known, OutOfMemory, PyObjectRef, Raised, SlotId, Step, Task,
-};
+use py_node::{Answer, Cause, Kind, Known, OutOfMemory, PyObjectRef, Raised, SlotId, Step, Task};
 
 /// An iteration begins as the object's class says, or else it goes over the object's items by their places.
 pub(crate) fn get_iter(world: &mut World, o: PyObjectRef) -> Result<Step<IterKept>, OutOfMemory>
@@ -107,10 +105,7 @@ pub(crate) fn begin_items(world: &World, iterator: PyObjectRef) -> Step<IterKept
 {
     let items = Vec::new(world.alloc());
     let task = ProtocolTask::Next(iterator);
-    Step::Ask(
-        Task::Protocol(task),
-        IterKept::Collecting(iterator, items),
-    )
+    Step::Ask(Task::Protocol(task), IterKept::Collecting(iterator, items))
 }
 
 /// The item that was answered, if there was one, or else another answer as it is.
@@ -150,10 +145,7 @@ pub(crate) fn item_collected(
                 return Ok(Step::raise(Cause::TooLong));
             }
             let task = ProtocolTask::Next(iterator);
-            Ok(Step::Ask(
-                Task::Protocol(task),
-                IterKept::Collecting(iterator, more),
-            ))
+            Ok(Step::Ask(Task::Protocol(task), IterKept::Collecting(iterator, more)))
         }
         Ok(None) => Ok(Step::End(Ok(Answer::Objects(items)))),
         Err(other) => Ok(Step::End(other)),
