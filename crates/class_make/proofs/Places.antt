@@ -1,5 +1,5 @@
 -- The places that a class gives its objects itself.
-use Rattle.std.proofs.Common.{◌≡◌, ℕ, ◌<◌, ◌≤◌, ◌+◌, ◌-◌, Bool, true, false, cond, eqb, ◌||◌, List, [], ◌∷◌, ◌++◌, length, Option, Some, None, inl, inr, refl, sym, ap, subst, ◌∙◌, arith}
+use Rattle.std.proofs.Common.{◌≡◌, ℕ, ◌<◌, ◌≤◌, ◌+◌, ◌-◌, Bool, true, false, cond, ◌||◌, List, [], ◌∷◌, ◌++◌, length, Option, Some, None, inl, inr, refl, sym, ap, ◌∙◌, arith}
 use Rattle.std.specs.Prelude.{nat_lt, is_some, option_map, option_and_then, slice_get}
 use Rattle.std.proofs.lemmas.Bool.{ne_eqb, eq-eqb}
 use Rattle.std.proofs.lemmas.Option.{slice_get_within}
@@ -71,7 +71,7 @@ module _ {K : Type 0} (t : Classes K) where
     apart : Includes (layout_along t rest) c → ⊥
     apart h = (lin-distinct t c (c ∷ rest) line).0 (in-layout t rest c h).0
 
-    own : Bool → List ℕ
+    abbrev own : Bool → List ℕ
     own b = cond b (c ∷ []) []
 
     none-before : (b : Bool) → before c (own b) ≡ []

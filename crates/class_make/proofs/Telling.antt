@@ -1,5 +1,5 @@
 -- How a class that was made is told of.
-use Rattle.std.proofs.Common.{◌≡◌, ℕ, zero, suc, ◌<◌, ◌≤◌, ◌+◌, List, [], ◌∷◌, ◌++◌, drop, drop-cons, length, get_or, map, Option, Some, None, Ok, Err, IfOk, refl, sym, ap, ◌∙◌, subst, arith, append_assoc}
+use Rattle.std.proofs.Common.{◌≡◌, ℕ, zero, suc, ◌≤◌, ◌+◌, List, [], ◌∷◌, ◌++◌, drop, length, Option, Some, None, Ok, Err, IfOk, refl, sym, ap, ◌∙◌, subst, arith, append_assoc}
 use Rattle.std.specs.Prelude.{Result, slice_get}
 use Rattle.std.specs.Global.{Vec}
 use Rattle.py_node.specs.declared.memory.OutOfMemory.{OutOfMemory}
@@ -15,23 +15,21 @@ use Rattle.py_node.specs.declared.task.CallTask.TheVariants as call
 use Rattle.py_node.specs.declared.task.PyMethod.TheVariants as method
 use Rattle.py_node.specs.declared.task.Step.{Step}
 use Rattle.py_node.specs.declared.task.Step.TheVariants.{Ask, End}
-use Rattle.py_node.specs.declared.task.Task.{Task}
 use Rattle.py_node.specs.declared.task.Task.TheVariants as task
 use Rattle.py_node.specs.declared.known.Known.TheVariants.{SetName}
 use Rattle.py_node.specs.Known.{known_text}
-use Rattle.py_node.specs.Tree.{Text}
 use Rattle.plain_machine.specs.Known.{the_str}
 use Rattle.plain_machine.specs.Objects.{special_at, type_object}
 use Rattle.plain_machine.specs.Plain.{PlainWorld, Bindings, AText, DoMakeClass, DoBind, DoCall, ToAttribute, ToCall, Answered, Made, ReadNames, ReadObjects, Ended, Told, Said, Asks, Ends}
 use Rattle.plain_machine.specs.Row.{Row, end, fault, noting, on_value, value}
 use Rattle.plain_machine.specs.World.{ref, next_node, with_node}
 use Rattle.class_world.specs.declared.world.World.{World}
-use Rattle.class_world.specs.Reading.{Reading, Reads, bindings, ended_of, plain, spelled, task_of}
+use Rattle.class_world.specs.Reading.{Reading, Reads, bindings, ended_of, plain, spelled}
 use Rattle.class_world.specs.Rows.{Steps}
 use Rattle.class_make.specs.declared.ClassKept.{ClassKept}
 use Rattle.class_make.specs.declared.ClassKept.TheVariants.{Binding, Calling}
 use Rattle.class_make.specs.declared.tell.Telling.{Telling}
-use Rattle.class_make.specs.Say.{bind_hook, bind_hooks, call_hook, call_hooks, class_job_say, init_subclass, name_hook, own_values, tell, there, unless_raised}
+use Rattle.class_make.specs.Say.{bind_hook, bind_hooks, call_hooks, class_job_say, init_subclass, own_values, tell, there, unless_raised}
 use Rattle.class_make.specs.Rows.{Bound, IsOther, Makes, Resumes, Takes, TakesAt, bound_told, class_stands, hooks_told, left}
 
 -- a class that is made, and then told of as a row says

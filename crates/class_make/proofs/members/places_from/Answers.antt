@@ -1,4 +1,4 @@
-use Rattle.std.proofs.Common.{◌≡◌, ◌∙◌, ◌+◌, ◌<◌, ap, sym, map, length, arith}
+use Rattle.std.proofs.Common.{◌∙◌, ◌+◌, sym, map, length, arith}
 use Rattle.std.proofs.lemmas.List.{length-map}
 use Rattle.class_world.specs.Reading.{plain, spelled}
 use Rattle.class_make.proofs.Descriptors.{places-read}

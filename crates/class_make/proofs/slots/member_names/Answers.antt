@@ -1,8 +1,8 @@
-use Rattle.std.proofs.Common.{[], Some, ◌∙◌, ap, map, sym, subst}
+use Rattle.std.proofs.Common.{Some, ◌∙◌, ap, map, sym, subst}
 use Rattle.py_node.specs.Known.{known_text}
 use Rattle.py_node.specs.declared.known.Known.TheVariants.{Slots}
 use Rattle.class_world.specs.Reading.{plain, spelled}
-use Rattle.class_world.specs.Sound.{AreNames, IsNode, Holds}
+use Rattle.class_world.specs.Sound.{IsNode, Holds}
 use Rattle.std.specs.Prelude.{IfSome}
 use Rattle.class_world.proofs.Growth.{grows-itself}
 use Rattle.class_world.proofs.Stored.{no-names}

@@ -1,5 +1,4 @@
-use Rattle.std.proofs.Common.{◌≡◌, ℕ, ◌+◌, ◌++◌, Some, ap, sym, ◌∙◌, arith, drop}
-use Rattle.std.specs.Prelude.{slice_get}
+use Rattle.std.proofs.Common.{◌+◌, ap, sym, ◌∙◌, arith, drop}
 use Rattle.class_world.specs.Reading.{plain}
 use Rattle.class_world.specs.Sound.{of_binding, of_each}
 use Rattle.class_world.proofs.Claims.{all-append, all-first, all-rest, each-get, got}

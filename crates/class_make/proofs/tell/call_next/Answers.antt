@@ -1,11 +1,10 @@
-use Rattle.std.proofs.Common.{◌≡◌, ℕ, ◌+◌, ◌∷◌, [], None, Some, ap, sym, subst, drop, ◌∙◌, arith, string_bytes}
+use Rattle.std.proofs.Common.{◌≡◌, ◌+◌, ◌∷◌, [], Some, ap, sym, drop, ◌∙◌}
 use Rattle.std.specs.Prelude.{slice_get}
 use Rattle.py_node.specs.BuiltIns.{place_of}
-use Rattle.plain_machine.specs.Known.{the_str}
 use Rattle.plain_machine.specs.Plain.{AText}
 use Rattle.plain_machine.specs.World.{ref, next_node, with_node}
-use Rattle.class_world.specs.Reading.{bindings, plain, spelled}
-use Rattle.class_world.specs.Sound.{IsNode, IsClass, of_binding, of_each}
+use Rattle.class_world.specs.Reading.{bindings, plain}
+use Rattle.class_world.specs.Sound.{IsNode, of_binding, of_each}
 use Rattle.class_world.proofs.Claims.{all-first, all-grow, all-rest, each-get}
 use Rattle.class_make.specs.Say.{call_hooks, init_subclass}
 use Rattle.class_make.specs.Rows.{of_telling}

@@ -1,5 +1,4 @@
-use Rattle.std.proofs.Common.{[], ◌∷◌, subst, sym}
-use Rattle.class_world.specs.Sound.{AllHold, of_binding, of_each}
+use Rattle.class_world.specs.Sound.{of_binding}
 use Rattle.class_world.proofs.Claims.{each-push}
 use Rattle.class_make.proofs.Telling.{hook-bound, hook-other}
 use Rattle.class_make.proofs.tell.hook_bound.Goals as goal
