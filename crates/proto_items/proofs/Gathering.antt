@@ -25,7 +25,7 @@ use Rattle.py_node.specs.Faults.{raised}
 use Rattle.proto_base.specs.Each.{all_items}
 use Rattle.proto_items.specs.declared.ItemsKept.{ItemsKept}
 use Rattle.proto_items.specs.declared.ItemsKept.TheVariants.{Gathering, Iterating}
-use Rattle.proto_items.specs.Rows.{Resumes, answered, gathered, items_stands, loaded}
+use Rattle.proto_items.specs.Rows.{IsNoItem, Resumes, answered, gathered, items_stands, loaded}
 use Rattle.proto_items.specs.Say.{items_job_say}
 
 append-none : {A : Type 0} (xs : List A) → xs ++ [] ≡ xs
@@ -116,20 +116,20 @@ module _ (w : World) (it : PyObjectRef) (items : Vec PyObjectRef) where
       (k.0, subst (λ said. StepsAt t it rs (Ok Exhausted) said new (End r)) (sym (told-all it rs (plain t w) (Answered (ended_of (Ok Exhausted)) ∷ []) l ∙ k.1)) (refl, refl))
 
   -- any other answer is the end
-  ends-all : (u : PlainWorld) (go : List PyObjectRef → Row) (r : Result Answer Fault) → ((v : PyObjectRef) → r ≡ Ok (Value v) → ⊥) → (r ≡ Ok Exhausted → ⊥) → all_items u it rs go (Answered (ended_of r) ∷ []) ≡ Ends u (ended_of r)
-  ends-all u go (Ok (Value v)) h k = absurd (h v refl)
-  ends-all u go (Ok Done) h k = refl
-  ends-all u go (Ok (Number z)) h k = refl
-  ends-all u go (Ok (Truth b)) h k = refl
-  ends-all u go (Ok (Maybe m)) h k = refl
-  ends-all u go (Ok (Objects ss)) h k = refl
-  ends-all u go (Ok Exhausted) h k = absurd (k refl)
-  ends-all u go (Ok (Method (method.Function a f))) h k = refl
-  ends-all u go (Ok (Method (method.Attribute a))) h k = refl
-  ends-all u go (Ok (Start c)) h k = refl
-  ends-all u go (Err x) h k = refl
+  ends-all : (u : PlainWorld) (go : List PyObjectRef → Row) (r : Result Answer Fault) → IsNoItem r → all_items u it rs go (Answered (ended_of r) ∷ []) ≡ Ends u (ended_of r)
+  ends-all u go (Ok (Value v)) h = absurd h
+  ends-all u go (Ok Done) h = refl
+  ends-all u go (Ok (Number z)) h = refl
+  ends-all u go (Ok (Truth b)) h = refl
+  ends-all u go (Ok (Maybe m)) h = refl
+  ends-all u go (Ok (Objects ss)) h = refl
+  ends-all u go (Ok Exhausted) h = absurd h
+  ends-all u go (Ok (Method (method.Function a f))) h = refl
+  ends-all u go (Ok (Method (method.Attribute a))) h = refl
+  ends-all u go (Ok (Start c)) h = refl
+  ends-all u go (Err x) h = refl
 
-  pub no-item : (r : Result Answer Fault) → length rs ≤ most_items → ((v : PyObjectRef) → r ≡ Ok (Value v) → ⊥) → (r ≡ Ok Exhausted → ⊥) → Resumes (Gathering it items) r w w (End r)
-  no-item r l h k = λ t q.
-      let ends = told-all it rs (plain t w) (Answered (ended_of r) ∷ []) l ∙ ends-all (plain t w) (list_row (plain t w)) r h k in
+  pub no-item : (r : Result Answer Fault) → length rs ≤ most_items → IsNoItem r → Resumes (Gathering it items) r w w (End r)
+  no-item r l h = λ t q.
+      let ends = told-all it rs (plain t w) (Answered (ended_of r) ∷ []) l ∙ ends-all (plain t w) (list_row (plain t w)) r h in
       (q, subst (λ said. StepsAt t it rs r said w (End r)) (sym ends) (refl, refl))

@@ -1,12 +1,12 @@
 //! The list that a mapping's method gave, or a new one of its items.
 #![tactic(auto, unfolding(crate::specs::Say::items_job_say, py_node::specs::BuiltIns::place_of))]
 
-ghost use Rattle.std.specs.Prelude.{◌≡◌, ◌≤◌, length, IfOk, Ok};
+ghost use Rattle.std.specs.Prelude.{◌≡◌, ◌≤◌, length, IfErr, IfOk, Ok};
 ghost use Rattle.py_node.specs.declared.protocol.ProtocolTask.TheVariants as protocol;
 ghost use Rattle.plain_machine.specs.Row.{most_items};
 ghost use Rattle.class_world.specs.Claims.{of_ended, of_step, Leaves};
 ghost use Rattle.class_world.specs.Sound.{AllHold, AreNodes, Holds, IsNode};
-ghost use Rattle.proto_items.specs.Rows.{Resumes, of_items_kept};
+ghost use Rattle.proto_items.specs.Rows.{IsNoItem, Resumes, item_answer, of_items_kept};
 
 use crate::ItemsKept;
 use class_world::World;
@@ -60,13 +60,26 @@ pub(crate) fn gather(
     if !is_within_limit(items.len()) {
         return Ok(Step::raise(Cause::TooLong));
     }
-    match answer {
-        Ok(Answer::Value(item)) => one_more(world, iterator, items, item),
-        Ok(Answer::Exhausted) => {
+    match item_of(answer) {
+        Ok(Some(item)) => one_more(world, iterator, items, item),
+        Ok(None) => {
             let ended = new_list(world, items)?;
             Ok(Step::End(ended))
         }
-        other => Ok(Step::End(other)),
+        Err(other) => Ok(Step::End(other)),
+    }
+}
+
+// The item that an iteration gave, or that it gave no more, or else the answer as it is.
+fn item_of(answer: Result<Answer, Raised>) -> Result<Option<PyObjectRef>, Result<Answer, Raised>>
+    ensures item { IfOk result (λ item. answer ≡ item_answer item) }
+    ensures same { IfErr result (λ other. other ≡ answer) }
+    ensures other { IfErr result (λ _. IsNoItem answer) }
+{
+    match answer {
+        Ok(Answer::Value(item)) => Ok(Some(item)),
+        Ok(Answer::Exhausted) => Ok(None),
+        other => Err(other),
     }
 }
 
