@@ -2,14 +2,14 @@
 #![tactic(auto, using(class_world::proofs::Items::item_holds))]
 
 mod dict;
-mod entries;
+pub mod entries;
 mod init;
 mod iterator;
-mod keys;
+pub mod keys;
 mod list;
-mod made;
+pub mod made;
 mod pairs;
-mod sequence;
+pub mod sequence;
 pub mod take;
 mod tuple;
 

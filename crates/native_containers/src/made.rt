@@ -18,7 +18,7 @@ use py_node::task::Args;
 use py_node::{Answer, BuiltIn, Cause, OutOfMemory, Payload, PyObjectRef, Raised};
 
 /// Ends with None.
-pub(crate) fn ends_none(world: &World) -> Result<Answer, Raised>
+pub fn ends_none(world: &World) -> Result<Answer, Raised>
     ensures ends { EndsAs (λ t u. ends_none u) world.now world.now result }
     ensures holds { AllHold world.now (of_ended result) }
 {
@@ -27,7 +27,7 @@ pub(crate) fn ends_none(world: &World) -> Result<Answer, Raised>
 
 /// Ends with a new tuple.
 #[tactic(auto, unfolding(py_node::specs::BuiltIns::place_of))]
-pub(crate) fn new_tuple(
+pub fn new_tuple(
     world: &mut World,
     items: Args,
 ) -> Result<Result<Answer, Raised>, OutOfMemory>
@@ -52,7 +52,7 @@ pub fn new_list(
 }
 
 /// Gives a list other items, and ends with None, unless they are too many.
-pub(crate) fn change_list(
+pub fn change_list(
     world: &mut World,
     list: PyObjectRef,
     items: Args,

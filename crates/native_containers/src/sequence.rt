@@ -83,7 +83,7 @@ pub(crate) fn joined(
 }
 
 /// Items with others after them.
-pub(crate) fn in_one(
+pub fn in_one(
     alloc: Global,
     items: &[PyObjectRef],
     more: &[PyObjectRef],

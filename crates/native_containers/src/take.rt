@@ -16,7 +16,7 @@ use py_node::{Cause, Payload, PyObjectRef, PyStrInterned, Raised};
 
 /// A kind of objects whose natives are here.
 #[derive(Clone, Copy)]
-pub(crate) enum Kind {
+pub enum Kind {
     Tuple,
     List,
     Dict,
@@ -24,7 +24,7 @@ pub(crate) enum Kind {
 }
 
 /// Whether an object is of a kind.
-pub(crate) fn is_of(world: &World, kind: Kind, object: PyObjectRef) -> bool
+pub fn is_of(world: &World, kind: Kind, object: PyObjectRef) -> bool
     requires { Holds world.now (IsNode object) }
     ensures is { (t : Reading) → is_of kind (datum_at (plain t world.now) object) ≡ result }
     ensures holding { IsTrue result → Holds world.now (Holding object (home_of_kind kind)) }
@@ -71,7 +71,7 @@ pub fn entries(world: &World, object: PyObjectRef) -> &[(PyObjectRef, PyObjectRe
 }
 
 /// The first argument, which must be of a kind, or why it is refused.
-pub(crate) fn own(world: &World, kind: Kind, args: &[PyObjectRef]) -> Result<PyObjectRef, Raised>
+pub fn own(world: &World, kind: Kind, args: &[PyObjectRef]) -> Result<PyObjectRef, Raised>
     requires { Holds world.now (AreNodes args.now) }
     ensures given { IfOk result (λ o. (t : Reading) (go : Object → Said) →
         with_own kind (plain t world.now) args.now go ≡ go o) }
@@ -90,7 +90,7 @@ pub(crate) fn own(world: &World, kind: Kind, args: &[PyObjectRef]) -> Result<PyO
 }
 
 /// Why an object is refused that must be of a kind.
-pub(crate) fn kind_refusal(world: &World, kind: Kind, object: PyObjectRef) -> Option<Raised>
+pub fn kind_refusal(world: &World, kind: Kind, object: PyObjectRef) -> Option<Raised>
     requires { Holds world.now (IsNode object) }
     ensures taken { IfNone result ((t : Reading) (go : Said) → with_kind kind (plain t world.now) object go ≡ go) }
     ensures refused { IfSome result (λ x. (t : Reading) (go : Said) →
@@ -105,7 +105,7 @@ pub(crate) fn kind_refusal(world: &World, kind: Kind, object: PyObjectRef) -> Op
 }
 
 /// The only argument, which must be of a kind, or why the arguments are refused.
-pub(crate) fn lone(
+pub fn lone(
     world: &World,
     kind: Kind,
     args: &[PyObjectRef],
@@ -125,7 +125,7 @@ pub(crate) fn lone(
 }
 
 /// The first argument, which must be of a kind, and one more, or why the arguments are refused.
-pub(crate) fn own_and(
+pub fn own_and(
     world: &World,
     kind: Kind,
     args: &[PyObjectRef],
@@ -146,7 +146,7 @@ pub(crate) fn own_and(
 }
 
 /// The first argument, which must be of a kind, and two more, or why the arguments are refused.
-pub(crate) fn own_and_two(
+pub fn own_and_two(
     world: &World,
     kind: Kind,
     args: &[PyObjectRef],
@@ -169,7 +169,7 @@ pub(crate) fn own_and_two(
 }
 
 /// Why a key of a dict is refused: it must be a number or a text.
-pub(crate) fn key_refusal(world: &World, key: PyObjectRef) -> Option<Raised>
+pub fn key_refusal(world: &World, key: PyObjectRef) -> Option<Raised>
     requires { Holds world.now (IsNode key) }
     ensures taken { IfNone result ((t : Reading) (go : Said) → with_key (plain t world.now) key go ≡ go) }
     ensures refused { IfSome result (λ x. (t : Reading) (go : Said) →
@@ -184,7 +184,7 @@ pub(crate) fn key_refusal(world: &World, key: PyObjectRef) -> Option<Raised>
 }
 
 /// A dict and a key, or why the arguments are refused.
-pub(crate) fn dict_and_key(
+pub fn dict_and_key(
     world: &World,
     args: &[PyObjectRef],
     kw: &[(PyStrInterned, PyObjectRef)],
@@ -206,7 +206,7 @@ pub(crate) fn dict_and_key(
 }
 
 /// A key and what is given without it, or why the arguments are refused.
-pub(crate) fn with_default(
+pub fn with_default(
     world: &World,
     args: &[PyObjectRef],
     kw: &[(PyStrInterned, PyObjectRef)],

@@ -1,12 +1,12 @@
 -- What the natives say that read and set the items of texts, tuples and lists.
-use Rattle.std.specs.Prelude.{ℕ, suc, ℤ, pos, negsuc, ◌-◌, Bool, true, false, cond, is_some, min, max, nat_lt, length, take, drop, slice_get, slice_set, slice_range, List, [], ◌∷◌, ◌++◌, Option, Some, None, option_and_then, Ok}
+use Rattle.std.specs.Prelude.{ℕ, suc, Bool, true, false, is_some, length, take, drop, slice_get, slice_set, slice_range, List, [], ◌∷◌, ◌++◌, Option, Some, None, option_map, Ok}
 use Rattle.std.specs.Str.{chars, encode_utf8_all}
 use Rattle.py_node.specs.declared.refs.PyObjectRef.{PyObjectRef}
 use Rattle.py_node.specs.declared.raised.Cause.TheVariants.{IndexOut}
 use Rattle.py_node.specs.declared.payload.PySlice.{PySlice}
 use Rattle.py_node.specs.Tree.{Text}
 use Rattle.plain_machine.specs.Objects.{with_datum}
-use Rattle.plain_machine.specs.Plain.{Datum, ASlice, AList, PlainWorld, Bindings, DoIdEq, DoIndex, DoCollect, ToCompare, ToProtocol, AsObjects, Ended, Answered, ReadObjects, Told, Said, Asks, Ends}
+use Rattle.plain_machine.specs.Plain.{AList, PlainWorld, Bindings, DoIdEq, DoIndex, DoCollect, ToCompare, ToProtocol, AsObjects, Ended, Answered, ReadObjects, Told, Said, Asks, Ends}
 use Rattle.plain_machine.specs.Row.{Row, pass, value, truth, fault, read_objects, on_value}
 use Rattle.plain_machine.specs.World.{datum_at, number_of}
 use Rattle.native_base.specs.Say.{text_made}
@@ -17,38 +17,8 @@ use Rattle.native_containers.specs.Say.{unless_long, tuple_made, list_made, list
 use Rattle.native_texts.specs.Say.{text_of, or_no_text, with_text_and}
 use Rattle.proto_base.specs.Each.{on_objects, any_of}
 use Rattle.proto_base.specs.Entered.{is_plain}
+use Rattle.native_items.specs.Places.{part, place_at, put_part, slice_at}
 use Rattle.native_containers.specs.Asking.{as_said, argument, taking_two, taking_three}
-
--- where a number leads among so many items: from the end, if it is below zero
-abbrev pub place_of : ℕ → ℤ → Option ℕ
-place_of n (pos i) = cond (nat_lt i n) (Some i) None
-place_of n (negsuc i) = cond (nat_lt i n) (Some (n - suc i)) None
-
--- a bound leads no further than the ends
-abbrev pub bound : ℕ → Option ℤ → ℕ
-bound n None = 0
-bound n (Some (pos i)) = min i n
-bound n (Some (negsuc i)) = n - suc i
-
-abbrev pub slice_in : Option Datum → Option PySlice
-slice_in (Some (ASlice s)) = Some s
-slice_in _ = None
-
-abbrev pub slice_at : PlainWorld → PyObjectRef → Option PySlice
-slice_at w k = slice_in (datum_at w k)
-
-abbrev pub bound_at : PlainWorld → ℕ → Option PyObjectRef → ℕ
-bound_at w n r = bound n (option_and_then (λ r. number_of (datum_at w r)) r)
-
--- the items between the bounds of a slice
-abbrev pub part : {A : Type 0} → PlainWorld → PySlice → List A → List A
-part w s xs = slice_range xs (bound_at w (length xs) s.start) (bound_at w (length xs) s.stop)
-
--- the items with others in the place of those
-abbrev pub put_part : {A : Type 0} → PlainWorld → PySlice → List A → List A → List A
-put_part w s xs ys =
-    let start = bound_at w (length xs) s.start in
-    take start xs ++ (ys ++ drop (max start (bound_at w (length xs) s.stop)) xs)
 
 -- goes on with the place among so many items that an object leads to
 abbrev pub placed : PlainWorld → Option ℕ → (ℕ → Said) → Said
@@ -56,7 +26,7 @@ placed w None go = Ends w (fault IndexOut)
 placed w (Some i) go = go i
 
 abbrev pub at_place : PlainWorld → ℕ → Ended → (ℕ → Said) → Row
-at_place w n r go = on_value w r (λ i. as_said (placed w (option_and_then (place_of n) (number_of (datum_at w i))) go))
+at_place w n r go = on_value w r (λ i. as_said (placed w (place_at w n i) go))
 
 -- a list's items are those that stood in it at the start. Where nothing of a script is asked meanwhile they need not be read before
 abbrev pub stood : PlainWorld → Bool → PyObjectRef → Told
@@ -84,9 +54,11 @@ abbrev pub item_asked : PlainWorld → (List PyObjectRef → Said) → Option Py
 item_asked w made (Some s) o k = made (part w s (items_at w o))
 item_asked w made None o k = index_asked w o k
 
+abbrev pub item_got : PlainWorld → List PyObjectRef → Ended → Row
+item_got w rs r = at_place w (length rs) r (λ i. item_ends w (slice_get rs i))
+
 abbrev pub get_item : PlainWorld → (List PyObjectRef → Said) → PyObjectRef → PyObjectRef → Row
-get_item w made o k =
-    as_stood w o (item_asked w made (slice_at w k) o k) (λ rs r. at_place w (length rs) r (λ i. item_ends w (slice_get rs i)))
+get_item w made o k = as_stood w o (item_asked w made (slice_at w k) o k) (item_got w)
 
 abbrev pub tuple_get_item : PlainWorld → List PyObjectRef → Bindings → Row
 tuple_get_item w args kw = taking_two kind.Tuple w args kw (get_item w (tuple_made w))
@@ -101,12 +73,19 @@ chars_at w o = chars (or_no_text (text_of (datum_at w o)))
 abbrev pub chars_made : PlainWorld → List ℕ → Said
 chars_made w cs = text_made w (Ok (encode_utf8_all cs))
 
-abbrev pub char_asked : PlainWorld → Option PySlice → PyObjectRef → PyObjectRef → Said
-char_asked w (Some s) o k = chars_made w (part w s (chars_at w o))
-char_asked w None o k = pass w (ToProtocol (DoIndex k))
+abbrev pub char_asked : PlainWorld → Option PySlice → Text → PyObjectRef → Said
+char_asked w (Some s) x k = chars_made w (part w s (chars x))
+char_asked w None x k = pass w (ToProtocol (DoIndex k))
+
+abbrev pub character_at : PlainWorld → List ℕ → PyObjectRef → Option Text
+character_at w cs i = option_map (λ n. encode_utf8_all (slice_range cs n (suc n))) (place_at w (length cs) i)
+
+abbrev pub character_made : PlainWorld → Option Text → Said
+character_made w None = Ends w (fault IndexOut)
+character_made w (Some x) = text_made w (Ok x)
 
 abbrev pub char_rest : PlainWorld → List ℕ → Ended → Row
-char_rest w cs r = at_place w (length cs) r (λ i. chars_made w (slice_range cs i (suc i)))
+char_rest w cs r = on_value w r (λ i. as_said (character_made w (character_at w cs i)))
 
 abbrev pub answered : Said → (Ended → Row) → Row
 answered said go (Answered r ∷ more) = go r more
@@ -114,7 +93,7 @@ answered said go _ = said
 
 abbrev pub str_get_item : PlainWorld → List PyObjectRef → Bindings → Row
 str_get_item w args kw =
-    answered (with_text_and w args kw (λ x k. char_asked w (slice_at w k) (argument args 0) k)) (char_rest w (chars_at w (argument args 0)))
+    answered (with_text_and w args kw (λ x k. char_asked w (slice_at w k) x k)) (char_rest w (chars_at w (argument args 0)))
 
 -- an item of a list is set, or a part of it to the items of an iteration
 abbrev pub set_asked : PlainWorld → Option PySlice → PyObjectRef → PyObjectRef → PyObjectRef → Said
@@ -129,30 +108,45 @@ abbrev pub set_rest : PlainWorld → PyObjectRef → PyObjectRef → PyObjectRef
 set_rest w o k v rs (Ok (AsObjects vs)) = as_said (part_set w (slice_at w k) o rs vs)
 set_rest w o k v rs r = at_place w (length rs) r (λ i. list_changed w o (slice_set rs i v))
 
+abbrev pub set_item : PlainWorld → PyObjectRef → PyObjectRef → PyObjectRef → Row
+set_item w o k v = as_stood w o (set_asked w (slice_at w k) o k v) (set_rest w o k v)
+
 abbrev pub list_set_item : PlainWorld → List PyObjectRef → Bindings → Row
-list_set_item w args kw =
-    taking_three kind.List w args kw (λ o k v. as_stood w o (set_asked w (slice_at w k) o k v) (set_rest w o k v))
+list_set_item w args kw = taking_three kind.List w args kw (set_item w)
 
 -- an item of a list is taken out, or a part of it
 abbrev pub del_asked : PlainWorld → Option PySlice → PyObjectRef → PyObjectRef → Said
 del_asked w (Some s) o k = list_changed w o (put_part w s (items_at w o) [])
 del_asked w None o k = index_asked w o k
 
+abbrev pub del_rest : PlainWorld → PyObjectRef → List PyObjectRef → Ended → Row
+del_rest w o rs r = at_place w (length rs) r (λ i. list_changed w o (take i rs ++ drop (suc i) rs))
+
+abbrev pub del_item : PlainWorld → PyObjectRef → PyObjectRef → Row
+del_item w o k = as_stood w o (del_asked w (slice_at w k) o k) (del_rest w o)
+
 abbrev pub list_del_item : PlainWorld → List PyObjectRef → Bindings → Row
-list_del_item w args kw =
-    taking_two kind.List w args kw (λ o k. as_stood w o (del_asked w (slice_at w k) o k) (λ rs r.
-    at_place w (length rs) r (λ i. list_changed w o (take i rs ++ drop (suc i) rs))))
+list_del_item w args kw = taking_two kind.List w args kw (del_item w)
 
 -- whether an item is the object, or equal to it
+abbrev pub is_among : PlainWorld → PyObjectRef → List PyObjectRef → Row
+is_among w x = any_of w (λ r. ToCompare (DoIdEq r x)) (λ b. value (truth b))
+
+abbrev pub look_for : PlainWorld → PyObjectRef → PyObjectRef → Row
+look_for w o x = read_objects (items_at w o) (is_among w x)
+
 abbrev pub contains : Kind → PlainWorld → List PyObjectRef → Bindings → Row
-contains k w args kw =
-    taking_two k w args kw (λ o x. read_objects (items_at w o) (any_of w (λ r. ToCompare (DoIdEq r x)) (λ b. value (truth b))))
+contains k w args kw = taking_two k w args kw (look_for w)
 
 -- a list gets the items of an iteration after its own, and is the answer
 abbrev pub list_extended : PlainWorld → PyObjectRef → List PyObjectRef → Said
 list_extended w o rs = unless_long w rs (Ends (with_datum w o (AList rs)) (value o))
 
+abbrev pub extend_rest : PlainWorld → PyObjectRef → List PyObjectRef → Ended → Row
+extend_rest w o rs r = on_objects w r (λ vs. as_said (list_extended w o (rs ++ vs)))
+
+abbrev pub extend : PlainWorld → PyObjectRef → PyObjectRef → Row
+extend w o v = as_stood w o (Asks w (stood w (is_plain w v) o) (ToProtocol (DoCollect v))) (extend_rest w o)
+
 abbrev pub list_extend : PlainWorld → List PyObjectRef → Bindings → Row
-list_extend w args kw =
-    taking_two kind.List w args kw (λ o v. as_stood w o (Asks w (stood w (is_plain w v) o) (ToProtocol (DoCollect v))) (λ rs r.
-    on_objects w r (λ vs. as_said (list_extended w o (rs ++ vs)))))
+list_extend w args kw = taking_two kind.List w args kw (extend w)

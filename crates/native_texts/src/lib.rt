@@ -3,8 +3,9 @@
 
 mod compare;
 mod of_bytes;
-mod take;
+pub mod take;
 mod text;
 
 pub use compare::compare_text;
+pub use of_bytes::text_length;
 pub use text::text_native;

@@ -8,7 +8,7 @@ use py_node::OutOfMemory;
 use std::alloc::Global;
 
 /// How many characters a text has.
-pub(crate) fn text_length(text: &str) -> usize
+pub fn text_length(text: &str) -> usize
     ensures { result ≡ text_length text.now }
 {
     text.chars().count()

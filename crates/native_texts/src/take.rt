@@ -14,7 +14,7 @@ use class_world::takes::{one, two};
 use py_node::{Cause, Payload, PyObjectRef, PyStrInterned, Raised};
 
 /// The text that an object holds, if it holds one.
-pub(crate) fn text_of(world: &World, node: PyObjectRef) -> Option<&str>
+pub fn text_of(world: &World, node: PyObjectRef) -> Option<&str>
     requires { Holds world.now (IsNode node) }
     ensures { (t : Reading) → text_of (datum_at (plain t world.now) node) ≡ option_map (λ s. s.now) result }
 {
@@ -25,7 +25,7 @@ pub(crate) fn text_of(world: &World, node: PyObjectRef) -> Option<&str>
 }
 
 /// The text that the first argument holds, or why it is refused.
-pub(crate) fn own_text<'a>(world: &'a World, args: &[PyObjectRef]) -> Result<&'a str, Raised>
+pub fn own_text<'a>(world: &'a World, args: &[PyObjectRef]) -> Result<&'a str, Raised>
     requires { Holds world.now (AreNodes args.now) }
     ensures given { IfOk result (λ x. (t : Reading) (go : Text → Said) →
         with_own_text (plain t world.now) args.now go ≡ go x.now) }
@@ -42,7 +42,7 @@ pub(crate) fn own_text<'a>(world: &'a World, args: &[PyObjectRef]) -> Result<&'a
 }
 
 /// The only argument and the text that it holds, or why the arguments are refused.
-pub(crate) fn lone_text<'a>(
+pub fn lone_text<'a>(
     world: &'a World,
     args: &[PyObjectRef],
     kw: &[(PyStrInterned, PyObjectRef)],
@@ -60,7 +60,7 @@ pub(crate) fn lone_text<'a>(
 }
 
 /// The text that the first argument holds, and the second argument, or why the arguments are refused.
-pub(crate) fn text_and<'a>(
+pub fn text_and<'a>(
     world: &'a World,
     args: &[PyObjectRef],
     kw: &[(PyStrInterned, PyObjectRef)],

@@ -1,0 +1,98 @@
+//! A list gets the items of an iteration after its own.
+
+ghost use Rattle.std.specs.Prelude.{◌≡◌, [], ◌∷◌, IfOk};
+ghost use Rattle.py_node.specs.declared.built_in.BuiltIn.TheVariants.{List};
+ghost use Rattle.py_node.specs.declared.entry.ListNative.TheVariants.{InplaceAdd};
+ghost use Rattle.py_node.specs.declared.entry.NativeEntry.TheVariants.{OfList};
+ghost use Rattle.class_world.specs.Claims.{of_ended, Leaves};
+ghost use Rattle.class_world.specs.Reading.{ended_of};
+ghost use Rattle.class_world.specs.Rows.{EndsAs, LeavesEnd};
+ghost use Rattle.class_world.specs.Sound.{AllHold, AreNodes, Grows, Holding, Holds, IsNode};
+ghost use Rattle.native_items.specs.Items.{extend, extend_rest, list_extended};
+ghost use Rattle.native_items.specs.Rows.{Does, Enters, items_stood, of_item_kept, of_stood};
+
+use crate::ItemKept;
+use crate::stood::{items_of_own, stood};
+use class_world::World;
+use class_world::limits::is_within_limit;
+use native_containers::sequence::in_one;
+use native_containers::take::{Kind, own_and};
+use proto_base::is_plain;
+use py_node::protocol::ProtocolTask;
+use py_node::task::Args;
+use py_node::{Answer, Cause, OutOfMemory, Payload, PyObjectRef, PyStrInterned, Raised, Step, Task};
+
+/// A list gets the items of an iteration after its own, and is the answer.
+pub(crate) fn extend_list(
+    world: &World,
+    args: &[PyObjectRef],
+    kw: &[(PyStrInterned, PyObjectRef)],
+) -> Result<Step<ItemKept>, OutOfMemory>
+    requires { Holds world.now (AreNodes args.now) }
+    ensures goes { IfOk result (λ step. Enters (OfList InplaceAdd) args.now kw.now world.now world.now step) }
+    ensures safe { Leaves of_item_kept world.now world.now result }
+{
+    match own_and(world, Kind::List, args, kw) {
+        Err(raised) => Ok(Step::End(Err(raised))),
+        Ok((list, others)) => items_asked(world, list, others),
+    }
+}
+
+// The items are asked.
+fn items_asked(
+    world: &World,
+    list: PyObjectRef,
+    others: PyObjectRef,
+) -> Result<Step<ItemKept>, OutOfMemory>
+    requires list { Holds world.now (IsNode list) }
+    requires holding { Holds world.now (Holding list List) }
+    requires others { Holds world.now (IsNode others) }
+    ensures goes { IfOk result (λ step. Does (OfList InplaceAdd) (list ∷ others ∷ [])
+        (λ t u. extend u list others []) world.now world.now step) }
+    ensures safe { Leaves of_item_kept world.now world.now result }
+{
+    let stood = stood(world, is_plain(world, others), list)?;
+    let task = Task::Protocol(ProtocolTask::Collect(others));
+    Ok(Step::Ask(task, ItemKept::Extending(list, stood)))
+}
+
+/// They come after those of the list.
+pub(crate) fn list_extended(
+    world: &mut World,
+    list: PyObjectRef,
+    stood: Option<Args>,
+    answer: Result<Answer, Raised>,
+) -> Result<Result<Answer, Raised>, OutOfMemory>
+    requires list { Holds world.old (IsNode list) }
+    requires holding { Holds world.old (Holding list List) }
+    requires stood { AllHold world.old (of_stood stood) }
+    requires answer { AllHold world.old (of_ended answer) }
+    ensures ends { IfOk result (λ r. EndsAs (λ t u.
+        extend_rest u list (items_stood u stood list) (ended_of answer) []) world.old world.new r) }
+    ensures safe { LeavesEnd world.old world.new result }
+{
+    match answer {
+        Ok(Answer::Objects(others)) => {
+            let items = items_of_own(world, stood, list)?;
+            let all = in_one(world.alloc(), &items, &others)?;
+            Ok(put_all(world, list, all))
+        }
+        other => Ok(other),
+    }
+}
+
+// A list with other items is the answer, unless they are too many.
+fn put_all(world: &mut World, list: PyObjectRef, items: Args) -> Result<Answer, Raised>
+    requires list { Holds world.old (IsNode list) }
+    requires holding { Holds world.old (Holding list List) }
+    requires items { Holds world.old (AreNodes items.items) }
+    ensures ends { EndsAs (λ t u. list_extended u list items.items) world.old world.new result }
+    ensures grows { Grows world.old world.new }
+    ensures holds { AllHold world.new (of_ended result) }
+{
+    if !is_within_limit(items.len()) {
+        return Err(Raised::new(Cause::TooLong));
+    }
+    world.set_payload(list, Payload::List(items));
+    Ok(Answer::Value(list))
+}
