@@ -1,16 +1,15 @@
 //! The list that a mapping's method gave, or a new one of its items.
 #![tactic(auto, unfolding(crate::specs::Say::items_job_say, py_node::specs::BuiltIns::place_of))]
 
-ghost use Rattle.std.specs.Prelude.{◌≡◌, ◌≤◌, length, IfErr, IfOk, Ok};
+ghost use Rattle.std.specs.Prelude.{◌≡◌, IfErr, IfOk, Ok};
 ghost use Rattle.py_node.specs.declared.protocol.ProtocolTask.TheVariants as protocol;
-ghost use Rattle.plain_machine.specs.Row.{most_items};
 ghost use Rattle.class_world.specs.Claims.{of_ended, of_step, Leaves};
 ghost use Rattle.class_world.specs.Sound.{AllHold, AreNodes, Holds, IsNode};
 ghost use Rattle.proto_items.specs.Rows.{IsNoItem, Resumes, item_answer, of_items_kept};
 
 use crate::ItemsKept;
 use class_world::World;
-use class_world::limits::{MOST_ITEMS, is_within_limit};
+use class_world::limits::is_within_limit;
 use native_containers::new_list;
 use proto_base::is_exactly;
 use py_node::protocol::ProtocolTask;
@@ -57,9 +56,6 @@ pub(crate) fn gather(
         Resumes (ItemsKept.Gathering iterator items) answer world.old world.new step) }
     ensures safe { Leaves of_items_kept world.old world.new result }
 {
-    if !is_within_limit(items.len()) {
-        return Ok(Step::raise(Cause::TooLong));
-    }
     match item_of(answer) {
         Ok(Some(item)) => one_more(world, iterator, items, item),
         Ok(None) => {
@@ -93,16 +89,15 @@ fn one_more(
     requires iterator { Holds world.now (IsNode iterator) }
     requires items { Holds world.now (AreNodes items.items) }
     requires item { Holds world.now (IsNode item) }
-    requires short { length items.items ≤ most_items }
     ensures goes { IfOk result (λ step.
         Resumes (ItemsKept.Gathering iterator items) (Ok (Answer.Value item)) world.now world.now step) }
     ensures safe { Leaves of_items_kept world.now world.now result }
 {
-    if items.len() >= MOST_ITEMS {
-        return Ok(Step::raise(Cause::TooLong));
-    }
     let mut items = items;
     items.push(item)?;
+    if !is_within_limit(items.len()) {
+        return Ok(Step::raise(Cause::TooLong));
+    }
     Ok(ask_next(iterator, items))
 }
 

@@ -1,32 +1,18 @@
-use Rattle.std.proofs.Common.{◌≡◌, ◌≤◌, true, false, length, sym, ◌∙◌, ap, subst}
-use Rattle.std.specs.Prelude.{nat_le, IfOk}
-use Rattle.std.proofs.lemmas.Bool.{leb-true, leb-false}
-use Rattle.plain_machine.specs.Row.{most_items}
+use Rattle.std.proofs.Common.{sym, subst}
+use Rattle.std.specs.Prelude.{IfOk}
 use Rattle.class_world.specs.Claims.{of_ended}
 use Rattle.class_world.specs.Sound.{AllHold}
 use Rattle.class_world.proofs.Growth.{grows-itself}
 use Rattle.proto_items.specs.declared.ItemsKept.TheVariants.{Gathering}
 use Rattle.proto_items.specs.Rows.{Resumes}
 use Rattle.py_node.specs.declared.task.Step.TheVariants.{End}
-use Rattle.proto_items.proofs.Gathering.{too-many, all-gathered, no-item}
+use Rattle.proto_items.proofs.Gathering.{all-gathered, no-item}
 use Rattle.proto_items.proofs.listed.gather.Goals as goal
-
-pub returns-then-not-is_within_limit-clause-goes : goal.returns-then-not-is_within_limit-clause-goes
-returns-then-not-is_within_limit-clause-goes c =
-    let a = c.args in
-    let no : nat_le (length a.items.items) most_items ≡ false = ap (λ n. nat_le n most_items) (sym c.len.ensures) ∙ sym c.is_within_limit.ensures ∙ c.if-not-is_within_limit.true in
-    rw c.raise.ensures (too-many a.world.now a.iterator a.items a.answer (leb-false (length a.items.items) most_items no))
 
 pub one_more-requires-clause-item : goal.one_more-requires-clause-item
 one_more-requires-clause-item c =
     let is = rw c.in-Ok-Some.field-0-is at c.in-Ok-Some.ensures.item in
     (subst (λ r. AllHold c.args.world.now (of_ended r)) is c.requires.answer).0
-
-pub one_more-requires-clause-short : goal.one_more-requires-clause-short
-one_more-requires-clause-short c =
-    let a = c.args in
-    let yes : nat_le (length a.items.items) most_items ≡ true = ap (λ n. nat_le n most_items) (sym c.len.ensures) ∙ sym c.is_within_limit.ensures ∙ c.if-not-is_within_limit.false in
-    leb-true (length a.items.items) most_items yes
 
 pub returns-in-Ok-Some-clause-goes : goal.returns-in-Ok-Some-clause-goes
 returns-in-Ok-Some-clause-goes c =
@@ -40,17 +26,15 @@ returns-in-Ok-None-clause-goes c =
     let a = c.args in
     let w = a.world.now in
     let new = c.new_list.new.world in
-    let yes : nat_le (length a.items.items) most_items ≡ true = ap (λ n. nat_le n most_items) (sym c.len.ensures) ∙ sym c.is_within_limit.ensures ∙ c.if-not-is_within_limit.false in
     let is = rw c.in-Ok-None.field-0-is at c.in-Ok-None.ensures.item in
-    let over = all-gathered w a.iterator a.items new c.in_ok-ended.ended (leb-true (length a.items.items) most_items yes) c.in_ok-ended.ensures.ends in
+    let over = all-gathered w a.iterator a.items new c.in_ok-ended.ended c.in_ok-ended.ensures.ends in
     subst (λ r. Resumes (Gathering a.iterator a.items) r w new (End c.in_ok-ended.ended)) (sym is) over
 
 pub returns-in-Err-clause-goes : goal.returns-in-Err-clause-goes
 returns-in-Err-clause-goes c =
     let a = c.args in
     let w = a.world.now in
-    let yes : nat_le (length a.items.items) most_items ≡ true = ap (λ n. nat_le n most_items) (sym c.len.ensures) ∙ sym c.is_within_limit.ensures ∙ c.if-not-is_within_limit.false in
-    let ends = no-item w a.iterator a.items a.answer (leb-true (length a.items.items) most_items yes) c.in-Err.ensures.other in
+    let ends = no-item w a.iterator a.items a.answer c.in-Err.ensures.other in
     subst (λ r. Resumes (Gathering a.iterator a.items) a.answer w w (End r)) (sym c.in-Err.ensures.same) ends
 
 pub returns-in-Err-clause-safe : goal.returns-in-Err-clause-safe

@@ -1,21 +1,24 @@
-use Rattle.std.proofs.Common.{◌≤◌, ◌<◌, length, sym, arith}
+use Rattle.std.proofs.Common.{◌≡◌, true, false, length, sym, ◌∙◌, ap}
+use Rattle.std.specs.Prelude.{nat_le}
 use Rattle.plain_machine.specs.Row.{most_items}
 use Rattle.class_world.proofs.Claims.{more-nodes}
 use Rattle.class_world.proofs.Growth.{grows-itself}
-use Rattle.proto_items.proofs.Gathering.{next-asked, one-too-many}
+use Rattle.proto_items.proofs.Gathering.{next-asked, too-many}
 use Rattle.proto_items.proofs.listed.one_more.Goals as goal
 
-pub returns-then-len-ge-MOST_ITEMS-clause-goes : goal.returns-then-len-ge-MOST_ITEMS-clause-goes
-returns-then-len-ge-MOST_ITEMS-clause-goes c =
+pub returns-then-not-is_within_limit-clause-goes : goal.returns-then-not-is_within_limit-clause-goes
+returns-then-not-is_within_limit-clause-goes c =
     let a = c.args in
-    let most : most_items ≤ length a.items.items = omega (arith, c.len.ensures, c.if-len-ge-MOST_ITEMS.true) in
-    rw c.raise.ensures (one-too-many a.world.now a.iterator a.items a.item c.requires.short most)
+    let later = c.push.new.self in
+    let no : nat_le (length later.items) most_items ≡ false = ap (λ n. nat_le n most_items) (sym c.len.ensures) ∙ sym c.is_within_limit.ensures ∙ c.if-not-is_within_limit.true in
+    rw c.raise.ensures (too-many a.world.now a.iterator a.items a.item later c.in_ok-push.ensures.items no)
 
 pub returns-clause-goes : goal.returns-clause-goes
 returns-clause-goes c =
     let a = c.args in
-    let room : length a.items.items < most_items = omega (arith, c.len.ensures, c.if-len-ge-MOST_ITEMS.false) in
-    rw c.ask_next.ensures (next-asked a.world.now a.iterator a.items a.item c.push.new.self room c.in_ok-push.ensures.items)
+    let later = c.push.new.self in
+    let yes : nat_le (length later.items) most_items ≡ true = ap (λ n. nat_le n most_items) (sym c.len.ensures) ∙ sym c.is_within_limit.ensures ∙ c.if-not-is_within_limit.false in
+    rw c.ask_next.ensures (next-asked a.world.now a.iterator a.items a.item later c.in_ok-push.ensures.items yes)
 
 pub returns-clause-safe : goal.returns-clause-safe
 returns-clause-safe c =
