@@ -74,8 +74,7 @@ module _ (w : World) (it : PyObjectRef) (items : Vec PyObjectRef) where
       let asked = at-item it rs (plain t w) v true (ap (λ xs. nat_le (length xs) most_items) (sym is) ∙ h) in
       let same : (gathered it rs ++ answered v ∷ []) ++ [] ≡ gathered it later.items =
       append-none (gathered it rs ++ answered v ∷ []) ∙ gathered-more it rs v ∙ ap (gathered it) (sym is) in
-      let alike = λ u s more. ap (λ told. items_job_say u (DoKeys none) (told ++ Answered s ∷ more)) same in
-      (r, subst (λ said. StepsAt t it rs (Ok (Value v)) said w (Ask (task.Protocol (protocol.Next it)) (Gathering it later))) (sym asked) (refl, refl, record { says = alike }))
+      (r, subst (λ said. StepsAt t it rs (Ok (Value v)) said w (Ask (task.Protocol (protocol.Next it)) (Gathering it later))) (sym asked) (refl, refl, record { says = λ u s more. ap (λ told. items_job_say u (DoKeys none) (told ++ Answered s ∷ more)) same }))
 
   pub too-many : (v : PyObjectRef) (later : Vec PyObjectRef) → later.items ≡ rs ++ v ∷ [] → nat_le (length later.items) most_items ≡ false → Resumes (Gathering it items) (Ok (Value v)) w w (End (Err (raised TooLong)))
   too-many v later is h = λ t q.

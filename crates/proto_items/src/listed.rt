@@ -36,10 +36,19 @@ pub(crate) fn iterated(world: &World, answer: Result<Answer, Raised>) -> Step<It
     ensures safe { AllHold world.now (of_step of_items_kept result) }
 {
     match answer {
-        Ok(Answer::Value(iterator)) => ask_next(iterator, Vec::new(world.alloc())),
+        Ok(Answer::Value(iterator)) => ask_first(world, iterator),
         Ok(other) => Step::End(Ok(other)),
         Err(_) => Step::raise(Cause::NonIterableMethod),
     }
+}
+
+// The first item of an iteration is asked.
+fn ask_first(world: &World, iterator: PyObjectRef) -> Step<ItemsKept>
+    requires { Holds world.now (IsNode iterator) }
+    ensures goes { Resumes ItemsKept.Iterating (Ok (Answer.Value iterator)) world.now world.now result }
+    ensures safe { AllHold world.now (of_step of_items_kept result) }
+{
+    ask_next(iterator, Vec::new(world.alloc()))
 }
 
 /// One item more was given, or the iteration is over.

@@ -21,8 +21,8 @@ returns-in-Ok-Some-clause-goes c =
     let is = rw c.in-Ok-Some.field-0-is at c.in-Ok-Some.ensures.item in
     subst (λ r. IfOk c.one_more.result (λ step. Resumes (Gathering a.iterator a.items) r w w step)) (sym is) c.one_more.ensures.goes
 
-pub returns-in-Ok-None-clause-goes : goal.returns-in-Ok-None-clause-goes
-returns-in-Ok-None-clause-goes c =
+pub returns-in_ok-ended-in-Ok-None-clause-goes : goal.returns-in_ok-ended-in-Ok-None-clause-goes
+returns-in_ok-ended-in-Ok-None-clause-goes c =
     let a = c.args in
     let w = a.world.now in
     let new = c.new_list.new.world in
