@@ -27,8 +27,8 @@ returns-in_ok-ended-in-Ok-None-clause-goes c =
     let w = a.world.now in
     let new = c.new_list.new.world in
     let is = rw c.in-Ok-None.field-0-is at c.in-Ok-None.ensures.item in
-    let over = all-gathered w a.iterator a.items new c.in_ok-ended.ended c.in_ok-ended.ensures.ends in
-    subst (λ r. Resumes (Gathering a.iterator a.items) r w new (End c.in_ok-ended.ended)) (sym is) over
+    let over = all-gathered w a.iterator a.items new c.in_ok-ended-in-Ok-None.ended c.in_ok-ended-in-Ok-None.ensures.ends in
+    subst (λ r. Resumes (Gathering a.iterator a.items) r w new (End c.in_ok-ended-in-Ok-None.ended)) (sym is) over
 
 pub returns-in-Err-clause-goes : goal.returns-in-Err-clause-goes
 returns-in-Err-clause-goes c =
