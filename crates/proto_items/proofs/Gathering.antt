@@ -17,7 +17,7 @@ use Rattle.plain_machine.specs.Known.{the_list}
 use Rattle.plain_machine.specs.Plain.{AList, PlainWorld, DoKeys, DoNext, ToProtocol, Answered, Told, Said, Ends}
 use Rattle.plain_machine.specs.Row.{Row, fault, make, most_items, none, pass, value}
 use Rattle.class_world.specs.declared.world.World.{World}
-use Rattle.class_world.specs.Reading.{Reading, Reads, ended_of, plain}
+use Rattle.class_world.specs.Reading.{Reading, ended_of, plain}
 use Rattle.class_world.specs.Rows.{EndsAs, Steps}
 use Rattle.native_containers.specs.Say.{list_made}
 use Rattle.py_node.specs.Faults.{raised}

@@ -7,7 +7,6 @@ use Rattle.py_node.specs.declared.task.Answer.TheVariants.{Value, Exhausted}
 use Rattle.py_node.specs.declared.protocol.ProtocolTask.{ProtocolTask}
 use Rattle.py_node.specs.declared.task.Step.{Step}
 use Rattle.plain_machine.specs.Plain.{PlainWorld, ProtocolJob, DoGetItem, DoSetItem, DoKeys, AsAttribute, Answered, Chose, Fact, Told, Said}
-use Rattle.plain_machine.specs.World.{ref}
 use Rattle.plain_machine.specs.Row.{value, none}
 use Rattle.plain_machine.specs.Rows.{Pending}
 use Rattle.class_world.specs.declared.world.World.{World}
