@@ -1,5 +1,5 @@
 -- What the rows of items say: how the item of a key is read, set and taken out.
-use Rattle.std.specs.Prelude.{ℕ, zero, suc, Bool, true, false, cond, not, eqb, ◌&&◌, List, [], ◌∷◌, Option, Some, None, Ok, Err}
+use Rattle.std.specs.Prelude.{ℕ, zero, suc, Bool, true, false, cond, not, eqb, ◌&&◌, [], ◌∷◌, Option, Some, None, Ok, Err}
 use Rattle.std.specs.Option.{option_or}
 use Rattle.py_node.specs.declared.refs.PyObjectRef.{PyObjectRef}
 use Rattle.py_node.specs.declared.raised.Cause.TheVariants.{NotSubscriptable, NoItemAssignment, NoItemDeletion}
@@ -14,7 +14,7 @@ use Rattle.py_node.specs.declared.known.Known.TheVariants as known
 use Rattle.py_node.specs.Known.{known_text}
 use Rattle.plain_machine.specs.Known.{the_type}
 use Rattle.plain_machine.specs.Objects.{is_instance}
-use Rattle.plain_machine.specs.Plain.{PlainWorld, DoGetAttr, DoCall, DoIndex, PlainTask, ToAttribute, ToCall, ToProtocol, AsValue, Ended, Chose, Said, Asks, Ends}
+use Rattle.plain_machine.specs.Plain.{PlainWorld, DoGetAttr, DoCall, DoIndex, ToAttribute, ToCall, ToProtocol, AsValue, Ended, Chose, Said, Asks, Ends}
 use Rattle.plain_machine.specs.Row.{Row, start, fork, pass, end, done, fault, is_attribute_error, on_value, on_done}
 use Rattle.plain_machine.specs.World.{slot_at}
 use Rattle.proto_base.specs.Entered.{entered}

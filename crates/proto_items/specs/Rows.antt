@@ -1,12 +1,12 @@
 -- What the contracts of the rows of items, slices and mappings say.
-use Rattle.std.specs.Prelude.{List, [], ◌∷◌, Result, Ok, map}
+use Rattle.std.specs.Prelude.{List, [], ◌∷◌, Option, Some, None, Result, Ok, map}
 use Rattle.py_node.specs.declared.raised.Raised.{Raised as Fault}
 use Rattle.py_node.specs.declared.refs.PyObjectRef.{PyObjectRef}
 use Rattle.py_node.specs.declared.task.Answer.{Answer}
+use Rattle.py_node.specs.declared.task.Answer.TheVariants.{Value, Exhausted}
 use Rattle.py_node.specs.declared.protocol.ProtocolTask.{ProtocolTask}
 use Rattle.py_node.specs.declared.task.Step.{Step}
 use Rattle.plain_machine.specs.Plain.{PlainWorld, ProtocolJob, DoGetItem, DoSetItem, DoKeys, AsAttribute, Answered, Chose, Fact, Told, Said}
-use Rattle.plain_machine.specs.World.{ref}
 use Rattle.plain_machine.specs.Row.{value, none}
 use Rattle.plain_machine.specs.Rows.{Pending}
 use Rattle.class_world.specs.declared.world.World.{World}
@@ -43,6 +43,17 @@ items_stands t Loaded = record { task = DoKeys none; told = [] }
 items_stands t Invoked = record { task = DoKeys none; told = loaded ∷ [] }
 items_stands t Iterating = record { task = DoKeys none; told = invoked }
 items_stands t (Gathering it rs) = record { task = DoKeys none; told = gathered it rs.items }
+
+-- an item that an iteration gives, or that it gives no more
+abbrev pub item_answer : Option PyObjectRef → Result Answer Fault
+item_answer (Some r) = Ok (Value r)
+item_answer None = Ok Exhausted
+
+-- an answer that is neither
+abbrev pub IsNoItem : Result Answer Fault → Type 0
+IsNoItem (Ok (Value r)) = ⊥
+IsNoItem (Ok Exhausted) = ⊥
+IsNoItem _ = Unit {0}
 
 -- what is said of what is kept
 abbrev pub of_items_kept : ItemsKept → List Claim

@@ -1,16 +1,15 @@
 //! The list that a mapping's method gave, or a new one of its items.
 #![tactic(auto, unfolding(crate::specs::Say::items_job_say, py_node::specs::BuiltIns::place_of))]
 
-ghost use Rattle.std.specs.Prelude.{◌≡◌, ◌≤◌, length, IfOk, Ok};
+ghost use Rattle.std.specs.Prelude.{◌≡◌, IfErr, IfOk, Ok};
 ghost use Rattle.py_node.specs.declared.protocol.ProtocolTask.TheVariants as protocol;
-ghost use Rattle.plain_machine.specs.Row.{most_items};
 ghost use Rattle.class_world.specs.Claims.{of_ended, of_step, Leaves};
 ghost use Rattle.class_world.specs.Sound.{AllHold, AreNodes, Holds, IsNode};
-ghost use Rattle.proto_items.specs.Rows.{Resumes, of_items_kept};
+ghost use Rattle.proto_items.specs.Rows.{IsNoItem, Resumes, item_answer, of_items_kept};
 
 use crate::ItemsKept;
 use class_world::World;
-use class_world::limits::{MOST_ITEMS, is_within_limit};
+use class_world::limits::is_within_limit;
 use native_containers::new_list;
 use proto_base::is_exactly;
 use py_node::protocol::ProtocolTask;
@@ -37,10 +36,19 @@ pub(crate) fn iterated(world: &World, answer: Result<Answer, Raised>) -> Step<It
     ensures safe { AllHold world.now (of_step of_items_kept result) }
 {
     match answer {
-        Ok(Answer::Value(iterator)) => ask_next(iterator, Vec::new(world.alloc())),
+        Ok(Answer::Value(iterator)) => ask_first(world, iterator),
         Ok(other) => Step::End(Ok(other)),
         Err(_) => Step::raise(Cause::NonIterableMethod),
     }
+}
+
+// The first item of an iteration is asked.
+fn ask_first(world: &World, iterator: PyObjectRef) -> Step<ItemsKept>
+    requires { Holds world.now (IsNode iterator) }
+    ensures goes { Resumes ItemsKept.Iterating (Ok (Answer.Value iterator)) world.now world.now result }
+    ensures safe { AllHold world.now (of_step of_items_kept result) }
+{
+    ask_next(iterator, Vec::new(world.alloc()))
 }
 
 /// One item more was given, or the iteration is over.
@@ -57,16 +65,26 @@ pub(crate) fn gather(
         Resumes (ItemsKept.Gathering iterator items) answer world.old world.new step) }
     ensures safe { Leaves of_items_kept world.old world.new result }
 {
-    if !is_within_limit(items.len()) {
-        return Ok(Step::raise(Cause::TooLong));
-    }
-    match answer {
-        Ok(Answer::Value(item)) => one_more(world, iterator, items, item),
-        Ok(Answer::Exhausted) => {
+    match item_of(answer) {
+        Ok(Some(item)) => one_more(world, iterator, items, item),
+        Ok(None) => {
             let ended = new_list(world, items)?;
             Ok(Step::End(ended))
         }
-        other => Ok(Step::End(other)),
+        Err(other) => Ok(Step::End(other)),
+    }
+}
+
+// The item that an iteration gave, or that it gave no more, or else the answer as it is.
+fn item_of(answer: Result<Answer, Raised>) -> Result<Option<PyObjectRef>, Result<Answer, Raised>>
+    ensures item { IfOk result (λ item. answer ≡ item_answer item) }
+    ensures same { IfErr result (λ other. other ≡ answer) }
+    ensures other { IfErr result (λ _. IsNoItem answer) }
+{
+    match answer {
+        Ok(Answer::Value(item)) => Ok(Some(item)),
+        Ok(Answer::Exhausted) => Ok(None),
+        other => Err(other),
     }
 }
 
@@ -80,16 +98,15 @@ fn one_more(
     requires iterator { Holds world.now (IsNode iterator) }
     requires items { Holds world.now (AreNodes items.items) }
     requires item { Holds world.now (IsNode item) }
-    requires short { length items.items ≤ most_items }
     ensures goes { IfOk result (λ step.
         Resumes (ItemsKept.Gathering iterator items) (Ok (Answer.Value item)) world.now world.now step) }
     ensures safe { Leaves of_items_kept world.now world.now result }
 {
-    if items.len() >= MOST_ITEMS {
-        return Ok(Step::raise(Cause::TooLong));
-    }
     let mut items = items;
     items.push(item)?;
+    if !is_within_limit(items.len()) {
+        return Ok(Step::raise(Cause::TooLong));
+    }
     Ok(ask_next(iterator, items))
 }
 

@@ -4,6 +4,7 @@
 ghost use Rattle.std.specs.Prelude.{◌≡◌, IfOk, Ok};
 ghost use Rattle.py_node.specs.Known.{known_text};
 ghost use Rattle.py_node.specs.declared.protocol.ProtocolTask.TheVariants as protocol;
+ghost use Rattle.py_node.specs.declared.task.Answer.TheVariants as answer;
 ghost use Rattle.plain_machine.specs.Plain.{ToAttribute, DoLoadMethod};
 ghost use Rattle.class_world.specs.Claims.{of_method, of_step, of_task, Leaves};
 ghost use Rattle.class_world.specs.Reading.{Reading, Reads, task_of};
@@ -74,7 +75,7 @@ fn load(world: &World, o: PyObjectRef, name: Known) -> Task
 /// The method was loaded, and is called with nothing.
 pub(crate) fn loaded(world: &World, method: PyMethod) -> Step<ItemsKept>
     requires { AllHold world.now (of_method method) }
-    ensures goes { Resumes ItemsKept.Loaded (Ok (Answer.Method method)) world.now world.now result }
+    ensures goes { Resumes ItemsKept.Loaded (Ok (answer.Method method)) world.now world.now result }
     ensures safe { AllHold world.now (of_step of_items_kept result) }
 {
     let alloc = world.alloc();
