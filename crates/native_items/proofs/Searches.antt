@@ -51,10 +51,10 @@ first-alike sequence.List o x r rest items e t kw = record {
 search-of : (s : Sequence) (o x : PyObjectRef) (items : Vec PyObjectRef) (w : World) (rs : List PyObjectRef) → items.items ≡ rs → ((t : Reading) → items_at (plain t w) o ≡ rs) → Does (searcher_of s) (o ∷ x ∷ []) (λ t u. look_for u o x []) w w (next_asked x items 0 (slice_get rs 0))
 search-of s o x items w [] e same =
     ends-does (searcher_of s) (o ∷ x ∷ []) (λ t u. look_for u o x []) (λ t u. Ends u (value (truth false))) w w (Ok (Value (truth false)))
-        (λ t. ap (λ l. read_objects l (is_among (plain t w) x) []) (same t)) (λ t q. (q, refl))
+    (λ t. ap (λ l. read_objects l (is_among (plain t w) x) []) (same t)) (λ t q. (q, refl))
 search-of s o x items w (r ∷ rest) e same =
     asks-does (searcher_of s) (o ∷ x ∷ []) (λ t u. look_for u o x []) w (ReadObjects (r ∷ rest) ∷ []) (task.Compare (IdEq r x)) (ToCompare (DoIdEq r x)) (Searching x items 1)
-        (λ t. ap (λ l. read_objects l (is_among (plain t w) x) []) (same t)) (λ t q. refl) (first-alike s o x r rest items e)
+    (λ t. ap (λ l. read_objects l (is_among (plain t w) x) []) (same t)) (λ t q. refl) (first-alike s o x r rest items e)
 
 pub search-begins : (s : Sequence) (o x : PyObjectRef) (items : Vec PyObjectRef) (w : World) → ((t : Reading) → items_at (plain t w) o ≡ items.items) → Does (searcher_of s) (o ∷ x ∷ []) (λ t u. look_for u o x []) w w (next_asked x items 0 (slice_get items.items 0))
 search-begins s o x items w same = search-of s o x items w items.items refl same
@@ -64,16 +64,22 @@ search-on : (x : PyObjectRef) (items : Vec PyObjectRef) (next : ℕ) (w : World)
 unfolding item_job_say
 search-on x items next w None e =
     ends-resumes (Searching x items next) (Ok (Truth false)) (λ t u. Ends u (value (truth false))) w w (Ok (Value (truth false)))
-        (λ t. ap (λ l. is_among (plain t w) x l []) (rest-none items.items next e)) (λ t q. (q, refl))
+    (λ t. ap (λ l. is_among (plain t w) x l []) (rest-none items.items next e)) (λ t q. (q, refl))
 search-on x items next w (Some r) e = λ t q.
     let rest = rest-some items.items next r e in
     let step = Ask (task.Compare (IdEq r x)) (Searching x items (next + 1)) in
-    let told = ReadObjects (ref 0 ∷ drop next items.items) ∷ (Answered (Ok (AsTruth false)) ∷ []) in
-    (q, subst (λ s. Steps item_job_say (item_stands t) t (ToNative (OfTuple tuple.Contains) (ref 0 ∷ x ∷ []) []) told s step w) (sym (ap (λ l. is_among (plain t w) x l []) rest)) (refl, refl, record {
-      says = λ u a more.
-          ap (λ l. is_among u x l (Answered a ∷ more)) rest
-          ∙ ap (λ n. is_among u x (ref 0 ∷ drop n items.items) (Answered a ∷ more)) (sym (add-one next));
-    }))
+    let told = ReadObjects (ref 0 ∷ drop next items.items) ∷ (Answered (Ok (AsTruth false)) ∷ []) in (
+      q,
+      subst (λ s. Steps item_job_say (item_stands t) t (ToNative (OfTuple tuple.Contains) (ref 0 ∷ x ∷ []) []) told s step w) (sym (ap (λ l. is_among (plain t w) x l []) rest)) (
+        refl,
+        refl,
+        record {
+          says = λ u a more.
+              ap (λ l. is_among u x l (Answered a ∷ more)) rest
+              ∙ ap (λ n. is_among u x (ref 0 ∷ drop n items.items) (Answered a ∷ more)) (sym (add-one next));
+        },
+      ),
+    )
 
 pub search-goes : (x : PyObjectRef) (items : Vec PyObjectRef) (next : ℕ) (w : World) → Resumes (Searching x items next) (Ok (Truth false)) w w (next_asked x items next (slice_get items.items next))
 search-goes x items next w = search-on x items next w (slice_get items.items next) refl

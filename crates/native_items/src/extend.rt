@@ -20,7 +20,9 @@ use native_containers::take::{Kind, own_and};
 use proto_base::is_plain;
 use py_node::protocol::ProtocolTask;
 use py_node::task::Args;
-use py_node::{Answer, Cause, OutOfMemory, Payload, PyObjectRef, PyStrInterned, Raised, Step, Task};
+use py_node::{
+    Answer, Cause, OutOfMemory, Payload, PyObjectRef, PyStrInterned, Raised, Step, Task,
+};
 
 /// A list gets the items of an iteration after its own, and is the answer.
 pub(crate) fn extend_list(

@@ -128,7 +128,9 @@ pub fn resume(
             let ended = list_extended(world, list, stood, answer)?;
             Ok(Step::End(ended))
         }
-        ItemKept::Searching(needle, items, next) => Ok(searched(world, needle, items, next, answer)),
+        ItemKept::Searching(needle, items, next) => Ok(searched(
+            world, needle, items, next, answer,
+        )),
         ItemKept::Iterating(iterator) => {
             let ended = next_given(world, iterator, answer);
             Ok(Step::End(ended))

@@ -2,6 +2,7 @@
 
 ghost use Rattle.std.specs.Prelude.{◌≡◌, [], ◌∷◌, IfOk, IfSome, pos, slice_get};
 ghost use Rattle.std.specs.Char.{encode_utf8};
+ghost use Rattle.std.specs.Str.{chars};
 ghost use Rattle.py_node.specs.declared.built_in.BuiltIn.TheVariants.{Iterator};
 ghost use Rattle.py_node.specs.declared.entry.IteratorNative.TheVariants.{Next};
 ghost use Rattle.py_node.specs.declared.entry.NativeEntry.TheVariants.{OfIterator};
@@ -123,7 +124,7 @@ fn found_in(world: &World, object: PyObjectRef, place: u64) -> Found
     ensures holds { AllHold world.now (of_found result) }
 {
     match world.payload(object) {
-        Payload::Text(text) => match text.chars().nth(place as usize) {
+        Payload::Text(text) => match character_in(text.as_str(), place) {
             None => Found::Nothing,
             Some(character) => Found::Character(character),
         },
@@ -131,6 +132,13 @@ fn found_in(world: &World, object: PyObjectRef, place: u64) -> Found
         Payload::List(items) => item_in(items, place),
         _ => Found::Unknown,
     }
+}
+
+// The character at a place, if there is one.
+fn character_in(text: &str, place: u64) -> Option<char>
+    ensures { result ≡ slice_get (chars text.now) place }
+{
+    text.chars().nth(place as usize)
 }
 
 // The item at a place, if there is one.
@@ -159,11 +167,7 @@ fn new_character(world: &mut World, character: char) -> Result<PyObjectRef, OutO
 }
 
 // The task that asks an object for the item of a new number.
-fn ask_item(
-    world: &mut World,
-    object: PyObjectRef,
-    place: u64,
-) -> Result<Task, OutOfMemory>
+fn ask_item(world: &mut World, object: PyObjectRef, place: u64) -> Result<Task, OutOfMemory>
     requires { Holds world.old (IsNode object) }
     ensures made { IfOk result (λ task. (t : Reading) →
         plain t world.new ≡ with_node (plain t world.old) the_int (ANumber (pos place))) }
@@ -192,12 +196,7 @@ fn next_place(place: u64) -> Option<u64>
 }
 
 // Moves an iterator to another place, or ends it.
-fn set_place(
-    world: &mut World,
-    object: PyObjectRef,
-    iterator: SequenceIterator,
-    place: Option<u64>,
-)
+fn set_place(world: &mut World, object: PyObjectRef, iterator: SequenceIterator, place: Option<u64>)
     requires object { Holds world.old (IsNode object) }
     requires holding { Holds world.old (Holding object Iterator) }
     requires iterator { Holds world.old (IsNode iterator.object) }

@@ -13,9 +13,7 @@ use class_world::World;
 use class_world::args::copy_args;
 use native_containers::take::{items, own_and};
 use py_node::task::Args;
-use py_node::{
-    Answer, CompareTask, OutOfMemory, PyObjectRef, PyStrInterned, Raised, Step, Task,
-};
+use py_node::{Answer, CompareTask, OutOfMemory, PyObjectRef, PyStrInterned, Raised, Step, Task};
 
 /// Whether an item is an object, or equal to it.
 pub(crate) fn contains(
