@@ -74,3 +74,15 @@ ends-resumes kept answer said old new r says h = λ t q.
     let e = h t q in
     let p = item_stands t kept in
     (e.0, subst (λ s. Steps item_job_say (item_stands t) t p.task (p.told ++ Answered (ended_of answer) ∷ []) s (End r) new) (sym (says t ∙ e.1)) (refl, refl))
+
+-- what is said is the same as something else
+pub same-does-ok : (n : NativeEntry) (args : List PyObjectRef) (said other : Reading → PlainWorld → Said) (old new : World) (r : Result (Step ItemKept) OutOfMemory) → ((t : Reading) → said t (plain t old) ≡ other t (plain t old)) → IfOk r (λ step. Does n args other old new step) → IfOk r (λ step. Does n args said old new step)
+same-does-ok n args said other old new (Ok step) same h = λ kw t q.
+    let e = h kw t q in
+    (e.0, subst (λ s. Steps item_job_say (item_stands t) t (ToNative n args (kw t)) [] s step new) (sym (same t)) e.1)
+same-does-ok n args said other old new (Err e) same h = tt
+
+-- a native asks, having made an object
+pub made-does : (n : NativeEntry) (args : List PyObjectRef) (said : Reading → PlainWorld → Said) (old new : World) (asked : Task) (other : Reading → PlainTask) (kept : ItemKept) → ((t : Reading) → said t (plain t old) ≡ Asks (plain t new) [] (other t)) → ((t : Reading) → Reads t new → Reads t old) → ((t : Reading) → Reads t new → task_of t asked ≡ other t) → ((t : Reading) (kw : Bindings) → Alike item_job_say (record { task = ToNative n args kw; told = [] }) (item_stands t kept)) → Does n args said old new (Ask asked kept)
+made-does n args said old new asked other kept same reads task alike = λ kw t q.
+    (reads t q, subst (λ s. Steps item_job_say (item_stands t) t (ToNative n args (kw t)) [] s (Ask asked kept) new) (sym (same t)) (task t q, refl, alike t (kw t)))
