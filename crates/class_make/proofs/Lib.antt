@@ -4,3 +4,4 @@ pub mod Parts
 pub mod EachBase
 pub mod Telling
 pub mod Descriptors
+pub mod Places

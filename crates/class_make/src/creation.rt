@@ -87,6 +87,7 @@ fn new_class(
     } = plan;
     let values = values_of(alloc, &attrs)?;
     let members = copy_names(alloc, &names)?;
+    world.sound();
     match world.new_heap(name.as_str(), bases, attrs, members, meta) {
         Err(ClassFault::OutOfMemory) => Err(OutOfMemory),
         Err(ClassFault::Refused(cause)) => Ok(Step::raise(cause)),

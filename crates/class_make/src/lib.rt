@@ -10,6 +10,7 @@ mod attributes;
 mod bases;
 mod creation;
 mod hook;
+pub mod laws;
 mod make;
 mod members;
 mod namespace;

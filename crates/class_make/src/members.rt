@@ -1,9 +1,11 @@
 //! What a class that was made gets: the descriptors of its members, and the functions that it defines.
 
-ghost use Rattle.std.specs.Prelude.{◌≡◌, ◌+◌, ◌≤◌, length, map, IfSome, OnOk};
+ghost use Rattle.std.specs.Prelude.{◌≡◌, ℕ, ◌+◌, ◌<◌, ◌≤◌, length, map, Some, IfSome, OnOk};
+ghost use Rattle.class_model.specs.Class.{class_at};
+ghost use Rattle.class_model.specs.Layout.{member_count};
 ghost use Rattle.plain_machine.specs.World.{datum_at};
 ghost use Rattle.class_world.specs.Reading.{Reading, Reads, plain, spelled};
-ghost use Rattle.class_world.specs.Sound.{IsNode, AreNodes, IsClass, IsName, AreNames, Holds, Grows};
+ghost use Rattle.class_world.specs.Sound.{IsNode, AreNodes, IsClass, IsName, AreNames, IsOffset, Holds, Grows};
 ghost use Rattle.class_make.specs.Say.{defined, functions_of, places_from, put_member, there, with_functions, with_member, with_members, with_own_members};
 
 use class_world::World;
@@ -12,7 +14,8 @@ use py_node::{
     PyObjectRef, PyStrInterned, PyTypeRef,
 };
 
-/// The descriptors of a class's members, for those names that it has no attribute of.
+/// The descriptors of a class's members, for those names that it has no attribute of. The names are those of its own
+/// members.
 pub(crate) fn add_own_members(
     world: &mut World,
     class: PyTypeRef,
@@ -20,6 +23,8 @@ pub(crate) fn add_own_members(
 ) -> Result<(), OutOfMemory>
     requires class { Holds world.old (IsClass class.0) }
     requires names { Holds world.old (AreNames names.now) }
+    requires own { (t : Reading) →
+        member_count (class_at (plain t world.old).classes class.0) ≡ length names.now }
     ensures set { OnOk result ((t : Reading) → Reads t world.new →
         plain t world.new ≡ with_own_members class.0 (map (spelled t) names.now) (plain t world.old)) }
     ensures reads { (t : Reading) → Reads t world.new → Reads t world.old }
@@ -29,12 +34,16 @@ pub(crate) fn add_own_members(
     add_members(world, class, names, first)
 }
 
-// Where the places begin that a class gives its objects itself.
+// Where the places begin that a class gives its objects itself, by its members of these names.
 fn places_from(world: &World, class: PyTypeRef, names: &[PyStrInterned]) -> usize
-    requires { Holds world.now (IsClass class.0) }
+    requires class { Holds world.now (IsClass class.0) }
+    requires own { (t : Reading) →
+        member_count (class_at (plain t world.now).classes class.0) ≡ length names.now }
     ensures places { (t : Reading) → places_from (plain t world.now) class.0 (map (spelled t) names.now) ≡ result }
     ensures room { result + length names.now ≤ usize.MAX }
+    ensures offsets { (i : ℕ) → i < length names.now → Holds world.now (IsOffset class.0 (Some (result + i))) }
 {
+    world.readable();
     world.member_count(class).saturating_sub(names.len())
 }
 
@@ -48,6 +57,7 @@ fn add_members(
     requires class { Holds world.old (IsClass class.0) }
     requires names { Holds world.old (AreNames names.now) }
     requires room { first + length names.now ≤ usize.MAX }
+    requires offsets { (i : ℕ) → i < length names.now → Holds world.old (IsOffset class.0 (Some (first + i))) }
     ensures set { OnOk result ((t : Reading) → Reads t world.new →
         plain t world.new ≡ with_members class.0 first (map (spelled t) names.now) (plain t world.old)) }
     ensures reads { (t : Reading) → Reads t world.new → Reads t world.old }
@@ -69,6 +79,7 @@ fn add_member(
 ) -> Result<(), OutOfMemory>
     requires class { Holds world.old (IsClass class.0) }
     requires name { Holds world.old (IsName name) }
+    requires place { Holds world.old (IsOffset class.0 (Some place)) }
     ensures set { OnOk result ((t : Reading) → Reads t world.new →
         plain t world.new ≡ with_member class.0 place (spelled t name) (plain t world.old)) }
     ensures reads { (t : Reading) → Reads t world.new → Reads t world.old }
@@ -90,6 +101,7 @@ fn put_member(
 ) -> Result<(), OutOfMemory>
     requires class { Holds world.old (IsClass class.0) }
     requires name { Holds world.old (IsName name) }
+    requires place { Holds world.old (IsOffset class.0 (Some place)) }
     ensures set { OnOk result ((t : Reading) →
         plain t world.new ≡ put_member class.0 place (spelled t name) (plain t world.old)) }
     ensures reads { (t : Reading) → Reads t world.new → Reads t world.old }

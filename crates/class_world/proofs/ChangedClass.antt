@@ -9,6 +9,7 @@ use Rattle.class_model.specs.Change.{with_changed, without_class_attr, with_clas
 use Rattle.class_model.proofs.Kept.{is_class-kept, lin-kept, is_place-kept}
 use Rattle.plain_machine.specs.World.{is_text}
 use Rattle.plain_machine.specs.Change.{SetName, apply, without_own_attr}
+use Rattle.plain_machine.proofs.Offsets.{offset-kept}
 use Rattle.class_world.specs.Held.{Held}
 use Rattle.class_world.specs.Reading.{Reading, Reads, spelled, plain}
 use Rattle.class_world.specs.Sound.{AllHold, Sound, of_binding, of_class, of_dict, of_each}
@@ -55,6 +56,7 @@ module _ (f : HeldClass → HeldClass) (number : (k : HeldClass) → (f k).numbe
     held = λ d b h. ap by_line (lin-kept f number ks c bases members d) ∙ h;
     there = λ d h. is_class-kept f number ks c d ∙ h;
     places = λ d y i h. is_place-kept f number ks c bases members d y i ∙ h;
+    offsets = λ d o h. offset-kept f number ks c bases members d o ∙ h;
   }
 
   -- it was changed, or the change was refused

@@ -28,6 +28,7 @@ use Rattle.py_node.specs.declared.built_in.BuiltIn.{BuiltIn}
 use Rattle.py_node.specs.declared.built_in.BuiltIn.TheVariants.{TypeType}
 use Rattle.plain_machine.specs.Known.{the_dict}
 use Rattle.plain_machine.specs.Sound.{held_by}
+use Rattle.plain_machine.proofs.Offsets.{offset-kept}
 use Rattle.class_world.proofs.Homes.{held_by-made, held_by-attr}
 use Rattle.class_world.proofs.Growth.{Like, like-itself, like-push, keep-itself, keep-push, grows, grows-lasts}
 use Rattle.class_world.proofs.Stored.{map-push}
@@ -83,6 +84,7 @@ module _ {A E : Type 0} (w : Held) (c : ℕ) (x : PyStrInterned) (r : PyObjectRe
     held = λ d b h. held_by-attr is_same_name w.classes c x r d ∙ h;
     there = λ d h. attr-there w.classes c d x r ∙ h;
     places = λ d y i h. is_place-kept (λ (k : Class PyStrInterned). record k { attrs = with_value is_same_name k.attrs x r }) (λ k. refl) w.classes c (λ k. refl) (λ k. refl) d y i ∙ h;
+    offsets = λ d o h. offset-kept (λ (k : Class PyStrInterned). record k { attrs = with_value is_same_name k.attrs x r }) (λ k. refl) w.classes c (λ k. refl) (λ k. refl) d o ∙ h;
   })
   set-like (Err e) p f = subst (Like w.classes) (sym f) (like-itself w.classes)
 

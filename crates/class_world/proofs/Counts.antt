@@ -1,12 +1,15 @@
 -- How many places the objects of a class have, as a reading has the classes.
-use Rattle.std.proofs.Common.{◌≡◌, ℕ, List, [], ◌∷◌, Option, Some, None, refl, ap, ◌∙◌, subst, arith}
+use Rattle.std.proofs.Common.{◌≡◌, ℕ, ◌<◌, true, List, [], ◌∷◌, Option, Some, None, refl, ap, ◌∙◌, subst, arith}
 use Rattle.std.specs.Prelude.{option_map}
+use Rattle.std.proofs.lemmas.Bool.{lt-ltb}
 use Rattle.std.proofs.lemmas.List.{length-map}
 use Rattle.class_model.specs.Class.{Classes, renamed}
 use Rattle.class_model.specs.Layout.{layout, member_count, members_in, place_count}
 use Rattle.class_model.proofs.Renamed.{at-renamed, layout-renamed}
+use Rattle.plain_machine.specs.Sound.{is_below, is_offset}
 use Rattle.class_world.specs.Held.{Held}
 use Rattle.class_world.specs.Reading.{Reading, spelled, plain}
+use Rattle.class_world.specs.Sound.{IsOffset, Holds}
 
 module _ {K L : Type 0} (f : K → L) (t : Classes K) where
   members-renamed : (line : List ℕ) → members_in (renamed f t) line ≡ members_in t line
@@ -27,3 +30,14 @@ pub count-seen : (w now : Held) → w ≡ now → (t : Reading) (c : ℕ) → pl
 unfolding plain
 count-seen w now v t c =
     subst (λ n. place_count (plain t n).classes c ≡ place_count w.classes c) v (count-renamed (spelled t) w.classes c)
+
+-- an offset of a place is one, as a reading has the classes
+pub offset-seen : (w now : Held) → w ≡ now → (t : Reading) (c : ℕ) (o : Option ℕ) → is_offset (plain t now).classes c o ≡ is_offset w.classes c o
+offset-seen w now v t c None = refl
+offset-seen w now v t c (Some n) = ap (λ k. is_below k n) (count-seen w now v t c)
+
+-- an offset that less places come before than there are
+pub offset-within : (w now : Held) → w ≡ now → (c count n : ℕ) → place_count w.classes c ≡ Some count → n < count → Holds now (IsOffset c (Some n))
+unfolding Holds
+offset-within w now v c count n e l =
+    subst (λ u. is_offset u.classes c (Some n) ≡ true) v (ap (λ k. is_below k n) e ∙ lt-ltb n count l)

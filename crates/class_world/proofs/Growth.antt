@@ -11,7 +11,8 @@ use Rattle.class_model.proofs.Rule.{lin-classes}
 use Rattle.class_model.proofs.Changed.{lin-push}
 use Rattle.class_model.proofs.Kept.{layout-agrees, is_place-agrees}
 use Rattle.class_model.proofs.Solid.{is_solid-push}
-use Rattle.plain_machine.specs.Sound.{held_by, Key, AreKeys}
+use Rattle.plain_machine.specs.Sound.{held_by, is_offset, Key, AreKeys}
+use Rattle.plain_machine.proofs.Offsets.{offset-push}
 use Rattle.py_node.specs.declared.refs.PyObjectRef.{PyObjectRef}
 use Rattle.std.specs.List.{AllByRecursion}
 use Rattle.py_node.specs.declared.members.MemberPlace.{MemberPlace}
@@ -19,7 +20,7 @@ use Rattle.py_node.specs.declared.payload.Node.{Node}
 use Rattle.py_node.specs.declared.payload.Payload.{Payload}
 use Rattle.py_node.specs.declared.payload.Form.{Form}
 use Rattle.class_world.specs.Held.{Held}
-use Rattle.class_world.specs.Sound.{Claim, IsNode, AreNodes, IsExpression, AreExpressions, IsName, AreNames, IsClass, IsOf, Holding, Standing, CanBeKeys, KeysDiffer, HasForm, HasParams, HasValues, AreMembers, StandsThere, IsMember, params_in, held_params, AreFilled, home_of, home_at, key_in, held_key, class_in, held_class, Holds, Lasts, Grows}
+use Rattle.class_world.specs.Sound.{Claim, IsNode, AreNodes, IsExpression, AreExpressions, IsName, AreNames, IsClass, IsOf, Holding, Standing, CanBeKeys, KeysDiffer, HasForm, HasParams, HasValues, AreMembers, IsOffset, StandsThere, IsMember, params_in, held_params, AreFilled, home_of, home_at, key_in, held_key, class_in, held_class, Holds, Lasts, Grows}
 use Rattle.class_world.proofs.Claims.{get-pushed}
 use Rattle.class_world.proofs.Homes.{held_by-push}
 
@@ -45,9 +46,10 @@ pub record Like (old new : List (Class PyStrInterned)) : Type 0 where
   pub held : (c : ℕ) (b : BuiltIn) → held_by old c ≡ Some b → held_by new c ≡ Some b
   pub there : (c : ℕ) → is_class old c ≡ true → is_class new c ≡ true
   pub places : (c d i : ℕ) → is_place old c d i ≡ true → is_place new c d i ≡ true
+  pub offsets : (c : ℕ) (o : Option ℕ) → is_offset old c o ≡ true → is_offset new c o ≡ true
 
 pub like-itself : (ks : List (Class PyStrInterned)) → Like ks ks
-like-itself ks = record { held = λ c b h. h; there = λ c h. h; places = λ c d i h. h }
+like-itself ks = record { held = λ c b h. h; there = λ c h. h; places = λ c d i h. h; offsets = λ c o h. h }
 
 pub keep-itself : (ns : List Node) → Keep ns ns
 keep-itself ns = record { stays = λ n x e. (x, e, refl) }
@@ -72,7 +74,7 @@ place-push ks k c d i h =
         sym (layout-agrees ks (ks ++ k ∷ []) c (e ∙ sym (lin-push ks k c line e)) (λ ls x q m. sym (is_solid-push ks k x (lin-classes ks c ls x q m))))
 
 pub like-push : (ks : List (Class PyStrInterned)) (k : Class PyStrInterned) → Like ks (ks ++ k ∷ [])
-like-push ks k = record { held = held_by-push ks k; there = there-push ks k; places = place-push ks k }
+like-push ks k = record { held = held_by-push ks k; there = there-push ks k; places = place-push ks k; offsets = offset-push ks k }
 
 pub keep-push : (ns : List Node) (x : Node) → Keep ns (ns ++ x ∷ [])
 keep-push ns x = record { stays = λ n y e. (y, get-pushed ns x n y e, refl) }
@@ -148,6 +150,7 @@ grows-at old new x e s n p l (HasForm m test) h = (h.0, s m h.0 h.1, h.2)
 grows-at old new x e s n p l (HasParams r ps) h = params-still old.nodes new.nodes p r ps h
 grows-at old new x e s n p l (HasValues r vars) h = values-still old.nodes new.nodes p r vars h
 grows-at old new x e s n p l (AreMembers c ms) h = members-still old new n l c ms h
+grows-at old new x e s n p l (IsOffset c o) h = l.offsets c o h
 
 -- where no table is shorter
 lasts : (old new : Held) → length old.names ≤ length new.names → length old.forms ≤ length new.forms → Stays old.forms new.forms → length old.nodes ≤ length new.nodes → Keep old.nodes new.nodes → Like old.classes new.classes → Lasts old new

@@ -21,6 +21,7 @@ use Rattle.class_table.specs.Rebase.{any_derives, is_same, unless, refused_shape
 use Rattle.class_table.proofs.KeptLayouts.{layout-passed}
 use Rattle.class_table.proofs.Renames.{layout-alike}
 use Rattle.plain_machine.specs.Change.{SetBases, apply}
+use Rattle.plain_machine.proofs.Offsets.{offset-agrees}
 use Rattle.class_world.specs.Held.{Held}
 use Rattle.class_world.specs.Reading.{Reading, spelled, plain}
 use Rattle.class_world.specs.Sound.{AllHold, Sound, of_class, of_each}
@@ -116,6 +117,7 @@ module _ (w : Held) (c : ℕ) (bs : List ℕ) (ok : AreSound w.classes) (here : 
         held = λ d b h. held_by-layout u w.classes d d (same d) ∙ h;
         there = λ d h. is_class-kept f (λ k. refl) w.classes c d ∙ h;
         places = λ d x i h. is_place-agrees u w.classes d x i (same d) (member_count-kept f (λ k. refl) w.classes c (λ k. refl) x) ∙ h;
+        offsets = λ d o h. offset-agrees u w.classes d o (same d) (member_count-kept f (λ k. refl) w.classes c (λ k. refl)) ∙ h;
       }
 
   pub bases-like : {T : Type 0} (ks : List HeldClass) (o : Result T ClassFault) → OnOk o (ks ≡ with_bases w.classes c bs) → OnErr o (ks ≡ w.classes) → WithMemory o (told o ≡ refused_rebase w.classes c bs) → Like w.classes ks

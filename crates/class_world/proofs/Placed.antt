@@ -31,7 +31,7 @@ module _ {K : Type 0} (t : Classes K) where
       go false h more q = let rest = more q in (inr rest.0, rest.1)
 
   -- a layout has the solid classes of a line
-  in-layout : (line : List ℕ) (e : ℕ) → Includes (layout_along t line) e → Includes line e × (is_solid t e ≡ true)
+  pub in-layout : (line : List ℕ) (e : ℕ) → Includes (layout_along t line) e → Includes line e × (is_solid t e ≡ true)
   in-layout [] e h = absurd h
   in-layout (c ∷ cs) e h = elim (Includes-sides (layout_along t cs) (cond (is_solid t c) (c ∷ []) []) e h) [ inl k ↦ let r = in-layout cs e k in (inr r.0, r.1) | inr k ↦ go (is_solid t c) refl k ]
     where

@@ -17,7 +17,7 @@ use Rattle.class_model.proofs.Sound.{sound-renamed}
 use Rattle.class_model.proofs.Renamed.{at-renamed, lin-renamed, is_place-renamed}
 use Rattle.plain_machine.specs.Plain.{AClass, Node}
 use Rattle.plain_machine.specs.World.{is_text, datum_at}
-use Rattle.plain_machine.specs.Sound.{home, optional_class, optional, all_optional, super_object, super_start, nodes_in, classes_in, Key, key_of, key_at, keys_in, AreKeys, AreApart, params_in as params_of, IsSoundNode, IsSoundScope, IsSound}
+use Rattle.plain_machine.specs.Sound.{home, optional_class, optional, all_optional, super_object, super_start, nodes_in, classes_in, is_offset, read_offset, set_offset, offsets_in, Key, key_of, key_at, keys_in, AreKeys, AreApart, params_in as params_of, IsSoundNode, IsSoundScope, IsSound}
 use Rattle.class_world.specs.declared.scope.Scope.{Scope as HeldScope}
 use Rattle.class_world.specs.Held.{Held}
 use Rattle.class_world.specs.Reading.{Reading, bindings, datum, node_of, scope_of, spelled, plain}
@@ -26,6 +26,7 @@ use Rattle.class_world.proofs.Claims.{all-first, all-rest, each-get}
 use Rattle.class_world.proofs.Homes.{by_line}
 use Rattle.class_world.proofs.MemberPlaces.{member-is}
 use Rattle.class_world.proofs.Apart.{apart-read}
+use Rattle.class_world.proofs.Counts.{offset-seen}
 use Rattle.class_world.proofs.Bound.{value-read}
 
 module _ {A : Type 0} (P : A → Type 0) where
@@ -241,6 +242,29 @@ module _ (w : Held) (t : Reading) where
   classes-there (payload.Iterator i) h = none (λ c. is_class w.classes c ≡ true)
   classes-there (payload.Slice s) h = none (λ c. is_class w.classes c ≡ true)
 
+  offsets-there : (p : Payload) → AllHold w (of_payload p) → All (λ p. is_offset w.classes p.0 p.1 ≡ true) (offsets_in (datum t p))
+  unfolding Holds
+  offsets-there payload.Object h = none (λ p. is_offset w.classes p.0 p.1 ≡ true)
+  offsets-there (payload.Class c) h = none (λ p. is_offset w.classes p.0 p.1 ≡ true)
+  offsets-there (payload.Number z) h = none (λ p. is_offset w.classes p.0 p.1 ≡ true)
+  offsets-there (payload.Text s) h = none (λ p. is_offset w.classes p.0 p.1 ≡ true)
+  offsets-there (payload.Tuple rs) h = none (λ p. is_offset w.classes p.0 p.1 ≡ true)
+  offsets-there (payload.List rs) h = none (λ p. is_offset w.classes p.0 p.1 ≡ true)
+  offsets-there (payload.Dict es) h = none (λ p. is_offset w.classes p.0 p.1 ≡ true)
+  offsets-there (payload.Function f) h = none (λ p. is_offset w.classes p.0 p.1 ≡ true)
+  offsets-there (payload.Method m) h = none (λ p. is_offset w.classes p.0 p.1 ≡ true)
+  offsets-there (payload.NativeFunction f) h = none (λ p. is_offset w.classes p.0 p.1 ≡ true)
+  offsets-there (payload.BuiltinMethod m) h = none (λ p. is_offset w.classes p.0 p.1 ≡ true)
+  offsets-there (payload.MethodDescriptor m) h = none (λ p. is_offset w.classes p.0 p.1 ≡ true)
+  offsets-there (payload.GetSet g) h = none (λ p. is_offset w.classes p.0 p.1 ≡ true)
+  offsets-there (payload.ClassMethod r) h = none (λ p. is_offset w.classes p.0 p.1 ≡ true)
+  offsets-there (payload.StaticMethod r) h = none (λ p. is_offset w.classes p.0 p.1 ≡ true)
+  offsets-there (payload.Member m) h = more (λ p. is_offset w.classes p.0 p.1 ≡ true) (m.class.0, read_offset m.getter) ((m.class.0, set_offset m.setter) ∷ []) h.1.1.0 (more (λ p. is_offset w.classes p.0 p.1 ≡ true) (m.class.0, set_offset m.setter) [] h.1.1.1.0 (none (λ p. is_offset w.classes p.0 p.1 ≡ true)))
+  offsets-there (payload.Property p) h = none (λ p. is_offset w.classes p.0 p.1 ≡ true)
+  offsets-there (payload.Super s) h = none (λ p. is_offset w.classes p.0 p.1 ≡ true)
+  offsets-there (payload.Iterator i) h = none (λ p. is_offset w.classes p.0 p.1 ≡ true)
+  offsets-there (payload.Slice s) h = none (λ p. is_offset w.classes p.0 p.1 ≡ true)
+
   keys-there : (p : Payload) → AllHold w (of_payload p) → AreKeys (key_at (plain t w)) (keys_in (datum t p))
   unfolding Holds
   keys-there payload.Object h = no-keys (key_at (plain t w))
@@ -415,6 +439,9 @@ module _ (w : Held) (t : Reading) where
   all-read : (cs : List ℕ) → All (λ c. is_class w.classes c ≡ true) cs → All (λ c. is_class (renamed (spelled t) w.classes) c ≡ true) cs
   all-read cs h = λ i d l. there-read (get_or cs i d) ∙ h i d l
 
+  offsets-read : (ps : List (ℕ × Option ℕ)) → All (λ p. is_offset w.classes p.0 p.1 ≡ true) ps → All (λ p. is_offset (plain t w).classes p.0 p.1 ≡ true) ps
+  offsets-read ps h = λ i d l. offset-seen w w refl t (get_or ps i d).0 (get_or ps i d).1 ∙ h i d l
+
   attrs-there : (n : ℕ) → length w.nodes ≡ n → (ks : Classes PyStrInterned) → AllHold w (of_each of_class ks) → All (λ k. AreNamesDistinct k.attrs) ks → All (λ k. All (λ a. a.1.0 < n) k.attrs × AreApart k.attrs) (renamed (spelled t) ks)
   attrs-there n e [] h a = none (λ k. All (λ a. a.1.0 < n) k.attrs × AreApart k.attrs)
   attrs-there n e (k ∷ ks) h a =
@@ -440,6 +467,7 @@ module _ (w : Held) (t : Reading) where
         nodes = subst (λ n. Below n (nodes_in (datum t x.payload))) (sym (length-map w.nodes (node_of t))) (nodes-there x.payload held);
         keys = keys-there x.payload held;
         classes = all-read (classes_in (datum t x.payload)) (classes-there x.payload held);
+        offsets = offsets-read (offsets_in (datum t x.payload)) (offsets-there x.payload held);
       }
 
   world-is : Sound w → AreSound w.classes → All (λ k. AreNamesDistinct k.attrs) w.classes → IsSound (plain t w)

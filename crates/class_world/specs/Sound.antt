@@ -18,7 +18,7 @@ use Rattle.py_node.specs.BuiltIns.{place_of, built_in_count, fixed_node_count, h
 use Rattle.class_model.specs.Class.{Class, is_class, has_flag}
 use Rattle.class_model.specs.Layout.{is_place}
 use Rattle.plain_machine.specs.Known.{the_dict}
-use Rattle.plain_machine.specs.Sound.{holds_as, held_by, Key, NumberKey, TextKey, AreKeys}
+use Rattle.plain_machine.specs.Sound.{holds_as, held_by, is_offset, read_offset, set_offset, Key, NumberKey, TextKey, AreKeys}
 use Rattle.class_world.specs.declared.scope.Scope.{Scope}
 use Rattle.class_world.specs.Held.{Held}
 use Rattle.class_world.specs.Tables.{AreBelow}
@@ -50,6 +50,8 @@ pub data Claim : Type 0 where
   HasValues : PyObjectRef → List (PyStrInterned × PyObjectRef) → Claim
   -- these stand in places of the class's objects
   AreMembers : ℕ → List (MemberPlace × Option PyObjectRef) → Claim
+  -- the offset, if there is one, is that of a place of the class's objects
+  IsOffset : ℕ → Option ℕ → Claim
 
 -- the built-in class whose objects hold such
 abbrev pub home_of : Payload → BuiltIn
@@ -159,6 +161,7 @@ Holds w (HasForm e test) = (f : Form) × (slice_get w.forms e ≡ Some f) × (te
 Holds w (HasParams r ps) = held_params w.nodes r ≡ Some ps
 Holds w (HasValues r vars) = AreFilled vars (held_params w.nodes r)
 Holds w (AreMembers c ms) = AllByRecursion (IsMember w c) ms
+Holds w (IsOffset c o) = is_offset w.classes c o ≡ true
 
 abbrev pub AllHold : Held → List Claim → Type 0
 AllHold w [] = Unit {0}
@@ -213,7 +216,7 @@ of_payload (payload.MethodDescriptor m) = IsClass m.class.0 ∷ IsName m.name �
 of_payload (payload.GetSet g) = IsClass g.class.0 ∷ IsName g.name ∷ []
 of_payload (payload.ClassMethod r) = IsNode r ∷ []
 of_payload (payload.StaticMethod r) = IsNode r ∷ []
-of_payload (payload.Member m) = IsClass m.class.0 ∷ IsName m.name ∷ of_option of_name_ref m.qualname ++ of_option of_name_ref m.doc
+of_payload (payload.Member m) = IsClass m.class.0 ∷ IsName m.name ∷ IsOffset m.class.0 (read_offset m.getter) ∷ IsOffset m.class.0 (set_offset m.setter) ∷ of_option of_name_ref m.qualname ++ of_option of_name_ref m.doc
 of_payload (payload.Property p) = of_optional (p.fget ∷ p.fset ∷ p.fdel ∷ p.doc ∷ p.name ∷ [])
 of_payload (payload.Super s) = IsClass s.typ.0 ∷ of_option of_start s.obj
 of_payload (payload.Iterator i) = IsNode i.object ∷ []

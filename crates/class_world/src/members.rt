@@ -8,7 +8,7 @@ ghost use Rattle.py_node.specs.Attributes.{with_value};
 ghost use Rattle.py_node.specs.Places.{is_same_place};
 ghost use Rattle.class_world.specs.Claims.{of_setter};
 ghost use Rattle.class_world.specs.Reading.{Reading, Reads, plain, setter_value};
-ghost use Rattle.class_world.specs.Sound.{IsNode, IsClass, Holds, AllHold, Grows, with_members};
+ghost use Rattle.class_world.specs.Sound.{IsNode, IsClass, IsOffset, Holds, AllHold, Grows, with_members};
 
 use crate::world::World;
 use py_node::{MemberPlace, Node, OutOfMemory, PyObjectRef, PySetterValue, PyTypeRef};
@@ -45,8 +45,7 @@ impl World {
     }
 
     /// Sets, or empties, in an object the place that an offset stands for in the objects of a class. The object must be
-    /// one of that class. An offset past the last place changes nothing. Where memory runs out, the world stays as it
-    /// was.
+    /// one of that class. Where memory runs out, the world stays as it was.
     pub fn set_member_value(
         &mut self,
         object: PyObjectRef,
@@ -56,11 +55,15 @@ impl World {
     ) -> Result<(), OutOfMemory>
         requires object { Holds self.old (IsNode object) }
         requires class { Holds self.old (IsClass class.0) }
+        requires place { Holds self.old (IsOffset class.0 (Some offset)) }
         requires value { AllHold self.old (of_setter value) }
         requires instance { (t : Reading) → is_instance (plain t self.old) object class.0 ≡ true }
         ensures set { OnOk result ((t : Reading) → plain t self.new ≡
             with_value_at_place (plain t self.old) object (place_at (plain t self.old).classes class.0 offset)
             (setter_value value)) }
+        ensures stands { OnOk result ((t : Reading) →
+            value_at_place (plain t self.new) object (place_at (plain t self.old).classes class.0 offset) ≡
+            setter_value value) }
         ensures err { OnErr result (self.new ≡ self.old) }
         ensures reads { (t : Reading) → Reads t self.new → Reads t self.old }
         ensures grows { Grows self.old self.new }

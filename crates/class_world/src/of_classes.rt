@@ -1,6 +1,6 @@
 //! What is read of classes.
 
-ghost use Rattle.std.specs.Prelude.{◌≡◌, Some, IfSome, IfOk, option_map};
+ghost use Rattle.std.specs.Prelude.{◌≡◌, ◌<◌, ℕ, Some, IfSome, IfOk, option_map};
 ghost use Rattle.class_model.specs.BuiltIn.{natives_of};
 ghost use Rattle.class_model.specs.Class.{class_at as class_numbered, found, found_past, own_of, is_sub, has_flag};
 ghost use Rattle.class_model.specs.Collect.{all_attributes};
@@ -9,7 +9,7 @@ ghost use Rattle.class_model.specs.Slot.{entry, slot as slot_read, candidates_of
 ghost use Rattle.class_table.specs.Turn.{list_of};
 ghost use Rattle.plain_machine.specs.World.{ref, class_at, text_keys, slot_at, candidates_at, is_text};
 ghost use Rattle.class_world.specs.Reading.{Reading, Reads, bindings, plain};
-ghost use Rattle.class_world.specs.Sound.{IsNode, IsClass, Holds, AllHold, of_binding, of_each};
+ghost use Rattle.class_world.specs.Sound.{IsNode, IsClass, IsOffset, Holds, AllHold, of_binding, of_each};
 
 use crate::world::World;
 use class_table::Candidates;
@@ -167,10 +167,12 @@ impl World {
         self.classes.flags(class).has_feature(flag)
     }
 
-    /// How many places the objects of a class have: the members of the classes of its layout.
+    /// How many places the objects of a class have: the members of the classes of its layout. Each offset below it
+    /// stands for one.
     pub fn member_count(&self, class: PyTypeRef) -> usize
         requires { Holds self.now (IsClass class.0) }
-        ensures { (t : Reading) → place_count (plain t self.now).classes class.0 ≡ Some result }
+        ensures count { (t : Reading) → place_count (plain t self.now).classes class.0 ≡ Some result }
+        ensures offsets { (n : ℕ) → n < result → Holds self.now (IsOffset class.0 (Some n)) }
     {
         self.classes.member_count(class)
     }

@@ -16,7 +16,7 @@ use std::alloc::Global;
 pub(crate) type Entries = Vec<(PyObjectRef, PyObjectRef)>;
 
 /// The keys, in order.
-pub(crate) fn keys_of(
+pub fn keys_of(
     alloc: Global,
     entries: &[(PyObjectRef, PyObjectRef)],
 ) -> Result<Args, OutOfMemory>
@@ -26,7 +26,7 @@ pub(crate) fn keys_of(
 }
 
 /// The values, in the order of the keys.
-pub(crate) fn values_of(
+pub fn values_of(
     alloc: Global,
     entries: &[(PyObjectRef, PyObjectRef)],
 ) -> Result<Args, OutOfMemory>

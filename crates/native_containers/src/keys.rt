@@ -13,7 +13,7 @@ use class_world::World;
 use py_node::{Payload, PyObjectRef};
 
 /// The value that a dict has under a key.
-pub(crate) fn value_under(world: &World, dict: PyObjectRef, key: PyObjectRef) -> Option<PyObjectRef>
+pub fn value_under(world: &World, dict: PyObjectRef, key: PyObjectRef) -> Option<PyObjectRef>
     requires dict { Holds world.now (IsNode dict) }
     requires key { Holds world.now (IsNode key) }
     ensures value { (t : Reading) → value_under (plain t world.now) dict key ≡ result }

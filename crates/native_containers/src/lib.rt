@@ -2,10 +2,10 @@
 #![tactic(auto, using(class_world::proofs::Items::item_holds))]
 
 mod dict;
-mod entries;
+pub mod entries;
 mod init;
 mod iterator;
-mod keys;
+pub mod keys;
 mod list;
 pub mod made;
 mod pairs;
@@ -14,7 +14,10 @@ pub mod take;
 mod tuple;
 
 pub use dict::dict_native;
+pub use entries::{keys_of, values_of};
 pub use iterator::iterator_native;
 pub use list::list_native;
+pub use made::new_list;
+pub use pairs::new_pairs;
 pub use take::items;
 pub use tuple::tuple_native;

@@ -18,7 +18,7 @@ use class_world::args::both;
 use py_node::{Answer, BuiltIn, OutOfMemory, Payload, PyObjectRef, Raised};
 
 /// A new tuple for each key of a dict with its value, and then a new list of these.
-pub(crate) fn new_pairs(
+pub fn new_pairs(
     world: &mut World,
     dict: PyObjectRef,
 ) -> Result<Result<Answer, Raised>, OutOfMemory>

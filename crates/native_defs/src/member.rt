@@ -1,14 +1,14 @@
 //! The definition of a member, and the object that is made of it.
 
-ghost use Rattle.std.specs.Prelude.{◌≡◌, IfOk, OnOk, OnErr, true};
+ghost use Rattle.std.specs.Prelude.{◌≡◌, IfOk, OnOk, OnErr};
 ghost use Rattle.std.specs.Option.{option_copied};
 ghost use Rattle.py_node.specs.BuiltIns.{place_of};
 ghost use Rattle.py_node.specs.declared.built_in.BuiltIn.TheVariants as built_in;
-ghost use Rattle.class_model.specs.Layout.{place_count};
+ghost use Rattle.plain_machine.specs.Sound.{read_offset, set_offset};
 ghost use Rattle.plain_machine.specs.World.{with_node, next_node};
 ghost use Rattle.class_world.specs.Reading.{Reading, Reads, datum, plain, spelled, spelled_option};
-ghost use Rattle.class_world.specs.Sound.{IsNode, IsClass, IsName, Holding, Holds, AllHold, Grows, home_of, class_in, of_payload, of_option, of_name_ref};
-ghost use Rattle.native_defs.specs.Members.{are_places, as_member, member, member_of};
+ghost use Rattle.class_world.specs.Sound.{IsNode, IsClass, IsName, IsOffset, Holding, Holds, AllHold, Grows, home_of, class_in, of_payload, of_option, of_name_ref};
+ghost use Rattle.native_defs.specs.Members.{as_member, member, member_of};
 
 use class_world::World;
 use py_node::{
@@ -80,7 +80,9 @@ impl PyMemberDef {
 
     // As a member of a class, whose qualified name wasn't asked for.
     fn to_member(&self, world: &mut World, class: PyTypeRef) -> Result<Payload, OutOfMemory>
-        requires { Holds world.old (IsClass class.0) }
+        requires class { Holds world.old (IsClass class.0) }
+        requires read { Holds world.old (IsOffset class.0 (read_offset self.now.getter)) }
+        requires set { Holds world.old (IsOffset class.0 (set_offset self.now.setter)) }
         ensures reading { IfOk result (λ p. (t : Reading) → Reads t world.new →
             datum t p ≡ as_member (member_of self.now) class.0) }
         ensures holds { IfOk result (λ p. AllHold world.new (of_payload p)) }
@@ -110,8 +112,8 @@ pub fn new_member(
     def: PyMemberDef,
 ) -> Result<PyObjectRef, OutOfMemory>
     requires class { Holds world.old (IsClass class.0) }
-    requires places { (t : Reading) →
-        are_places (place_count (plain t world.old).classes class.0) def.getter def.setter ≡ true }
+    requires read { Holds world.old (IsOffset class.0 (read_offset def.getter)) }
+    requires set { Holds world.old (IsOffset class.0 (set_offset def.setter)) }
     ensures made { OnOk result ((t : Reading) → Reads t world.new → plain t world.new ≡
         with_node (plain t world.old) (place_of built_in.MemberDescriptor) (as_member (member_of def) class.0)) }
     ensures number { IfOk result (λ r. (t : Reading) → r ≡

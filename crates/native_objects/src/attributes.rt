@@ -106,8 +106,8 @@ fn new_annotations(
     }
 }
 
-// A new text for each name, in order, with its value.
-fn key_all(world: &mut World, attrs: &PyAttributes) -> Result<Entries, OutOfMemory>
+/// A new text for each name, in order, with its value.
+pub fn key_all(world: &mut World, attrs: &PyAttributes) -> Result<Entries, OutOfMemory>
     requires { AllHold world.old (of_each of_binding attrs.now) }
     ensures keyed { IfOk result (λ v. (t : Reading) → Reads t world.new →
         keyed (plain t world.old) [] (bindings t attrs.now) ≡ (plain t world.new, v.items)) }
@@ -141,8 +141,8 @@ fn new_key(world: &mut World, name: PyStrInterned) -> Result<PyObjectRef, OutOfM
     world.make_node(class, Payload::Text(text))
 }
 
-// The keys alone.
-fn keys_of(
+/// The keys alone.
+pub fn keys_of(
     alloc: Global,
     entries: &[(PyObjectRef, PyObjectRef)],
 ) -> Result<Vec<PyObjectRef>, OutOfMemory>

@@ -17,7 +17,7 @@ use py_node::{Answer, Cause, Known, OutOfMemory, Payload, PyObjectRef, PyTypeRef
 use std::alloc::Global;
 
 /// Ends with a new text, unless it is too long.
-pub(crate) fn limited_text(
+pub fn limited_text(
     world: &mut World,
     text: String,
 ) -> Result<Result<Answer, Raised>, OutOfMemory>

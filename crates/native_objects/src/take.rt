@@ -186,7 +186,7 @@ pub(crate) fn own_super(
 }
 
 /// The parts of the property that the first argument is, or why it is refused.
-pub(crate) fn own_property(
+pub fn own_property(
     world: &World,
     args: &[PyObjectRef],
 ) -> Result<(PyObjectRef, PyProperty), Raised>

@@ -1,5 +1,5 @@
 -- What the natives say that make and fill objects of others, and those that ask for the texts or the hashes of parts.
-use Rattle.std.specs.Prelude.{Bool, true, false, codes, List}
+use Rattle.std.specs.Prelude.{Bool, true, false, List}
 use Rattle.py_node.specs.declared.refs.PyObjectRef.{PyObjectRef}
 use Rattle.py_node.specs.declared.built_in.BuiltIn.TheVariants as built_in
 use Rattle.py_node.specs.declared.entry.TupleNative.TheVariants as tuple
@@ -8,10 +8,11 @@ use Rattle.py_node.specs.declared.entry.DictNative.TheVariants as dict
 use Rattle.py_node.specs.declared.entry.WrapperNative.TheVariants as wrapper
 use Rattle.py_node.specs.declared.entry.NativeEntry.{NativeEntry}
 use Rattle.py_node.specs.declared.entry.NativeEntry.TheVariants.{OfTuple, OfList, OfDict, OfWrapper, NewOf}
-use Rattle.plain_machine.specs.Plain.{PlainWorld, Bindings}
+use Rattle.plain_machine.specs.Plain.{PlainWorld, Bindings, PlainTask, ToNative}
 use Rattle.plain_machine.specs.Row.{Row, end, not_yet}
-use Rattle.native_objects.specs.Takes.{static_in}
-use Rattle.native_parts.specs.Texts.{tuple_hash, tuple_repr, list_repr, dict_repr, wrapper_repr, class_in}
+use Rattle.native_parts.specs.declared.take.Container.TheVariants as container
+use Rattle.native_parts.specs.declared.wrapped.Wrapper.TheVariants.{Class, Static}
+use Rattle.native_parts.specs.Texts.{tuple_hash, container_repr, wrapper_repr}
 use Rattle.native_parts.specs.Numbers.{int_new_say, bool_new_say}
 use Rattle.native_parts.specs.Makers.{str_new, tuple_new, list_init}
 
@@ -31,15 +32,20 @@ asks_for_parts (NewOf built_in.Tuple) = true
 asks_for_parts _ = false
 
 abbrev pub parts_native_say : PlainWorld → NativeEntry → List PyObjectRef → Bindings → Row
-parts_native_say w (OfTuple tuple.Repr) args kw = tuple_repr w args kw
+parts_native_say w (OfTuple tuple.Repr) args kw = container_repr w container.Tuple args kw
 parts_native_say w (OfTuple tuple.Hash) args kw = tuple_hash w args kw
 parts_native_say w (OfList list.Init) args kw = list_init w args kw
-parts_native_say w (OfList list.Repr) args kw = list_repr w args kw
-parts_native_say w (OfDict dict.Repr) args kw = dict_repr w args kw
-parts_native_say w (OfWrapper wrapper.ClassRepr) args kw = wrapper_repr w class_in (codes "classmethod") args kw
-parts_native_say w (OfWrapper wrapper.StaticRepr) args kw = wrapper_repr w static_in (codes "staticmethod") args kw
+parts_native_say w (OfList list.Repr) args kw = container_repr w container.List args kw
+parts_native_say w (OfDict dict.Repr) args kw = container_repr w container.Dict args kw
+parts_native_say w (OfWrapper wrapper.ClassRepr) args kw = wrapper_repr w Class args kw
+parts_native_say w (OfWrapper wrapper.StaticRepr) args kw = wrapper_repr w Static args kw
 parts_native_say w (NewOf built_in.Int) args kw = int_new_say w args kw
 parts_native_say w (NewOf built_in.Bool) args kw = bool_new_say w args kw
 parts_native_say w (NewOf built_in.Str) args kw = str_new w args kw
 parts_native_say w (NewOf built_in.Tuple) args kw = tuple_new w args kw
 parts_native_say w _ args kw = end w not_yet
+
+-- these natives, as a group of rows
+unfoldable pub parts_job_say : PlainWorld → PlainTask → Row
+parts_job_say w (ToNative n args kw) told = parts_native_say w n args kw told
+parts_job_say w _ told = end w not_yet told

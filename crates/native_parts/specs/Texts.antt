@@ -1,22 +1,39 @@
 -- What the natives say that ask for the texts or the hashes of parts.
-use Rattle.std.specs.Prelude.{ℤ, pos, ◌*ℤ◌, ◌+ℤ◌, codes, map, List, [], ◌∷◌, ◌++◌, Option, Some, None}
-use Rattle.std.specs.List.{flat_map, join_by}
+use Rattle.std.specs.Prelude.{ℕ, zero, suc, ◌%◌, ℤ, pos, ◌*ℤ◌, ◌+ℤ◌, codes, Bool, false, cond, ◌==◌, length, map, List, [], ◌∷◌, ◌++◌, Option, Some, None}
+use Rattle.std.specs.List.{flat_map}
 use Rattle.py_node.specs.declared.refs.PyObjectRef.{PyObjectRef}
 use Rattle.py_node.specs.Tree.{Text}
 use Rattle.plain_machine.specs.Dicts.{Entries}
-use Rattle.plain_machine.specs.Plain.{Datum, AClassMethod, PlainWorld, Bindings, DoHash, DoRepr, PlainTask, ToObject, Said}
+use Rattle.plain_machine.specs.Plain.{Datum, AClassMethod, AStaticMethod, ATuple, AList, ADict, PlainWorld, Bindings, DoHash, DoRepr, PlainTask, ToObject, Said}
 use Rattle.plain_machine.specs.Row.{Row, start, pass, end, on_value, read_objects}
 use Rattle.plain_machine.specs.Takes.{with_one}
 use Rattle.plain_machine.specs.World.{datum_at}
 use Rattle.native_base.specs.Say.{in_length, text_made}
 use Rattle.native_containers.specs.declared.take.Kind.{Kind}
 use Rattle.native_containers.specs.declared.take.Kind.TheVariants as kind
-use Rattle.native_containers.specs.Take.{items_at, entries_at}
 use Rattle.native_numbers.specs.Numbers.{number_hash}
 use Rattle.native_objects.specs.Takes.{with_own}
 use Rattle.native_texts.specs.Say.{text_of, or_no_text}
 use Rattle.proto_base.specs.Each.{number, each_value, each_number}
 use Rattle.native_containers.specs.Asking.{as_said, taking_one}
+use Rattle.native_parts.specs.declared.take.Container.{Container}
+use Rattle.native_parts.specs.declared.take.Container.TheVariants as container
+use Rattle.native_parts.specs.declared.wrapped.Wrapper.{Wrapper}
+use Rattle.native_parts.specs.declared.wrapped.Wrapper.TheVariants.{Class, Static}
+
+-- keys with their values, one after another
+abbrev pub flattened : Entries → List PyObjectRef
+flattened es = flat_map (λ e. e.0 ∷ e.1 ∷ []) es
+
+-- the parts of a container, which are asked in order
+abbrev pub parts_in : Option Datum → List PyObjectRef
+parts_in (Some (ATuple rs)) = rs
+parts_in (Some (AList rs)) = rs
+parts_in (Some (ADict es)) = flattened es
+parts_in _ = []
+
+abbrev pub parts_at : PlainWorld → PyObjectRef → List PyObjectRef
+parts_at w o = parts_in (datum_at w o)
 
 abbrev pub hash_task : PyObjectRef → PlainTask
 hash_task r = ToObject (DoHash r)
@@ -28,60 +45,82 @@ repr_task r = ToObject (DoRepr r)
 abbrev pub hashed_on : ℤ → ℤ → ℤ
 hashed_on h n = number_hash ((h *ℤ pos 31) +ℤ n)
 
+-- the hash of items after others, whose hash this is
+abbrev pub hash_row : PlainWorld → ℤ → List PyObjectRef → Row
+hash_row w h rs = each_number w hash_task hashed_on h rs (λ z. end w (number z))
+
 abbrev pub tuple_hash : PlainWorld → List PyObjectRef → Bindings → Row
-tuple_hash w args kw =
-    taking_one kind.Tuple w args kw (λ o. read_objects (items_at w o) (λ rs. each_number w hash_task hashed_on (pos 1) rs (λ h. end w (number h))))
+tuple_hash w args kw = taking_one kind.Tuple w args kw (λ o. read_objects (parts_at w o) (hash_row w (pos 1)))
 
--- the texts that some objects hold
+abbrev pub kind_of : Container → Kind
+kind_of container.Tuple = kind.Tuple
+kind_of container.List = kind.List
+kind_of container.Dict = kind.Dict
+
+-- the text that an object holds, if any
+abbrev pub text_at : PlainWorld → PyObjectRef → Text
+text_at w v = or_no_text (text_of (datum_at w v))
+
 abbrev pub texts_at : PlainWorld → List PyObjectRef → List Text
-texts_at w vs = map (λ v. or_no_text (text_of (datum_at w v))) vs
+texts_at w vs = map (text_at w) vs
 
-abbrev pub joined : List Text → Text
-joined xs = join_by (λ x. x) (codes ", ") xs
+-- whether a value of a dict comes next after so many other parts and a key
+abbrev pub is_value : Container → ℕ → Bool
+is_value container.Dict n = n % 2 == 0
+is_value c n = false
 
--- a tuple of one has a comma behind it
-abbrev pub tuple_text : List Text → Text
-tuple_text (x ∷ []) = codes "(" ++ (x ++ codes ",)")
-tuple_text xs = codes "(" ++ (joined xs ++ codes ")")
+-- what stands before a part, by how many come before it
+abbrev pub before : Container → ℕ → Text
+before c zero = []
+before c (suc n) = cond (is_value c n) (codes ": ") (codes ", ")
 
-abbrev pub list_text : List Text → Text
-list_text xs = codes "[" ++ (joined xs ++ codes "]")
+abbrev pub texts_from : Container → ℕ → List Text → Text
+texts_from c n [] = []
+texts_from c n (x ∷ xs) = before c n ++ (x ++ texts_from c (suc n) xs)
 
--- keys with their values, one after another
-abbrev pub pair_texts : List Text → List Text
-pair_texts [] = []
-pair_texts (x ∷ []) = x ∷ []
-pair_texts (x ∷ (y ∷ more)) = (x ++ (codes ": " ++ y)) ∷ pair_texts more
+abbrev pub opening : Container → Text
+opening container.Tuple = codes "("
+opening container.List = codes "["
+opening container.Dict = codes "{"
 
-abbrev pub dict_text : List Text → Text
-dict_text xs = codes "{" ++ (joined (pair_texts xs) ++ codes "}")
+-- what stands behind so many parts: a tuple of one has a comma there
+abbrev pub closing : Container → ℕ → Text
+closing container.Tuple n = cond (n == 1) (codes ",)") (codes ")")
+closing container.List n = codes "]"
+closing container.Dict n = codes "}"
 
-abbrev pub flattened : Entries → List PyObjectRef
-flattened es = flat_map (λ e. e.0 ∷ e.1 ∷ []) es
+abbrev pub container_text : Container → List Text → Text
+container_text c xs = (opening c ++ texts_from c 0 xs) ++ closing c (length xs)
 
--- a container's text is made of those of its parts, which are asked for in order
-abbrev pub parts_repr : Kind → PlainWorld → (PyObjectRef → List PyObjectRef) → (List Text → Text) → List PyObjectRef → Bindings → Row
-parts_repr k w parts text args kw =
-    taking_one k w args kw (λ o. read_objects (parts o) (λ rs. each_value w repr_task rs (λ vs.
-    as_said (text_made w (in_length (text (texts_at w vs)))))))
+-- ends with the text that is made of those of the parts
+abbrev pub text_ends : PlainWorld → Container → List PyObjectRef → Said
+text_ends w c vs = text_made w (in_length (container_text c (texts_at w vs)))
 
-abbrev pub tuple_repr : PlainWorld → List PyObjectRef → Bindings → Row
-tuple_repr w args kw = parts_repr kind.Tuple w (items_at w) tuple_text args kw
+-- asks for the texts of parts, after others that have these
+abbrev pub text_row : PlainWorld → Container → List PyObjectRef → List PyObjectRef → Row
+text_row w c vs rs = each_value w repr_task rs (λ ws. as_said (text_ends w c (vs ++ ws)))
 
-abbrev pub list_repr : PlainWorld → List PyObjectRef → Bindings → Row
-list_repr w args kw = parts_repr kind.List w (items_at w) list_text args kw
-
-abbrev pub dict_repr : PlainWorld → List PyObjectRef → Bindings → Row
-dict_repr w args kw = parts_repr kind.Dict w (λ o. flattened (entries_at w o)) dict_text args kw
+abbrev pub container_repr : PlainWorld → Container → List PyObjectRef → Bindings → Row
+container_repr w c args kw = taking_one (kind_of c) w args kw (λ o. read_objects (parts_at w o) (text_row w c []))
 
 -- the text of a class method or a static method has that of what it wraps
-abbrev pub class_in : Option Datum → Option PyObjectRef
-class_in (Some (AClassMethod f)) = Some f
-class_in _ = None
+abbrev pub wrapped_in : Wrapper → Option Datum → Option PyObjectRef
+wrapped_in Class (Some (AClassMethod f)) = Some f
+wrapped_in Static (Some (AStaticMethod f)) = Some f
+wrapped_in b d = None
 
-abbrev pub wrapper_text : PlainWorld → Text → PyObjectRef → Said
-wrapper_text w x v = text_made w (in_length (codes "<" ++ (x ++ (codes "(" ++ (or_no_text (text_of (datum_at w v)) ++ codes ")>")))))
+abbrev pub wrapper_name : Wrapper → Text
+wrapper_name Class = codes "<classmethod("
+wrapper_name Static = codes "<staticmethod("
 
-abbrev pub wrapper_repr : PlainWorld → (Option Datum → Option PyObjectRef) → Text → List PyObjectRef → Bindings → Row
-wrapper_repr w read x args kw =
-    start (with_own read w args (λ o f. with_one w args kw (λ p. pass w (repr_task f)))) (λ r. on_value w r (λ v. as_said (wrapper_text w x v)))
+abbrev pub wrapper_text : Wrapper → Text → Text
+wrapper_text b x = (wrapper_name b ++ x) ++ codes ")>"
+
+abbrev pub wrapper_ends : PlainWorld → Wrapper → PyObjectRef → Said
+wrapper_ends w b v = text_made w (in_length (wrapper_text b (text_at w v)))
+
+abbrev pub wrapper_by : PlainWorld → Wrapper → List PyObjectRef → Bindings → Said
+wrapper_by w b args kw = with_own (wrapped_in b) w args (λ o f. with_one w args kw (λ p. pass w (repr_task f)))
+
+abbrev pub wrapper_repr : PlainWorld → Wrapper → List PyObjectRef → Bindings → Row
+wrapper_repr w b args kw = start (wrapper_by w b args kw) (λ r. on_value w r (λ v. as_said (wrapper_ends w b v)))

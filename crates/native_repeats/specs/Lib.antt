@@ -1,1 +1,3 @@
 pub mod Say
+pub mod Counts
+pub mod Rows

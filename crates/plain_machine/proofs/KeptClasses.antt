@@ -26,8 +26,9 @@ use Rattle.plain_machine.specs.Plain.{AClass, no_members, Node, PlainWorld}
 use Rattle.plain_machine.specs.World.{is_text, ref, datum_at}
 use Rattle.plain_machine.specs.Change.{MakeClass, SetOwn, SetBases, SetName, apply}
 use Rattle.plain_machine.specs.Conditions.{CanMakeClass, CanSetBases}
-use Rattle.plain_machine.specs.Sound.{holds_as, held_by, AreBound, AreApart, IsSoundNode, IsSound}
+use Rattle.plain_machine.specs.Sound.{holds_as, held_by, is_offset, AreBound, AreApart, IsSoundNode, IsSound}
 use Rattle.plain_machine.proofs.NearestByLayout.{nearest-by_layout}
+use Rattle.plain_machine.proofs.Offsets.{offset-agrees, offset-kept, offset-push}
 use Rattle.plain_machine.proofs.Bindings.{apart-set, values-set, apart-without, values-without}
 use Rattle.plain_machine.proofs.Lasting.{Like, Lasts, standing-still, sound_node-still, bound-still, scopes-still, attrs-still}
 use Rattle.plain_machine.proofs.Pushed.{get-end, holder, pushed, push-lasts, push-kept}
@@ -72,6 +73,7 @@ module _ (w : PlainWorld) (f : Class Text → Class Text) (numbers : (k : Class 
     there = λ x e. is_class-kept f numbers w.classes c x ∙ e;
     held = λ x b e. ap by_line (lin-kept f numbers w.classes c bases members x) ∙ e;
     places = λ x d i l e. is_place-kept f numbers w.classes c bases members x d i ∙ e;
+    offsets = λ x o e. offset-kept f numbers w.classes c bases members x o ∙ e;
   }
 
   changed-kept : IsSound w → IsSound (record w { classes = with_changed f w.classes c })
@@ -97,6 +99,7 @@ bases-kept w c bs a s =
       there = λ x e. is_class-kept f (λ k. refl) w.classes c x ∙ e;
       held = λ x b e. ap (λ o. option_map holds_as (option_and_then (slice_get all_built_ins) o)) (nearest-by_layout (with_bases w.classes c bs) w.classes x x (a.layouts x)) ∙ e;
       places = λ x d i l e. is_place-agrees t w.classes x d i (a.layouts x) (member_count-kept f (λ k. refl) w.classes c (λ k. refl) d) ∙ e;
+      offsets = λ x o e. offset-agrees t w.classes x o (a.layouts x) (member_count-kept f (λ k. refl) w.classes c (λ k. refl)) ∙ e;
     } in
     classes-kept w t s l a.sound (λ x e. sym (is_class-kept f (λ k. refl) w.classes c x) ∙ e) (changed-each (HasAttrs w) f w.classes c (λ k h. h) s.attrs)
 
@@ -151,7 +154,7 @@ module _ (w : PlainWorld) (meta : ℕ) (k : Class Text) (a : CanMakeClass w meta
       sound-made w.classes k s.classes fresh bases (a.some ∙ sym positive) a.order (solid-made w.classes k s.classes fresh bases a.best) (a.best ∙ sym (ap not positive))
 
   like-more : Like w.classes more
-  like-more = record { there = there-made w.classes k s.classes; held = held-push w.classes k; places = place-made w.classes k s.classes }
+  like-more = record { there = there-made w.classes k s.classes; held = held-push w.classes k; places = place-made w.classes k s.classes; offsets = offset-push w.classes k }
 
   g : Lasts w new
   g = push-lasts w node more like-more
@@ -165,6 +168,7 @@ module _ (w : PlainWorld) (meta : ℕ) (k : Class Text) (a : CanMakeClass w meta
     nodes = All-nil (λ (r : PyObjectRef). r.0 < length new.nodes);
     keys = no-keys _;
     classes = All-cons (λ c. is_class more c ≡ true) k.number [] (ap is_some (at-last w.classes k fresh)) (All-nil (λ c. is_class more c ≡ true));
+    offsets = All-nil (λ p. is_offset more p.0 p.1 ≡ true);
   }
 
   stands-new : (c : ℕ) → is_class more c ≡ true → datum_at new (ref c) ≡ Some (AClass c)

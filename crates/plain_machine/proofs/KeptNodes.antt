@@ -13,9 +13,9 @@ use Rattle.plain_machine.specs.World.{ref, node_at, datum_at, class_at, has_dict
 use Rattle.plain_machine.specs.Objects.{class_number}
 use Rattle.plain_machine.specs.Change.{with_place, with_object_changed, MakeNode, SetClass, SetMember, SetDict, SetDatum, apply}
 use Rattle.plain_machine.specs.Conditions.{CanMakeNode, CanSetMember, CanSetDict, CanSetDatum, CanSetClass}
-use Rattle.plain_machine.specs.Sound.{home, held_by, nodes_in, classes_in, keys_in, Key, key_of, AreKeys, params_in, IsSoundNode, IsSound}
+use Rattle.plain_machine.specs.Sound.{home, held_by, nodes_in, classes_in, is_offset, offsets_in, keys_in, Key, key_of, AreKeys, params_in, IsSoundNode, IsSound}
 use Rattle.plain_machine.proofs.NearestByLayout.{held-by_layout}
-use Rattle.plain_machine.proofs.Lasting.{Lasting, lasting, Lasts, like-itself, lasts-on, stands, standing-still, nodes-still, classes-still, keys-still, sound_node-still, bound-still, scopes-still, attrs-still}
+use Rattle.plain_machine.proofs.Lasting.{Lasting, lasting, Lasts, like-itself, lasts-on, stands, standing-still, nodes-still, classes-still, offsets-still, keys-still, sound_node-still, bound-still, scopes-still, attrs-still}
 use Rattle.plain_machine.proofs.Pushed.{get-end, get-pushed, holder, pushed, push-lasts, push-kept}
 
 module _ (f : Node → Node) where
@@ -103,7 +103,7 @@ module _ (w : PlainWorld) (r : PyObjectRef) (p : ℕ × ℕ) (x : Node) (e : nod
 
 pub member-kept : (w : PlainWorld) (r : PyObjectRef) (p : ℕ × ℕ) (v : Option PyObjectRef) → CanSetMember w r p v → IsSound w → IsSound (apply w (SetMember r p v))
 member-kept w r p v a s =
-    changed-kept w (λ n. record n { members = with_place n.members p.0 p.1 v }) r s (λ x e. refl) (λ x e h. record { class = h.class; like = h.like; dict = h.dict; members = set-members w r p x e v a h; nodes = h.nodes; keys = h.keys; classes = h.classes })
+    changed-kept w (λ n. record n { members = with_place n.members p.0 p.1 v }) r s (λ x e. refl) (λ x e h. record { class = h.class; like = h.like; dict = h.dict; members = set-members w r p x e v a h; nodes = h.nodes; keys = h.keys; classes = h.classes; offsets = h.offsets })
 
 pub dict-kept : (w : PlainWorld) (r d : PyObjectRef) → CanSetDict w r d → IsSound w → IsSound (apply w (SetDict r d))
 dict-kept w r d a s =
@@ -115,6 +115,7 @@ dict-kept w r d a s =
       nodes = h.nodes;
       keys = h.keys;
       classes = h.classes;
+      offsets = h.offsets;
     })
 
 -- a class with the same layout has the same places
@@ -128,6 +129,7 @@ class-kept w r c a s =
       nodes = h.nodes;
       keys = h.keys;
       classes = h.classes;
+      offsets = h.offsets;
     })
 
 -- numbers and texts alone are keys
@@ -201,6 +203,7 @@ datum-kept w r d a s =
       nodes = a.holds.nodes;
       keys = a.holds.keys;
       classes = a.holds.classes;
+      offsets = a.holds.offsets;
     })
 
 pub no-keys : (at : PyObjectRef → Option Key) → AreKeys at []
@@ -220,6 +223,7 @@ module _ (w : PlainWorld) (c : ℕ) (d : Datum) (a : CanMakeNode w c d) (s : IsS
     nodes = nodes-still w u g (nodes_in d) a.holds.nodes;
     keys = keys-still w u g (keys_in d) a.holds.keys;
     classes = classes-still w u g (classes_in d) a.holds.classes;
+    offsets = offsets-still w u g (offsets_in d) a.holds.offsets;
   }
 
   -- it is no class
@@ -254,6 +258,7 @@ module _ (w : PlainWorld) (c : ℕ) (d : Datum) (a : CanMakeNode w c d) (s : IsS
       nodes = All-nil (λ (r : PyObjectRef). r.0 < length dicted.nodes);
       keys = no-keys _;
       classes = All-nil (λ c. is_class w.classes c ≡ true);
+      offsets = All-nil (λ p. is_offset w.classes p.0 p.1 ≡ true);
     }
 
     dicted-kept : IsSound dicted

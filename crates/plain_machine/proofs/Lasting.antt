@@ -14,7 +14,7 @@ use Rattle.class_model.specs.Layout.{is_place}
 use Rattle.plain_machine.specs.Plain.{Datum, AnObject, AClass, ANumber, AText, ATuple, AList, ADict, AFunction, AMethod, ANativeFunction, ABuiltinMethod, AMethodDescriptor, AGetSet, AClassMethod, AStaticMethod, AMember, AProperty, ASuper, AnIterator, ASlice, Node, Bindings, Scope, PlainWorld}
 use Rattle.plain_machine.specs.World.{is_text, ref, datum_at}
 use Rattle.plain_machine.specs.Objects.{class_number}
-use Rattle.plain_machine.specs.Sound.{home, held_by, nodes_in, classes_in, keys_in, Key, key_of, key_at, AreKeys, AreThere, AreBound, AreApart, params_in, IsSoundNode, IsSoundScope}
+use Rattle.plain_machine.specs.Sound.{home, held_by, nodes_in, classes_in, is_offset, offsets_in, keys_in, Key, key_of, key_at, AreKeys, AreThere, AreOffsets, AreBound, AreApart, params_in, IsSoundNode, IsSoundScope}
 
 -- what an object tells for ever: whose like it holds, the key that it is, the class that it stands for, and the parameters of a function
 pub record Lasting : Type 0 where
@@ -26,11 +26,12 @@ pub record Lasting : Type 0 where
 abbrev pub lasting : Datum → Lasting
 lasting d = record { home = home d; key = key_of d; class = class_number (Some d); params = params_in (Some d) }
 
--- each class is there still, holds the like and has its places
+-- each class is there still, holds the like and has its places, which offsets stand for
 pub record Like (old new : Classes Text) : Type 0 where
   pub there : (c : ℕ) → is_class old c ≡ true → is_class new c ≡ true
   pub held : (c : ℕ) (b : BuiltIn) → held_by old c ≡ Some b → held_by new c ≡ Some b
   pub places : (c d i : ℕ) → is_class old c ≡ true → is_place old c d i ≡ true → is_place new c d i ≡ true
+  pub offsets : (c : ℕ) (o : Option ℕ) → is_offset old c o ≡ true → is_offset new c o ≡ true
 
 -- and each node is there still and tells what it told
 pub record Lasts (old new : PlainWorld) : Type 0 where
@@ -38,7 +39,7 @@ pub record Lasts (old new : PlainWorld) : Type 0 where
   pub like : Like old.classes new.classes
 
 pub like-itself : (t : Classes Text) → Like t t
-like-itself t = record { there = λ c h. h; held = λ c b h. h; places = λ c d i l h. h }
+like-itself t = record { there = λ c h. h; held = λ c b h. h; places = λ c d i l h. h; offsets = λ c o h. h }
 
 pub lasts-on : (a b c : PlainWorld) → Lasts a b → Lasts b c → Lasts a c
 lasts-on a b c g h = record {
@@ -47,6 +48,7 @@ lasts-on a b c g h = record {
     there = λ k e. h.like.there k (g.like.there k e);
     held = λ k q e. h.like.held k q (g.like.held k q e);
     places = λ k d i l e. h.like.places k d i (g.like.there k l) (g.like.places k d i l e);
+    offsets = λ k o e. h.like.offsets k o (g.like.offsets k o e);
   };
 }
 
@@ -131,6 +133,9 @@ module _ (old new : PlainWorld) (g : Lasts old new) where
   pub classes-still : (cs : List ℕ) → All (λ c. is_class old.classes c ≡ true) cs → All (λ c. is_class new.classes c ≡ true) cs
   classes-still = All-weaker (λ c. is_class old.classes c ≡ true) (λ c. is_class new.classes c ≡ true) (λ c h. g.like.there c h)
 
+  pub offsets-still : (ps : List (ℕ × Option ℕ)) → AreOffsets old ps → AreOffsets new ps
+  offsets-still = All-weaker (λ p. is_offset old.classes p.0 p.1 ≡ true) (λ p. is_offset new.classes p.0 p.1 ≡ true) (λ p h. g.like.offsets p.0 p.1 h)
+
   pub bound-still : (bs : Bindings) → AreBound old bs → AreBound new bs
   bound-still = All-weaker (λ b. b.1.0 < length old.nodes) (λ b. b.1.0 < length new.nodes) (λ b h. node-still b.1.0 h)
 
@@ -153,6 +158,7 @@ module _ (old new : PlainWorld) (g : Lasts old new) where
     nodes = nodes-still (nodes_in n.datum) h.nodes;
     keys = keys-still (keys_in n.datum) h.keys;
     classes = classes-still (classes_in n.datum) h.classes;
+    offsets = offsets-still (offsets_in n.datum) h.offsets;
   }
 
   pub sound_scope-still : (s : Scope) → IsSoundScope old s → IsSoundScope new s

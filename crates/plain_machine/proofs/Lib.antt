@@ -3,6 +3,7 @@ pub mod NewMachine
 pub mod Changes
 pub mod Facts
 pub mod Lasting
+pub mod Offsets
 pub mod Pushed
 pub mod KeptNodes
 pub mod Bindings

@@ -11,15 +11,16 @@ use Rattle.class_model.specs.Slot.{is_heap_at}
 use Rattle.class_model.specs.Sound.{AreSound}
 use Rattle.plain_machine.specs.Known.{the_dict}
 use Rattle.plain_machine.specs.Plain.{Datum, PlainWorld}
-use Rattle.plain_machine.specs.Sound.{home, held_by, nodes_in, classes_in, keys_in, key_at, AreKeys, AreThere, AreBound, AreApart, params_in}
+use Rattle.plain_machine.specs.Sound.{home, held_by, nodes_in, classes_in, offsets_in, keys_in, key_at, AreKeys, AreThere, AreOffsets, AreBound, AreApart, params_in}
 use Rattle.plain_machine.specs.World.{node_at, datum_at, class_at, has_dict}
 use Rattle.plain_machine.specs.Change.{Change, MakeNode, MakeClass, Bind, SetOwn, SetBases, SetName, SetClass, SetMember, SetDict, SetDatum}
 
--- a node can hold this: it is no class, what it names is there, and the keys of a dict differ
+-- a node can hold this: it is no class, what it names is there, its offsets are those of places, and the keys of a dict differ
 pub record CanHold (w : PlainWorld) (d : Datum) : Type 0 where
   pub class : home d ≡ built_in.TypeType → ⊥
   pub nodes : AreThere w (nodes_in d)
   pub classes : All (λ c. is_class w.classes c ≡ true) (classes_in d)
+  pub offsets : AreOffsets w (offsets_in d)
   pub keys : AreKeys (key_at w) (keys_in d)
 
 -- a new object of a class that is there, which holds what such objects hold

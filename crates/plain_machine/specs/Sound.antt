@@ -1,15 +1,19 @@
 -- What a plain world keeps to, before and after each of its changes.
 use Rattle.std.specs.List.{All, IsDistinct}
 use Rattle.std.specs.Map.{keys_of}
-use Rattle.std.specs.Prelude.{◌≡◌, ℕ, ℤ, ◌<◌, true, is_some, List, [], ◌∷◌, ◌++◌, map, length, Option, Some, None, slice_get, option_map, option_and_then}
+use Rattle.std.specs.Prelude.{◌≡◌, ℕ, ℤ, ◌<◌, Bool, true, false, nat_lt, is_some, List, [], ◌∷◌, ◌++◌, map, length, Option, Some, None, slice_get, option_map, option_and_then}
 use Rattle.py_node.specs.declared.refs.PyObjectRef.{PyObjectRef}
+use Rattle.py_node.specs.declared.payload.MemberGetter.{MemberGetter}
+use Rattle.py_node.specs.declared.payload.MemberGetter.TheVariants as getter
+use Rattle.py_node.specs.declared.payload.MemberSetter.{MemberSetter}
+use Rattle.py_node.specs.declared.payload.MemberSetter.TheVariants as setter
 use Rattle.py_node.specs.declared.built_in.BuiltIn.{BuiltIn}
 use Rattle.py_node.specs.declared.built_in.BuiltIn.TheVariants as built_in
 use Rattle.py_node.specs.BuiltIns.{all_built_ins}
 use Rattle.py_node.specs.Attributes.{value_of}
 use Rattle.py_node.specs.Tree.{Text}
 use Rattle.class_model.specs.Class.{Classes, is_class}
-use Rattle.class_model.specs.Layout.{is_place}
+use Rattle.class_model.specs.Layout.{is_place, place_count}
 use Rattle.class_model.specs.Sound.{AreSound}
 use Rattle.plain_machine.specs.Plain.{Datum, AnObject, AClass, ANumber, AText, ATuple, AList, ADict, AFunction, AMethod, ANativeFunction, ABuiltinMethod, AMethodDescriptor, AGetSet, AClassMethod, AStaticMethod, AMember, AProperty, ASuper, AnIterator, ASlice, Node, Bindings, Scope, PlainWorld}
 use Rattle.plain_machine.specs.World.{is_text, ref, datum_at}
@@ -114,6 +118,30 @@ classes_in (ASuper c o) = c ∷ optional_class (super_start o)
 classes_in (AnIterator i) = []
 classes_in (ASlice s) = []
 
+-- whether less than so many come before an offset
+abbrev pub is_below : Option ℕ → ℕ → Bool
+is_below None n = false
+is_below (Some count) n = nat_lt n count
+
+-- whether an offset, if there is one, is that of a place of a class's objects
+abbrev pub is_offset : {K : Type 0} → Classes K → ℕ → Option ℕ → Bool
+is_offset t c None = true
+is_offset t c (Some n) = is_below (place_count t c) n
+
+-- the offsets at which a member is read and set, unless natives do it
+abbrev pub read_offset : MemberGetter → Option ℕ
+read_offset (getter.Getter native) = None
+read_offset (getter.Offset n) = Some n
+
+abbrev pub set_offset : MemberSetter → Option ℕ
+set_offset (setter.Setter native) = None
+set_offset (setter.Offset n) = Some n
+
+-- the offsets that an object names, each with the class of the objects that have the place
+abbrev pub offsets_in : Datum → List (ℕ × Option ℕ)
+offsets_in (AMember c x kind get set qualname doc) = (c, read_offset get) ∷ (c, set_offset set) ∷ []
+offsets_in _ = []
+
 -- a key of a dict: a number or a text
 pub data Key : Type 0 where
   NumberKey : ℤ → Key
@@ -139,10 +167,13 @@ pub record AreKeys (at : PyObjectRef → Option Key) (rs : List PyObjectRef) : T
 abbrev pub AreThere : PlainWorld → List PyObjectRef → Type 0
 AreThere w rs = All (λ r. r.0 < length w.nodes) rs
 
+abbrev pub AreOffsets : PlainWorld → List (ℕ × Option ℕ) → Type 0
+AreOffsets w ps = All (λ p. is_offset w.classes p.0 p.1 ≡ true) ps
+
 abbrev pub AreBound : PlainWorld → Bindings → Type 0
 AreBound w bs = All (λ b. b.1.0 < length w.nodes) bs
 
--- its class is there, and it holds what the objects of such a class hold. Its dict is one, its members are nodes that stand in places of its class's layout, what it names is there, and the keys of a dict differ
+-- its class is there, and it holds what the objects of such a class hold. Its dict is one, its members are nodes that stand in places of its class's layout, what it names is there, its offsets are those of places, and the keys of a dict differ
 pub record IsSoundNode (w : PlainWorld) (n : Node) : Type 0 where
   pub class : is_class w.classes n.class ≡ true
   pub like : held_by w.classes n.class ≡ Some (home n.datum)
@@ -151,6 +182,7 @@ pub record IsSoundNode (w : PlainWorld) (n : Node) : Type 0 where
   pub nodes : AreThere w (nodes_in n.datum)
   pub keys : AreKeys (key_at w) (keys_in n.datum)
   pub classes : All (λ c. is_class w.classes c ≡ true) (classes_in n.datum)
+  pub offsets : AreOffsets w (offsets_in n.datum)
 
 -- no name stands twice
 abbrev pub AreApart : {V : Type 0} → List (Text × V) → Type 0

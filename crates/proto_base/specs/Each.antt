@@ -1,9 +1,9 @@
 -- Rows that go over items one after another, and what rows do with answers that are no objects.
-use Rattle.std.specs.Prelude.{ℕ, ℤ, Bool, true, false, cond, nat_lt, length, List, [], ◌∷◌, ◌++◌, Result, Ok, Err}
+use Rattle.std.specs.Prelude.{ℕ, ℤ, Bool, true, false, cond, nat_le, length, List, [], ◌∷◌, ◌++◌, Result, Ok, Err}
 use Rattle.py_node.specs.declared.refs.PyObjectRef.{PyObjectRef}
 use Rattle.py_node.specs.declared.raised.Cause.TheVariants.{TooLong}
-use Rattle.plain_machine.specs.Plain.{PlainWorld, DoBoolEq, DoNext, PlainTask, ToCompare, ToProtocol, AsValue, AsNumber, AsTruth, AsObjects, AsExhausted, Ended, Answered, Said, Ends}
-use Rattle.plain_machine.specs.Row.{Row, ask, pass, end, fault, on_value, on_truth, on_number, most_items}
+use Rattle.plain_machine.specs.Plain.{PlainWorld, DoBoolEq, DoNext, PlainTask, ToCompare, ToProtocol, AsValue, AsNumber, AsTruth, AsObjects, AsExhausted, Ended, Answered, Told, Said, Ends}
+use Rattle.plain_machine.specs.Row.{Row, ask, pass, end, value, fault, on_value, on_truth, on_number, most_items}
 
 -- a truth value, a number or a list of objects, as the answer of a row
 abbrev pub says : Bool → Ended
@@ -39,13 +39,17 @@ each_number w task f z (r ∷ rs) go = ask w (task r) (λ s. on_number w s (λ n
 
 -- over an iteration: its next item is asked for until it is exhausted
 
--- goes on with all items, those so far first
+-- goes on with all items, those so far first. Where there are more than a list can have, it ends
 abbrev pub all_items : PlainWorld → PyObjectRef → List PyObjectRef → (List PyObjectRef → Row) → Row
-all_items w it rs go (Answered (Ok (AsValue v)) ∷ more) =
-    cond (nat_lt (length rs) most_items) (all_items w it (rs ++ v ∷ []) go more) (Ends w (fault TooLong))
+all_items w it rs go (Answered (Ok (AsValue v)) ∷ more) = all_items w it (rs ++ v ∷ []) go more
 all_items w it rs go (Answered (Ok AsExhausted) ∷ more) = go rs more
 all_items w it rs go (Answered r ∷ more) = Ends w r
-all_items w it rs go _ = pass w (ToProtocol (DoNext it))
+all_items w it rs go _ = cond (nat_le (length rs) most_items) (pass w (ToProtocol (DoNext it))) (Ends w (fault TooLong))
+
+-- some items, as a row is told them
+abbrev pub items_told : List PyObjectRef → Told → Told
+items_told [] more = more
+items_told (v ∷ vs) more = Answered (value v) ∷ items_told vs more
 
 -- the number that a search goes on with, or how it ends
 abbrev pub turned : PlainWorld → Result ℕ Ended → (ℕ → Said) → Said

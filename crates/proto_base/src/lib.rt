@@ -1,5 +1,5 @@
 //! What rows of protocols share: what a slot's entry asks, and tests of an object's class.
-#![tactic(auto)]
+#![tactic(auto, using(crate::proofs::Nodes::all_nodes, crate::proofs::Nodes::first_node))]
 
 ghost use Rattle.std.specs.Prelude.{◌≡◌, IfOk};
 ghost use Rattle.py_node.specs.BuiltIns.{place_of};

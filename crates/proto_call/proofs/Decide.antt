@@ -4,6 +4,7 @@ use Rattle.py_node.specs.declared.raised.Raised.{Raised as Fault}
 use Rattle.py_node.specs.declared.task.Answer.{Answer}
 use Rattle.py_node.specs.declared.task.Step.TheVariants.{End}
 use Rattle.py_node.specs.declared.refs.PyObjectRef.{PyObjectRef}
+use Rattle.py_node.specs.declared.entry.ObjectNative.{ObjectNative}
 use Rattle.py_node.specs.declared.task.Step.{Step}
 use Rattle.py_node.specs.declared.memory.OutOfMemory.{OutOfMemory}
 use Rattle.plain_machine.specs.Plain.{PlainWorld, CallJob, DoObject, Said}
@@ -30,16 +31,16 @@ from-same p F old mid new step same reads f = λ t q.
     (reads t h.0, subst (λ u. Steps call_job_say (call_stands t) t (p t).task (p t).told (F t u) step new) (same t) h.1)
 
 -- what a native of `object` does that ends so
-pub does-after : (F : Reading → PlainWorld → Said) (old mid new : World) (r : Result (Step CallKept) OutOfMemory) → ((t : Reading) → Reads t mid → Reads t old) → ((t : Reading) → plain t mid ≡ plain t old) → IfOk r (λ step. Closes F mid new step) → IfOk r (λ step. Does F old new step)
-does-after F old mid new (Ok step) reads same h = λ n args kw. from-same (λ t. fresh (DoObject n args (kw t))) F old mid new step same reads (h (λ t. fresh (DoObject n args (kw t))))
-does-after F old mid new (Err e) reads same h = tt
+pub does-after : (n : ObjectNative) (F : Reading → PlainWorld → Said) (old mid new : World) (r : Result (Step CallKept) OutOfMemory) → ((t : Reading) → Reads t mid → Reads t old) → ((t : Reading) → plain t mid ≡ plain t old) → IfOk r (λ step. Closes F mid new step) → IfOk r (λ step. Does n F old new step)
+does-after n F old mid new (Ok step) reads same h = λ args kw. from-same (λ t. fresh (DoObject n args (kw t))) F old mid new step same reads (h (λ t. fresh (DoObject n args (kw t))))
+does-after n F old mid new (Err e) reads same h = tt
 
-pub does : (F : Reading → PlainWorld → Said) (old new : World) (step : Step CallKept) → Closes F old new step → Does F old new step
-does F old new step h = λ n args kw. h (λ t. fresh (DoObject n args (kw t)))
+pub does : (n : ObjectNative) (F : Reading → PlainWorld → Said) (old new : World) (step : Step CallKept) → Closes F old new step → Does n F old new step
+does n F old new step h = λ args kw. h (λ t. fresh (DoObject n args (kw t)))
 
 -- what a native of `object` does that asks no task
-pub ends-does : (F : Reading → PlainWorld → Said) (old new : World) (r : Result Answer Fault) → EndsAs F old new r → Does F old new (End r)
-ends-does F old new r h = λ n args kw t q.
+pub ends-does : (n : ObjectNative) (F : Reading → PlainWorld → Said) (old new : World) (r : Result Answer Fault) → EndsAs F old new r → Does n F old new (End r)
+ends-does n F old new r h = λ args kw t q.
     let k = h t q in
     (k.0, subst (λ s. Steps call_job_say (call_stands t) t (DoObject n args (kw t)) [] s (End r) new) (sym k.1) (refl, refl))
 

@@ -2,7 +2,7 @@
 use Rattle.std.specs.Prelude.{◌≡◌, ℕ, List, [], ◌∷◌, Result, IfOk}
 use Rattle.py_node.specs.declared.memory.OutOfMemory.{OutOfMemory}
 use Rattle.py_node.specs.declared.entry.ObjectNative.{ObjectNative}
-use Rattle.py_node.specs.declared.entry.ObjectNative.TheVariants.{New}
+use Rattle.py_node.specs.declared.entry.ObjectNative.TheVariants.{New, Ne}
 use Rattle.py_node.specs.declared.refs.PyObjectRef.{PyObjectRef}
 use Rattle.py_node.specs.declared.raised.Raised.{Raised as Fault}
 use Rattle.py_node.specs.declared.task.Answer.{Answer}
@@ -20,7 +20,7 @@ use Rattle.class_world.specs.Held.{Held}
 use Rattle.class_world.specs.Sound.{Claim, IsNode, IsClass, AllHold, Grows}
 use Rattle.class_world.specs.Claims.{of_args, of_step, left_open}
 use Rattle.proto_call.specs.declared.CallKept.{CallKept}
-use Rattle.proto_call.specs.declared.CallKept.TheVariants.{Pass, Named, Native, Scope, AfterNew, AfterInit, AfterSpecialInit}
+use Rattle.proto_call.specs.declared.CallKept.TheVariants.{Pass, Named, Native, Unequal, Turned, Scope, AfterNew, AfterInit, AfterSpecialInit}
 use Rattle.proto_call.specs.Say.{call_job_say}
 
 -- the row that goes on, at each answer, just as the row that the code keeps this for
@@ -28,6 +28,8 @@ abbrev pub call_stands : Reading → CallKept → Pending CallJob
 call_stands t Pass = record { task = DoNew 0 0 [] []; told = [] }
 call_stands t Named = record { task = DoCall (ref 0) [] []; told = [] }
 call_stands t Native = record { task = DoObject New [] []; told = [] }
+call_stands t Unequal = record { task = DoObject Ne [] []; told = [] }
+call_stands t Turned = record { task = DoObject Ne [] []; told = Answered (value (ref 0)) ∷ [] }
 call_stands t Scope = record { task = DoBody (ref 0) [] []; told = [] }
 call_stands t (AfterNew c args kw) = record { task = DoTypeCall c.0 args.items (bindings t kw.items); told = [] }
 call_stands t (AfterInit o) = record { task = DoTypeCall 0 [] []; told = Answered (value o) ∷ [] }
@@ -38,6 +40,8 @@ abbrev pub of_call_kept : CallKept → List Claim
 of_call_kept Pass = []
 of_call_kept Named = []
 of_call_kept Native = []
+of_call_kept Unequal = []
+of_call_kept Turned = []
 of_call_kept Scope = []
 of_call_kept (AfterNew c args kw) = IsClass c.0 ∷ of_args args.items kw.items
 of_call_kept (AfterInit o) = IsNode o ∷ []
@@ -78,7 +82,7 @@ Continues = rows.Continues call_group
 abbrev pub Closes : (Reading → PlainWorld → Said) → World → World → Step CallKept → Type 0
 Closes = rows.Closes call_group
 
--- any native of `object` does so
-abbrev pub Does : (Reading → PlainWorld → Said) → World → World → Step CallKept → Type 0
-Does said old new step =
-    (n : ObjectNative) (args : List PyObjectRef) (kw : Reading → Bindings) → Follows call_job_say call_stands (λ t. fresh (DoObject n args (kw t))) said old new step
+-- a native of `object` does so, whatever its arguments are
+abbrev pub Does : ObjectNative → (Reading → PlainWorld → Said) → World → World → Step CallKept → Type 0
+Does n said old new step =
+    (args : List PyObjectRef) (kw : Reading → Bindings) → Follows call_job_say call_stands (λ t. fresh (DoObject n args (kw t))) said old new step

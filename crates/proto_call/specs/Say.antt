@@ -1,7 +1,7 @@
 -- What the rows of calls say.
 use Rattle.std.specs.Prelude.{ℕ, zero, suc, Bool, true, false, cond, not, eqb, ◌&&◌, ◌||◌, List, [], ◌∷◌, Option, Some, None, is_some, is_none, map, Ok}
 use Rattle.py_node.specs.declared.refs.PyObjectRef.{PyObjectRef}
-use Rattle.py_node.specs.declared.raised.Cause.TheVariants.{AbstractMethods, ArgCount, CannotCreate, InitNotNone, NoSpecial, NotCallable, SelfType, UnexpectedKeyword, UnsafeNew}
+use Rattle.py_node.specs.declared.raised.Cause.TheVariants.{AbstractMethods, ArgCount, CannotCreate, FormatSpec, InitNotNone, NoSpecial, NotCallable, SelfType, UnexpectedKeyword, UnsafeNew}
 use Rattle.py_node.specs.declared.entry.SlotId.TheVariants.{Call, Init, New}
 use Rattle.py_node.specs.declared.entry.SlotEntry.{SlotEntry}
 use Rattle.py_node.specs.declared.entry.SlotEntry.TheVariants.{Native, Wrapper}
@@ -11,6 +11,7 @@ use Rattle.py_node.specs.declared.entry.ObjectNative.{ObjectNative}
 use Rattle.py_node.specs.declared.entry.ObjectNative.TheVariants as object
 use Rattle.py_node.specs.declared.entry.TypeNative.TheVariants as type
 use Rattle.py_node.specs.declared.entry.CallableNative.TheVariants as callable
+use Rattle.py_node.specs.declared.task.PyComparisonOp.TheVariants.{Eq}
 use Rattle.py_node.specs.declared.entry.WrapperNative.TheVariants as wrapper
 use Rattle.py_node.specs.Attributes.{value_of, with_value}
 use Rattle.py_node.specs.Tree.{Text, Tree}
@@ -20,7 +21,7 @@ use Rattle.py_node.specs.Known.{known_text}
 use Rattle.class_model.specs.Class.{found}
 use Rattle.class_model.specs.Slot.{slot}
 use Rattle.class_model.specs.BuiltIn.{natives_of}
-use Rattle.plain_machine.specs.Plain.{Datum, AnObject, AClass, AFunction, AMethod, ANativeFunction, ABuiltinMethod, AMethodDescriptor, AStaticMethod, ATuple, ANumber, AsNumber, PlainWorld, Bindings, DoEval, CallJob, DoCall, DoBody, DoTypeCall, DoNew, DoInit, DoObject, DoGeneric, DoGenericSet, DoSpecial, PlainTask, ToEval, ToAttribute, ToCall, Ended, Chose, Said, Asks, Ends}
+use Rattle.plain_machine.specs.Plain.{Datum, AnObject, AClass, AFunction, AMethod, ANativeFunction, ABuiltinMethod, AMethodDescriptor, AStaticMethod, ATuple, AList, ANumber, AsNumber, PlainWorld, Bindings, DoEval, CallJob, DoCall, DoBody, DoTypeCall, DoNew, DoInit, DoObject, DoGeneric, DoGenericSet, DoSpecial, DoCmp, DoIsTrue, DoRepr, DoStr, DoDir, PlainTask, ToEval, ToAttribute, ToCall, ToCompare, ToProtocol, ToObject, Ended, Chose, Said, Asks, Ends}
 use Rattle.plain_machine.specs.World.{is_text, datum_at, slot_at, text_keys, with_node, next_node, with_scope, without_scope}
 use Rattle.plain_machine.specs.Objects.{class_object, class_number, is_instance, nearest_built_in}
 use Rattle.plain_machine.specs.Args.{filled}
@@ -29,7 +30,7 @@ use Rattle.plain_machine.specs.Known.{the_object, the_type, the_int, the_tuple}
 use Rattle.plain_machine.specs.Native.{native_task}
 use Rattle.plain_machine.specs.Show.{show}
 use Rattle.native_objects.specs.Objects.{object_native_say}
-use Rattle.plain_machine.specs.Row.{Row, start, fork, ask, pass, end, value, done, fault, not_yet, none, on_value, on_done, make}
+use Rattle.plain_machine.specs.Row.{Row, start, fork, ask, pass, end, value, done, fault, not_yet, none, truth, is_not_implemented, on_value, on_truth, on_done, make}
 
 abbrev pub is_empty : {A : Type 0} → List A → Bool
 is_empty [] = true
@@ -192,6 +193,7 @@ init_say w o args kw = fork (init_by w (slot_at w o Init) o args kw) (init_rest 
 
 abbrev pub has_items : Option Datum → Bool
 has_items (Some (ATuple rs)) = not (is_empty rs)
+has_items (Some (AList rs)) = not (is_empty rs)
 has_items _ = false
 
 abbrev pub is_abstract : PlainWorld → Option PyObjectRef → Bool
@@ -236,6 +238,29 @@ object_set_attr w args kw = with_three w args kw (λ o n v. with_text w n (λ x.
 abbrev pub object_del_attr : PlainWorld → List PyObjectRef → Bindings → Said
 object_del_attr w args kw = with_two w args kw (λ o n. with_text w n (λ x. pass w (ToAttribute (DoGenericSet o x None))))
 
+-- the text of an object is that by which it is represented, unless its class says otherwise
+abbrev pub object_str : PlainWorld → List PyObjectRef → Bindings → Said
+object_str w args kw = with_one w args kw (λ o. pass w (ToObject (DoRepr o)))
+
+-- by default no specification is known
+abbrev pub unspecified : PlainWorld → PyObjectRef → Text → Said
+unspecified w o [] = pass w (ToObject (DoStr o))
+unspecified w o (b ∷ bs) = Ends w (fault FormatSpec)
+
+abbrev pub object_format : PlainWorld → List PyObjectRef → Bindings → Said
+object_format w args kw = with_two w args kw (λ o s. with_text w s (unspecified w o))
+
+abbrev pub object_dir : PlainWorld → List PyObjectRef → Bindings → Said
+object_dir w args kw = with_one w args kw (λ o. pass w (ToObject (DoDir o)))
+
+-- two objects are not equal where what the first one's class says of their being equal doesn't count as true, if it says anything
+abbrev pub object_ne : PlainWorld → List PyObjectRef → Bindings → Said
+object_ne w args kw = with_two w args kw (λ o p. pass w (ToCompare (DoCmp o p Eq)))
+
+abbrev pub turned : PlainWorld → PyObjectRef → Row
+turned w x =
+    cond (is_not_implemented x) (end w (value x)) (ask w (ToProtocol (DoIsTrue x)) (λ r. on_truth w r (λ b. end w (value (truth (not b))))))
+
 -- those that ask no task say what they end with
 abbrev pub object_by : PlainWorld → ObjectNative → List PyObjectRef → Bindings → Said
 object_by w object.New args kw = object_new w args
@@ -244,10 +269,19 @@ object_by w object.InitSubclass args kw = object_init_subclass w args kw
 object_by w object.GetAttribute args kw = object_get_attribute w args kw
 object_by w object.SetAttr args kw = object_set_attr w args kw
 object_by w object.DelAttr args kw = object_del_attr w args kw
+object_by w object.Str args kw = object_str w args kw
+object_by w object.Format args kw = object_format w args kw
+object_by w object.Dir args kw = object_dir w args kw
+object_by w object.Ne args kw = object_ne w args kw
 object_by w n args kw = object_native_say w n args kw
 
+-- how those go on that asked a task
+abbrev pub object_rest : PlainWorld → ObjectNative → Ended → Row
+object_rest w object.Ne r = on_value w r (turned w)
+object_rest w n r = native_end w r
+
 abbrev pub object_say : PlainWorld → ObjectNative → List PyObjectRef → Bindings → Row
-object_say w n args kw = start (object_by w n args kw) (native_end w)
+object_say w n args kw = start (object_by w n args kw) (object_rest w n)
 
 unfoldable pub call_job_say : PlainWorld → CallJob → Row
 call_job_say w (DoCall f args kw) told = call_say w f args kw told

@@ -12,6 +12,7 @@ use crate::call::{begin_call, named_end};
 use crate::create::{begin_new, begin_type_call, resume_type_call};
 use crate::init::{begin_init, resume_init};
 use crate::object::{begin_object, native_end};
+use crate::texts::turned;
 use class_world::World;
 use py_node::task::{Args, Keywords};
 use py_node::{Answer, CallTask, OutOfMemory, PyObjectRef, PyTypeRef, Raised, Step};
@@ -23,6 +24,7 @@ mod create;
 mod init;
 mod object;
 mod parameters;
+mod texts;
 
 /// What a row of a call keeps while it waits for an answer.
 #[derive(Drop)]
@@ -33,6 +35,10 @@ pub enum CallKept {
     Named,
     /// The answer is that of a native: where there is no object, it is None.
     Native,
+    /// Of whether two objects are not equal: it was asked what the class of the first says of their being equal.
+    Unequal,
+    /// It was asked whether that counts as true.
+    Turned,
     /// A body runs: its scope is taken away at its end.
     Scope,
     /// The call of a class waits for the object: the class, the arguments and the keywords.
@@ -74,6 +80,14 @@ pub fn resume(
         CallKept::Pass => Ok(Step::End(answer)),
         CallKept::Named => named_end(world, answer),
         CallKept::Native => Ok(native_end(world, answer)),
+        CallKept::Unequal => match answer {
+            Ok(Answer::Value(x)) => Ok(turned(world, x)),
+            other => Ok(Step::End(other)),
+        },
+        CallKept::Turned => match answer {
+            Ok(Answer::Truth(b)) => Ok(Step::End(Ok(Answer::Value(world.truth(!b))))),
+            other => Ok(Step::End(other)),
+        },
         CallKept::Scope => {
             world.close_scope();
             Ok(Step::End(answer))

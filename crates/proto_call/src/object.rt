@@ -1,6 +1,7 @@
 //! The natives of `object`.
 
 ghost use Rattle.std.specs.Prelude.{◌≡◌, Some, IfOk, option_map};
+ghost use Rattle.py_node.specs.declared.entry.ObjectNative.TheVariants as object;
 ghost use Rattle.py_node.specs.declared.task.CallTask.TheVariants as call;
 ghost use Rattle.plain_machine.specs.World.{is_text, datum_at};
 ghost use Rattle.class_model.specs.Class.{found};
@@ -13,6 +14,7 @@ ghost use Rattle.plain_machine.specs.Known.{the_object};
 ghost use Rattle.proto_call.specs.Rows.{Begins, Resumes, Closes, Does, OpensNone, LeavesNone};
 
 use crate::CallKept;
+use crate::texts::{object_dir, object_format, object_ne, object_str};
 use class_world::takes::{one, three, two};
 use class_world::{Fixed, World};
 use native_objects::object_native;
@@ -45,7 +47,7 @@ fn object_by(
     kw: &[(PyStrInterned, PyObjectRef)],
 ) -> Result<Step<CallKept>, OutOfMemory>
     requires { Holds world.old (AreNodes args.now) }
-    ensures goes { IfOk result (λ step. Does (λ t u. object_by u native args.now (bindings t kw.now))
+    ensures goes { IfOk result (λ step. Does native (λ t u. object_by u native args.now (bindings t kw.now))
         world.old world.new step) }
     ensures safe { LeavesNone world.old world.new result }
 {
@@ -56,6 +58,10 @@ fn object_by(
         ObjectNative::GetAttribute => object_get_attribute(world, args, kw),
         ObjectNative::SetAttr => object_set_attr(world, args, kw),
         ObjectNative::DelAttr => object_del_attr(world, args, kw),
+        ObjectNative::Str => Ok(object_str(world, args, kw)),
+        ObjectNative::Format => Ok(object_format(world, args, kw)),
+        ObjectNative::Dir => Ok(object_dir(world, args, kw)),
+        ObjectNative::Ne => Ok(object_ne(world, args, kw)),
         native => Ok(Step::End(object_native(world, native, args, kw)?)),
     }
 }
@@ -99,12 +105,13 @@ fn is_abstract(world: &World, methods: Option<PyObjectRef>) -> bool
     }
 }
 
-// Whether this is a tuple that isn't empty.
+// Whether this is a tuple or a list that isn't empty.
 fn has_items(payload: &Payload) -> bool
     ensures { (t : Reading) → has_items (Some (datum t payload.now)) ≡ result }
 {
     match payload {
         Payload::Tuple(items) => !items.is_empty(),
+        Payload::List(items) => !items.is_empty(),
         _ => false,
     }
 }
@@ -142,7 +149,7 @@ fn object_get_attribute(
     kw: &[(PyStrInterned, PyObjectRef)],
 ) -> Result<Step<CallKept>, OutOfMemory>
     requires { Holds world.old (AreNodes args.now) }
-    ensures goes { IfOk result (λ step. Does (λ t u. object_get_attribute u args.now (bindings t kw.now))
+    ensures goes { IfOk result (λ step. Does object.GetAttribute (λ t u. object_get_attribute u args.now (bindings t kw.now))
         world.old world.new step) }
     ensures safe { LeavesNone world.old world.new result }
 {
@@ -162,7 +169,7 @@ fn object_set_attr(
     kw: &[(PyStrInterned, PyObjectRef)],
 ) -> Result<Step<CallKept>, OutOfMemory>
     requires { Holds world.old (AreNodes args.now) }
-    ensures goes { IfOk result (λ step. Does (λ t u. object_set_attr u args.now (bindings t kw.now))
+    ensures goes { IfOk result (λ step. Does object.SetAttr (λ t u. object_set_attr u args.now (bindings t kw.now))
         world.old world.new step) }
     ensures safe { LeavesNone world.old world.new result }
 {
@@ -185,7 +192,7 @@ fn object_del_attr(
     kw: &[(PyStrInterned, PyObjectRef)],
 ) -> Result<Step<CallKept>, OutOfMemory>
     requires { Holds world.old (AreNodes args.now) }
-    ensures goes { IfOk result (λ step. Does (λ t u. object_del_attr u args.now (bindings t kw.now))
+    ensures goes { IfOk result (λ step. Does object.DelAttr (λ t u. object_del_attr u args.now (bindings t kw.now))
         world.old world.new step) }
     ensures safe { LeavesNone world.old world.new result }
 {

@@ -3,11 +3,12 @@
 
 ghost use Rattle.std.specs.Prelude.{◌≡◌, ◌∷◌, [], true, IfOk};
 ghost use Rattle.plain_machine.specs.Objects.{is_instance};
+ghost use Rattle.plain_machine.specs.Sound.{set_offset};
 ghost use Rattle.plain_machine.specs.World.{datum_at};
 ghost use Rattle.py_node.specs.declared.task.DescriptorTask.TheVariants as descriptor;
 ghost use Rattle.class_world.specs.Claims.{of_descriptor_task, of_ended, of_setter, Leaves};
 ghost use Rattle.class_world.specs.Reading.{Reading, ended_of, plain, setter_value};
-ghost use Rattle.class_world.specs.Sound.{AllHold, IsClass, IsNode, of_option, of_node_ref};
+ghost use Rattle.class_world.specs.Sound.{AllHold, IsClass, IsNode, IsOffset, of_option, of_node_ref};
 ghost use Rattle.proto_descr.specs.Members.{member_get, member_set, or_empty, read_member, set_member, takes};
 ghost use Rattle.proto_descr.specs.Rows.{Starts, StepsAs, nothing_held, of_descriptor_kept};
 
@@ -133,7 +134,8 @@ fn set_member(
     o: PyObjectRef,
     value: PySetterValue,
 ) -> Result<Step<()>, OutOfMemory>
-    requires holds { AllHold world.old (IsNode o ∷ IsClass member.class.0 ∷ of_setter value) }
+    requires holds { AllHold world.old (IsNode o ∷ IsClass member.class.0 ∷
+        IsOffset member.class.0 (set_offset member.setter) ∷ of_setter value) }
     requires instance { (t : Reading) → is_instance (plain t world.old) o member.class.0 ≡ true }
     ensures steps { IfOk result (λ step. StepsAs
         (λ t w. set_member w member.class.0 member.kind member.setter o (setter_value value))

@@ -1,7 +1,7 @@
 -- What the rows of iterations say: their beginning, their next item, all items, and what is asked of each item.
 use Rattle.std.specs.Prelude.{ℕ, zero, suc, pos, ◌+◌, Bool, true, false, cond, is_some, [], ◌∷◌, Option, Some, None, Result, Ok, Err}
 use Rattle.py_node.specs.declared.refs.PyObjectRef.{PyObjectRef}
-use Rattle.py_node.specs.declared.raised.Cause.TheVariants.{NotFound, NotIterable, NotIterator}
+use Rattle.py_node.specs.declared.raised.Cause.TheVariants.{IndexRange, NotFound, NotIterable, NotIterator}
 use Rattle.py_node.specs.declared.raised.Kind.{Kind}
 use Rattle.py_node.specs.declared.raised.Kind.TheVariants.{StopIteration}
 use Rattle.py_node.specs.declared.entry.SlotId.TheVariants.{Iter, Iternext, SeqItem, SeqContains}
@@ -9,7 +9,7 @@ use Rattle.py_node.specs.declared.entry.SlotEntry.{SlotEntry}
 use Rattle.py_node.specs.declared.entry.SlotEntry.TheVariants.{Native}
 use Rattle.py_node.specs.declared.known.Known.TheVariants as known
 use Rattle.plain_machine.specs.Plain.{PlainWorld, DoIsTrue, DoGetIter, ToProtocol, AsExhausted, Ended, Chose, Said, Asks, Ends}
-use Rattle.plain_machine.specs.Row.{Row, start, fork, ask, pass, end, value, fault, on_value}
+use Rattle.plain_machine.specs.Row.{Row, start, fork, ask, pass, end, value, fault, fits_index, on_value}
 use Rattle.plain_machine.specs.World.{slot_at}
 use Rattle.native_base.specs.Say.{iterator_made}
 use Rattle.native_containers.specs.Take.{items_at}
@@ -75,17 +75,21 @@ contains_rest w x (suc (suc n)) r = on_value w r (λ it. each_equal w it x until
 abbrev pub contains_say : PlainWorld → PyObjectRef → PyObjectRef → Row
 contains_say w o x = fork (contains_by w (slot_at w o SeqContains) o x) (contains_rest w x)
 
+-- a number of items, which may be too great to be told
+abbrev pub counted : ℕ → Ended
+counted n = cond (fits_index (pos n)) (number (pos n)) (fault IndexRange)
+
 -- how many items are equal to an object
 abbrev pub one_more : ℕ → Bool → Result ℕ Ended
 one_more n b = Ok (cond b (n + 1) n)
 
 abbrev pub count_say : PlainWorld → PyObjectRef → PyObjectRef → Row
 count_say w o x =
-    ask w (ToProtocol (DoGetIter o)) (λ r. on_value w r (λ it. each_equal w it x one_more (λ n. number (pos n)) 0))
+    ask w (ToProtocol (DoGetIter o)) (λ r. on_value w r (λ it. each_equal w it x one_more counted 0))
 
 -- where the first item stands that is equal to an object
 abbrev pub until_found : ℕ → Bool → Result ℕ Ended
-until_found n b = cond b (Err (number (pos n))) (Ok (n + 1))
+until_found n b = cond b (Err (counted n)) (Ok (n + 1))
 
 abbrev pub find_say : PlainWorld → PyObjectRef → PyObjectRef → Row
 find_say w o x =

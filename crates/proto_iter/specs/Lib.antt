@@ -1,2 +1,3 @@
 pub mod Iteration
 pub mod Say
+pub mod Rows

@@ -1,5 +1,5 @@
 -- What the rows of class tests say.
-use Rattle.std.specs.Prelude.{ℕ, zero, suc, Bool, true, false, cond, eqb, not, ◌&&◌, is_some, if◌then◌else◌, List, [], ◌∷◌, Option, Some, None, Err}
+use Rattle.std.specs.Prelude.{ℕ, zero, suc, Bool, true, false, cond, eqb, not, ◌&&◌, is_some, if◌then◌else◌, List, [], ◌∷◌, Option, Some, None, Ok, Err}
 use Rattle.py_node.specs.declared.refs.PyObjectRef.{PyObjectRef}
 use Rattle.py_node.specs.declared.raised.Cause.TheVariants.{BasesShape, ClassArg}
 use Rattle.py_node.specs.declared.known.Known.{Known}
@@ -8,7 +8,7 @@ use Rattle.py_node.specs.Known.{known_text}
 use Rattle.class_model.specs.Class.{is_sub}
 use Rattle.plain_machine.specs.Known.{the_type}
 use Rattle.plain_machine.specs.Objects.{class_number, is_instance, special_at}
-use Rattle.plain_machine.specs.Plain.{Datum, ATuple, PlainWorld, DoGetAttr, DoSpecial, DoIsTrue, DoIsInstance, DoInst, DoIsSubclass, DoSub, DoAbsSub, PlainTask, ToAttribute, ToProtocol, ToObject, Ended, ReadObjects, Chose, Said, Asks, Ends}
+use Rattle.plain_machine.specs.Plain.{Datum, ATuple, PlainWorld, DoGetAttr, DoSpecial, DoIsTrue, DoIsInstance, DoInst, DoIsSubclass, DoSub, DoAbsSub, PlainTask, ToAttribute, ToProtocol, ToObject, AsValue, Ended, ReadObjects, Chose, Said, Asks, Ends}
 use Rattle.plain_machine.specs.Row.{Row, start, fork, ask, pass, end, none, fault, is_attribute_error, on_value, choose, read_objects}
 use Rattle.plain_machine.specs.World.{datum_at}
 use Rattle.native_containers.specs.Take.{items_at}
@@ -49,9 +49,13 @@ is_subclass_say w d c =
     (by_way w known.Subclasscheck d c (ToObject (DoSub d c)) (λ k. ToObject (DoIsSubclass d k)))
 
 -- what stands for a class must have bases
+abbrev pub without_bases : Ended → Ended
+without_bases (Err x) = cond (is_attribute_error x.kind) (fault ClassArg) (Err x)
+without_bases (Ok a) = Ok a
+
 abbrev pub on_bases : PlainWorld → Ended → (PyObjectRef → Row) → Row
-on_bases w (Err x) go = end w (cond (is_attribute_error x.kind) (fault ClassArg) (Err x))
-on_bases w r go = on_value w r go
+on_bases w (Ok (AsValue b)) go = go b
+on_bases w other go = end w (without_bases other)
 
 -- an instance of a class: its class derives from that, or else what it gives as its class does. Of what is no class, what it gives as its class must be a derived one by their bases
 abbrev pub in_class : PlainWorld → PyObjectRef → ℕ → Said

@@ -1,3 +1,4 @@
 pub mod Texts
 pub mod Classes
 pub mod Say
+pub mod Rows

@@ -1,6 +1,5 @@
 -- What the rows of hashes, texts and lists of names say.
-use Rattle.std.specs.Prelude.{ℕ, ℤ, Bool, true, false, cond, eqb, not, ◌&&◌, List, [], ◌∷◌, ◌++◌, map, filter, Option, Some, None, Ok}
-use Rattle.std.specs.List.{list_any}
+use Rattle.std.specs.Prelude.{ℕ, ℤ, Bool, true, false, cond, eqb, not, ◌&&◌, is_some, List, [], ◌∷◌, ◌++◌, map, filter, Option, Some, None, Ok}
 use Rattle.py_node.specs.declared.refs.PyObjectRef.{PyObjectRef}
 use Rattle.py_node.specs.declared.raised.Cause.{Cause}
 use Rattle.py_node.specs.declared.raised.Cause.TheVariants.{Unhashable, HashType, ReprType, StrType, FormatType}
@@ -9,6 +8,7 @@ use Rattle.py_node.specs.declared.entry.SlotEntry.{SlotEntry}
 use Rattle.py_node.specs.declared.entry.SlotEntry.TheVariants as entry
 use Rattle.py_node.specs.declared.known.Known.TheVariants as known
 use Rattle.py_node.specs.Known.{known_text}
+use Rattle.py_node.specs.Attributes.{value_of}
 use Rattle.py_node.specs.Tree.{Text}
 use Rattle.class_model.specs.Collect.{all_attributes}
 use Rattle.plain_machine.specs.Dicts.{Entries, dict_of, is_key}
@@ -31,10 +31,14 @@ abbrev pub is_none : Option PyObjectRef → Bool
 is_none None = false
 is_none (Some r) = eqb r.0 none.0
 
+-- the entry by which the class's objects have a hash
+abbrev pub hash_entry : Option SlotEntry → Option SlotEntry
+hash_entry (Some entry.Unhashable) = None
+hash_entry e = e
+
 abbrev pub hash_by : PlainWorld → Bool → Option SlotEntry → PyObjectRef → Said
 hash_by w true e o = Ends w (fault Unhashable)
 hash_by w false None o = Ends w (fault Unhashable)
-hash_by w false (Some entry.Unhashable) o = Ends w (fault Unhashable)
 hash_by w false (Some e) o = pass w (entered e known.Hash o [])
 
 -- a native tells the number. What a special method gives must hold one, of which the lowest 64 bits count
@@ -47,7 +51,8 @@ hash_rest w (Ok (AsValue r)) = end w (hashed (number_of (datum_at w r)))
 hash_rest w other = end w other
 
 abbrev pub hash_say : PlainWorld → PyObjectRef → Row
-hash_say w o = start (hash_by w (is_none (special_at w o (known_text known.Hash))) (slot_at w o Hash) o) (hash_rest w)
+hash_say w o =
+    start (hash_by w (is_none (special_at w o (known_text known.Hash))) (hash_entry (slot_at w o Hash)) o) (hash_rest w)
 
 -- the answer must hold a text
 abbrev pub text_or_fault : Option Text → PyObjectRef → Cause → Ended
@@ -94,8 +99,12 @@ abbrev pub own_keys : PlainWorld → Option PyObjectRef → List PyObjectRef
 own_keys w None = []
 own_keys w (Some d) = keys_of (entries_at w d)
 
+-- whether a key is a text that is one of the names
+abbrev pub has_name : PlainWorld → Bindings → PyObjectRef → Bool
+has_name w attrs k = is_some (value_of (λ y. is_key w y k) attrs)
+
 abbrev pub other_keys : PlainWorld → Bindings → List PyObjectRef → List PyObjectRef
-other_keys w attrs keys = filter (λ k. not (list_any (λ b. is_key w b.0 k) attrs)) keys
+other_keys w attrs keys = filter (λ k. not (has_name w attrs k)) keys
 
 abbrev pub names_made : List PyObjectRef → PlainWorld × Entries → Said
 names_made others s = object_made s.0 the_list (AList (map (λ e. e.0) s.1 ++ others))

@@ -23,6 +23,7 @@ use class_world::{Fixed, World};
 use enter::{begin_enter, begin_enter_power};
 use int::begin_int;
 use joins::{begin_add, begin_concat, begin_inplace_add, begin_inplace_concat, inplace_join, join};
+use native_repeats::native_repeat;
 use powers::{Tried, begin_inplace_power, begin_power, plain_power, power_last, power_next};
 use py_node::{
     Answer, Cause, OperatorTask, OutOfMemory, PyNumberBinaryOp, PyObjectRef, Raised, SlotEntry,
@@ -95,7 +96,10 @@ pub fn begin(world: &mut World, task: OperatorTask) -> Result<Step<OperatorKept>
         OperatorTask::Repeat(a, count) => begin_repeat(world, a, count),
         OperatorTask::InplaceMul(a, b) => Ok(begin_inplace_mul(a, b)),
         OperatorTask::InplaceRepeat(a, count) => begin_inplace_repeat(world, a, count),
-        OperatorTask::NativeRepeat(_, _, _) => Ok(Step::not_yet()),
+        OperatorTask::NativeRepeat(entry, a, count) => {
+            let ended = native_repeat(world, entry, a, count)?;
+            Ok(Step::End(ended))
+        }
         OperatorTask::EnterPower(entry, a, b, c) => begin_enter_power(world, entry, a, b, c),
         OperatorTask::Power(a, b, c) => Ok(begin_power(world, a, b, c)),
         OperatorTask::InplacePower(a, b, c) => Ok(begin_inplace_power(world, a, b, c)),

@@ -1,12 +1,10 @@
 //! Products and repeated sequences.
 
-ghost use Rattle.std.specs.Prelude.{◌≡◌, ℤ, Err, Ok, IfErr, IfOk};
-ghost use Rattle.py_node.specs.declared.raised.Cause.TheVariants.{RepeatTooLong};
+ghost use Rattle.std.specs.Prelude.{◌≡◌, Ok, IfOk};
 ghost use Rattle.py_node.specs.declared.protocol.ProtocolTask.TheVariants as protocol;
 ghost use Rattle.py_node.specs.declared.task.OperatorTask.TheVariants as operator;
 ghost use Rattle.plain_machine.specs.Known.{the_int};
-ghost use Rattle.plain_machine.specs.Plain.{ANumber, Ends, PlainWorld, Told};
-ghost use Rattle.plain_machine.specs.Row.{Row, within_index};
+ghost use Rattle.plain_machine.specs.Plain.{ANumber};
 ghost use Rattle.plain_machine.specs.World.{next_node, with_node};
 ghost use Rattle.class_world.specs.Claims.{of_operator_task, of_step, Leaves};
 ghost use Rattle.class_world.specs.Reading.{Reading, Reads, plain};
@@ -17,10 +15,11 @@ ghost use Rattle.proto_ops.specs.Rows.{Begins, GoesOn, Resumes, of_operator_kept
 use crate::joins::is_sequence;
 use crate::{OperatorKept, Otherwise};
 use class_world::World;
+use native_repeats::count_in;
 use py_node::protocol::ProtocolTask;
 use py_node::{
     Answer, BuiltIn, Cause, OperatorTask, OutOfMemory, Payload, PyNumberBinaryOp, PyObjectRef,
-    Raised, SlotEntry, SlotId, Step, Task,
+    SlotEntry, SlotId, Step, Task,
 };
 
 /// A product: the candidates are tried first.
@@ -88,24 +87,6 @@ pub(crate) fn inplace_repeat_one(
         (Some(_), _) => index_asked(b, OperatorKept::InplaceTimes(a)),
         (None, Some(_)) => index_asked(a, OperatorKept::Times(b)),
         (None, None) => Step::raise(Cause::UnsupportedOperand),
-    }
-}
-
-// How often a number says that something is repeated.
-fn count_in(number: Option<i128>) -> Result<i64, Raised>
-    ensures given { IfOk result (λ z. (w : PlainWorld) (go : ℤ → Row) (told : Told) →
-        within_index w RepeatTooLong number go told ≡ go z told) }
-    ensures refused { IfErr result (λ x. (w : PlainWorld) (go : ℤ → Row) (told : Told) →
-        within_index w RepeatTooLong number go told ≡ Ends w (Err x)) }
-{
-    match number {
-        None => Err(Raised::new(Cause::SelfType)),
-        Some(z) => {
-            if z < i64::MIN as i128 || z > i64::MAX as i128 {
-                return Err(Raised::new(Cause::RepeatTooLong));
-            }
-            Ok(z as i64)
-        }
     }
 }
 

@@ -1,15 +1,14 @@
 -- What a group's row says is what the row says among all.
-use Rattle.std.proofs.Common.{◌≡◌, [], ◌∷◌, ◌++◌, sym, subst, ◌∙◌, refl, Result}
+use Rattle.std.proofs.Common.{◌≡◌, [], ◌∷◌, ◌++◌, sym, ap, subst, ◌∙◌, refl, Result}
 use Rattle.py_node.specs.declared.raised.Raised.{Raised as Fault}
+use Rattle.py_node.specs.declared.refs.PyObjectRef.{PyObjectRef}
 use Rattle.py_node.specs.declared.task.Answer.{Answer}
-use Rattle.py_node.specs.declared.task.Task.{Task}
 use Rattle.py_node.specs.declared.task.Step.{Step}
 use Rattle.py_node.specs.declared.task.Step.TheVariants.{Ask, End}
-use Rattle.plain_machine.specs.Plain.{PlainWorld, PlainTask, ToEval, ToAttribute, ToDescriptor, ToCall, ToClass, ToOperator, ToCompare, ToProtocol, Answered, Told, Said, Asks, Ends, Saying}
-use Rattle.plain_machine.specs.Row.{not_yet}
+use Rattle.plain_machine.specs.Plain.{PlainWorld, PlainTask, ToEval, ToAttribute, ToDescriptor, ToCall, ToClass, ToOperator, ToCompare, ToProtocol, ToObject, ProtocolJob, Answered, Told, Said, Asks, Ends, Saying}
 use Rattle.plain_machine.specs.Rows.{Pending, Alike, fresh, given}
 use Rattle.class_world.specs.declared.world.World.{World}
-use Rattle.class_world.specs.Reading.{Reading, plain, task_of, ended_of}
+use Rattle.class_world.specs.Reading.{Reading, plain, ended_of}
 use Rattle.class_world.specs.Rows.{Steps, Goes}
 use Rattle.eval_forms.specs.Say.{eval_say}
 use Rattle.eval_forms.specs.Rows.{eval_stands}
@@ -26,89 +25,165 @@ use Rattle.proto_ops.specs.Rows.{operator_stands}
 use Rattle.proto_compare.specs.Say.{compare_job_say}
 use Rattle.proto_compare.specs.Rows.{compare_stands}
 use Rattle.proto_number.specs.Say.{number_job_say}
+use Rattle.proto_number.specs.declared.NumberKept.{NumberKept}
+use Rattle.proto_number.specs.declared.NumberKept.TheVariants.{Pass, AfterBool, AfterLength, AfterIndex, AfterInt, AfterTruncate, AfterIndexOf, AfterLen, Measured, Expected, Called}
 use Rattle.proto_number.specs.Rows.{number_stands}
-use Rattle.class_world.specs.Rows.{EndsAs}
+use Rattle.proto_iter.specs.Say.{iter_job_say}
+use Rattle.proto_iter.specs.declared.IterKept.{IterKept}
+use Rattle.proto_iter.specs.declared.IterKept.TheVariants as iter
+use Rattle.proto_iter.specs.declared.seek.Search.{Search}
+use Rattle.proto_iter.specs.declared.seek.Search.TheVariants as search
+use Rattle.proto_iter.specs.Rows.{iter_stands, search_job}
+use Rattle.proto_items.specs.Say.{items_job_say}
+use Rattle.proto_items.specs.declared.ItemsKept.{ItemsKept}
+use Rattle.proto_items.specs.declared.ItemsKept.TheVariants as items
+use Rattle.proto_items.specs.Rows.{items_stands}
+use Rattle.proto_object.specs.Say.{object_job_say}
+use Rattle.proto_object.specs.Rows.{object_stands}
+use Rattle.natives.specs.Say.{native_job_say}
+use Rattle.natives.specs.Rows.{natives_stands}
 use Rattle.vm_eval.specs.declared.stack.Kept.{Kept}
-use Rattle.vm_eval.specs.declared.stack.Kept.TheVariants.{ForEval, ForAttribute, ForDescriptor, ForCall, ForClass, ForOperator, ForCompare, ForNumber}
-use Rattle.vm_eval.specs.Say.{say, stands, among, step_among, Begins, Resumes}
+use Rattle.vm_eval.specs.declared.stack.Kept.TheVariants.{ForEval, ForAttribute, ForDescriptor, ForCall, ForClass, ForOperator, ForCompare, ForNumber, ForIteration, ForItems, ForObject, ForNative}
+use Rattle.vm_eval.specs.declared.protocols.Branch.{Branch}
+use Rattle.vm_eval.specs.declared.protocols.Branch.TheVariants as branch
+use Rattle.vm_eval.specs.Say.{say, stands, among, step_among, by_branch, branch_of, to_native, Resumes}
 
--- a group of rows, among all
-pub record Among {J K : Type 0} (group : Saying J) (held : Reading → K → Pending J) (to : J → PlainTask) (for : K → Kept) : Type 0 where
-  says : (w : PlainWorld) (j : J) (told : Told) → say w (to j) told ≡ group w j told
+-- a group of rows, among all: it is for its own jobs
+pub record Among {J K : Type 0} (group : Saying J) (held : Reading → K → Pending J) (to : J → PlainTask) (for : K → Kept) (own : J → Type 0) : Type 0 where
+  says : (w : PlainWorld) (j : J) (told : Told) → own j → say w (to j) told ≡ group w j told
   keeps : (t : Reading) (k : K) → stands t (for k) ≡ among to (held t k)
+  owns : (t : Reading) (k : K) → own (held t k).task
 
-module _ {J K : Type 0} (group : Saying J) (held : Reading → K → Pending J) (to : J → PlainTask) (for : K → Kept) (g : Among group held to for) where
-  alike-among : (p q : Pending J) → Alike group p q → Alike say (among to p) (among to q)
-  alike-among p q a = record { says = λ w r more. g.says w p.task (p.told ++ Answered r ∷ more) ∙ a.says w r more ∙ sym (g.says w q.task (q.told ++ Answered r ∷ more)) }
+module _ {J K : Type 0} (group : Saying J) (held : Reading → K → Pending J) (to : J → PlainTask) (for : K → Kept) (own : J → Type 0) (g : Among group held to for own) where
+  alike-among : (p q : Pending J) → own p.task → own q.task → Alike group p q → Alike say (among to p) (among to q)
+  alike-among p q i j a = record { says = λ w r more. g.says w p.task (p.told ++ Answered r ∷ more) i ∙ a.says w r more ∙ sym (g.says w q.task (q.told ++ Answered r ∷ more) j) }
 
-  steps-among : (t : Reading) (j : J) (told : Told) (said : Said) (step : Step K) (new : World) → Steps group (held t) t j told said step new → Steps say (stands t) t (to j) told said (step_among for step) new
-  steps-among t j told (Asks w learnt other) (Ask asked kept) new h =
-      (h.0, h.1, subst (λ q. Alike say (record { task = to j; told = told ++ learnt }) q) (sym (g.keeps t kept)) (alike-among (record { task = j; told = told ++ learnt }) (held t kept) h.2))
-  steps-among t j told (Asks w learnt other) (End r) new h = h
-  steps-among t j told (Ends w r) (Ask asked kept) new h = h
-  steps-among t j told (Ends w r) (End s) new h = h
+  steps-among : (t : Reading) (j : J) (told : Told) (said : Said) (step : Step K) (new : World) → own j → Steps group (held t) t j told said step new → Steps say (stands t) t (to j) told said (step_among for step) new
+  steps-among t j told (Asks w learnt other) (Ask asked kept) new i h =
+      (h.0, h.1, subst (λ q. Alike say (record { task = to j; told = told ++ learnt }) q) (sym (g.keeps t kept)) (alike-among (record { task = j; told = told ++ learnt }) (held t kept) i (g.owns t kept) h.2))
+  steps-among t j told (Asks w learnt other) (End r) new i h = h
+  steps-among t j told (Ends w r) (Ask asked kept) new i h = h
+  steps-among t j told (Ends w r) (End s) new i h = h
 
-  goes-among : (p : Reading → Pending J) (old new : World) (step : Step K) → Goes group held p old new step → Goes say stands (λ t. among to (p t)) old new (step_among for step)
-  goes-among p old new step h = λ t reads. (
+  goes-among : (p : Reading → Pending J) (old new : World) (step : Step K) → ((t : Reading) → own (p t).task) → Goes group held p old new step → Goes say stands (λ t. among to (p t)) old new (step_among for step)
+  goes-among p old new step i h = λ t reads. (
     (h t reads).0,
-    subst (λ said. Steps say (stands t) t (to (p t).task) (p t).told said (step_among for step) new) (sym (g.says (plain t old) (p t).task (p t).told))
-        (steps-among t (p t).task (p t).told (group (plain t old) (p t).task (p t).told) step new (h t reads).1),
+    subst (λ said. Steps say (stands t) t (to (p t).task) (p t).told said (step_among for step) new) (sym (g.says (plain t old) (p t).task (p t).told (i t)))
+        (steps-among t (p t).task (p t).told (group (plain t old) (p t).task (p t).told) step new (i t) (h t reads).1),
   )
 
   kept-among : (kept : K) (r : Result Answer Fault) (old new : World) (step : Step K) → Goes group held (λ t. given (held t kept) (ended_of r)) old new step → Goes say stands (λ t. given (stands t (for kept)) (ended_of r)) old new (step_among for step)
   kept-among kept r old new step h = λ t reads.
-      let all = goes-among (λ t. given (held t kept) (ended_of r)) old new step h t reads in (
+      let all = goes-among (λ t. given (held t kept) (ended_of r)) old new step (λ t. g.owns t kept) h t reads in (
         all.0,
         subst (λ (q : Pending PlainTask). Steps say (stands t) t q.task (q.told ++ Answered (ended_of r) ∷ []) (say (plain t old) q.task (q.told ++ Answered (ended_of r) ∷ [])) (step_among for step) new) (sym (g.keeps t kept)) all.1,
       )
 
   -- a task of the group begins so among all
-  pub begins-among : (job : Reading → J) (old new : World) (step : Step K) (next : Step Kept) → next ≡ step_among for step → Goes group held (λ t. fresh (job t)) old new step → Goes say stands (λ t. fresh (to (job t))) old new next
-  begins-among job old new step next same h = subst (Goes say stands (λ t. fresh (to (job t))) old new) (sym same) (goes-among (λ t. fresh (job t)) old new step h)
+  pub begins-among : (job : Reading → J) (old new : World) (step : Step K) (next : Step Kept) → ((t : Reading) → own (job t)) → next ≡ step_among for step → Goes group held (λ t. fresh (job t)) old new step → Goes say stands (λ t. fresh (to (job t))) old new next
+  begins-among job old new step next i same h = subst (Goes say stands (λ t. fresh (to (job t))) old new) (sym same) (goes-among (λ t. fresh (job t)) old new step i h)
 
   -- and what is kept of it goes on so
   pub resumes-among : (full : Kept) (kept : K) (r : Result Answer Fault) (old new : World) (step : Step K) (next : Step Kept) → full ≡ for kept → next ≡ step_among for step → Goes group held (λ t. given (held t kept) (ended_of r)) old new step → Resumes full r old new next
   resumes-among full kept r old new step next is same h =
       subst (λ full. Resumes full r old new next) (sym is) (subst (Resumes (for kept) r old new) (sym same) (kept-among kept r old new step h))
 
-pub eval-group : Among eval_say eval_stands ToEval ForEval
+-- most groups are for all their jobs
+abbrev pub Any : {J : Type 0} → J → Type 0
+Any j = Unit {0}
+
+pub eval-group : Among eval_say eval_stands ToEval ForEval Any
 unfolding say stands
-eval-group = record { says = λ w j told. refl; keeps = λ t k. refl }
+eval-group = record { says = λ w j told own. refl; keeps = λ t k. refl; owns = λ t k. tt }
 
-pub attribute-group : Among attribute_say attribute_stands ToAttribute ForAttribute
+pub attribute-group : Among attribute_say attribute_stands ToAttribute ForAttribute Any
 unfolding say stands
-attribute-group = record { says = λ w j told. refl; keeps = λ t k. refl }
+attribute-group = record { says = λ w j told own. refl; keeps = λ t k. refl; owns = λ t k. tt }
 
-pub descriptor-group : Among descriptor_say descriptor_stands ToDescriptor ForDescriptor
+pub descriptor-group : Among descriptor_say descriptor_stands ToDescriptor ForDescriptor Any
 unfolding say stands
-descriptor-group = record { says = λ w j told. refl; keeps = λ t k. refl }
+descriptor-group = record { says = λ w j told own. refl; keeps = λ t k. refl; owns = λ t k. tt }
 
-pub call-group : Among call_job_say call_stands ToCall ForCall
+pub call-group : Among call_job_say call_stands ToCall ForCall Any
 unfolding say stands
-call-group = record { says = λ w j told. refl; keeps = λ t k. refl }
+call-group = record { says = λ w j told own. refl; keeps = λ t k. refl; owns = λ t k. tt }
 
-pub class-group : Among class_job_say class_stands ToClass ForClass
+pub class-group : Among class_job_say class_stands ToClass ForClass Any
 unfolding say stands
-class-group = record { says = λ w j told. refl; keeps = λ t k. refl }
+class-group = record { says = λ w j told own. refl; keeps = λ t k. refl; owns = λ t k. tt }
 
-pub operator-group : Among operator_say operator_stands ToOperator ForOperator
+pub operator-group : Among operator_say operator_stands ToOperator ForOperator Any
 unfolding say stands
-operator-group = record { says = λ w j told. refl; keeps = λ t k. refl }
+operator-group = record { says = λ w j told own. refl; keeps = λ t k. refl; owns = λ t k. tt }
 
-pub compare-group : Among compare_job_say compare_stands ToCompare ForCompare
+pub compare-group : Among compare_job_say compare_stands ToCompare ForCompare Any
 unfolding say stands
-compare-group = record { says = λ w j told. refl; keeps = λ t k. refl }
+compare-group = record { says = λ w j told own. refl; keeps = λ t k. refl; owns = λ t k. tt }
 
-pub number-group : Among number_job_say number_stands ToProtocol ForNumber
+pub object-group : Among object_job_say object_stands ToObject ForObject Any
 unfolding say stands
-number-group = record { says = λ w j told. refl; keeps = λ t k. refl }
+object-group = record { says = λ w j told own. refl; keeps = λ t k. refl; owns = λ t k. tt }
 
--- a task whose row is not there yet ends at once
-pub not-yet-begins : (full : Task) (w : World) → ((t : Reading) (u : PlainWorld) → say u (task_of t full) [] ≡ Ends u not_yet) → Begins full w w (End not_yet)
-not-yet-begins full w h = λ t r. (r, subst (λ said. Steps say (stands t) t (task_of t full) [] said (End not_yet) w) (sym (h t (plain t w))) (refl, refl))
+pub native-group : Among native_job_say natives_stands to_native ForNative Any
+unfolding say stands
+native-group = record { says = λ w j told own. refl; keeps = λ t k. refl; owns = λ t k. tt }
 
--- a task that ends at once does so among all
-pub ending-begins : (full : Task) (said : Reading → PlainWorld → Said) (old new : World) (r : Result Answer Fault) → ((t : Reading) (u : PlainWorld) → say u (task_of t full) [] ≡ said t u) → EndsAs said old new r → Begins full old new (End r)
-ending-begins full said old new r row h = λ t reads.
-    let ends = h t reads in
-    (ends.0, subst (λ s. Steps say (stands t) t (task_of t full) [] s (End r) new) (sym (row t (plain t old) ∙ ends.1)) (refl, refl))
+-- the jobs of a branch
+abbrev pub On : Branch → ProtocolJob → Type 0
+On b job = branch_of job ≡ b
+
+protocol-says : (b : Branch) (w : PlainWorld) (job : ProtocolJob) (told : Told) → branch_of job ≡ b → say w (ToProtocol job) told ≡ by_branch w b job told
+unfolding say
+protocol-says b w job told is = ap (λ b. by_branch w b job told) is
+
+number-owns : (t : Reading) (k : NumberKept) → On branch.Numbers (number_stands t k).task
+number-owns t Pass = refl
+number-owns t AfterBool = refl
+number-owns t AfterLength = refl
+number-owns t AfterIndex = refl
+number-owns t AfterInt = refl
+number-owns t AfterTruncate = refl
+number-owns t AfterIndexOf = refl
+number-owns t AfterLen = refl
+number-owns t (Measured o d) = refl
+number-owns t (Expected d) = refl
+number-owns t (Called d) = refl
+
+search-owns : (s : Search) (x : PyObjectRef) → On branch.Iterations (search_job s x)
+search-owns search.Contains x = refl
+search-owns search.Count x = refl
+search-owns search.Find x = refl
+
+iter-owns : (t : Reading) (k : IterKept) → On branch.Iterations (iter_stands t k).task
+iter-owns t iter.Pass = refl
+iter-owns t iter.AfterIter = refl
+iter-owns t iter.AfterNext = refl
+iter-owns t iter.Beginning = refl
+iter-owns t (iter.Collecting it items) = refl
+iter-owns t iter.AfterNative = refl
+iter-owns t iter.AfterContains = refl
+iter-owns t (iter.Begun s x) = search-owns s x
+iter-owns t (iter.Next s) = search-owns s.search s.needle
+iter-owns t (iter.Equal s) = search-owns s.search s.needle
+
+items-owns : (t : Reading) (k : ItemsKept) → On branch.Items (items_stands t k).task
+items-owns t items.Pass = refl
+items-owns t (items.AfterIndex o) = refl
+items-owns t (items.AfterClass k) = refl
+items-owns t items.Ending = refl
+items-owns t items.Loaded = refl
+items-owns t items.Invoked = refl
+items-owns t items.Iterating = refl
+items-owns t (items.Gathering it rs) = refl
+
+pub number-group : Among number_job_say number_stands ToProtocol ForNumber (On branch.Numbers)
+unfolding stands
+number-group = record { says = protocol-says branch.Numbers; keeps = λ t k. refl; owns = number-owns }
+
+pub iter-group : Among iter_job_say iter_stands ToProtocol ForIteration (On branch.Iterations)
+unfolding stands
+iter-group = record { says = protocol-says branch.Iterations; keeps = λ t k. refl; owns = iter-owns }
+
+pub items-group : Among items_job_say items_stands ToProtocol ForItems (On branch.Items)
+unfolding stands
+items-group = record { says = protocol-says branch.Items; keeps = λ t k. refl; owns = items-owns }

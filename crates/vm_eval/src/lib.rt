@@ -3,7 +3,7 @@
 
 pub mod calls;
 pub mod machine;
-mod natives;
+pub mod protocols;
 mod run;
 mod stack;
 

@@ -2,7 +2,7 @@
 
 ghost use Rattle.std.specs.Prelude.{◌≡◌, ◌<◌, ℕ, [], ◌∷◌, ◌++◌, IfOk, OnErr, OnOk};
 ghost use Rattle.class_world.specs.Sound.{AllHold, Lasts, of_each};
-ghost use Rattle.class_world.specs.Claims.{of_task, of_ended, of_step, left_open, LeavesOpen};
+ghost use Rattle.class_world.specs.Claims.{of_task, of_protocol_task, of_ended, of_step, left_open, LeavesOpen};
 ghost use Rattle.eval_forms.specs.Rows.{of_eval_kept};
 ghost use Rattle.proto_attr.specs.Rows.{of_attribute_kept};
 ghost use Rattle.proto_descr.specs.Rows.{of_descriptor_kept};
@@ -11,20 +11,28 @@ ghost use Rattle.class_make.specs.Rows.{of_class_kept};
 ghost use Rattle.proto_ops.specs.Rows.{of_operator_kept};
 ghost use Rattle.proto_compare.specs.Rows.{of_compare_kept};
 ghost use Rattle.proto_number.specs.Rows.{of_number_kept};
+ghost use Rattle.proto_iter.specs.Rows.{of_iter_kept};
+ghost use Rattle.proto_items.specs.Rows.{of_items_kept};
+ghost use Rattle.proto_object.specs.Rows.{of_object_kept};
+ghost use Rattle.natives.specs.Rows.{of_natives_kept};
 ghost use Rattle.vm_eval.specs.Say.{Begins, Resumes, step_among, of_kept, bodies_in};
 ghost use Rattle.vm_eval.specs.Stack.{Answers, Reaches, Keeps, RunsAbove, AsDeep, EndsDeep, turns_left, of_turn, of_end};
 
-use crate::natives::{begin_native, of_native};
+use crate::protocols::{Branch, branch_of};
 use class_make::ClassKept;
 use class_world::World;
 use eval_forms::EvalKept;
-use native_calls::NativeKept;
+use natives::NativesKept;
 use proto_attr::AttributeKept;
 use proto_call::CallKept;
 use proto_compare::CompareKept;
 use proto_descr::DescriptorKept;
+use proto_items::ItemsKept;
+use proto_iter::IterKept;
 use proto_number::NumberKept;
+use proto_object::ObjectKept;
 use proto_ops::OperatorKept;
+use py_node::protocol::ProtocolTask;
 use py_node::{Answer, Cause, OutOfMemory, Raised, Step, Task};
 
 // No task stands so deep.
@@ -41,7 +49,10 @@ pub enum Kept {
     ForOperator(OperatorKept),
     ForCompare(CompareKept),
     ForNumber(NumberKept),
-    ForNative(NativeKept),
+    ForIteration(IterKept),
+    ForItems(ItemsKept),
+    ForObject(ObjectKept),
+    ForNative(NativesKept),
 }
 
 /// How a command ended: its row ended, or its units were used up.
@@ -86,14 +97,36 @@ fn begin(world: &mut World, task: Task) -> Result<Step<Kept>, OutOfMemory>
             let step = proto_compare::begin(world, task)?;
             Ok(of_compare(step))
         }
-        Task::Protocol(task) => {
+        Task::Protocol(task) => begin_protocol(world, task),
+        Task::Object(task) => {
+            let step = proto_object::begin(world, task)?;
+            Ok(of_object(step))
+        }
+        Task::Native(entry, args, kw) => {
+            let step = natives::begin(world, entry, args, kw)?;
+            Ok(of_native(step))
+        }
+    }
+}
+
+// The first step of a task on numbers, iterations or items.
+fn begin_protocol(world: &mut World, task: ProtocolTask) -> Result<Step<Kept>, OutOfMemory>
+    requires { AllHold world.old (of_protocol_task task) }
+    ensures goes { IfOk result (λ step. Begins (Task.Protocol task) world.old world.new step) }
+    ensures safe { LeavesOpen of_kept bodies_in 0 world.old world.new result }
+{
+    match branch_of(&task) {
+        Branch::Numbers => {
             let step = proto_number::begin(world, task)?;
             Ok(of_number(step))
         }
-        Task::Object(_) => Ok(Step::not_yet()),
-        Task::Native(entry, args, kw) => {
-            let step = begin_native(world, entry, args, kw)?;
-            Ok(step)
+        Branch::Iterations => {
+            let step = proto_iter::begin(world, task)?;
+            Ok(of_iteration(step))
+        }
+        Branch::Items => {
+            let step = proto_items::begin(world, task)?;
+            Ok(of_items(step))
         }
     }
 }
@@ -142,8 +175,20 @@ fn resume(
             let step = proto_number::resume(world, kept, answer)?;
             Ok(of_number(step))
         }
+        Kept::ForIteration(kept) => {
+            let step = proto_iter::resume(world, kept, answer)?;
+            Ok(of_iteration(step))
+        }
+        Kept::ForItems(kept) => {
+            let step = proto_items::resume(world, kept, answer)?;
+            Ok(of_items(step))
+        }
+        Kept::ForObject(kept) => {
+            let step = proto_object::resume(world, kept, answer)?;
+            Ok(of_object(step))
+        }
         Kept::ForNative(kept) => {
-            let step = native_calls::resume(world, kept, answer)?;
+            let step = natives::resume(world, kept, answer)?;
             Ok(of_native(step))
         }
     }
@@ -241,6 +286,54 @@ fn of_number(step: Step<NumberKept>) -> Step<Kept>
 {
     match step {
         Step::Ask(task, kept) => Step::Ask(task, Kept::ForNumber(kept)),
+        Step::End(answer) => Step::End(answer),
+    }
+}
+
+// A step of an iteration, among all steps.
+fn of_iteration(step: Step<IterKept>) -> Step<Kept>
+    ensures step { result ≡ step_among Kept.ForIteration step }
+    ensures says { of_step of_kept result ≡ of_step of_iter_kept step }
+    ensures opens { left_open bodies_in result ≡ 0 }
+{
+    match step {
+        Step::Ask(task, kept) => Step::Ask(task, Kept::ForIteration(kept)),
+        Step::End(answer) => Step::End(answer),
+    }
+}
+
+// A step of items, among all steps.
+fn of_items(step: Step<ItemsKept>) -> Step<Kept>
+    ensures step { result ≡ step_among Kept.ForItems step }
+    ensures says { of_step of_kept result ≡ of_step of_items_kept step }
+    ensures opens { left_open bodies_in result ≡ 0 }
+{
+    match step {
+        Step::Ask(task, kept) => Step::Ask(task, Kept::ForItems(kept)),
+        Step::End(answer) => Step::End(answer),
+    }
+}
+
+// A step of what all objects can do, among all steps.
+fn of_object(step: Step<ObjectKept>) -> Step<Kept>
+    ensures step { result ≡ step_among Kept.ForObject step }
+    ensures says { of_step of_kept result ≡ of_step of_object_kept step }
+    ensures opens { left_open bodies_in result ≡ 0 }
+{
+    match step {
+        Step::Ask(task, kept) => Step::Ask(task, Kept::ForObject(kept)),
+        Step::End(answer) => Step::End(answer),
+    }
+}
+
+// A step of a native, among all steps.
+fn of_native(step: Step<NativesKept>) -> Step<Kept>
+    ensures step { result ≡ step_among Kept.ForNative step }
+    ensures says { of_step of_kept result ≡ of_step of_natives_kept step }
+    ensures opens { left_open bodies_in result ≡ 0 }
+{
+    match step {
+        Step::Ask(task, kept) => Step::Ask(task, Kept::ForNative(kept)),
         Step::End(answer) => Step::End(answer),
     }
 }

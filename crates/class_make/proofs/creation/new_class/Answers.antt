@@ -1,4 +1,5 @@
 use Rattle.std.proofs.Common.{◌∙◌, [], ap, refl, sym, subst, length, map, None, Some, string_bytes}
+use Rattle.std.proofs.lemmas.List.{length-map}
 use Rattle.class_table.specs.Keys.{numbers}
 use Rattle.plain_machine.specs.Plain.{Ends, Made}
 use Rattle.plain_machine.specs.Row.{fault, noting}
@@ -10,6 +11,7 @@ use Rattle.class_world.proofs.Growth.{grows-on}
 use Rattle.class_world.proofs.Claims.{all-grow}
 use Rattle.class_make.specs.Say.{made_unless, refusal, tell, with_own_members}
 use Rattle.class_make.proofs.Making.{goes-from, makes-from, made-new, made-refused, refused-next, values-are, values-read}
+use Rattle.class_make.proofs.Places.{made-own}
 use Rattle.class_make.proofs.Telling.{made-goes}
 use Rattle.class_make.proofs.creation.new_class.Goals as goal
 
@@ -76,3 +78,14 @@ returns-clause-goes c =
 pub tell-requires-clause-kw : goal.tell-requires-clause-kw
 tell-requires-clause-kw c =
     all-grow _ _ (grows-on _ _ _ c.in-Ok.ensures.grows (grows-on _ _ _ c.define_functions.ensures.grows c.in_ok-add_own_members-in-Ok.ensures.grows)) _ c.requires.kw
+
+pub add_own_members-requires-clause-own : goal.add_own_members-requires-clause-own
+add_own_members-requires-clause-own c = λ t.
+    let e = c.in-Ok.ensures in
+    let p = c.args.plan in
+    let u = plain t c.args.world.now in
+    let k = heap_class_of t c.as_str.result.now (length u.nodes) p.bases.items p.attrs c.in_ok-members.members.items in
+    made-own u (c.sound.ensures t) (plain t c.new_heap.new.self) (plain t c.define_functions.new.world) p.meta.0 c.in-Ok.class.0 k c.deref-in-Ok.result.now (e.made t) (c.define_functions.ensures.set t) (e.number t) refl
+    ∙ length-map c.in_ok-members.members.items (spelled t)
+    ∙ ap (λ xs. length xs) (c.in_ok-members.ensures ∙ c.deref.ensures.value)
+    ∙ sym (ap (λ xs. length xs) c.deref-in-Ok-2.ensures.value)

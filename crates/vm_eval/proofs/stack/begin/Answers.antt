@@ -1,6 +1,5 @@
 use Rattle.std.proofs.Common.{refl}
-use Rattle.py_node.specs.declared.task.Task.TheVariants as task
-use Rattle.class_world.specs.Reading.{eval_job, attribute_job, descriptor_job, call_job, class_job, operator_job, compare_job, protocol_job}
+use Rattle.class_world.specs.Reading.{eval_job, attribute_job, descriptor_job, call_job, class_job, operator_job, compare_job, object_job}
 use Rattle.class_world.proofs.Leaves.{leaves-among, leaves-open}
 use Rattle.eval_forms.specs.Say.{eval_say}
 use Rattle.eval_forms.specs.Rows.{eval_stands, of_eval_kept}
@@ -16,58 +15,50 @@ use Rattle.proto_ops.specs.Say.{operator_say}
 use Rattle.proto_ops.specs.Rows.{operator_stands, of_operator_kept}
 use Rattle.proto_compare.specs.Say.{compare_job_say}
 use Rattle.proto_compare.specs.Rows.{compare_stands, of_compare_kept}
-use Rattle.proto_number.specs.Say.{number_job_say}
-use Rattle.proto_number.specs.Rows.{number_stands, of_number_kept}
-use Rattle.plain_machine.specs.Plain.{ToEval, ToAttribute, ToDescriptor, ToCall, ToClass, ToOperator, ToCompare, ToProtocol}
-use Rattle.vm_eval.specs.declared.stack.Kept.TheVariants.{ForEval, ForAttribute, ForDescriptor, ForCall, ForClass, ForOperator, ForCompare, ForNumber}
-use Rattle.vm_eval.specs.Say.{say, of_kept, bodies_in}
-use Rattle.vm_eval.proofs.Groups.{begins-among, not-yet-begins, eval-group, attribute-group, descriptor-group, call-group, class-group, operator-group, compare-group, number-group}
+use Rattle.proto_object.specs.Say.{object_job_say}
+use Rattle.proto_object.specs.Rows.{object_stands, of_object_kept}
+use Rattle.natives.specs.Say.{native_job_say}
+use Rattle.natives.specs.Rows.{native_job, natives_stands, of_natives_kept}
+use Rattle.plain_machine.specs.Plain.{ToEval, ToAttribute, ToDescriptor, ToCall, ToClass, ToOperator, ToCompare, ToObject}
+use Rattle.vm_eval.specs.declared.stack.Kept.TheVariants.{ForEval, ForAttribute, ForDescriptor, ForCall, ForClass, ForOperator, ForCompare, ForObject, ForNative}
+use Rattle.vm_eval.specs.Say.{of_kept, bodies_in, to_native}
+use Rattle.vm_eval.proofs.Groups.{Any, begins-among, eval-group, attribute-group, descriptor-group, call-group, class-group, operator-group, compare-group, object-group, native-group}
 use Rattle.vm_eval.proofs.stack.begin.Goals as goal
 
 pub returns-in_ok-step-in-Eval-clause-goes : goal.returns-in_ok-step-in-Eval-clause-goes
 returns-in_ok-step-in-Eval-clause-goes c =
     let step = c.in_ok-step-in-Eval in
-    rw c.in-Eval.is (begins-among eval_say eval_stands ToEval ForEval eval-group (λ t. eval_job t c.in-Eval.task) _ _ step.step c.of_eval.result c.of_eval.ensures.step step.ensures.goes)
+    rw c.in-Eval.is (begins-among eval_say eval_stands ToEval ForEval Any eval-group (λ t. eval_job t c.in-Eval.task) _ _ step.step c.of_eval.result (λ t. tt) c.of_eval.ensures.step step.ensures.goes)
 
 pub returns-in_ok-step-in-Attribute-clause-goes : goal.returns-in_ok-step-in-Attribute-clause-goes
 returns-in_ok-step-in-Attribute-clause-goes c =
     let step = c.in_ok-step-in-Attribute in
-    rw c.in-Attribute.is (begins-among attribute_say attribute_stands ToAttribute ForAttribute attribute-group (λ t. attribute_job t c.in-Attribute.task) _ _ step.step c.of_attribute.result c.of_attribute.ensures.step step.ensures.goes)
+    rw c.in-Attribute.is (begins-among attribute_say attribute_stands ToAttribute ForAttribute Any attribute-group (λ t. attribute_job t c.in-Attribute.task) _ _ step.step c.of_attribute.result (λ t. tt) c.of_attribute.ensures.step step.ensures.goes)
 
 pub returns-in_ok-step-in-Descriptor-clause-goes : goal.returns-in_ok-step-in-Descriptor-clause-goes
 returns-in_ok-step-in-Descriptor-clause-goes c =
     let step = c.in_ok-step-in-Descriptor in
-    rw c.in-Descriptor.is (begins-among descriptor_say descriptor_stands ToDescriptor ForDescriptor descriptor-group (λ t. descriptor_job t c.in-Descriptor.task) _ _ step.step c.of_descriptor.result c.of_descriptor.ensures.step step.ensures.goes)
+    rw c.in-Descriptor.is (begins-among descriptor_say descriptor_stands ToDescriptor ForDescriptor Any descriptor-group (λ t. descriptor_job t c.in-Descriptor.task) _ _ step.step c.of_descriptor.result (λ t. tt) c.of_descriptor.ensures.step step.ensures.goes)
 
 pub returns-in_ok-step-in-Call-clause-goes : goal.returns-in_ok-step-in-Call-clause-goes
 returns-in_ok-step-in-Call-clause-goes c =
     let step = c.in_ok-step-in-Call in
-    rw c.in-Call.is (begins-among call_job_say call_stands ToCall ForCall call-group (λ t. call_job t c.in-Call.task) _ _ step.step c.of_call.result c.of_call.ensures.step step.ensures.goes)
+    rw c.in-Call.is (begins-among call_job_say call_stands ToCall ForCall Any call-group (λ t. call_job t c.in-Call.task) _ _ step.step c.of_call.result (λ t. tt) c.of_call.ensures.step step.ensures.goes)
 
 pub returns-in_ok-step-in-Class-clause-goes : goal.returns-in_ok-step-in-Class-clause-goes
 returns-in_ok-step-in-Class-clause-goes c =
     let step = c.in_ok-step-in-Class in
-    rw c.in-Class.is (begins-among class_job_say class_stands ToClass ForClass class-group (λ t. class_job t c.in-Class.task) _ _ step.step c.of_class.result c.of_class.ensures.step step.ensures.goes)
+    rw c.in-Class.is (begins-among class_job_say class_stands ToClass ForClass Any class-group (λ t. class_job t c.in-Class.task) _ _ step.step c.of_class.result (λ t. tt) c.of_class.ensures.step step.ensures.goes)
 
 pub returns-in_ok-step-in-Operator-clause-goes : goal.returns-in_ok-step-in-Operator-clause-goes
 returns-in_ok-step-in-Operator-clause-goes c =
     let step = c.in_ok-step-in-Operator in
-    rw c.in-Operator.is (begins-among operator_say operator_stands ToOperator ForOperator operator-group (λ t. operator_job t c.in-Operator.task) _ _ step.step c.of_operator.result c.of_operator.ensures.step step.ensures.goes)
+    rw c.in-Operator.is (begins-among operator_say operator_stands ToOperator ForOperator Any operator-group (λ t. operator_job t c.in-Operator.task) _ _ step.step c.of_operator.result (λ t. tt) c.of_operator.ensures.step step.ensures.goes)
 
 pub returns-in_ok-step-in-Compare-clause-goes : goal.returns-in_ok-step-in-Compare-clause-goes
 returns-in_ok-step-in-Compare-clause-goes c =
     let step = c.in_ok-step-in-Compare in
-    rw c.in-Compare.is (begins-among compare_job_say compare_stands ToCompare ForCompare compare-group (λ t. compare_job c.in-Compare.task) _ _ step.step c.of_compare.result c.of_compare.ensures.step step.ensures.goes)
-
-pub returns-in_ok-step-in-Protocol-clause-goes : goal.returns-in_ok-step-in-Protocol-clause-goes
-returns-in_ok-step-in-Protocol-clause-goes c =
-    let step = c.in_ok-step-in-Protocol in
-    rw c.in-Protocol.is (begins-among number_job_say number_stands ToProtocol ForNumber number-group (λ t. protocol_job c.in-Protocol.task) _ _ step.step c.of_number.result c.of_number.ensures.step step.ensures.goes)
-
-pub returns-in-Object-clause-goes : goal.returns-in-Object-clause-goes
-unfolding say
-returns-in-Object-clause-goes c =
-    rw (c.in-Object.is, c.not_yet.ensures) (not-yet-begins (task.Object c.in-Object.field-0) c.args.world.now (λ t u. refl))
+    rw c.in-Compare.is (begins-among compare_job_say compare_stands ToCompare ForCompare Any compare-group (λ t. compare_job c.in-Compare.task) _ _ step.step c.of_compare.result (λ t. tt) c.of_compare.ensures.step step.ensures.goes)
 
 pub returns-in_ok-step-in-Eval-clause-safe : goal.returns-in_ok-step-in-Eval-clause-safe
 returns-in_ok-step-in-Eval-clause-safe c =
@@ -97,6 +88,21 @@ pub returns-in_ok-step-in-Compare-clause-safe : goal.returns-in_ok-step-in-Compa
 returns-in_ok-step-in-Compare-clause-safe c =
     leaves-among of_kept bodies_in of_compare_kept 0 _ _ c.in_ok-step-in-Compare.step c.of_compare.result refl c.of_compare.ensures.says c.of_compare.ensures.opens c.in_ok-step-in-Compare.ensures.safe
 
-pub returns-in_ok-step-in-Protocol-clause-safe : goal.returns-in_ok-step-in-Protocol-clause-safe
-returns-in_ok-step-in-Protocol-clause-safe c =
-    leaves-among of_kept bodies_in of_number_kept 0 _ _ c.in_ok-step-in-Protocol.step c.of_number.result refl c.of_number.ensures.says c.of_number.ensures.opens c.in_ok-step-in-Protocol.ensures.safe
+pub returns-in_ok-step-in-Object-clause-goes : goal.returns-in_ok-step-in-Object-clause-goes
+returns-in_ok-step-in-Object-clause-goes c =
+    let step = c.in_ok-step-in-Object in
+    rw c.in-Object.is (begins-among object_job_say object_stands ToObject ForObject Any object-group (λ t. object_job c.in-Object.task) _ _ step.step c.of_object.result (λ t. tt) c.of_object.ensures.step step.ensures.goes)
+
+pub returns-in_ok-step-in-Object-clause-safe : goal.returns-in_ok-step-in-Object-clause-safe
+returns-in_ok-step-in-Object-clause-safe c =
+    leaves-among of_kept bodies_in of_object_kept 0 _ _ c.in_ok-step-in-Object.step c.of_object.result refl c.of_object.ensures.says c.of_object.ensures.opens c.in_ok-step-in-Object.ensures.safe
+
+pub returns-in_ok-step-in-Native-clause-goes : goal.returns-in_ok-step-in-Native-clause-goes
+returns-in_ok-step-in-Native-clause-goes c =
+    let step = c.in_ok-step-in-Native in
+    let n = c.in-Native in
+    rw n.is (begins-among native_job_say natives_stands to_native ForNative Any native-group (native_job n.entry n.args.items n.kw.items) _ _ step.step c.of_native.result (λ t. tt) c.of_native.ensures.step step.ensures.goes)
+
+pub returns-in_ok-step-in-Native-clause-safe : goal.returns-in_ok-step-in-Native-clause-safe
+returns-in_ok-step-in-Native-clause-safe c =
+    leaves-among of_kept bodies_in of_natives_kept 0 _ _ c.in_ok-step-in-Native.step c.of_native.result refl c.of_native.ensures.says c.of_native.ensures.opens c.in_ok-step-in-Native.ensures.safe

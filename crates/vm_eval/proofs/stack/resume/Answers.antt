@@ -16,42 +16,50 @@ use Rattle.proto_compare.specs.Say.{compare_job_say}
 use Rattle.proto_compare.specs.Rows.{compare_stands, of_compare_kept}
 use Rattle.proto_number.specs.Say.{number_job_say}
 use Rattle.proto_number.specs.Rows.{number_stands, of_number_kept}
-use Rattle.plain_machine.specs.Plain.{ToEval, ToAttribute, ToDescriptor, ToCall, ToClass, ToOperator, ToCompare, ToProtocol}
-use Rattle.vm_eval.specs.declared.stack.Kept.TheVariants.{ForEval, ForAttribute, ForDescriptor, ForCall, ForClass, ForOperator, ForCompare, ForNumber}
-use Rattle.vm_eval.specs.Say.{of_kept, bodies_in}
-use Rattle.vm_eval.proofs.Asking.{native-resumes}
-use Rattle.vm_eval.proofs.Groups.{resumes-among, eval-group, attribute-group, descriptor-group, call-group, class-group, operator-group, compare-group, number-group}
+use Rattle.proto_iter.specs.Say.{iter_job_say}
+use Rattle.proto_iter.specs.Rows.{iter_stands, of_iter_kept}
+use Rattle.proto_items.specs.Say.{items_job_say}
+use Rattle.proto_items.specs.Rows.{items_stands, of_items_kept}
+use Rattle.proto_object.specs.Say.{object_job_say}
+use Rattle.proto_object.specs.Rows.{object_stands, of_object_kept}
+use Rattle.natives.specs.Say.{native_job_say}
+use Rattle.natives.specs.Rows.{natives_stands, of_natives_kept}
+use Rattle.plain_machine.specs.Plain.{ToEval, ToAttribute, ToDescriptor, ToCall, ToClass, ToOperator, ToCompare, ToProtocol, ToObject}
+use Rattle.vm_eval.specs.declared.stack.Kept.TheVariants.{ForEval, ForAttribute, ForDescriptor, ForCall, ForClass, ForOperator, ForCompare, ForNumber, ForIteration, ForItems, ForObject, ForNative}
+use Rattle.vm_eval.specs.declared.protocols.Branch.TheVariants as branch
+use Rattle.vm_eval.specs.Say.{of_kept, bodies_in, to_native}
+use Rattle.vm_eval.proofs.Groups.{Any, On, resumes-among, eval-group, attribute-group, descriptor-group, call-group, class-group, operator-group, compare-group, number-group, iter-group, items-group, object-group, native-group}
 use Rattle.vm_eval.proofs.stack.resume.Goals as goal
 
 pub returns-in_ok-step-in-ForEval-clause-goes : goal.returns-in_ok-step-in-ForEval-clause-goes
 returns-in_ok-step-in-ForEval-clause-goes c =
     let step = c.in_ok-step-in-ForEval in
-    resumes-among eval_say eval_stands ToEval ForEval eval-group c.args.kept c.in-ForEval.kept c.args.answer _ _ step.step c.of_eval.result c.in-ForEval.is c.of_eval.ensures.step step.ensures.goes
+    resumes-among eval_say eval_stands ToEval ForEval Any eval-group c.args.kept c.in-ForEval.kept c.args.answer _ _ step.step c.of_eval.result c.in-ForEval.is c.of_eval.ensures.step step.ensures.goes
 
 pub returns-in_ok-step-in-ForAttribute-clause-goes : goal.returns-in_ok-step-in-ForAttribute-clause-goes
 returns-in_ok-step-in-ForAttribute-clause-goes c =
     let step = c.in_ok-step-in-ForAttribute in
-    resumes-among attribute_say attribute_stands ToAttribute ForAttribute attribute-group c.args.kept c.in-ForAttribute.kept c.args.answer _ _ step.step c.of_attribute.result c.in-ForAttribute.is c.of_attribute.ensures.step step.ensures.goes
+    resumes-among attribute_say attribute_stands ToAttribute ForAttribute Any attribute-group c.args.kept c.in-ForAttribute.kept c.args.answer _ _ step.step c.of_attribute.result c.in-ForAttribute.is c.of_attribute.ensures.step step.ensures.goes
 
 pub returns-in_ok-step-in-ForDescriptor-clause-goes : goal.returns-in_ok-step-in-ForDescriptor-clause-goes
 returns-in_ok-step-in-ForDescriptor-clause-goes c =
     let step = c.in_ok-step-in-ForDescriptor in
-    resumes-among descriptor_say descriptor_stands ToDescriptor ForDescriptor descriptor-group c.args.kept c.in-ForDescriptor.kept c.args.answer _ _ step.step c.of_descriptor.result c.in-ForDescriptor.is c.of_descriptor.ensures.step step.ensures.goes
+    resumes-among descriptor_say descriptor_stands ToDescriptor ForDescriptor Any descriptor-group c.args.kept c.in-ForDescriptor.kept c.args.answer _ _ step.step c.of_descriptor.result c.in-ForDescriptor.is c.of_descriptor.ensures.step step.ensures.goes
 
 pub returns-in_ok-step-in-ForCall-clause-goes : goal.returns-in_ok-step-in-ForCall-clause-goes
 returns-in_ok-step-in-ForCall-clause-goes c =
     let step = c.in_ok-step-in-ForCall in
-    resumes-among call_job_say call_stands ToCall ForCall call-group c.args.kept c.in-ForCall.kept c.args.answer _ _ step.step c.of_call.result c.in-ForCall.is c.of_call.ensures.step step.ensures.goes
+    resumes-among call_job_say call_stands ToCall ForCall Any call-group c.args.kept c.in-ForCall.kept c.args.answer _ _ step.step c.of_call.result c.in-ForCall.is c.of_call.ensures.step step.ensures.goes
 
 pub returns-in_ok-step-in-ForClass-clause-goes : goal.returns-in_ok-step-in-ForClass-clause-goes
 returns-in_ok-step-in-ForClass-clause-goes c =
     let step = c.in_ok-step-in-ForClass in
-    resumes-among class_job_say class_stands ToClass ForClass class-group c.args.kept c.in-ForClass.kept c.args.answer _ _ step.step c.of_class.result c.in-ForClass.is c.of_class.ensures.step step.ensures.goes
+    resumes-among class_job_say class_stands ToClass ForClass Any class-group c.args.kept c.in-ForClass.kept c.args.answer _ _ step.step c.of_class.result c.in-ForClass.is c.of_class.ensures.step step.ensures.goes
 
 pub returns-in_ok-step-in-ForOperator-clause-goes : goal.returns-in_ok-step-in-ForOperator-clause-goes
 returns-in_ok-step-in-ForOperator-clause-goes c =
     let step = c.in_ok-step-in-ForOperator in
-    resumes-among operator_say operator_stands ToOperator ForOperator operator-group c.args.kept c.in-ForOperator.kept c.args.answer _ _ step.step c.of_operator.result c.in-ForOperator.is c.of_operator.ensures.step step.ensures.goes
+    resumes-among operator_say operator_stands ToOperator ForOperator Any operator-group c.args.kept c.in-ForOperator.kept c.args.answer _ _ step.step c.of_operator.result c.in-ForOperator.is c.of_operator.ensures.step step.ensures.goes
 
 pub returns-in_ok-step-in-ForEval-clause-safe : goal.returns-in_ok-step-in-ForEval-clause-safe
 returns-in_ok-step-in-ForEval-clause-safe c =
@@ -77,20 +85,15 @@ pub returns-in_ok-step-in-ForCall-clause-safe : goal.returns-in_ok-step-in-ForCa
 returns-in_ok-step-in-ForCall-clause-safe c =
     leaves-open of_kept bodies_in of_call_kept bodies_of (bodies_in c.args.kept) (bodies_of c.in-ForCall.kept) _ _ c.in_ok-step-in-ForCall.step c.of_call.result (ap bodies_in c.in-ForCall.is) c.of_call.ensures.says c.of_call.ensures.opens c.in_ok-step-in-ForCall.ensures.safe
 
-pub returns-in_ok-step-in-ForNative-clause-goes : goal.returns-in_ok-step-in-ForNative-clause-goes
-returns-in_ok-step-in-ForNative-clause-goes c =
-    let step = c.in_ok-step-in-ForNative in
-    native-resumes c.args.kept c.in-ForNative.kept c.args.answer _ _ step.step c.of_native.result c.in-ForNative.is c.of_native.ensures.step step.ensures.goes
-
 pub returns-in_ok-step-in-ForCompare-clause-goes : goal.returns-in_ok-step-in-ForCompare-clause-goes
 returns-in_ok-step-in-ForCompare-clause-goes c =
     let step = c.in_ok-step-in-ForCompare in
-    resumes-among compare_job_say compare_stands ToCompare ForCompare compare-group c.args.kept c.in-ForCompare.kept c.args.answer _ _ step.step c.of_compare.result c.in-ForCompare.is c.of_compare.ensures.step step.ensures.goes
+    resumes-among compare_job_say compare_stands ToCompare ForCompare Any compare-group c.args.kept c.in-ForCompare.kept c.args.answer _ _ step.step c.of_compare.result c.in-ForCompare.is c.of_compare.ensures.step step.ensures.goes
 
 pub returns-in_ok-step-in-ForNumber-clause-goes : goal.returns-in_ok-step-in-ForNumber-clause-goes
 returns-in_ok-step-in-ForNumber-clause-goes c =
     let step = c.in_ok-step-in-ForNumber in
-    resumes-among number_job_say number_stands ToProtocol ForNumber number-group c.args.kept c.in-ForNumber.kept c.args.answer _ _ step.step c.of_number.result c.in-ForNumber.is c.of_number.ensures.step step.ensures.goes
+    resumes-among number_job_say number_stands ToProtocol ForNumber (On branch.Numbers) number-group c.args.kept c.in-ForNumber.kept c.args.answer _ _ step.step c.of_number.result c.in-ForNumber.is c.of_number.ensures.step step.ensures.goes
 
 pub returns-in_ok-step-in-ForCompare-clause-safe : goal.returns-in_ok-step-in-ForCompare-clause-safe
 returns-in_ok-step-in-ForCompare-clause-safe c =
@@ -99,3 +102,39 @@ returns-in_ok-step-in-ForCompare-clause-safe c =
 pub returns-in_ok-step-in-ForNumber-clause-safe : goal.returns-in_ok-step-in-ForNumber-clause-safe
 returns-in_ok-step-in-ForNumber-clause-safe c =
     leaves-among of_kept bodies_in of_number_kept (bodies_in c.args.kept) _ _ c.in_ok-step-in-ForNumber.step c.of_number.result (ap bodies_in c.in-ForNumber.is) c.of_number.ensures.says c.of_number.ensures.opens c.in_ok-step-in-ForNumber.ensures.safe
+
+pub returns-in_ok-step-in-ForIteration-clause-goes : goal.returns-in_ok-step-in-ForIteration-clause-goes
+returns-in_ok-step-in-ForIteration-clause-goes c =
+    let step = c.in_ok-step-in-ForIteration in
+    resumes-among iter_job_say iter_stands ToProtocol ForIteration (On branch.Iterations) iter-group c.args.kept c.in-ForIteration.kept c.args.answer _ _ step.step c.of_iteration.result c.in-ForIteration.is c.of_iteration.ensures.step step.ensures.goes
+
+pub returns-in_ok-step-in-ForItems-clause-goes : goal.returns-in_ok-step-in-ForItems-clause-goes
+returns-in_ok-step-in-ForItems-clause-goes c =
+    let step = c.in_ok-step-in-ForItems in
+    resumes-among items_job_say items_stands ToProtocol ForItems (On branch.Items) items-group c.args.kept c.in-ForItems.kept c.args.answer _ _ step.step c.of_items.result c.in-ForItems.is c.of_items.ensures.step step.ensures.goes
+
+pub returns-in_ok-step-in-ForObject-clause-goes : goal.returns-in_ok-step-in-ForObject-clause-goes
+returns-in_ok-step-in-ForObject-clause-goes c =
+    let step = c.in_ok-step-in-ForObject in
+    resumes-among object_job_say object_stands ToObject ForObject Any object-group c.args.kept c.in-ForObject.kept c.args.answer _ _ step.step c.of_object.result c.in-ForObject.is c.of_object.ensures.step step.ensures.goes
+
+pub returns-in_ok-step-in-ForNative-clause-goes : goal.returns-in_ok-step-in-ForNative-clause-goes
+returns-in_ok-step-in-ForNative-clause-goes c =
+    let step = c.in_ok-step-in-ForNative in
+    resumes-among native_job_say natives_stands to_native ForNative Any native-group c.args.kept c.in-ForNative.kept c.args.answer _ _ step.step c.of_native.result c.in-ForNative.is c.of_native.ensures.step step.ensures.goes
+
+pub returns-in_ok-step-in-ForIteration-clause-safe : goal.returns-in_ok-step-in-ForIteration-clause-safe
+returns-in_ok-step-in-ForIteration-clause-safe c =
+    leaves-among of_kept bodies_in of_iter_kept (bodies_in c.args.kept) _ _ c.in_ok-step-in-ForIteration.step c.of_iteration.result (ap bodies_in c.in-ForIteration.is) c.of_iteration.ensures.says c.of_iteration.ensures.opens c.in_ok-step-in-ForIteration.ensures.safe
+
+pub returns-in_ok-step-in-ForItems-clause-safe : goal.returns-in_ok-step-in-ForItems-clause-safe
+returns-in_ok-step-in-ForItems-clause-safe c =
+    leaves-among of_kept bodies_in of_items_kept (bodies_in c.args.kept) _ _ c.in_ok-step-in-ForItems.step c.of_items.result (ap bodies_in c.in-ForItems.is) c.of_items.ensures.says c.of_items.ensures.opens c.in_ok-step-in-ForItems.ensures.safe
+
+pub returns-in_ok-step-in-ForObject-clause-safe : goal.returns-in_ok-step-in-ForObject-clause-safe
+returns-in_ok-step-in-ForObject-clause-safe c =
+    leaves-among of_kept bodies_in of_object_kept (bodies_in c.args.kept) _ _ c.in_ok-step-in-ForObject.step c.of_object.result (ap bodies_in c.in-ForObject.is) c.of_object.ensures.says c.of_object.ensures.opens c.in_ok-step-in-ForObject.ensures.safe
+
+pub returns-in_ok-step-in-ForNative-clause-safe : goal.returns-in_ok-step-in-ForNative-clause-safe
+returns-in_ok-step-in-ForNative-clause-safe c =
+    leaves-among of_kept bodies_in of_natives_kept (bodies_in c.args.kept) _ _ c.in_ok-step-in-ForNative.step c.of_native.result (ap bodies_in c.in-ForNative.is) c.of_native.ensures.says c.of_native.ensures.opens c.in_ok-step-in-ForNative.ensures.safe

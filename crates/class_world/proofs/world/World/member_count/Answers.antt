@@ -2,12 +2,16 @@ use Rattle.std.proofs.Common.{◌∙◌}
 use Rattle.class_world.specs.contracts.world.World.{the_view}
 use Rattle.class_world.specs.Sound.{IsClass}
 use Rattle.class_world.proofs.Claims.{opened-one}
-use Rattle.class_world.proofs.Counts.{count-seen}
+use Rattle.class_world.proofs.Counts.{count-seen, offset-within}
 use Rattle.class_world.proofs.OneBase.{class-there}
 use Rattle.class_world.proofs.world.World.member_count.Goals as goal
 
 pub member_count-requires : goal.member_count-requires
 member_count-requires c = class-there _ _ (opened-one (the_view c.self.inside) c.args.self.now (IsClass c.args.class.0) c.self.view_is c.requires)
 
-pub returns : goal.returns
-returns c = λ t. count-seen (the_view c.self.inside) c.args.self.now c.self.view_is t c.args.class.0 ∙ c.member_count.ensures
+pub returns-clause-count : goal.returns-clause-count
+returns-clause-count c = λ t. count-seen (the_view c.self.inside) c.args.self.now c.self.view_is t c.args.class.0 ∙ c.member_count.ensures
+
+pub returns-clause-offsets : goal.returns-clause-offsets
+returns-clause-offsets c = λ n l.
+    offset-within (the_view c.self.inside) c.args.self.now c.self.view_is c.args.class.0 c.member_count.result n c.member_count.ensures l

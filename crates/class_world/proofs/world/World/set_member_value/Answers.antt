@@ -1,13 +1,15 @@
-use Rattle.std.proofs.Common.{◌≡◌, Some, sym, ap, ◌∙◌}
+use Rattle.std.proofs.Common.{◌≡◌, true, false, Some, None, sym, ap, ◌∙◌}
+use Rattle.std.specs.Prelude.{is_some}
 use Rattle.class_model.specs.Layout.{place_at}
 use Rattle.plain_machine.specs.Members.{with_value_at_place}
+use Rattle.plain_machine.proofs.Offsets.{offset-place}
 use Rattle.class_world.specs.contracts.world.World.{the_view}
 use Rattle.class_world.specs.Claims.{of_setter}
 use Rattle.class_world.specs.Reading.{plain, setter_value}
-use Rattle.class_world.specs.Sound.{Holds, IsNode, IsClass}
+use Rattle.class_world.specs.Sound.{Holds, IsNode, IsClass, IsOffset}
 use Rattle.class_world.proofs.Claims.{got, opened, opened-one}
 use Rattle.class_world.proofs.Growth.{grows-seen}
-use Rattle.class_world.proofs.NodeMembers.{place-seen, place-told, instance-sub, member-sound, member-grows, member-set}
+use Rattle.class_world.proofs.NodeMembers.{place-seen, place-told, instance-sub, member-sound, member-grows, member-set, member-stands}
 use Rattle.class_world.proofs.Placed.{place-inherited}
 use Rattle.class_world.proofs.world.World.set_member_value.Goals as goal
 
@@ -57,3 +59,23 @@ returns-in-Some-clause-grows c =
     let here = opened-one w now (IsNode c.args.object) c.self.view_is c.requires.object in
     let at = got w.nodes c.args.object.0 n here c.index_mut.ensures.value in
     grows-seen w _ _ c.self.view_is (member-grows w now c.self.view_is c.args.object n at c.in-Some.place c.args.value c.set_member.new.node c.set_member.result c.set_member.ensures.set c.set_member.ensures.err c.index_mut.ensures.value)
+
+-- an offset stands for a place
+pub returns-in-None-clause-stands : goal.returns-in-None-clause-stands
+unfolding Holds
+returns-in-None-clause-stands c = λ t.
+    let w = the_view c.self.inside in
+    let some = offset-place w.classes c.args.class.0 c.args.offset (opened-one w c.args.self.now (IsOffset c.args.class.0 (Some c.args.offset)) c.self.view_is c.requires.place) in
+    let none : place_at w.classes c.args.class.0 c.args.offset ≡ None = sym c.place_at.ensures ∙ ap place-told c.in-None.is in
+    let both : false ≡ true = ap is_some (sym none) ∙ some in
+    cc both
+
+pub returns-in-Some-clause-stands : goal.returns-in-Some-clause-stands
+unfolding Holds
+returns-in-Some-clause-stands c =
+    let w = the_view c.self.inside in
+    let now = c.args.self.now in
+    let n = c.index_mut.result.now in
+    let here = opened-one w now (IsNode c.args.object) c.self.view_is c.requires.object in
+    let at = got w.nodes c.args.object.0 n here c.index_mut.ensures.value in
+    member-stands w now c.self.view_is c.args.object n at c.in-Some.place c.args.value c.set_member.new.node c.set_member.result c.set_member.ensures.set c.set_member.ensures.err here c.index_mut.ensures.value c.args.class.0 c.args.offset (sym c.place_at.ensures ∙ ap place-told c.in-Some.is)

@@ -1,17 +1,13 @@
-//! The natives of no group of rows. Most end at once, and the others ask tasks.
+//! The natives that ask nothing.
 
-ghost use Rattle.std.specs.Prelude.{◌≡◌, IfOk};
-ghost use Rattle.class_world.specs.Claims.{of_args, of_step, left_open, LeavesOpen};
-ghost use Rattle.class_world.specs.Reading.{Reading, bindings};
+ghost use Rattle.std.specs.Prelude.{IfOk};
+ghost use Rattle.class_world.specs.Claims.{of_args};
+ghost use Rattle.class_world.specs.Reading.{bindings};
 ghost use Rattle.class_world.specs.Sound.{AllHold};
 ghost use Rattle.class_world.specs.Rows.{EndsAs, LeavesEnd};
-ghost use Rattle.native_calls.specs.Asks.{of_native_kept};
-ghost use Rattle.py_node.specs.declared.task.Task.TheVariants as task;
-ghost use Rattle.vm_eval.specs.Say.{Begins, step_among, native_by, of_kept, bodies_in};
+ghost use Rattle.natives.specs.Say.{native_by};
 
-use crate::stack::Kept;
 use class_world::World;
-use native_calls::{NativeKept, asks};
 use native_containers::{dict_native, iterator_native, list_native, tuple_native};
 use native_numbers::{arithmetic_native, bits_native, compare_native, fixed_native, number_native};
 use native_objects::{
@@ -19,45 +15,12 @@ use native_objects::{
     property_native, setter_native, setter_of_native, super_native, wrapper_native,
 };
 use native_texts::{compare_text, text_native};
-use py_node::task::{Args, Keywords};
 use py_node::{
-    Answer, BuiltIn, Cause, NativeEntry, OutOfMemory, PyObjectRef, PyStrInterned, Raised, Step,
+    Answer, BuiltIn, Cause, NativeEntry, OutOfMemory, PyObjectRef, PyStrInterned, Raised,
 };
 
-// The first step of a native.
-pub(crate) fn begin_native(
-    world: &mut World,
-    entry: NativeEntry,
-    args: Args,
-    kw: Keywords,
-) -> Result<Step<Kept>, OutOfMemory>
-    requires { AllHold world.old (of_args args.items kw.items) }
-    ensures goes { IfOk result (λ step. Begins (task.Native entry args kw) world.old world.new step) }
-    ensures safe { LeavesOpen of_kept bodies_in 0 world.old world.new result }
-{
-    if asks(entry) {
-        let step = native_calls::begin(world, entry, args, kw)?;
-        Ok(of_native(step))
-    } else {
-        let answer = native(world, entry, &args, &kw)?;
-        Ok(Step::End(answer))
-    }
-}
-
-// A step of a native that asks, among all steps.
-pub(crate) fn of_native(step: Step<NativeKept>) -> Step<Kept>
-    ensures step { result ≡ step_among Kept.ForNative step }
-    ensures says { of_step of_kept result ≡ of_step of_native_kept step }
-    ensures opens { left_open bodies_in result ≡ 0 }
-{
-    match step {
-        Step::Ask(task, kept) => Step::Ask(task, Kept::ForNative(kept)),
-        Step::End(answer) => Step::End(answer),
-    }
-}
-
-// How a native ends that asks nothing, by the group that it is in.
-fn native(
+/// How a native ends that asks nothing.
+pub(crate) fn plain_native(
     world: &mut World,
     entry: NativeEntry,
     args: &[PyObjectRef],

@@ -1,0 +1,5 @@
+pub mod Steps
+pub mod Asking
+pub mod Hashes
+pub mod Joined
+pub mod Contents

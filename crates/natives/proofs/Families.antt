@@ -1,0 +1,180 @@
+-- What a family of natives says is what they say among all.
+use Rattle.std.proofs.Common.{◌≡◌, ◌∙◌, [], ◌∷◌, ◌++◌, List, refl, sym, ap, subst, Result}
+use Rattle.py_node.specs.declared.raised.Raised.{Raised as Fault}
+use Rattle.py_node.specs.declared.refs.PyObjectRef.{PyObjectRef}
+use Rattle.py_node.specs.declared.refs.PyStrInterned.{PyStrInterned}
+use Rattle.py_node.specs.declared.entry.NativeEntry.{NativeEntry}
+use Rattle.py_node.specs.declared.task.Answer.{Answer}
+use Rattle.py_node.specs.declared.task.Step.{Step}
+use Rattle.py_node.specs.declared.task.Step.TheVariants.{Ask, End}
+use Rattle.plain_machine.specs.Plain.{PlainWorld, PlainTask, Bindings, ToNative, Answered, Told, Said, Asks, Ends, Saying}
+use Rattle.plain_machine.specs.Row.{Row}
+use Rattle.plain_machine.specs.Rows.{Pending, Alike, fresh, given}
+use Rattle.class_world.specs.declared.world.World.{World}
+use Rattle.class_world.specs.Reading.{Reading, Reads, bindings, plain, ended_of}
+use Rattle.class_world.specs.Rows.{EndsAs, Steps, Goes}
+use Rattle.native_calls.specs.declared.NativeKept.{NativeKept}
+use Rattle.native_calls.specs.declared.NativeKept.TheVariants as calls
+use Rattle.native_calls.specs.declared.way.Wrapper.TheVariants.{Class, Static}
+use Rattle.native_calls.specs.Say.{asking_job_say}
+use Rattle.native_calls.specs.Asks.{asking_stands}
+use Rattle.native_items.specs.declared.ItemKept.{ItemKept}
+use Rattle.native_items.specs.declared.ItemKept.TheVariants as items
+use Rattle.native_items.specs.Say.{item_job_say}
+use Rattle.native_items.specs.Rows.{item_stands}
+use Rattle.native_parts.specs.declared.PartsKept.{PartsKept}
+use Rattle.native_parts.specs.declared.PartsKept.TheVariants as parts
+use Rattle.native_parts.specs.declared.take.Container.TheVariants as container
+use Rattle.native_parts.specs.declared.wrapped.Wrapper.TheVariants as wrapper
+use Rattle.native_parts.specs.Say.{parts_job_say}
+use Rattle.native_parts.specs.Rows.{parts_stands}
+use Rattle.native_compare.specs.declared.ComparedKept.{ComparedKept}
+use Rattle.native_compare.specs.Say.{compared_job_say}
+use Rattle.native_compare.specs.Rows.{compared_stands}
+use Rattle.native_repeats.specs.declared.RepeatKept.{RepeatKept}
+use Rattle.native_repeats.specs.Say.{repeat_job_say}
+use Rattle.native_repeats.specs.Rows.{repeat_stands}
+use Rattle.native_details.specs.declared.DetailKept.{DetailKept}
+use Rattle.native_details.specs.declared.DetailKept.TheVariants as details
+use Rattle.native_details.specs.Say.{detail_job_say}
+use Rattle.native_details.specs.Rows.{detail_stands}
+use Rattle.natives.specs.declared.family.Family.{Family}
+use Rattle.natives.specs.declared.family.Family.TheVariants as family
+use Rattle.natives.specs.declared.NativesKept.{NativesKept}
+use Rattle.natives.specs.declared.NativesKept.TheVariants.{ForItems, ForParts, ForComparisons, ForRepeats, ForDetails, ForCalls}
+use Rattle.natives.specs.Say.{NativeJob, by_family, family_of, native_by, native_job_say}
+use Rattle.natives.specs.Rows.{as_job, job_of, kept_among, native_job, natives_stands, Begins, Resumes}
+
+-- a task is a native of a family
+pub record IsOfFamily (f : Family) (task : PlainTask) : Type 0 where
+  pub entry : NativeEntry
+  pub args : List PyObjectRef
+  pub kw : Bindings
+  pub is : task ≡ ToNative entry args kw
+  pub of : family_of entry ≡ f
+
+-- a family of natives, among all
+pub record AmongNatives {K : Type 0} (f : Family) (group : Saying PlainTask) (held : Reading → K → Pending PlainTask) (for : K → NativesKept) : Type 0 where
+  says : (w : PlainWorld) (n : NativeEntry) (args : List PyObjectRef) (kw : Bindings) (told : Told) → group w (ToNative n args kw) told ≡ by_family w f n args kw told
+  keeps : (t : Reading) (k : K) → natives_stands t (for k) ≡ as_job (held t k)
+  owns : (t : Reading) (k : K) → IsOfFamily f (held t k).task
+
+module _ {K : Type 0} (f : Family) (group : Saying PlainTask) (held : Reading → K → Pending PlainTask) (for : K → NativesKept) (g : AmongNatives f group held for) where
+  says-among : (w : PlainWorld) (task : PlainTask) (told : Told) → IsOfFamily f task → native_job_say w (job_of task) told ≡ group w task told
+  unfolding native_job_say
+  says-among w task told o =
+      subst (λ task. native_job_say w (job_of task) told ≡ group w task told) (sym o.is)
+      (ap (λ f. by_family w f o.entry o.args o.kw told) o.of ∙ sym (g.says w o.entry o.args o.kw told))
+
+  alike-among : (p q : Pending PlainTask) → IsOfFamily f p.task → IsOfFamily f q.task → Alike group p q → Alike native_job_say (as_job p) (as_job q)
+  alike-among p q i j a = record { says = λ w r more. says-among w p.task (p.told ++ Answered r ∷ more) i ∙ a.says w r more ∙ sym (says-among w q.task (q.told ++ Answered r ∷ more) j) }
+
+  steps-among : (t : Reading) (task : PlainTask) (told : Told) (said : Said) (step : Step K) (new : World) → IsOfFamily f task → Steps group (held t) t task told said step new → Steps native_job_say (natives_stands t) t (job_of task) told said (kept_among for step) new
+  steps-among t task told (Asks w learnt other) (Ask asked kept) new i h =
+      (h.0, h.1, subst (λ q. Alike native_job_say (record { task = job_of task; told = told ++ learnt }) q) (sym (g.keeps t kept)) (alike-among (record { task = task; told = told ++ learnt }) (held t kept) i (g.owns t kept) h.2))
+  steps-among t task told (Asks w learnt other) (End r) new i h = h
+  steps-among t task told (Ends w r) (Ask asked kept) new i h = h
+  steps-among t task told (Ends w r) (End s) new i h = h
+
+  goes-among : (p : Reading → Pending PlainTask) (old new : World) (step : Step K) → ((t : Reading) → IsOfFamily f (p t).task) → Goes group held p old new step → Goes native_job_say natives_stands (λ t. as_job (p t)) old new (kept_among for step)
+  goes-among p old new step i h = λ t reads. (
+    (h t reads).0,
+    subst (λ said. Steps native_job_say (natives_stands t) t (job_of (p t).task) (p t).told said (kept_among for step) new) (sym (says-among (plain t old) (p t).task (p t).told (i t)))
+        (steps-among t (p t).task (p t).told (group (plain t old) (p t).task (p t).told) step new (i t) (h t reads).1),
+  )
+
+  -- a native of the family begins so among all
+  pub family-begins : (n : NativeEntry) (args : List PyObjectRef) (kw : List (PyStrInterned × PyObjectRef)) (old new : World) (step : Step K) (next : Step NativesKept) → family_of n ≡ f → next ≡ kept_among for step → Goes group held (λ t. fresh (ToNative n args (bindings t kw))) old new step → Begins n args kw old new next
+  family-begins n args kw old new step next is same h =
+      subst (Begins n args kw old new) (sym same)
+      (goes-among (λ t. fresh (ToNative n args (bindings t kw))) old new step (λ t. record { entry = n; args = args; kw = bindings t kw; is = refl; of = is }) h)
+
+  kept-goes : (kept : K) (r : Result Answer Fault) (old new : World) (step : Step K) → Goes group held (λ t. given (held t kept) (ended_of r)) old new step → Resumes (for kept) r old new (kept_among for step)
+  kept-goes kept r old new step h = λ t reads.
+      let all = goes-among (λ t. given (held t kept) (ended_of r)) old new step (λ t. g.owns t kept) h t reads in (
+        all.0,
+        subst (λ (q : Pending NativeJob). Steps native_job_say (natives_stands t) t q.task (q.told ++ Answered (ended_of r) ∷ []) (native_job_say (plain t old) q.task (q.told ++ Answered (ended_of r) ∷ [])) (kept_among for step) new) (sym (g.keeps t kept)) all.1,
+      )
+
+  -- and what is kept of it goes on so
+  pub family-resumes : (full : NativesKept) (kept : K) (r : Result Answer Fault) (old new : World) (step : Step K) (next : Step NativesKept) → full ≡ for kept → next ≡ kept_among for step → Goes group held (λ t. given (held t kept) (ended_of r)) old new step → Resumes full r old new next
+  family-resumes full kept r old new step next is same h =
+      subst (λ full. Resumes full r old new next) (sym is) (subst (Resumes (for kept) r old new) (sym same) (kept-goes kept r old new step h))
+
+item-owns : (t : Reading) (k : ItemKept) → IsOfFamily family.Items (item_stands t k).task
+item-owns t (items.Getting o stood) = record { is = refl; of = refl }
+item-owns t (items.GettingCharacter o) = record { is = refl; of = refl }
+item-owns t (items.Setting o k v stood) = record { is = refl; of = refl }
+item-owns t (items.Deleting o stood) = record { is = refl; of = refl }
+item-owns t (items.Extending o stood) = record { is = refl; of = refl }
+item-owns t (items.Searching x rs next) = record { is = refl; of = refl }
+item-owns t (items.Iterating o) = record { is = refl; of = refl }
+
+pub items-family : AmongNatives family.Items item_job_say item_stands ForItems
+unfolding item_job_say
+items-family = record { says = λ w n args kw told. refl; keeps = λ t k. refl; owns = item-owns }
+
+parts-owns : (t : Reading) (k : PartsKept) → IsOfFamily family.Parts (parts_stands t k).task
+parts-owns t (parts.Texts container.Tuple p) = record { is = refl; of = refl }
+parts-owns t (parts.Texts container.List p) = record { is = refl; of = refl }
+parts-owns t (parts.Texts container.Dict p) = record { is = refl; of = refl }
+parts-owns t (parts.Hashes h) = record { is = refl; of = refl }
+parts-owns t (parts.Wrapped wrapper.Class) = record { is = refl; of = refl }
+parts-owns t (parts.Wrapped wrapper.Static) = record { is = refl; of = refl }
+parts-owns t (parts.NewInt c) = record { is = refl; of = refl }
+parts-owns t parts.NewBool = record { is = refl; of = refl }
+parts-owns t (parts.NewStr c) = record { is = refl; of = refl }
+parts-owns t (parts.NewTuple c) = record { is = refl; of = refl }
+parts-owns t (parts.Filling o) = record { is = refl; of = refl }
+
+pub parts-family : AmongNatives family.Parts parts_job_say parts_stands ForParts
+unfolding parts_job_say
+parts-family = record { says = λ w n args kw told. refl; keeps = λ t k. refl; owns = parts-owns }
+
+compared-owns : (t : Reading) (k : ComparedKept) → IsOfFamily family.Comparisons (compared_stands t k).task
+compared-owns t k = record { is = refl; of = refl }
+
+pub comparisons-family : AmongNatives family.Comparisons compared_job_say compared_stands ForComparisons
+unfolding compared_job_say
+comparisons-family = record { says = λ w n args kw told. refl; keeps = λ t k. refl; owns = compared-owns }
+
+repeat-owns : (t : Reading) (k : RepeatKept) → IsOfFamily family.Repeats (repeat_stands t k).task
+repeat-owns t k = record { is = refl; of = refl }
+
+pub repeats-family : AmongNatives family.Repeats repeat_job_say repeat_stands ForRepeats
+unfolding repeat_job_say
+repeats-family = record { says = λ w n args kw told. refl; keeps = λ t k. refl; owns = repeat-owns }
+
+detail-owns : (t : Reading) (k : DetailKept) → IsOfFamily family.Details (detail_stands t k).task
+detail-owns t (details.AfterGetter m) = record { is = refl; of = refl }
+detail-owns t (details.AfterSetter g) = record { is = refl; of = refl }
+detail-owns t details.AfterBoth = record { is = refl; of = refl }
+detail-owns t (details.AfterClass m) = record { is = refl; of = refl }
+
+pub details-family : AmongNatives family.Details detail_job_say detail_stands ForDetails
+unfolding detail_job_say
+details-family = record { says = λ w n args kw told. refl; keeps = λ t k. refl; owns = detail-owns }
+
+call-owns : (t : Reading) (k : NativeKept) → IsOfFamily family.Calls (asking_stands t k).task
+call-owns t calls.Pass = record { is = refl; of = refl }
+call-owns t (calls.AfterGet k f) = record { is = refl; of = refl }
+call-owns t (calls.AfterDoc Class c f) = record { is = refl; of = refl }
+call-owns t (calls.AfterDoc Static c f) = record { is = refl; of = refl }
+call-owns t (calls.AfterSet r) = record { is = refl; of = refl }
+call-owns t calls.Answering = record { is = refl; of = refl }
+call-owns t (calls.Binding c o) = record { is = refl; of = refl }
+call-owns t calls.Marked = record { is = refl; of = refl }
+
+pub calls-family : AmongNatives family.Calls asking_job_say asking_stands ForCalls
+unfolding asking_job_say
+calls-family = record { says = λ w n args kw told. refl; keeps = λ t k. refl; owns = call-owns }
+
+-- a native that asks nothing ends so
+pub plain-begins : (n : NativeEntry) (args : List PyObjectRef) (kw : List (PyStrInterned × PyObjectRef)) (old new : World) (r : Result Answer Fault) → family_of n ≡ family.Plain → EndsAs (λ t u. native_by u n args (bindings t kw)) old new r → Begins n args kw old new (End r)
+unfolding native_job_say
+plain-begins n args kw old new r is h = λ t reads.
+    let ends = h t reads in (
+      ends.0,
+      subst (λ s. Steps native_job_say (natives_stands t) t (native_job n args kw t) [] s (End r) new)
+          (sym (ap (λ f. by_family (plain t old) f n args (bindings t kw) []) is ∙ ends.1)) (refl, refl),
+    )

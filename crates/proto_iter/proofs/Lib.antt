@@ -1,0 +1,3 @@
+pub mod Steps
+pub mod Collect
+pub mod Search

@@ -1,0 +1,45 @@
+use Rattle.std.proofs.Common.{refl, sym, ◌∙◌}
+use Rattle.class_world.specs.Reading.{protocol_job}
+use Rattle.class_world.proofs.Leaves.{leaves-among}
+use Rattle.proto_number.specs.Say.{number_job_say}
+use Rattle.proto_number.specs.Rows.{number_stands, of_number_kept}
+use Rattle.proto_iter.specs.Say.{iter_job_say}
+use Rattle.proto_iter.specs.Rows.{iter_stands, of_iter_kept}
+use Rattle.proto_items.specs.Say.{items_job_say}
+use Rattle.proto_items.specs.Rows.{items_stands, of_items_kept}
+use Rattle.plain_machine.specs.Plain.{ToProtocol}
+use Rattle.vm_eval.specs.declared.protocols.Branch.TheVariants as branch
+use Rattle.vm_eval.specs.declared.stack.Kept.TheVariants.{ForNumber, ForIteration, ForItems}
+use Rattle.vm_eval.specs.Say.{of_kept, bodies_in}
+use Rattle.vm_eval.proofs.Groups.{On, begins-among, number-group, iter-group, items-group}
+use Rattle.vm_eval.proofs.stack.begin_protocol.Goals as goal
+
+pub returns-in_ok-step-in-Numbers-clause-goes : goal.returns-in_ok-step-in-Numbers-clause-goes
+returns-in_ok-step-in-Numbers-clause-goes c =
+    let step = c.in_ok-step-in-Numbers in
+    let on = c.branch_of.ensures ∙ c.in-Numbers.is in
+    begins-among number_job_say number_stands ToProtocol ForNumber (On branch.Numbers) number-group (λ t. protocol_job c.args.task) _ _ step.step c.of_number.result (λ t. on) c.of_number.ensures.step step.ensures.goes
+
+pub returns-in_ok-step-in-Numbers-clause-safe : goal.returns-in_ok-step-in-Numbers-clause-safe
+returns-in_ok-step-in-Numbers-clause-safe c =
+    leaves-among of_kept bodies_in of_number_kept 0 _ _ c.in_ok-step-in-Numbers.step c.of_number.result refl c.of_number.ensures.says c.of_number.ensures.opens c.in_ok-step-in-Numbers.ensures.safe
+
+pub returns-in_ok-step-in-Iterations-clause-goes : goal.returns-in_ok-step-in-Iterations-clause-goes
+returns-in_ok-step-in-Iterations-clause-goes c =
+    let step = c.in_ok-step-in-Iterations in
+    let on = c.branch_of.ensures ∙ c.in-Iterations.is in
+    begins-among iter_job_say iter_stands ToProtocol ForIteration (On branch.Iterations) iter-group (λ t. protocol_job c.args.task) _ _ step.step c.of_iteration.result (λ t. on) c.of_iteration.ensures.step step.ensures.goes
+
+pub returns-in_ok-step-in-Iterations-clause-safe : goal.returns-in_ok-step-in-Iterations-clause-safe
+returns-in_ok-step-in-Iterations-clause-safe c =
+    leaves-among of_kept bodies_in of_iter_kept 0 _ _ c.in_ok-step-in-Iterations.step c.of_iteration.result refl c.of_iteration.ensures.says c.of_iteration.ensures.opens c.in_ok-step-in-Iterations.ensures.safe
+
+pub returns-in_ok-step-in-Items-clause-goes : goal.returns-in_ok-step-in-Items-clause-goes
+returns-in_ok-step-in-Items-clause-goes c =
+    let step = c.in_ok-step-in-Items in
+    let on = c.branch_of.ensures ∙ c.in-Items.is in
+    begins-among items_job_say items_stands ToProtocol ForItems (On branch.Items) items-group (λ t. protocol_job c.args.task) _ _ step.step c.of_items.result (λ t. on) c.of_items.ensures.step step.ensures.goes
+
+pub returns-in_ok-step-in-Items-clause-safe : goal.returns-in_ok-step-in-Items-clause-safe
+returns-in_ok-step-in-Items-clause-safe c =
+    leaves-among of_kept bodies_in of_items_kept 0 _ _ c.in_ok-step-in-Items.step c.of_items.result refl c.of_items.ensures.says c.of_items.ensures.opens c.in_ok-step-in-Items.ensures.safe

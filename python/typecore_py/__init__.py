@@ -1,0 +1,1 @@
+"""Python source in front of the machine: reads a file, makes a script of it, runs it and tells the answers."""
