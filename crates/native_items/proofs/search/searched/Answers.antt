@@ -1,0 +1,11 @@
+use Rattle.std.proofs.Common.{sym, subst, Ok}
+use Rattle.py_node.specs.declared.task.Answer.TheVariants.{Truth}
+use Rattle.native_items.specs.declared.ItemKept.TheVariants.{Searching}
+use Rattle.native_items.specs.Rows.{Resumes}
+use Rattle.native_items.proofs.Searches.{search-goes}
+use Rattle.native_items.proofs.search.searched.Goals as goal
+
+pub returns-in-false-clause-goes : goal.returns-in-false-clause-goes
+returns-in-false-clause-goes c =
+    let a = c.args in
+    rw (c.next_asked.ensures.step, c.in-false.is) (search-goes a.needle a.items a.next a.world.now)
