@@ -4,3 +4,4 @@ pub mod Standing
 pub mod Searches
 pub mod Natives
 pub mod Iterating
+pub mod Ranges

@@ -152,10 +152,11 @@ fn item_in(items: &[PyObjectRef], place: u64) -> Found
 }
 
 // A new text of one character.
+#[tactic(auto, using(class_world::proofs::Items::item_holds), unfolding(py_node::specs::BuiltIns::place_of))]
 fn new_character(world: &mut World, character: char) -> Result<PyObjectRef, OutOfMemory>
     ensures made { IfOk result (λ r. (t : Reading) →
         plain t world.new ≡ with_node (plain t world.old) the_str (AText (encode_utf8 character))) }
-    ensures number { IfOk result (λ r. (t : Reading) → next_node (plain t world.old) the_str ≡ r) }
+    ensures number { IfOk result (λ r. (t : Reading) → r ≡ next_node (plain t world.old) the_str) }
     ensures reads { (t : Reading) → Reads t world.new → Reads t world.old }
     ensures grows { Grows world.old world.new }
     ensures node { IfOk result (λ r. Holds world.new (IsNode r)) }
@@ -163,7 +164,23 @@ fn new_character(world: &mut World, character: char) -> Result<PyObjectRef, OutO
     let mut text = String::new(world.alloc());
     text.push(character)?;
     let class = world.built_in(BuiltIn::Str);
-    world.make_node(class, Payload::Text(text))
+    let node = world.make_node(class, Payload::Text(text))?;
+    Ok(node)
+}
+
+// A new whole number that is a place.
+#[tactic(auto, using(class_world::proofs::Items::item_holds), unfolding(py_node::specs::BuiltIns::place_of))]
+fn new_place(world: &mut World, place: u64) -> Result<PyObjectRef, OutOfMemory>
+    ensures made { IfOk result (λ r. (t : Reading) →
+        plain t world.new ≡ with_node (plain t world.old) the_int (ANumber (pos place))) }
+    ensures number { IfOk result (λ r. (t : Reading) → r ≡ next_node (plain t world.old) the_int) }
+    ensures reads { (t : Reading) → Reads t world.new → Reads t world.old }
+    ensures grows { Grows world.old world.new }
+    ensures node { IfOk result (λ r. Holds world.new (IsNode r)) }
+{
+    let class = world.built_in(BuiltIn::Int);
+    let node = world.make_node(class, Payload::Number(place as i128))?;
+    Ok(node)
 }
 
 // The task that asks an object for the item of a new number.
@@ -174,10 +191,10 @@ fn ask_item(world: &mut World, object: PyObjectRef, place: u64) -> Result<Task, 
     ensures task { IfOk result (λ task. (t : Reading) → Reads t world.new → task_of t task ≡
         ToAttribute (DoSpecial object (known_text GetItem) (next_node (plain t world.old) the_int ∷ []) [])) }
     ensures reads { (t : Reading) → Reads t world.new → Reads t world.old }
-    ensures safe { Grows world.old world.new × IfOk result (λ task. AllHold world.new (of_task task)) }
+    ensures grows { Grows world.old world.new }
+    ensures holds { IfOk result (λ task. AllHold world.new (of_task task)) }
 {
-    let class = world.built_in(BuiltIn::Int);
-    let number = world.make_node(class, Payload::Number(place as i128))?;
+    let number = new_place(world, place)?;
     let args = alone(world.alloc(), number)?;
     let kw = Vec::new(world.alloc());
     let name = world.known(Known::GetItem);

@@ -5,7 +5,7 @@ use Rattle.native_items.specs.Rows.{Resumes}
 use Rattle.native_items.proofs.Searches.{search-goes}
 use Rattle.native_items.proofs.search.searched.Goals as goal
 
-pub returns-in-false-clause-goes : goal.returns-in-false-clause-goes
-returns-in-false-clause-goes c =
+pub returns-in-Ok-Truth-false-clause-goes : goal.returns-in-Ok-Truth-false-clause-goes
+returns-in-Ok-Truth-false-clause-goes c =
     let a = c.args in
-    rw (c.next_asked.ensures.step, c.in-false.is) (search-goes a.needle a.items a.next a.world.now)
+    rw (c.next_asked.ensures.step, c.in-Ok-Truth-false.is) (search-goes a.needle a.items a.next a.world.now)

@@ -28,5 +28,5 @@ returns-in_ok-stood-in-None-clause-goes c =
     let kept = c.in_ok-stood-in-None.stood in
     asks-does (OfList SetItem) (a.list ∷ a.key ∷ a.value ∷ []) (λ t u. set_item u a.list a.key a.value []) a.world.now (stood_told kept) (Protocol (Index a.key)) (ToProtocol (DoIndex a.key)) (Setting a.list a.key a.value kept) (λ t.
     let u = plain t a.world.now in
-    set-asked u a.list a.key a.value c.is_some.result kept (c.in_ok-stood-in-None.ensures.told t) (c.in-None.ensures.reads t) (ap is_some (c.number.ensures t) ∙ sym c.is_some.ensures.value))
+    set-asked u a.list a.key a.value c.is_some.result kept (c.in_ok-stood-in-None.ensures.told t) (c.in-None.ensures.reads t) (ap is_some (c.number.ensures t) ∙ sym c.is_some.ensures))
     (λ t q. refl) (setting-alike a.list a.key a.value kept)
