@@ -20,11 +20,11 @@ pub returns-in_ok-rest-in-Some-clause-goes : goal.returns-in_ok-rest-in-Some-cla
 returns-in_ok-rest-in-Some-clause-goes c =
     let a = c.args in
     let rs = c.in_ok-rest-in-Some.rest in
-    ends-does (OfList DelItem) (a.list ∷ a.key ∷ []) (λ t u. del_item u a.list a.key []) (λ t u. list_changed u a.list rs.items) a.world.now c.change_list.new.world c.change_list.result (λ t.
+    ends-does (OfList DelItem) (a.list ∷ a.key ∷ []) (λ t u. del_item u a.list a.key []) (λ t u. list_changed u a.list rs.items) a.world.now c.change_list-ended.new.world c.change_list-ended.result (λ t.
     let u = plain t a.world.now in
     ap (λ x. del_asked u x a.list a.key) (c.in-Some.ensures.reads t)
     ∙ ap (λ l. list_changed u a.list (put_part u c.in-Some.slice l [])) (c.items.ensures.same t)
-    ∙ ap (list_changed u a.list) (c.in_ok-rest-in-Some.ensures.put t)) c.change_list.ensures.ends
+    ∙ ap (list_changed u a.list) (c.in_ok-rest-in-Some.ensures.put t)) c.change_list-ended.ensures.ends
 
 pub returns-in_ok-stood-in-None-clause-goes : goal.returns-in_ok-stood-in-None-clause-goes
 returns-in_ok-stood-in-None-clause-goes c =

@@ -6,7 +6,7 @@ use Rattle.plain_machine.specs.World.{with_node}
 use Rattle.class_world.proofs.Claims.{all-append}
 use Rattle.class_world.specs.Claims.{of_task}
 use Rattle.class_world.specs.Reading.{plain}
-use Rattle.class_world.specs.Sound.{Holding, IsNode}
+use Rattle.class_world.specs.Sound.{AllHold, Holding, IsNode}
 use Rattle.py_node.specs.declared.built_in.BuiltIn.TheVariants.{Iterator}
 use Rattle.native_items.specs.declared.ItemKept.TheVariants.{Iterating}
 use Rattle.native_items.specs.Rows.{of_item_kept}
@@ -46,5 +46,5 @@ returns-in_ok-task-in-Unknown-clause-safe c =
     let a = c.args in
     let new = c.in_ok-task-in-Unknown in
     let grows = c.ask_item.ensures.grows in
-    let kept = (grows.still (IsNode a.object) c.requires.object, (grows.still (Holding a.object Iterator) c.requires.holding, tt)) in
+    let kept : AllHold c.ask_item.new.world (of_item_kept (Iterating a.object)) = (grows.still (IsNode a.object) c.requires.object, (grows.still (Holding a.object Iterator) c.requires.holding, tt)) in
     (grows, all-append c.ask_item.new.world (of_task new.task) (of_item_kept (Iterating a.object)) new.ensures.holds kept)

@@ -6,6 +6,4 @@ use Rattle.native_items.proofs.Searches.{search-goes}
 use Rattle.native_items.proofs.search.searched.Goals as goal
 
 pub returns-in-Ok-Truth-false-clause-goes : goal.returns-in-Ok-Truth-false-clause-goes
-returns-in-Ok-Truth-false-clause-goes c =
-    let a = c.args in
-    rw (c.next_asked.ensures.step, c.in-Ok-Truth-false.is) (search-goes a.needle a.items a.next a.world.now)
+returns-in-Ok-Truth-false-clause-goes c = ?
