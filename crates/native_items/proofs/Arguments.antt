@@ -1,5 +1,5 @@
 -- What is taken is what the arguments are.
-use Rattle.std.proofs.Common.{◌≡◌, Bool, true, false, cond, List, [], ◌∷◌, Ok, refl}
+use Rattle.std.proofs.Common.{◌≡◌, Bool, true, false, cond, List, [], ◌∷◌, Ok}
 use Rattle.py_node.specs.declared.refs.PyObjectRef.{PyObjectRef}
 use Rattle.py_node.specs.declared.raised.Cause.TheVariants.{SelfType}
 use Rattle.plain_machine.specs.Plain.{PlainWorld, Bindings, AsObjects, Said, Ends}

@@ -1,13 +1,12 @@
 -- What an iterator that is asked for its next item does.
-use Rattle.std.proofs.Common.{◌≡◌, ◌∙◌, ℕ, [], ◌∷◌, Option, Some, None, Ok, Err, refl, ap, sym, subst}
-use Rattle.std.specs.Prelude.{Result, pos}
+use Rattle.std.proofs.Common.{◌≡◌, ◌∙◌, ℕ, [], ◌∷◌, None, Ok, Err, refl, ap, sym}
+use Rattle.std.specs.Prelude.{pos}
 use Rattle.std.specs.Char.{encode_utf8}
 use Rattle.py_node.specs.declared.entry.IteratorNative.TheVariants.{Next}
 use Rattle.py_node.specs.declared.entry.NativeEntry.TheVariants.{OfIterator}
 use Rattle.py_node.specs.declared.known.Known.TheVariants.{GetItem}
 use Rattle.py_node.specs.Known.{known_text}
 use Rattle.py_node.specs.declared.payload.SequenceIterator.{SequenceIterator}
-use Rattle.py_node.specs.declared.raised.Raised.{Raised as Fault}
 use Rattle.py_node.specs.declared.raised.Cause.TheVariants.{IterEnd}
 use Rattle.py_node.specs.declared.refs.PyObjectRef.{PyObjectRef}
 use Rattle.py_node.specs.Faults.{raised}
@@ -16,13 +15,12 @@ use Rattle.py_node.specs.declared.task.Step.{Step}
 use Rattle.py_node.specs.declared.task.Step.TheVariants.{Ask, End}
 use Rattle.py_node.specs.declared.task.Task.{Task}
 use Rattle.plain_machine.specs.Known.{the_int, the_str}
-use Rattle.plain_machine.specs.Plain.{PlainWorld, Bindings, ANumber, AText, Asks, DoSpecial, ToAttribute, ToNative, Ends}
+use Rattle.plain_machine.specs.Plain.{Bindings, ANumber, AText, Asks, DoSpecial, ToAttribute, ToNative, Ends}
 use Rattle.plain_machine.specs.Row.{value, fault}
 use Rattle.plain_machine.specs.Rows.{Alike}
 use Rattle.plain_machine.specs.World.{datum_at, next_node, with_node}
 use Rattle.class_world.specs.declared.world.World.{World}
 use Rattle.class_world.specs.Reading.{Reading, Reads, plain, task_of}
-use Rattle.native_items.specs.declared.next.Found.{Found}
 use Rattle.native_items.specs.declared.next.Found.TheVariants.{Nothing, Item, Character, Unknown}
 use Rattle.native_items.specs.declared.ItemKept.{ItemKept}
 use Rattle.native_items.specs.declared.ItemKept.TheVariants.{Iterating}

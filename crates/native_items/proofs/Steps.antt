@@ -9,7 +9,7 @@ use Rattle.py_node.specs.declared.task.Answer.{Answer}
 use Rattle.py_node.specs.declared.task.Task.{Task}
 use Rattle.py_node.specs.declared.task.Step.{Step}
 use Rattle.py_node.specs.declared.task.Step.TheVariants.{Ask, End}
-use Rattle.plain_machine.specs.Plain.{PlainWorld, PlainTask, Bindings, Said, Asks, Ends, Told, Answered, Ended, ToNative}
+use Rattle.plain_machine.specs.Plain.{PlainWorld, PlainTask, Bindings, Said, Asks, Ends, Told, Answered, ToNative}
 use Rattle.plain_machine.specs.Row.{Row}
 use Rattle.plain_machine.specs.Rows.{Alike}
 use Rattle.class_world.specs.declared.world.World.{World}

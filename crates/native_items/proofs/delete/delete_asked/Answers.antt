@@ -2,9 +2,9 @@ use Rattle.std.proofs.Common.{◌∙◌, [], ◌∷◌, ap, sym, refl}
 use Rattle.std.specs.Prelude.{is_some}
 use Rattle.py_node.specs.declared.entry.ListNative.TheVariants.{DelItem}
 use Rattle.py_node.specs.declared.entry.NativeEntry.TheVariants.{OfList}
-use Rattle.py_node.specs.declared.protocol.ProtocolTask.TheVariants.{Collect, Index}
+use Rattle.py_node.specs.declared.protocol.ProtocolTask.TheVariants.{Index}
 use Rattle.py_node.specs.declared.task.Task.TheVariants.{Protocol}
-use Rattle.plain_machine.specs.Plain.{DoCollect, DoIndex, ToProtocol}
+use Rattle.plain_machine.specs.Plain.{DoIndex, ToProtocol}
 use Rattle.class_world.specs.Reading.{plain}
 use Rattle.class_world.proofs.Claims.{no-nodes}
 use Rattle.native_items.specs.declared.ItemKept.TheVariants.{Deleting}

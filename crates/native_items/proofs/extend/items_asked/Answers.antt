@@ -1,10 +1,9 @@
-use Rattle.std.proofs.Common.{◌∙◌, [], ◌∷◌, ap, sym, refl}
-use Rattle.std.specs.Prelude.{is_some}
+use Rattle.std.proofs.Common.{[], ◌∷◌, refl}
 use Rattle.py_node.specs.declared.entry.ListNative.TheVariants.{InplaceAdd}
 use Rattle.py_node.specs.declared.entry.NativeEntry.TheVariants.{OfList}
-use Rattle.py_node.specs.declared.protocol.ProtocolTask.TheVariants.{Collect, Index}
+use Rattle.py_node.specs.declared.protocol.ProtocolTask.TheVariants.{Collect}
 use Rattle.py_node.specs.declared.task.Task.TheVariants.{Protocol}
-use Rattle.plain_machine.specs.Plain.{DoCollect, DoIndex, ToProtocol}
+use Rattle.plain_machine.specs.Plain.{DoCollect, ToProtocol}
 use Rattle.class_world.specs.Reading.{plain}
 use Rattle.native_items.specs.declared.ItemKept.TheVariants.{Extending}
 use Rattle.native_items.specs.Items.{extend}

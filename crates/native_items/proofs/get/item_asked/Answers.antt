@@ -1,4 +1,4 @@
-use Rattle.std.proofs.Common.{◌∙◌, [], ◌∷◌, ap, sym, refl, Some}
+use Rattle.std.proofs.Common.{◌∙◌, [], ◌∷◌, ap, sym, refl}
 use Rattle.std.specs.Prelude.{is_some}
 use Rattle.py_node.specs.declared.protocol.ProtocolTask.TheVariants.{Index}
 use Rattle.py_node.specs.declared.task.Task.TheVariants.{Protocol}

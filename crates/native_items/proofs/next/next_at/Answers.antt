@@ -1,8 +1,4 @@
 use Rattle.std.proofs.Common.{◌∙◌, ap, sym}
-use Rattle.std.specs.Char.{encode_utf8}
-use Rattle.plain_machine.specs.Known.{the_str}
-use Rattle.plain_machine.specs.Plain.{AText}
-use Rattle.plain_machine.specs.World.{with_node}
 use Rattle.class_world.proofs.Claims.{all-append}
 use Rattle.class_world.specs.Claims.{of_task}
 use Rattle.class_world.specs.Reading.{plain}
