@@ -1,5 +1,5 @@
 -- What is taken is what the arguments are.
-use Rattle.std.proofs.Common.{◌≡◌, Bool, true, false, cond, List, [], ◌∷◌, Ok, refl}
+use Rattle.std.proofs.Common.{◌≡◌, Bool, true, false, cond, List, [], ◌∷◌, Ok}
 use Rattle.py_node.specs.declared.refs.PyObjectRef.{PyObjectRef}
 use Rattle.py_node.specs.declared.raised.Cause.TheVariants.{SelfType}
 use Rattle.plain_machine.specs.Plain.{PlainWorld, Bindings, AsObjects, Said, Ends}
@@ -24,7 +24,7 @@ pub lone-arguments : (k : Kind) (w : PlainWorld) (args : List PyObjectRef) (kw :
 lone-arguments k w [] kw o h = let e = h (λ a. told w (a ∷ [])) in cc
 lone-arguments k w (x ∷ rest) kw o h = one-taken w (is_of k (datum_at w x)) x rest kw o (h (λ a. told w (a ∷ [])))
 
-two-taken : (w : PlainWorld) (b : Bool) (x : PyObjectRef) (rest : List PyObjectRef) (kw : Bindings) (o a : PyObjectRef) → cond b (with_two w (x ∷ rest) kw (λ a b. told w (a ∷ b ∷ []))) (Ends w (fault SelfType)) ≡ told w (o ∷ a ∷ []) → x ∷ rest ≡ o ∷ a ∷ []
+two-taken : (w : PlainWorld) (b : Bool) (x : PyObjectRef) (rest : List PyObjectRef) (kw : Bindings) (o a : PyObjectRef) → cond b (with_two w (x ∷ rest) kw (λ a b. told w (x ∷ b ∷ []))) (Ends w (fault SelfType)) ≡ told w (o ∷ a ∷ []) → x ∷ rest ≡ o ∷ a ∷ []
 two-taken w false x rest kw o a e = cc
 two-taken w true x [] kw o a e = cc
 two-taken w true x (y ∷ []) [] o a e = cc
@@ -35,7 +35,7 @@ pub two-arguments : (k : Kind) (w : PlainWorld) (args : List PyObjectRef) (kw : 
 two-arguments k w [] kw o a h = let e = h (λ a b. told w (a ∷ b ∷ [])) in cc
 two-arguments k w (x ∷ rest) kw o a h = two-taken w (is_of k (datum_at w x)) x rest kw o a (h (λ a b. told w (a ∷ b ∷ [])))
 
-three-taken : (w : PlainWorld) (b : Bool) (x : PyObjectRef) (rest : List PyObjectRef) (kw : Bindings) (o a v : PyObjectRef) → cond b (with_three w (x ∷ rest) kw (λ a b c. told w (a ∷ b ∷ c ∷ []))) (Ends w (fault SelfType)) ≡ told w (o ∷ a ∷ v ∷ []) → x ∷ rest ≡ o ∷ a ∷ v ∷ []
+three-taken : (w : PlainWorld) (b : Bool) (x : PyObjectRef) (rest : List PyObjectRef) (kw : Bindings) (o a v : PyObjectRef) → cond b (with_three w (x ∷ rest) kw (λ a b c. told w (x ∷ b ∷ c ∷ []))) (Ends w (fault SelfType)) ≡ told w (o ∷ a ∷ v ∷ []) → x ∷ rest ≡ o ∷ a ∷ v ∷ []
 three-taken w false x rest kw o a v e = cc
 three-taken w true x [] kw o a v e = cc
 three-taken w true x (y ∷ []) kw o a v e = cc

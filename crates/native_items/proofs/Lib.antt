@@ -1,5 +1,7 @@
 pub mod Arguments
 pub mod Steps
-pub mod Stood
+pub mod Standing
 pub mod Searches
 pub mod Natives
+pub mod Iterating
+pub mod Ranges

@@ -1,5 +1,5 @@
 -- How a search goes from one item to the next.
-use Rattle.std.proofs.Common.{◌≡◌, ◌∙◌, ℕ, zero, suc, ◌+◌, Option, Some, None, List, [], ◌∷◌, ◌++◌, Ok, drop, refl, sym, ap, subst, add-one, false}
+use Rattle.std.proofs.Common.{◌≡◌, ◌∙◌, ℕ, zero, suc, ◌+◌, Option, Some, None, List, [], ◌∷◌, Ok, drop, refl, sym, ap, subst, add-one, false}
 use Rattle.std.specs.Prelude.{slice_get}
 use Rattle.std.specs.Global.{Vec}
 use Rattle.py_node.specs.declared.entry.TupleNative.TheVariants as tuple
@@ -7,9 +7,9 @@ use Rattle.py_node.specs.declared.entry.NativeEntry.TheVariants.{OfTuple}
 use Rattle.py_node.specs.declared.protocol.CompareTask.TheVariants.{IdEq}
 use Rattle.py_node.specs.declared.refs.PyObjectRef.{PyObjectRef}
 use Rattle.py_node.specs.declared.task.Answer.TheVariants.{Truth, Value}
-use Rattle.py_node.specs.declared.task.Step.TheVariants.{Ask, End}
+use Rattle.py_node.specs.declared.task.Step.TheVariants.{Ask}
 use Rattle.py_node.specs.declared.task.Task.TheVariants as task
-use Rattle.plain_machine.specs.Plain.{PlainWorld, Bindings, AsTruth, Answered, Asks, DoIdEq, Ends, ReadObjects, ToCompare, ToNative}
+use Rattle.plain_machine.specs.Plain.{Bindings, AsTruth, Answered, DoIdEq, Ends, ReadObjects, ToCompare, ToNative}
 use Rattle.plain_machine.specs.Row.{truth, value, read_objects}
 use Rattle.plain_machine.specs.Rows.{Alike}
 use Rattle.plain_machine.specs.World.{ref}

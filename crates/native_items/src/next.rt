@@ -2,6 +2,7 @@
 
 ghost use Rattle.std.specs.Prelude.{◌≡◌, [], ◌∷◌, IfOk, IfSome, pos, slice_get};
 ghost use Rattle.std.specs.Char.{encode_utf8};
+ghost use Rattle.std.specs.Str.{chars};
 ghost use Rattle.py_node.specs.declared.built_in.BuiltIn.TheVariants.{Iterator};
 ghost use Rattle.py_node.specs.declared.entry.IteratorNative.TheVariants.{Next};
 ghost use Rattle.py_node.specs.declared.entry.NativeEntry.TheVariants.{OfIterator};
@@ -123,7 +124,7 @@ fn found_in(world: &World, object: PyObjectRef, place: u64) -> Found
     ensures holds { AllHold world.now (of_found result) }
 {
     match world.payload(object) {
-        Payload::Text(text) => match text.chars().nth(place as usize) {
+        Payload::Text(text) => match character_in(text.as_str(), place) {
             None => Found::Nothing,
             Some(character) => Found::Character(character),
         },
@@ -131,6 +132,13 @@ fn found_in(world: &World, object: PyObjectRef, place: u64) -> Found
         Payload::List(items) => item_in(items, place),
         _ => Found::Unknown,
     }
+}
+
+// The character at a place, if there is one.
+fn character_in(text: &str, place: u64) -> Option<char>
+    ensures { result ≡ slice_get (chars text.now) place }
+{
+    text.chars().nth(place as usize)
 }
 
 // The item at a place, if there is one.
@@ -144,10 +152,11 @@ fn item_in(items: &[PyObjectRef], place: u64) -> Found
 }
 
 // A new text of one character.
+#[tactic(auto, using(class_world::proofs::Items::item_holds), unfolding(py_node::specs::BuiltIns::place_of))]
 fn new_character(world: &mut World, character: char) -> Result<PyObjectRef, OutOfMemory>
     ensures made { IfOk result (λ r. (t : Reading) →
         plain t world.new ≡ with_node (plain t world.old) the_str (AText (encode_utf8 character))) }
-    ensures number { IfOk result (λ r. (t : Reading) → next_node (plain t world.old) the_str ≡ r) }
+    ensures number { IfOk result (λ r. (t : Reading) → r ≡ next_node (plain t world.old) the_str) }
     ensures reads { (t : Reading) → Reads t world.new → Reads t world.old }
     ensures grows { Grows world.old world.new }
     ensures node { IfOk result (λ r. Holds world.new (IsNode r)) }
@@ -155,7 +164,23 @@ fn new_character(world: &mut World, character: char) -> Result<PyObjectRef, OutO
     let mut text = String::new(world.alloc());
     text.push(character)?;
     let class = world.built_in(BuiltIn::Str);
-    world.make_node(class, Payload::Text(text))
+    let node = world.make_node(class, Payload::Text(text))?;
+    Ok(node)
+}
+
+// A new whole number that is a place.
+#[tactic(auto, using(class_world::proofs::Items::item_holds), unfolding(py_node::specs::BuiltIns::place_of))]
+fn new_place(world: &mut World, place: u64) -> Result<PyObjectRef, OutOfMemory>
+    ensures made { IfOk result (λ r. (t : Reading) →
+        plain t world.new ≡ with_node (plain t world.old) the_int (ANumber (pos place))) }
+    ensures number { IfOk result (λ r. (t : Reading) → r ≡ next_node (plain t world.old) the_int) }
+    ensures reads { (t : Reading) → Reads t world.new → Reads t world.old }
+    ensures grows { Grows world.old world.new }
+    ensures node { IfOk result (λ r. Holds world.new (IsNode r)) }
+{
+    let class = world.built_in(BuiltIn::Int);
+    let node = world.make_node(class, Payload::Number(place as i128))?;
+    Ok(node)
 }
 
 // The task that asks an object for the item of a new number.
@@ -166,10 +191,10 @@ fn ask_item(world: &mut World, object: PyObjectRef, place: u64) -> Result<Task, 
     ensures task { IfOk result (λ task. (t : Reading) → Reads t world.new → task_of t task ≡
         ToAttribute (DoSpecial object (known_text GetItem) (next_node (plain t world.old) the_int ∷ []) [])) }
     ensures reads { (t : Reading) → Reads t world.new → Reads t world.old }
-    ensures safe { Grows world.old world.new × IfOk result (λ task. AllHold world.new (of_task task)) }
+    ensures grows { Grows world.old world.new }
+    ensures holds { IfOk result (λ task. AllHold world.new (of_task task)) }
 {
-    let class = world.built_in(BuiltIn::Int);
-    let number = world.make_node(class, Payload::Number(place as i128))?;
+    let number = new_place(world, place)?;
     let args = alone(world.alloc(), number)?;
     let kw = Vec::new(world.alloc());
     let name = world.known(Known::GetItem);

@@ -40,15 +40,19 @@ fn place_of(count: usize, number: i128) -> Option<usize>
     ensures place { result ≡ place_of count number }
     ensures within { IfSome result (λ i. i < count) }
 {
-    let from_start = if number < 0 {
-        number + count as i128
+    if number >= 0 {
+        if number < count as i128 {
+            Some(number as usize)
+        } else {
+            None
+        }
     } else {
-        number
-    };
-    if 0 <= from_start && from_start < count as i128 {
-        Some(from_start as usize)
-    } else {
-        None
+        let from_end = number + count as i128;
+        if from_end < 0 {
+            None
+        } else {
+            Some(from_end as usize)
+        }
     }
 }
 
@@ -72,17 +76,15 @@ fn bound_of(count: usize, number: i128) -> usize
     ensures bound { result ≡ bound_of count number }
     ensures within { result ≤ count }
 {
-    let from_start = if number < 0 {
-        number + count as i128
+    if number >= 0 {
+        if number > count as i128 {
+            count
+        } else {
+            number as usize
+        }
     } else {
-        number
-    };
-    if from_start < 0 {
-        0
-    } else if from_start < count as i128 {
-        from_start as usize
-    } else {
-        count
+        let from_end = number + count as i128;
+        if from_end >= 0 { from_end as usize } else { 0 }
     }
 }
 

@@ -1,4 +1,4 @@
-use Rattle.std.proofs.Common.{refl}
+use Rattle.std.proofs.Common.{[], refl}
 use Rattle.py_node.specs.declared.entry.ListNative.TheVariants.{InplaceAdd}
 use Rattle.py_node.specs.declared.entry.NativeEntry.TheVariants.{OfList}
 use Rattle.class_world.specs.Reading.{plain}

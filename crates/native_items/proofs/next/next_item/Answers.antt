@@ -1,4 +1,4 @@
-use Rattle.std.proofs.Common.{refl}
+use Rattle.std.proofs.Common.{[], refl}
 use Rattle.py_node.specs.declared.entry.IteratorNative.TheVariants.{Next}
 use Rattle.py_node.specs.declared.entry.NativeEntry.TheVariants.{OfIterator}
 use Rattle.class_world.specs.Reading.{plain}

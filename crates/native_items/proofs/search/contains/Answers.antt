@@ -1,4 +1,4 @@
-use Rattle.std.proofs.Common.{◌∙◌}
+use Rattle.std.proofs.Common.{◌∙◌, []}
 use Rattle.class_world.specs.Reading.{bindings, plain}
 use Rattle.native_items.specs.Items.{look_for}
 use Rattle.native_items.specs.Rows.{searcher_of}

@@ -1,18 +1,21 @@
 -- How natives go on that kept the items that stood in an object at the start, or did not.
-use Rattle.std.proofs.Common.{◌≡◌, [], ◌∷◌, ◌++◌, Option, Some, None, refl}
+use Rattle.std.proofs.Common.{◌≡◌, ◌∙◌, ap, Bool, List, [], ◌∷◌, ◌++◌, Option, Some, None, refl}
 use Rattle.std.specs.Global.{Vec}
 use Rattle.py_node.specs.declared.entry.TupleNative.TheVariants as tuple
 use Rattle.py_node.specs.declared.entry.ListNative.TheVariants as list
 use Rattle.py_node.specs.declared.entry.NativeEntry.TheVariants.{OfTuple, OfList}
 use Rattle.py_node.specs.declared.refs.PyObjectRef.{PyObjectRef}
-use Rattle.plain_machine.specs.Plain.{PlainWorld, Bindings, Ended, Told, Answered, ToNative}
+use Rattle.py_node.specs.declared.payload.PySlice.{PySlice}
+use Rattle.plain_machine.specs.Plain.{PlainWorld, Bindings, Ended, Said, Asks, Answered, DoCollect, DoIndex, ToNative, ToProtocol}
 use Rattle.plain_machine.specs.Rows.{Alike}
 use Rattle.plain_machine.specs.World.{ref}
 use Rattle.class_world.specs.Reading.{Reading}
 use Rattle.native_items.specs.declared.get.Sequence.{Sequence}
 use Rattle.native_items.specs.declared.get.Sequence.TheVariants as sequence
 use Rattle.native_items.specs.declared.ItemKept.TheVariants.{Getting, Setting, Deleting, Extending}
-use Rattle.native_items.specs.Items.{item_got, set_rest, del_rest, extend_rest}
+use Rattle.proto_base.specs.Entered.{is_plain}
+use Rattle.native_items.specs.Places.{slice_at}
+use Rattle.native_items.specs.Items.{del_asked, del_item, del_rest, extend, extend_rest, get_item, index_asked, is_number, item_asked, item_got, set_asked, set_item, set_rest, stood}
 use Rattle.native_items.specs.Rows.{getter_of, item_stands, items_stood, stood_told}
 use Rattle.native_items.specs.Say.{item_job_say}
 
@@ -59,3 +62,26 @@ pub extending-on : (u : PlainWorld) (o : PyObjectRef) (stood : Option (Vec PyObj
 unfolding item_job_say
 extending-on u o None r = refl
 extending-on u o (Some rs) r = refl
+
+-- what is asked, by what was read before
+module _ (u : PlainWorld) (o k v : PyObjectRef) (b : Bool) (s : Option (Vec PyObjectRef)) (is : stood u b o ≡ stood_told s) where
+  place-asked : is_number u k ≡ b → index_asked u o k ≡ Asks u (stood_told s) (ToProtocol (DoIndex k))
+  place-asked e = ap (λ b. Asks u (stood u b o) (ToProtocol (DoIndex k))) e ∙ ap (λ l. Asks u l (ToProtocol (DoIndex k))) is
+
+  pub get-asked : (made : List PyObjectRef → Said) → slice_at u k ≡ None → is_number u k ≡ b → get_item u made o k [] ≡ Asks u (stood_told s) (ToProtocol (DoIndex k))
+  get-asked made none e = ap (λ x. item_asked u made x o k) none ∙ place-asked e
+
+  pub del-asked : slice_at u k ≡ None → is_number u k ≡ b → del_item u o k [] ≡ Asks u (stood_told s) (ToProtocol (DoIndex k))
+  del-asked none e = ap (λ x. del_asked u x o k) none ∙ place-asked e
+
+  pub set-asked : slice_at u k ≡ None → is_number u k ≡ b → set_item u o k v [] ≡ Asks u (stood_told s) (ToProtocol (DoIndex k))
+  set-asked none e = ap (λ x. set_asked u x o k v) none ∙ place-asked e
+
+  items-asked : is_plain u v ≡ b → Asks u (stood u (is_plain u v) o) (ToProtocol (DoCollect v)) ≡ Asks u (stood_told s) (ToProtocol (DoCollect v))
+  items-asked e = ap (λ b. Asks u (stood u b o) (ToProtocol (DoCollect v))) e ∙ ap (λ l. Asks u l (ToProtocol (DoCollect v))) is
+
+  pub set-part-asked : (part : PySlice) → slice_at u k ≡ Some part → is_plain u v ≡ b → set_item u o k v [] ≡ Asks u (stood_told s) (ToProtocol (DoCollect v))
+  set-part-asked part some e = ap (λ x. set_asked u x o k v) some ∙ items-asked e
+
+  pub extend-asked : is_plain u v ≡ b → extend u o v [] ≡ Asks u (stood_told s) (ToProtocol (DoCollect v))
+  extend-asked e = items-asked e
