@@ -21,6 +21,7 @@ use Rattle.class_world.specs.Reading.{Reading, Reads, bindings, plain, ended_of}
 use Rattle.native_containers.specs.declared.take.Kind.TheVariants as kind
 use Rattle.native_containers.specs.Take.{with_lone}
 use Rattle.native_numbers.specs.Numbers.{number_hash}
+use Rattle.native_parts.specs.declared.PartsKept.{PartsKept}
 use Rattle.native_parts.specs.declared.PartsKept.TheVariants.{Hashes}
 use Rattle.native_parts.specs.declared.hash.Hashing.{Hashing}
 use Rattle.native_parts.specs.Rows.{IsNoNumber, Resumes, Starts, Takes, left_to_hash, parts_stands}
@@ -63,7 +64,7 @@ hash-finish w h rs e =
     subst P (sym e) (λ t q. (q, (refl, refl)))
 
 -- an item answered
-pub hash-more : (hashing later : Hashing) (answer : Result Answer Fault) (n : ℤ) (w : World) (step : Step _) → answer ≡ Ok (Number n) → later.hash ≡ hashed_on hashing.hash n → left_to_hash later ≡ left_to_hash hashing → Takes (λ u. hash_row u later.hash (left_to_hash later)) w w step → Resumes (Hashes hashing) answer w w step
+pub hash-more : (hashing later : Hashing) (answer : Result Answer Fault) (n : ℤ) (w : World) (step : Step PartsKept) → answer ≡ Ok (Number n) → later.hash ≡ hashed_on hashing.hash n → left_to_hash later ≡ left_to_hash hashing → Takes (λ u. hash_row u later.hash (left_to_hash later)) w w step → Resumes (Hashes hashing) answer w w step
 hash-more hashing later answer n w step is more same h =
     resumes-takes (Hashes hashing) answer (λ u. hash_row u later.hash (left_to_hash later)) (λ t u told.
     hash-on t hashing u (ended_of answer) told
@@ -95,9 +96,9 @@ module _ (args : List PyObjectRef) (kw : List (PyStrInterned × PyObjectRef)) wh
   first-said u b = refl
 
   pub hash-refused : (w : World) (x : Fault) → ((t : Reading) (go : PyObjectRef → Said) → with_lone kind.Tuple (plain t w) args (bindings t kw) go ≡ Ends (plain t w) (Err x)) → Starts (OfTuple tuple.Hash) args kw w w (End (Err x))
-  hash-refused w x refused = ends-starts (OfTuple tuple.Hash) args kw w (Err x) (λ t. first-said (plain t w) (bindings t kw) ∙ refused t _)
+  hash-refused w x refused = ends-starts (OfTuple tuple.Hash) args kw w (Err x) (λ t. first-said (plain t w) (bindings t kw) ∙ refused t (λ o. noting (ReadObjects (parts_at (plain t w) o)) (hash_row (plain t w) (pos 1) (parts_at (plain t w) o) [])))
 
-  pub hash-starts : (o : PyObjectRef) (hashing : Hashing) (w : World) (step : Step _) → ((t : Reading) (go : PyObjectRef → Said) → with_lone kind.Tuple (plain t w) args (bindings t kw) go ≡ go o) → ((t : Reading) → parts_at (plain t w) o ≡ hashing.items.items) → hashing.next ≡ 0 → hashing.hash ≡ pos 1 → Takes (λ u. hash_row u hashing.hash (left_to_hash hashing)) w w step → Starts (OfTuple tuple.Hash) args kw w w step
+  pub hash-starts : (o : PyObjectRef) (hashing : Hashing) (w : World) (step : Step PartsKept) → ((t : Reading) (go : PyObjectRef → Said) → with_lone kind.Tuple (plain t w) args (bindings t kw) go ≡ go o) → ((t : Reading) → parts_at (plain t w) o ≡ hashing.items.items) → hashing.next ≡ 0 → hashing.hash ≡ pos 1 → Takes (λ u. hash_row u hashing.hash (left_to_hash hashing)) w w step → Starts (OfTuple tuple.Hash) args kw w w step
   hash-starts o hashing w step given same next one h =
       let rs = hashing.items.items in
       let here : left_to_hash hashing ≡ rs = ap (λ n. drop n rs) next in
