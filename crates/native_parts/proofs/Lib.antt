@@ -3,3 +3,4 @@ pub mod Asking
 pub mod Hashes
 pub mod Joined
 pub mod Contents
+pub mod Given
