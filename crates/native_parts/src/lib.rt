@@ -18,6 +18,7 @@ mod texts;
 mod wrapped;
 
 use class_world::World;
+pub use hash::Hashing;
 use hash::{begin_hash, hash_given};
 use makers::{begin_list, begin_str, begin_tuple, fill, str_made, tuple_made};
 use numbers::{begin_bool, begin_int, int_made};
@@ -26,13 +27,11 @@ use py_node::{
     Answer, BuiltIn, DictNative, ListNative, NativeEntry, OutOfMemory, PyObjectRef, PyTypeRef,
     Raised, Step, TupleNative, WrapperNative,
 };
-use texts::{begin_text, text_given};
-use wrapped::{begin_wrapped, wrapped_given};
-
-pub use hash::Hashing;
 pub use take::Container;
 pub use texts::Parts;
+use texts::{begin_text, text_given};
 pub use wrapped::Wrapper;
+use wrapped::{begin_wrapped, wrapped_given};
 
 /// What a native keeps while it waits for an answer.
 #[derive(Drop)]

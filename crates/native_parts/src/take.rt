@@ -126,10 +126,7 @@ pub(crate) fn parts_of(world: &World, object: PyObjectRef) -> Result<Args, OutOf
 }
 
 // The keys with their values, one after another.
-fn flattened(
-    alloc: Global,
-    entries: &[(PyObjectRef, PyObjectRef)],
-) -> Result<Args, OutOfMemory>
+fn flattened(alloc: Global, entries: &[(PyObjectRef, PyObjectRef)]) -> Result<Args, OutOfMemory>
     ensures items { IfOk result (λ v. v.items ≡ flattened entries.now) }
     ensures holds { IfOk result (λ v. (w : Held) → Holds w (AreNodes (map (λ e. e.0) entries.now)) →
         Holds w (AreNodes (map (λ e. e.1) entries.now)) → Holds w (AreNodes v.items)) }

@@ -54,11 +54,7 @@ pub(crate) fn begin_wrapped(
 }
 
 // What the first argument wraps, or why it is refused.
-fn own_wrapped(
-    world: &World,
-    wrapper: Wrapper,
-    args: &[PyObjectRef],
-) -> Result<PyObjectRef, Raised>
+fn own_wrapped(world: &World, wrapper: Wrapper, args: &[PyObjectRef]) -> Result<PyObjectRef, Raised>
     requires { Holds world.now (AreNodes args.now) }
     ensures given { IfOk result (λ f. (t : Reading) (go : Object → Said) →
         with_own (wrapped_in wrapper) (plain t world.now) args.now (λ o. go) ≡ go f) }
