@@ -52,16 +52,16 @@ unfolding parts_job_say
 hash-on t hashing u r more = λ i. on_number u r (λ n. hash_row u (rehash hashing.hash n i) (left_to_hash hashing)) more
 
 -- the next item is asked
-pub hash-asks : (w : World) (item : PyObjectRef) (later : Hashing) (rs : List PyObjectRef) → rs ≡ item ∷ left_to_hash later → Takes (λ u. hash_row u later.hash rs) w w (Ask (task.Object (object.Hash item)) (Hashes later))
-hash-asks w item later rs e =
-    let P : List PyObjectRef → Type 0 = λ rs. Takes (λ u. hash_row u later.hash rs) w w (Ask (task.Object (object.Hash item)) (Hashes later)) in
-    subst P (sym e) (λ t q. (q, (refl, refl, λ u r more. sym (hash-on t later u r more))))
+pub hash-asks : (w : World) (item : PyObjectRef) (h : ℤ) (later : Hashing) (rs : List PyObjectRef) → later.hash ≡ h → rs ≡ item ∷ left_to_hash later → Takes (λ u. hash_row u h rs) w w (Ask (task.Object (object.Hash item)) (Hashes later))
+hash-asks w item h later rs same e =
+    let P : ℤ → List PyObjectRef → Type 0 = λ z ls. Takes (λ u. hash_row u z ls) w w (Ask (task.Object (object.Hash item)) (Hashes later)) in
+    subst (λ z. P z rs) same (subst (λ ls. P later.hash ls) (sym e) (λ t q. (q, (refl, refl, λ u r more. sym (hash-on t later u r more)))))
 
 -- past all items
-pub hash-finish : (w : World) (h : ℤ) (rs : List PyObjectRef) → rs ≡ [] → Takes (λ u. hash_row u h rs) w w (End (Ok (Number h)))
-hash-finish w h rs e =
-    let P : List PyObjectRef → Type 0 = λ rs. Takes (λ u. hash_row u h rs) w w (End (Ok (Number h))) in
-    subst P (sym e) (λ t q. (q, (refl, refl)))
+pub hash-finish : (w : World) (n h : ℤ) (rs : List PyObjectRef) → n ≡ h → rs ≡ [] → Takes (λ u. hash_row u h rs) w w (End (Ok (Number n)))
+hash-finish w n h rs same e =
+    let P : ℤ → List PyObjectRef → Type 0 = λ z ls. Takes (λ u. hash_row u z ls) w w (End (Ok (Number n))) in
+    subst (λ z. P z rs) same (subst (λ ls. P n ls) (sym e) (λ t q. (q, (refl, refl))))
 
 -- an item answered
 pub hash-more : (hashing later : Hashing) (answer : Result Answer Fault) (n : ℤ) (w : World) (step : Step PartsKept) → answer ≡ Ok (Number n) → later.hash ≡ hashed_on hashing.hash n → left_to_hash later ≡ left_to_hash hashing → Takes (λ u. hash_row u later.hash (left_to_hash later)) w w step → Resumes (Hashes hashing) answer w w step

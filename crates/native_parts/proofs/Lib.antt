@@ -4,3 +4,5 @@ pub mod Hashes
 pub mod Joined
 pub mod Contents
 pub mod Given
+pub mod Made
+pub mod Heirs

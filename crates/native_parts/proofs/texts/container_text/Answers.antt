@@ -1,4 +1,4 @@
-use Rattle.std.proofs.Common.{◌≡◌, ◌++◌, ◌∙◌, ◌<◌, refl, sym, ap, length, get_or, string_bytes, arith}
+use Rattle.std.proofs.Common.{◌≡◌, ◌++◌, ◌∙◌, ◌<◌, refl, sym, ap, length, get_or, string_bytes, arith, Err}
 use Rattle.std.proofs.lemmas.Grind.{common_steps}
 use Rattle.plain_machine.specs.Row.{most_items}
 use Rattle.plain_machine.specs.World.{ref}
@@ -12,7 +12,7 @@ pub returns-then-len-gt-MOST_ITEMS-clause-long : goal.returns-then-len-gt-MOST_I
 returns-then-len-gt-MOST_ITEMS-clause-long c = λ t.
     let count : c.len.result ≡ length (string_bytes c.loop-i.text) = grind (arith, common_steps) in
     let over : most_items < c.len.result = grind (arith, common_steps) in
-    too-long (plain t c.args.world.now) c.args.container c.args.texts.now (string_bytes c.loop-i.text) c.len.result c.loop-i.i count over (c.loop-i.invariant t)
+    too-long (plain t c.args.world.now) c.args.container c.args.texts.now (string_bytes c.loop-i.text) c.len.result c.loop-i.i count over (c.loop-i.invariant t) ∙ ap Err (sym c.new.ensures)
 
 pub loop-i-preserved : goal.loop-i-preserved
 loop-i-preserved c = λ t.
@@ -37,3 +37,4 @@ returns-else-is_within_limit-clause-long c = λ t.
     let count : c.len-2.result ≡ length new = grind (arith, common_steps) in
     ap in_length (closed (plain t c.args.world.now) c.args.container c.args.texts.now old new c.loop-i.i (length c.args.texts.now) c.loop-i-test.false refl made (c.loop-i.invariant t))
     ∙ long new c.len-2.result count (sym c.is_within_limit.ensures ∙ c.if-is_within_limit.false)
+    ∙ ap Err (sym c.new-else-is_within_limit.ensures)
