@@ -1,5 +1,5 @@
 -- How containers ask for the texts of their parts.
-use Rattle.std.proofs.Common.{◌≡◌, ◌∙◌, ℕ, zero, suc, ◌+◌, List, [], ◌∷◌, ◌++◌, drop, map, Option, Some, None, Result, Ok, Err, IfOk, refl, sym, subst, ap, append_assoc, append-nil, arith}
+use Rattle.std.proofs.Common.{◌≡◌, ◌∙◌, ℕ, zero, suc, ◌+◌, List, [], ◌∷◌, ◌++◌, drop, map, Some, None, Result, Ok, Err, IfOk, refl, sym, subst, ap, append_assoc, append-nil, arith}
 use Rattle.std.specs.Prelude.{slice_get}
 use Rattle.py_node.specs.declared.raised.Raised.{Raised as Fault}
 use Rattle.py_node.specs.declared.memory.OutOfMemory.{OutOfMemory}
@@ -15,7 +15,7 @@ use Rattle.py_node.specs.declared.task.Step.TheVariants.{Ask, End}
 use Rattle.plain_machine.specs.Plain.{PlainWorld, Bindings, Ended, Said, Ends, Told, Answered, ReadObjects, ToNative}
 use Rattle.plain_machine.specs.Row.{Row, end, none, noting, on_value}
 use Rattle.class_world.specs.declared.world.World.{World}
-use Rattle.class_world.specs.Reading.{Reading, Reads, bindings, plain, ended_of}
+use Rattle.class_world.specs.Reading.{Reading, bindings, plain, ended_of}
 use Rattle.class_world.specs.Rows.{EndsAs}
 use Rattle.native_containers.specs.Take.{with_lone}
 use Rattle.native_containers.specs.Asking.{as_said}

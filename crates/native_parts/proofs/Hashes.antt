@@ -1,5 +1,5 @@
 -- How a tuple asks for the hashes of its items.
-use Rattle.std.proofs.Common.{◌≡◌, ◌∙◌, ℕ, List, [], ◌∷◌, ◌++◌, drop, ℤ, pos, ◌+ℤ◌, ◌-ℤ◌, ◌*ℤ◌, Result, Ok, Err, IfOk, refl, sym, subst, ap, arith}
+use Rattle.std.proofs.Common.{◌≡◌, ◌∙◌, List, [], ◌∷◌, ◌++◌, drop, ℤ, pos, ◌+ℤ◌, ◌-ℤ◌, ◌*ℤ◌, Result, Ok, Err, refl, sym, subst, ap, arith}
 use Rattle.std.specs.Int.{w64, int_wrap}
 use Rattle.std.proofs.lemmas.Int.{int_wrap-add_same, int_wrap-mul_left, ints}
 use Rattle.py_node.specs.declared.raised.Raised.{Raised as Fault}
@@ -15,9 +15,9 @@ use Rattle.py_node.specs.declared.task.Task.TheVariants as task
 use Rattle.py_node.specs.declared.task.Step.{Step}
 use Rattle.py_node.specs.declared.task.Step.TheVariants.{Ask, End}
 use Rattle.plain_machine.specs.Plain.{PlainWorld, Bindings, Ended, Said, Ends, Told, Answered, ReadObjects, ToNative}
-use Rattle.plain_machine.specs.Row.{Row, end, none, noting, on_number}
+use Rattle.plain_machine.specs.Row.{Row, end, noting, on_number}
 use Rattle.class_world.specs.declared.world.World.{World}
-use Rattle.class_world.specs.Reading.{Reading, Reads, bindings, plain, ended_of}
+use Rattle.class_world.specs.Reading.{Reading, bindings, plain, ended_of}
 use Rattle.native_containers.specs.declared.take.Kind.TheVariants as kind
 use Rattle.native_containers.specs.Take.{with_lone}
 use Rattle.native_numbers.specs.Numbers.{number_hash}

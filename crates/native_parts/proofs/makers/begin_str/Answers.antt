@@ -1,4 +1,4 @@
-use Rattle.std.proofs.Common.{◌≡◌, [], ◌∷◌, ◌∙◌, Ok, refl, sym, ap, string_bytes}
+use Rattle.std.proofs.Common.{◌≡◌, [], ◌∷◌, Ok, refl, sym, ap, string_bytes}
 use Rattle.py_node.specs.declared.built_in.BuiltIn.TheVariants as built_in
 use Rattle.py_node.specs.declared.protocol.ObjectTask.TheVariants as object
 use Rattle.py_node.specs.declared.task.Answer.TheVariants.{Value}

@@ -1,4 +1,4 @@
-use Rattle.std.proofs.Common.{◌≡◌, ◌∙◌, ℕ, ap, sym, string_bytes}
+use Rattle.std.proofs.Common.{◌≡◌, ◌∙◌, ℕ, sym, string_bytes}
 use Rattle.py_node.specs.BuiltIns.{place_of}
 use Rattle.plain_machine.specs.Known.{the_str}
 use Rattle.native_parts.proofs.Heirs.{str-new, str-same}

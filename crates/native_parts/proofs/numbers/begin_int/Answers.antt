@@ -1,12 +1,11 @@
-use Rattle.std.proofs.Common.{◌≡◌, [], ◌∷◌, ◌∙◌, Ok, refl, sym, ap, pos}
+use Rattle.std.proofs.Common.{[], ◌∷◌, Ok, refl, pos}
 use Rattle.py_node.specs.declared.built_in.BuiltIn.TheVariants as built_in
 use Rattle.py_node.specs.declared.protocol.ProtocolTask.TheVariants as protocol
 use Rattle.py_node.specs.declared.task.Answer.TheVariants.{Value}
 use Rattle.py_node.specs.declared.task.Task.TheVariants as task
 use Rattle.plain_machine.specs.Plain.{ANumber, ReadObjects}
 use Rattle.plain_machine.specs.World.{ref}
-use Rattle.class_world.specs.Reading.{bindings, plain}
-use Rattle.native_base.specs.Say.{object_made}
+use Rattle.class_world.specs.Reading.{bindings}
 use Rattle.native_parts.specs.declared.PartsKept.TheVariants.{NewInt}
 use Rattle.native_parts.proofs.Heirs.{int-alone, int-asks, int-said, int-waits}
 use Rattle.native_parts.proofs.Made.{made-so, maker-alone, maker-asks, maker-refused}

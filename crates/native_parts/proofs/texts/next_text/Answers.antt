@@ -1,4 +1,4 @@
-use Rattle.std.proofs.Common.{◌≡◌, ◌+◌, ◌∙◌, [], ◌∷◌, drop, None, Some, ap, sym}
+use Rattle.std.proofs.Common.{◌≡◌, ◌+◌, ◌∙◌, [], ◌∷◌, drop, Some, ap, sym}
 use Rattle.std.specs.Prelude.{slice_get}
 use Rattle.class_world.proofs.Claims.{node-in}
 use Rattle.class_world.proofs.Growth.{grows-itself}

@@ -1,5 +1,4 @@
-use Rattle.std.proofs.Common.{◌≡◌, ◌++◌, ◌∙◌, ap, sym, append_assoc, string_bytes}
-use Rattle.native_parts.specs.Texts.{text_at}
+use Rattle.std.proofs.Common.{◌++◌, ◌∙◌, ap, sym, append_assoc, string_bytes}
 use Rattle.native_parts.proofs.texts.push_part.Goals as goal
 
 pub returns : goal.returns
