@@ -1,5 +1,5 @@
 -- How containers ask for the texts of their parts.
-use Rattle.std.proofs.Common.{◌≡◌, ◌∙◌, ℕ, zero, suc, ◌+◌, List, [], ◌∷◌, ◌++◌, drop, map, Option, Some, None, Result, Ok, Err, IfOk, refl, sym, subst, ap, append_assoc, append-nil, arith}
+use Rattle.std.proofs.Common.{◌≡◌, ◌∙◌, ℕ, zero, suc, ◌+◌, List, [], ◌∷◌, ◌++◌, drop, map, Some, None, Result, Ok, Err, IfOk, refl, sym, subst, ap, append_assoc, append-nil, arith}
 use Rattle.std.specs.Prelude.{slice_get}
 use Rattle.py_node.specs.declared.raised.Raised.{Raised as Fault}
 use Rattle.py_node.specs.declared.memory.OutOfMemory.{OutOfMemory}
@@ -15,7 +15,7 @@ use Rattle.py_node.specs.declared.task.Step.TheVariants.{Ask, End}
 use Rattle.plain_machine.specs.Plain.{PlainWorld, Bindings, Ended, Said, Ends, Told, Answered, ReadObjects, ToNative}
 use Rattle.plain_machine.specs.Row.{Row, end, none, noting, on_value}
 use Rattle.class_world.specs.declared.world.World.{World}
-use Rattle.class_world.specs.Reading.{Reading, Reads, bindings, plain, ended_of}
+use Rattle.class_world.specs.Reading.{Reading, bindings, plain, ended_of}
 use Rattle.class_world.specs.Rows.{EndsAs}
 use Rattle.native_containers.specs.Take.{with_lone}
 use Rattle.native_containers.specs.Asking.{as_said}
@@ -100,18 +100,16 @@ text-other c parts answer other w is e =
     ∙ (λ i. other-on answer is u (λ v. each_value u repr_task (left parts) (λ ws. as_said (text_ends u c (parts.texts.items ++ v ∷ ws)))) i more)) w w (End other) (λ t q. (q, (ap ended_of e, refl)))
 
 -- a container begins
-module _ (c : Container) (args : List PyObjectRef) (kw : List (PyStrInterned × PyObjectRef)) where
-  first-said : (u : PlainWorld) (b : Bindings) (told : Told) → told ≡ [] → parts_job_say u (ToNative (repr_of c) args b) told ≡ with_lone (kind_of c) u args b (λ o. noting (ReadObjects (parts_at u o)) (text_row u c [] (parts_at u o) []))
-  first-said u b told e = ap (parts_job_say u (ToNative (repr_of c) args b)) e ∙ of c
-    where
-      of : (c : Container) → parts_job_say u (ToNative (repr_of c) args b) [] ≡ with_lone (kind_of c) u args b (λ o. noting (ReadObjects (parts_at u o)) (text_row u c [] (parts_at u o) []))
-      unfolding parts_job_say
-      of container.Tuple = refl
-      of container.List = refl
-      of container.Dict = refl
+first-said : (c : Container) (args : List PyObjectRef) (u : PlainWorld) (b : Bindings) → parts_job_say u (ToNative (repr_of c) args b) [] ≡ with_lone (kind_of c) u args b (λ o. noting (ReadObjects (parts_at u o)) (text_row u c [] (parts_at u o) []))
+unfolding parts_job_say
+first-said container.Tuple args u b = refl
+first-said container.List args u b = refl
+first-said container.Dict args u b = refl
 
+module _ (c : Container) (args : List PyObjectRef) (kw : List (PyStrInterned × PyObjectRef)) where
   pub text-refused : (w : World) (x : Fault) → ((t : Reading) (go : PyObjectRef → Said) → with_lone (kind_of c) (plain t w) args (bindings t kw) go ≡ Ends (plain t w) (Err x)) → Starts (repr_of c) args kw w w (End (Err x))
-  text-refused w x refused = ends-starts (repr_of c) args kw w (Err x) (λ t. first-said (plain t w) (bindings t kw) [] refl ∙ refused t _)
+  text-refused w x refused = ends-starts (repr_of c) args kw w (Err x) (λ t.
+      let u = plain t w in first-said c args u (bindings t kw) ∙ refused t (λ o. noting (ReadObjects (parts_at u o)) (text_row u c [] (parts_at u o) [])))
 
   pub text-starts : (o : PyObjectRef) (parts : Parts) (old new : World) (r : Result (Step PartsKept) OutOfMemory) → ((t : Reading) (go : PyObjectRef → Said) → with_lone (kind_of c) (plain t old) args (bindings t kw) go ≡ go o) → ((t : Reading) → parts_at (plain t old) o ≡ parts.items.items) → parts.next ≡ 0 → parts.texts.items ≡ [] → IfOk r (λ step. Takes (λ u. text_row u c parts.texts.items (left parts)) old new step) → IfOk r (λ step. Starts (repr_of c) args kw old new step)
   text-starts o parts old new r given same next empty h =
@@ -120,6 +118,6 @@ module _ (c : Container) (args : List PyObjectRef) (kw : List (PyStrInterned × 
       let P : List PyObjectRef → List PyObjectRef → Type 0 = λ vs ls. IfOk r (λ step. Takes (λ u. text_row u c vs ls) old new step) in
       reading-starts-ok (repr_of c) args kw rs (λ u. text_row u c [] rs) (read-on c args rs) old new r (λ t.
       let u = plain t old in
-      first-said u (bindings t kw) [] refl
+      first-said c args u (bindings t kw)
       ∙ given t (λ o. noting (ReadObjects (parts_at u o)) (text_row u c [] (parts_at u o) []))
       ∙ (λ i. noting (ReadObjects (same t i)) (text_row u c [] (same t i) []))) (subst (λ ls. P [] ls) here (subst (λ vs. P vs (left parts)) empty h))

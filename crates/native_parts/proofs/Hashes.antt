@@ -1,5 +1,5 @@
 -- How a tuple asks for the hashes of its items.
-use Rattle.std.proofs.Common.{◌≡◌, ◌∙◌, ℕ, List, [], ◌∷◌, ◌++◌, drop, ℤ, pos, ◌+ℤ◌, ◌-ℤ◌, ◌*ℤ◌, Result, Ok, Err, IfOk, refl, sym, subst, ap, arith}
+use Rattle.std.proofs.Common.{◌≡◌, ◌∙◌, List, [], ◌∷◌, ◌++◌, drop, ℤ, pos, ◌+ℤ◌, ◌-ℤ◌, ◌*ℤ◌, Result, Ok, Err, refl, sym, subst, ap, arith}
 use Rattle.std.specs.Int.{w64, int_wrap}
 use Rattle.std.proofs.lemmas.Int.{int_wrap-add_same, int_wrap-mul_left, ints}
 use Rattle.py_node.specs.declared.raised.Raised.{Raised as Fault}
@@ -15,12 +15,13 @@ use Rattle.py_node.specs.declared.task.Task.TheVariants as task
 use Rattle.py_node.specs.declared.task.Step.{Step}
 use Rattle.py_node.specs.declared.task.Step.TheVariants.{Ask, End}
 use Rattle.plain_machine.specs.Plain.{PlainWorld, Bindings, Ended, Said, Ends, Told, Answered, ReadObjects, ToNative}
-use Rattle.plain_machine.specs.Row.{Row, end, none, noting, on_number}
+use Rattle.plain_machine.specs.Row.{Row, end, noting, on_number}
 use Rattle.class_world.specs.declared.world.World.{World}
-use Rattle.class_world.specs.Reading.{Reading, Reads, bindings, plain, ended_of}
+use Rattle.class_world.specs.Reading.{Reading, bindings, plain, ended_of}
 use Rattle.native_containers.specs.declared.take.Kind.TheVariants as kind
 use Rattle.native_containers.specs.Take.{with_lone}
 use Rattle.native_numbers.specs.Numbers.{number_hash}
+use Rattle.native_parts.specs.declared.PartsKept.{PartsKept}
 use Rattle.native_parts.specs.declared.PartsKept.TheVariants.{Hashes}
 use Rattle.native_parts.specs.declared.hash.Hashing.{Hashing}
 use Rattle.native_parts.specs.Rows.{IsNoNumber, Resumes, Starts, Takes, left_to_hash, parts_stands}
@@ -51,19 +52,19 @@ unfolding parts_job_say
 hash-on t hashing u r more = λ i. on_number u r (λ n. hash_row u (rehash hashing.hash n i) (left_to_hash hashing)) more
 
 -- the next item is asked
-pub hash-asks : (w : World) (item : PyObjectRef) (later : Hashing) (rs : List PyObjectRef) → rs ≡ item ∷ left_to_hash later → Takes (λ u. hash_row u later.hash rs) w w (Ask (task.Object (object.Hash item)) (Hashes later))
-hash-asks w item later rs e =
-    let P : List PyObjectRef → Type 0 = λ rs. Takes (λ u. hash_row u later.hash rs) w w (Ask (task.Object (object.Hash item)) (Hashes later)) in
-    subst P (sym e) (λ t q. (q, (refl, refl, λ u r more. sym (hash-on t later u r more))))
+pub hash-asks : (w : World) (item : PyObjectRef) (h : ℤ) (later : Hashing) (rs : List PyObjectRef) → later.hash ≡ h → rs ≡ item ∷ left_to_hash later → Takes (λ u. hash_row u h rs) w w (Ask (task.Object (object.Hash item)) (Hashes later))
+hash-asks w item h later rs same e =
+    let P : ℤ → List PyObjectRef → Type 0 = λ z ls. Takes (λ u. hash_row u z ls) w w (Ask (task.Object (object.Hash item)) (Hashes later)) in
+    subst (λ z. P z rs) same (subst (λ ls. P later.hash ls) (sym e) (λ t q. (q, (refl, refl, λ u r more. sym (hash-on t later u r more)))))
 
 -- past all items
-pub hash-finish : (w : World) (h : ℤ) (rs : List PyObjectRef) → rs ≡ [] → Takes (λ u. hash_row u h rs) w w (End (Ok (Number h)))
-hash-finish w h rs e =
-    let P : List PyObjectRef → Type 0 = λ rs. Takes (λ u. hash_row u h rs) w w (End (Ok (Number h))) in
-    subst P (sym e) (λ t q. (q, (refl, refl)))
+pub hash-finish : (w : World) (n h : ℤ) (rs : List PyObjectRef) → n ≡ h → rs ≡ [] → Takes (λ u. hash_row u h rs) w w (End (Ok (Number n)))
+hash-finish w n h rs same e =
+    let P : ℤ → List PyObjectRef → Type 0 = λ z ls. Takes (λ u. hash_row u z ls) w w (End (Ok (Number n))) in
+    subst (λ z. P z rs) same (subst (λ ls. P n ls) (sym e) (λ t q. (q, (refl, refl))))
 
 -- an item answered
-pub hash-more : (hashing later : Hashing) (answer : Result Answer Fault) (n : ℤ) (w : World) (step : Step _) → answer ≡ Ok (Number n) → later.hash ≡ hashed_on hashing.hash n → left_to_hash later ≡ left_to_hash hashing → Takes (λ u. hash_row u later.hash (left_to_hash later)) w w step → Resumes (Hashes hashing) answer w w step
+pub hash-more : (hashing later : Hashing) (answer : Result Answer Fault) (n : ℤ) (w : World) (step : Step PartsKept) → answer ≡ Ok (Number n) → later.hash ≡ hashed_on hashing.hash n → left_to_hash later ≡ left_to_hash hashing → Takes (λ u. hash_row u later.hash (left_to_hash later)) w w step → Resumes (Hashes hashing) answer w w step
 hash-more hashing later answer n w step is more same h =
     resumes-takes (Hashes hashing) answer (λ u. hash_row u later.hash (left_to_hash later)) (λ t u told.
     hash-on t hashing u (ended_of answer) told
@@ -95,9 +96,9 @@ module _ (args : List PyObjectRef) (kw : List (PyStrInterned × PyObjectRef)) wh
   first-said u b = refl
 
   pub hash-refused : (w : World) (x : Fault) → ((t : Reading) (go : PyObjectRef → Said) → with_lone kind.Tuple (plain t w) args (bindings t kw) go ≡ Ends (plain t w) (Err x)) → Starts (OfTuple tuple.Hash) args kw w w (End (Err x))
-  hash-refused w x refused = ends-starts (OfTuple tuple.Hash) args kw w (Err x) (λ t. first-said (plain t w) (bindings t kw) ∙ refused t _)
+  hash-refused w x refused = ends-starts (OfTuple tuple.Hash) args kw w (Err x) (λ t. first-said (plain t w) (bindings t kw) ∙ refused t (λ o. noting (ReadObjects (parts_at (plain t w) o)) (hash_row (plain t w) (pos 1) (parts_at (plain t w) o) [])))
 
-  pub hash-starts : (o : PyObjectRef) (hashing : Hashing) (w : World) (step : Step _) → ((t : Reading) (go : PyObjectRef → Said) → with_lone kind.Tuple (plain t w) args (bindings t kw) go ≡ go o) → ((t : Reading) → parts_at (plain t w) o ≡ hashing.items.items) → hashing.next ≡ 0 → hashing.hash ≡ pos 1 → Takes (λ u. hash_row u hashing.hash (left_to_hash hashing)) w w step → Starts (OfTuple tuple.Hash) args kw w w step
+  pub hash-starts : (o : PyObjectRef) (hashing : Hashing) (w : World) (step : Step PartsKept) → ((t : Reading) (go : PyObjectRef → Said) → with_lone kind.Tuple (plain t w) args (bindings t kw) go ≡ go o) → ((t : Reading) → parts_at (plain t w) o ≡ hashing.items.items) → hashing.next ≡ 0 → hashing.hash ≡ pos 1 → Takes (λ u. hash_row u hashing.hash (left_to_hash hashing)) w w step → Starts (OfTuple tuple.Hash) args kw w w step
   hash-starts o hashing w step given same next one h =
       let rs = hashing.items.items in
       let here : left_to_hash hashing ≡ rs = ap (λ n. drop n rs) next in

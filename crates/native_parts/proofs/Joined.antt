@@ -1,5 +1,5 @@
 -- The text of a container, as it is put together.
-use Rattle.std.proofs.Common.{◌≡◌, ◌∙◌, ℕ, suc, ◌+◌, ◌<◌, ◌≤◌, Bool, true, false, cond, List, [], ◌∷◌, ◌++◌, length, get_or, drop, map, Result, Ok, Err, nat_le, refl, sym, ap, arith, append_assoc, append-nil, length-append}
+use Rattle.std.proofs.Common.{◌≡◌, ◌∙◌, ℕ, suc, ◌+◌, ◌<◌, ◌≤◌, true, false, cond, List, ◌∷◌, ◌++◌, length, get_or, drop, Ok, Err, nat_le, refl, sym, ap, arith, append_assoc, append-nil, length-append}
 use Rattle.std.proofs.Common.{tests}
 use Rattle.std.proofs.lemmas.List.{drop_all, drop_more, length-map}
 use Rattle.py_node.specs.declared.raised.Cause.TheVariants.{TooLong}

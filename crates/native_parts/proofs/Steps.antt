@@ -11,7 +11,7 @@ use Rattle.py_node.specs.declared.task.Step.TheVariants.{Ask, End}
 use Rattle.plain_machine.specs.Plain.{PlainWorld, Bindings, Said, Asks, Ends, Told, Answered, ReadObjects, ToNative}
 use Rattle.plain_machine.specs.Row.{Row, noting}
 use Rattle.class_world.specs.declared.world.World.{World}
-use Rattle.class_world.specs.Reading.{Reading, Reads, bindings, plain, ended_of}
+use Rattle.class_world.specs.Reading.{Reading, bindings, plain, ended_of}
 use Rattle.class_world.specs.Rows.{EndsAs, Steps}
 use Rattle.native_parts.specs.declared.PartsKept.{PartsKept}
 use Rattle.native_parts.specs.Rows.{Resumes, Starts, Takes, TakesAt, parts_stands}

@@ -8,7 +8,6 @@ use Rattle.plain_machine.specs.Objects.{class_object, with_datum}
 use Rattle.plain_machine.specs.Plain.{AText, ATuple, AList, PlainWorld, Bindings, DoCollect, DoStr, PlainTask, ToProtocol, ToObject, Ended, ReadObjects, Said, Asks, Ends}
 use Rattle.plain_machine.specs.Row.{Row, value, none, fault, on_value}
 use Rattle.plain_machine.specs.Takes.{without_keywords}
-use Rattle.plain_machine.specs.World.{datum_at}
 use Rattle.native_base.specs.Say.{object_made}
 use Rattle.native_containers.specs.declared.take.Kind.TheVariants as kind
 use Rattle.native_containers.specs.Take.{with_own}

@@ -98,11 +98,15 @@ pub(crate) fn one_at_most(
     ensures node { IfOk result (λ o. IfSome o (λ r. (w : Held) → Holds w (AreNodes args.now) → Holds w (IsNode r))) }
 {
     if args.len() == 2 {
-        let (_, other) = two(args, kw)?;
-        Ok(Some(other))
+        match two(args, kw) {
+            Err(raised) => Err(raised),
+            Ok((_object, other)) => Ok(Some(other)),
+        }
     } else {
-        let _ = one(args, kw)?;
-        Ok(None)
+        match one(args, kw) {
+            Err(raised) => Err(raised),
+            Ok(_object) => Ok(None),
+        }
     }
 }
 
