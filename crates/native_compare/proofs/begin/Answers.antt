@@ -1,4 +1,4 @@
-use Rattle.std.proofs.Common.{◌≡◌, ap}
+use Rattle.std.proofs.Common.{◌≡◌, ◌∙◌, ap}
 use Rattle.py_node.specs.declared.built_in.BuiltIn.TheVariants as built_in
 use Rattle.py_node.specs.declared.entry.NativeEntry.TheVariants.{Compare}
 use Rattle.class_world.specs.Reading.{bindings}
@@ -12,7 +12,8 @@ pub returns-in-Compare-Tuple-default-clause-goes : goal.returns-in-Compare-Tuple
 returns-in-Compare-Tuple-default-clause-goes c =
     let a = c.args in
     let i = c.in-Compare-Tuple-default in
-    let is : a.entry ≡ Compare built_in.Tuple i.native = cc (i.is, i.field-0-is, i.native-is) in
+    let class = rw i.is at i.field-0-is in
+    let is : a.entry ≡ Compare built_in.Tuple i.native = i.is ∙ ap (λ b. Compare b i.native) class in
     let goes = rw (c.deref.ensures.value, c.deref-in-Compare-Tuple-default.ensures.value) at c.sequences.ensures.goes in
     begins-ok a.entry i.native a.args a.kw (λ t u. sequences_by kind.Tuple u i.native a.args.items (bindings t a.kw.items)) a.world.now c.sequences.result (λ t u. ap (λ e. compare_native_say u e a.args.items (bindings t a.kw.items)) is) goes
 
@@ -20,7 +21,8 @@ pub returns-in-Compare-List-default-clause-goes : goal.returns-in-Compare-List-d
 returns-in-Compare-List-default-clause-goes c =
     let a = c.args in
     let i = c.in-Compare-List-default in
-    let is : a.entry ≡ Compare built_in.List i.native = cc (i.is, i.field-0-is, i.native-is) in
+    let class = rw i.is at i.field-0-is in
+    let is : a.entry ≡ Compare built_in.List i.native = i.is ∙ ap (λ b. Compare b i.native) class in
     let goes = rw (c.deref-in-Compare-List-default.ensures.value, c.deref-in-Compare-List-default-2.ensures.value) at c.sequences-in-Compare-List-default.ensures.goes in
     begins-ok a.entry i.native a.args a.kw (λ t u. sequences_by kind.List u i.native a.args.items (bindings t a.kw.items)) a.world.now c.sequences-in-Compare-List-default.result (λ t u. ap (λ e. compare_native_say u e a.args.items (bindings t a.kw.items)) is) goes
 
@@ -28,6 +30,7 @@ pub returns-in-Compare-Dict-default-clause-goes : goal.returns-in-Compare-Dict-d
 returns-in-Compare-Dict-default-clause-goes c =
     let a = c.args in
     let i = c.in-Compare-Dict-default in
-    let is : a.entry ≡ Compare built_in.Dict i.native = cc (i.is, i.field-0-is, i.native-is) in
+    let class = rw i.is at i.field-0-is in
+    let is : a.entry ≡ Compare built_in.Dict i.native = i.is ∙ ap (λ b. Compare b i.native) class in
     let goes = rw (c.deref-in-Compare-Dict-default.ensures.value, c.deref-in-Compare-Dict-default-2.ensures.value) at c.dicts.ensures.goes in
     begins-ok a.entry i.native a.args a.kw (λ t u. dicts_by u i.native a.args.items (bindings t a.kw.items)) a.world.now c.dicts.result (λ t u. ap (λ e. compare_native_say u e a.args.items (bindings t a.kw.items)) is) goes
