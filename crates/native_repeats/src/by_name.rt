@@ -19,25 +19,28 @@ use crate::repeated::native_repeat;
 use class_world::World;
 use py_node::{Answer, Cause, OutOfMemory, Payload, PyObjectRef, Raised, Step};
 
-/// What a native is to repeat, or why it is refused.
-pub(crate) fn own_sequence(
+/// Whether the first argument is what a native repeats. Else it is refused.
+///
+/// # Errors
+///
+/// `ArgCount` where there is no argument, and `SelfType` where the first is of another kind.
+pub(crate) fn check_sequence(
     world: &World,
     kind: Repeated,
     args: &[PyObjectRef],
-) -> Result<PyObjectRef, Raised>
+) -> Result<(), Raised>
     requires { Holds world.now (AreNodes args.now) }
-    ensures given { IfOk result (λ o. (t : Reading) (kw : Bindings) →
+    ensures given { IfOk result (λ u. (t : Reading) (kw : Bindings) →
         repeat_by_name (plain t world.now) (entry_of kind) args.now kw ≡ with_two (plain t world.now) args.now kw
         (λ a k. Asks (plain t world.now) (ReadObjects (a ∷ []) ∷ []) (ToProtocol (DoIndex k)))) }
     ensures refused { IfErr result (λ x. (t : Reading) (kw : Bindings) →
         repeat_by_name (plain t world.now) (entry_of kind) args.now kw ≡ Ends (plain t world.now) (Err x)) }
-    ensures node { IfOk result (λ o. Holds world.now (IsNode o)) }
 {
     match args {
         [] => Err(Raised::new(Cause::ArgCount)),
         [object, ..] => {
             if is_sequence(world, kind, *object) {
-                Ok(*object)
+                Ok(())
             } else {
                 Err(Raised::new(Cause::SelfType))
             }

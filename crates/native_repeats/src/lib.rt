@@ -17,7 +17,7 @@ mod repeated;
 pub use count::{check_repeat_or_overflow_error, count_in};
 pub use repeated::native_repeat;
 
-use crate::by_name::{given, own_sequence};
+use crate::by_name::{check_sequence, given};
 use crate::kind::{Repeated, kind_of};
 use class_world::World;
 use class_world::takes::two;
@@ -70,11 +70,11 @@ fn begin_kind(
     ensures goes { Enters entry args.now kw.now world.now result }
     ensures safe { AllHold world.now (of_step of_repeat_kept result) }
 {
-    match own_sequence(world, kind, args) {
+    match check_sequence(world, kind, args) {
         Err(raised) => Step::End(Err(raised)),
-        Ok(object) => match two(args, kw) {
+        Ok(()) => match two(args, kw) {
             Err(raised) => Step::End(Err(raised)),
-            Ok((_, index)) => Step::Ask(
+            Ok((object, index)) => Step::Ask(
                 Task::Protocol(ProtocolTask::Index(index)),
                 RepeatKept { kind, object },
             ),
