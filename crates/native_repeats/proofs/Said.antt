@@ -1,5 +1,5 @@
 -- What is repeated, where it is known what an object holds.
-use Rattle.std.proofs.Common.{◌≡◌, List, Option, Some, Ok, Err, sym, ap, ◌∙◌}
+use Rattle.std.proofs.Common.{◌≡◌, List, Some, Ok, Err, sym, ap, ◌∙◌}
 use Rattle.std.specs.Global.{Vec}
 use Rattle.std.specs.Prelude.{ℤ, Result, IfErr, IfOk}
 use Rattle.py_node.specs.declared.entry.ListNative.{ListNative}

@@ -1,5 +1,5 @@
 -- The steps of a repetition by name.
-use Rattle.std.proofs.Common.{◌≡◌, List, [], ◌∷◌, ◌++◌, Option, Some, None, Ok, Err, refl, sym, ap, ◌∙◌, subst}
+use Rattle.std.proofs.Common.{◌≡◌, List, [], ◌∷◌, Option, Some, None, Ok, Err, refl, sym, ap, ◌∙◌, subst}
 use Rattle.std.specs.Prelude.{ℤ, Result}
 use Rattle.py_node.specs.declared.entry.NativeEntry.{NativeEntry}
 use Rattle.py_node.specs.declared.protocol.ProtocolTask.TheVariants as protocol
@@ -15,7 +15,7 @@ use Rattle.plain_machine.specs.Plain.{PlainWorld, Bindings, Answered, ReadObject
 use Rattle.plain_machine.specs.Row.{Row, not_yet, value, within_index}
 use Rattle.plain_machine.specs.World.{datum_at, number_of}
 use Rattle.class_world.specs.declared.world.World.{World}
-use Rattle.class_world.specs.Reading.{Reading, bindings, ended_of, plain}
+use Rattle.class_world.specs.Reading.{Reading, bindings, plain}
 use Rattle.class_world.specs.Rows.{EndsAs, Steps}
 use Rattle.native_base.specs.Repeats.{native_repeat}
 use Rattle.native_containers.specs.Asking.{as_said, with_read}

@@ -14,16 +14,15 @@ mod count;
 pub mod kind;
 mod repeated;
 
-pub use count::{check_repeat_or_overflow_error, count_in};
-pub use repeated::native_repeat;
-
 use crate::by_name::{check_sequence, given};
 use crate::kind::{Repeated, kind_of};
 use class_world::World;
 use class_world::takes::two;
+pub use count::{check_repeat_or_overflow_error, count_in};
 use py_node::protocol::ProtocolTask;
 use py_node::task::{Args, Keywords};
 use py_node::{Answer, NativeEntry, OutOfMemory, PyObjectRef, PyStrInterned, Raised, Step, Task};
+pub use repeated::native_repeat;
 
 /// What a repetition by name keeps while it waits for the index that tells how often.
 #[derive(Clone, Copy, Drop)]

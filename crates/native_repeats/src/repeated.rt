@@ -78,11 +78,7 @@ fn repeat_text(
 }
 
 // A text so many times, unless that is too long.
-fn repeat_bytes(
-    alloc: Global,
-    text: &str,
-    n: i64,
-) -> Result<Result<String, Raised>, OutOfMemory>
+fn repeat_bytes(alloc: Global, text: &str, n: i64) -> Result<Result<String, Raised>, OutOfMemory>
     ensures given { IfOk result (λ r. IfOk r (λ x. (w : PlainWorld) (go : Text → Said) →
         with_times w n text.now go ≡ go (string_bytes x))) }
     ensures refused { IfOk result (λ r. IfErr r (λ x. (w : PlainWorld) (go : Text → Said) →

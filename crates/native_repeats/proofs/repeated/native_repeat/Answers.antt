@@ -1,10 +1,10 @@
-use Rattle.std.proofs.Common.{◌≡◌, Some, Ok, Err, ap, ◌∙◌}
+use Rattle.std.proofs.Common.{Some, ap, ◌∙◌}
 use Rattle.std.proofs.lemmas.Int.{to_z-of_z}
 use Rattle.class_world.specs.Reading.{datum, plain}
 use Rattle.native_base.specs.Repeats.{native_repeat}
 use Rattle.native_containers.proofs.Ends.{same-if}
 use Rattle.native_repeats.specs.Say.{ended_with}
-use Rattle.native_repeats.proofs.Said.{list-says, tuple-says}
+use Rattle.native_repeats.proofs.Said.{tuple-says}
 use Rattle.native_repeats.proofs.repeated.native_repeat.Goals as goal
 
 pub returns-in_ok-all-in-Tuple-clause-ends : goal.returns-in_ok-all-in-Tuple-clause-ends

@@ -1,4 +1,4 @@
-use Rattle.std.proofs.Common.{◌≡◌, Some, Ok, Err, ap, ◌∙◌}
+use Rattle.std.proofs.Common.{Some, Ok, Err, ap, ◌∙◌}
 use Rattle.std.proofs.lemmas.Int.{to_z-of_z}
 use Rattle.std.specs.Prelude.{string_bytes}
 use Rattle.py_node.specs.declared.entry.NativeEntry.TheVariants.{OfStr}
