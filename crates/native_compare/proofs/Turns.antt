@@ -59,8 +59,8 @@ kept-on t k u r more =
     ∙ ap (λ rest. answered u k.way k.last r (in_turn u k.way k.last rest) more) (zip-apart ps)
 
 -- the items that are left are those at this place and those after it
-pub left-here : (k later : ComparedKept) (x y : PyObjectRef) → k.next < length k.first.items → k.next < length k.second.items → later.first ≡ k.first → later.second ≡ k.second → later.next ≡ k.next + 1 → left k ≡ (get_or k.first.items k.next x, get_or k.second.items k.next y) ∷ left later
-left-here k later x y a b first second next =
+pub left-here : (k later : ComparedKept) (x y : PyObjectRef) → k.next < length k.first.items → k.next < length k.second.items → later.first ≡ k.first → later.second ≡ k.second → later.next ≡ k.next + 1 → x ≡ get_or k.first.items k.next x → y ≡ get_or k.second.items k.next y → left k ≡ (x, y) ∷ left later
+left-here k later x y a b first second next x-is y-is =
     let next-is : suc k.next ≡ later.next = omega arith in
     let rest = ap (λ n. zip (drop n k.first.items) (drop n k.second.items)) next-is
     ∙ ap (λ v. zip (drop later.next v.items) (drop later.next k.second.items)) (sym first)
@@ -68,6 +68,8 @@ left-here k later x y a b first second next =
     ap (λ xs. zip xs (drop k.next k.second.items)) (drop-cons k.first.items k.next x a)
     ∙ ap (λ ys. zip (get_or k.first.items k.next x ∷ drop (suc k.next) k.first.items) ys) (drop-cons k.second.items k.next y b)
     ∙ ap (λ ps. (get_or k.first.items k.next x, get_or k.second.items k.next y) ∷ ps) rest
+    ∙ ap (λ v. (v, get_or k.second.items k.next y) ∷ left later) (sym x-is)
+    ∙ ap (λ v. (x, v) ∷ left later) (sym y-is)
 
 nothing : Objects
 nothing = []

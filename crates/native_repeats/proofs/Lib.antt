@@ -1,2 +1,3 @@
-pub mod Repeats
+pub mod Lists
+pub mod Said
 pub mod Steps

@@ -1,5 +1,5 @@
 -- What the natives say that repeat a text, a tuple or a list by name.
-use Rattle.std.specs.Prelude.{Bool, true, false, List, [], ◌∷◌, Option, Some, None, Result, Ok, Err}
+use Rattle.std.specs.Prelude.{Bool, List, [], ◌∷◌, Option, Some, None, is_some, Result, Ok, Err}
 use Rattle.std.specs.Global.{Vec}
 use Rattle.py_node.specs.declared.refs.PyObjectRef.{PyObjectRef}
 use Rattle.py_node.specs.declared.entry.StrNative.TheVariants as str
@@ -9,53 +9,60 @@ use Rattle.py_node.specs.declared.entry.NativeEntry.{NativeEntry}
 use Rattle.py_node.specs.declared.entry.NativeEntry.TheVariants.{OfStr, OfTuple, OfList}
 use Rattle.py_node.specs.declared.raised.Raised.{Raised as Fault}
 use Rattle.py_node.specs.declared.raised.Cause.TheVariants.{ArgCount, SelfType}
-use Rattle.plain_machine.specs.Plain.{Datum, ATuple, AList, PlainWorld, PlainTask, ToNative, Bindings, DoIndex, ToProtocol, Ended, ReadObjects, Said, Asks, Ends}
+use Rattle.plain_machine.specs.Plain.{Datum, PlainWorld, Bindings, DoIndex, PlainTask, ToNative, ToProtocol, Ended, ReadObjects, Said, Asks, Ends}
 use Rattle.plain_machine.specs.World.{datum_at}
-use Rattle.plain_machine.specs.Row.{Row, start, end, fault, not_yet}
+use Rattle.plain_machine.specs.Row.{Row, end, fault, not_yet}
 use Rattle.plain_machine.specs.Takes.{with_two}
-use Rattle.native_base.specs.Repeats.{list_repeated, on_count, sequence_for, repeated}
-use Rattle.native_containers.specs.Asking.{with_read}
+use Rattle.native_base.specs.Repeats.{list_repeated, native_repeat, on_count, sequence_for}
+use Rattle.native_containers.specs.Asking.{as_said, with_read}
 use Rattle.native_containers.specs.Say.{tuple_made}
+use Rattle.native_repeats.specs.declared.kind.Repeated.{Repeated}
+use Rattle.native_repeats.specs.declared.kind.Repeated.TheVariants as repeated
 
--- a sequence is repeated by name as it stood before the number was asked for
+-- the natives that repeat by name
+abbrev pub entry_of : Repeated → NativeEntry
+entry_of repeated.Text = OfStr str.Multiply
+entry_of repeated.RightText = OfStr str.RightMultiply
+entry_of repeated.Tuple = OfTuple tuple.Multiply
+entry_of repeated.RightTuple = OfTuple tuple.RightMultiply
+entry_of repeated.List = OfList list.Multiply
+entry_of repeated.RightList = OfList list.RightMultiply
+entry_of repeated.ListInPlace = OfList list.InplaceMultiply
 
--- whether a native is one of these
+-- which of these one is, if it is one
+abbrev pub kind_of : NativeEntry → Option Repeated
+kind_of (OfStr str.Multiply) = Some repeated.Text
+kind_of (OfStr str.RightMultiply) = Some repeated.RightText
+kind_of (OfTuple tuple.Multiply) = Some repeated.Tuple
+kind_of (OfTuple tuple.RightMultiply) = Some repeated.RightTuple
+kind_of (OfList list.Multiply) = Some repeated.List
+kind_of (OfList list.RightMultiply) = Some repeated.RightList
+kind_of (OfList list.InplaceMultiply) = Some repeated.ListInPlace
+kind_of _ = None
+
 abbrev pub repeats : NativeEntry → Bool
-repeats (OfStr str.Multiply) = true
-repeats (OfStr str.RightMultiply) = true
-repeats (OfTuple tuple.Multiply) = true
-repeats (OfTuple tuple.RightMultiply) = true
-repeats (OfList list.Multiply) = true
-repeats (OfList list.RightMultiply) = true
-repeats (OfList list.InplaceMultiply) = true
-repeats _ = false
+repeats n = is_some (kind_of n)
 
--- what was read: the object, and its items
-abbrev pub items_read : Datum → List PyObjectRef
-items_read (ATuple rs) = rs
-items_read (AList rs) = rs
-items_read _ = []
-
+-- an object of the native's kind, and the index that another one stands for is asked
 abbrev pub repeat_of : PlainWorld → Option Datum → List PyObjectRef → Bindings → Said
 repeat_of w None args kw = Ends w (fault SelfType)
-repeat_of w (Some d) args kw = with_two w args kw (λ o k. Asks w (ReadObjects (o ∷ items_read d) ∷ []) (ToProtocol (DoIndex k)))
+repeat_of w (Some d) args kw = with_two w args kw (λ o k. Asks w (ReadObjects (o ∷ []) ∷ []) (ToProtocol (DoIndex k)))
 
 abbrev pub repeat_by_name : PlainWorld → NativeEntry → List PyObjectRef → Bindings → Said
 repeat_by_name w n [] kw = Ends w (fault ArgCount)
 repeat_by_name w n (o ∷ args) kw = repeat_of w (sequence_for n (datum_at w o)) (o ∷ args) kw
 
--- what is repeated: the items of before, or a text as it is
-abbrev pub repeated_datum : PlainWorld → NativeEntry → PyObjectRef → List PyObjectRef → Option Datum
-repeated_datum w (OfTuple n) o rs = Some (ATuple rs)
-repeated_datum w (OfList n) o rs = Some (AList rs)
-repeated_datum w n o rs = sequence_for n (datum_at w o)
-
+-- it is repeated as it stands then
 abbrev pub repeat_rest : PlainWorld → NativeEntry → List PyObjectRef → Ended → Row
 repeat_rest w n [] r = end w r
-repeat_rest w n (o ∷ rs) r = on_count w r (λ z. start (repeated w n o z (repeated_datum w n o rs)) (end w))
+repeat_rest w n (o ∷ rs) r = on_count w r (λ z. as_said (native_repeat w n o z))
+
+abbrev pub repeat_by_kind : PlainWorld → Option Repeated → List PyObjectRef → Bindings → Row
+repeat_by_kind w None args kw = end w not_yet
+repeat_by_kind w (Some k) args kw = with_read (repeat_by_name w (entry_of k) args kw) (repeat_rest w (entry_of k))
 
 abbrev pub repeat_native_say : PlainWorld → NativeEntry → List PyObjectRef → Bindings → Row
-repeat_native_say w n args kw = with_read (repeat_by_name w n args kw) (repeat_rest w n)
+repeat_native_say w n args kw = repeat_by_kind w (kind_of n) args kw
 
 -- these natives, as a group of rows
 unfoldable pub repeat_job_say : PlainWorld → PlainTask → Row

@@ -1,6 +1,7 @@
 //! Repetition by name.
 
-ghost use Rattle.std.specs.Prelude.{◌≡◌, [], ◌∷◌, Err, IfErr, IfOk, IfSome, Ok, option_map};
+ghost use Rattle.std.specs.Prelude.{◌≡◌, [], ◌∷◌, Err, IfErr, IfOk, Ok, is_some};
+ghost use Rattle.py_node.specs.declared.task.Answer.TheVariants as answer;
 ghost use Rattle.plain_machine.specs.Plain.{Asks, Bindings, DoIndex, Ends, ReadObjects, ToProtocol};
 ghost use Rattle.plain_machine.specs.Takes.{with_two};
 ghost use Rattle.plain_machine.specs.World.{datum_at};
@@ -8,75 +9,55 @@ ghost use Rattle.class_world.specs.Claims.{Leaves};
 ghost use Rattle.class_world.specs.Reading.{Reading, plain};
 ghost use Rattle.class_world.specs.Sound.{AllHold, AreNodes, Holds, IsNode};
 ghost use Rattle.native_base.specs.Repeats.{sequence_for};
-ghost use Rattle.native_repeats.specs.Rows.{Resumes, of_place, of_repeat_kept};
-ghost use Rattle.native_repeats.specs.Say.{items_read, repeat_by_name};
+ghost use Rattle.native_repeats.specs.Rows.{Resumes, of_repeat_kept};
+ghost use Rattle.native_repeats.specs.Say.{entry_of, repeat_by_name};
 
 use crate::RepeatKept;
 use crate::count::count_in;
-use crate::repeated::repeat_kept;
+use crate::kind::{Repeated, entry_of};
+use crate::repeated::native_repeat;
 use class_world::World;
-use class_world::args::copy_args;
-use py_node::task::Args;
-use py_node::{Answer, Cause, NativeEntry, OutOfMemory, Payload, PyObjectRef, Raised, Step};
+use py_node::{Answer, Cause, OutOfMemory, Payload, PyObjectRef, Raised, Step};
 
-/// What a native is to repeat, with its items as they stand, or why it is refused.
-pub(crate) fn own_items(
+/// Whether the first argument is what a native repeats. Else it is refused.
+///
+/// # Errors
+///
+/// `ArgCount` where there is no argument, and `SelfType` where the first is of another kind.
+pub(crate) fn check_sequence(
     world: &World,
-    entry: NativeEntry,
+    kind: Repeated,
     args: &[PyObjectRef],
-) -> Result<Result<(PyObjectRef, Args), Raised>, OutOfMemory>
+) -> Result<(), Raised>
     requires { Holds world.now (AreNodes args.now) }
-    ensures given { IfOk result (λ r. IfOk r (λ p. (t : Reading) (kw : Bindings) →
-        repeat_by_name (plain t world.now) entry args.now kw ≡ with_two (plain t world.now) args.now kw
-        (λ o k. Asks (plain t world.now) (ReadObjects (p.0 ∷ p.1.items) ∷ []) (ToProtocol (DoIndex k))))) }
-    ensures refused { IfOk result (λ r. IfErr r (λ x. (t : Reading) (kw : Bindings) →
-        repeat_by_name (plain t world.now) entry args.now kw ≡ Ends (plain t world.now) (Err x))) }
-    ensures node { IfOk result (λ r. IfOk r (λ p. Holds world.now (IsNode p.0))) }
-    ensures items { IfOk result (λ r. IfOk r (λ p. Holds world.now (AreNodes p.1.items))) }
-    ensures place { IfOk result (λ r. IfOk r (λ p. AllHold world.now (of_place entry p.0))) }
+    ensures given { IfOk result (λ u. (t : Reading) (kw : Bindings) →
+        repeat_by_name (plain t world.now) (entry_of kind) args.now kw ≡ with_two (plain t world.now) args.now kw
+        (λ a k. Asks (plain t world.now) (ReadObjects (a ∷ []) ∷ []) (ToProtocol (DoIndex k)))) }
+    ensures refused { IfErr result (λ x. (t : Reading) (kw : Bindings) →
+        repeat_by_name (plain t world.now) (entry_of kind) args.now kw ≡ Ends (plain t world.now) (Err x)) }
 {
     match args {
-        [] => Ok(Err(Raised::new(Cause::ArgCount))),
-        [object, ..] => match items_of(world, entry, *object)? {
-            None => Ok(Err(Raised::new(Cause::SelfType))),
-            Some(items) => Ok(Ok((*object, items))),
-        },
+        [] => Err(Raised::new(Cause::ArgCount)),
+        [object, ..] => {
+            if is_sequence(world, kind, *object) {
+                Ok(())
+            } else {
+                Err(Raised::new(Cause::SelfType))
+            }
+        }
     }
 }
 
-// The items of an object that a native repeats, if it is of its kind. A text has none.
-fn items_of(
-    world: &World,
-    entry: NativeEntry,
-    object: PyObjectRef,
-) -> Result<Option<Args>, OutOfMemory>
+// Whether an object is of the kind that a native repeats.
+fn is_sequence(world: &World, kind: Repeated, object: PyObjectRef) -> bool
     requires { Holds world.now (IsNode object) }
-    ensures items { IfOk result (λ o. (t : Reading) →
-        option_map items_read (sequence_for entry (datum_at (plain t world.now) object)) ≡
-        option_map (λ rs. rs.items) o) }
-    ensures nodes { IfOk result (λ o. IfSome o (λ rs. Holds world.now (AreNodes rs.items))) }
-    ensures place { IfOk result (λ o. IfSome o (λ rs. AllHold world.now (of_place entry object))) }
+    ensures { (t : Reading) → is_some (sequence_for (entry_of kind) (datum_at (plain t world.now) object)) ≡ result }
 {
-    match entry {
-        NativeEntry::OfStr(_) => match world.payload(object) {
-            Payload::Text(_) => Ok(Some(Vec::new(world.alloc()))),
-            _ => Ok(None),
-        },
-        NativeEntry::OfTuple(_) => match world.payload(object) {
-            Payload::Tuple(items) => {
-                let items = copy_args(world.alloc(), items)?;
-                Ok(Some(items))
-            }
-            _ => Ok(None),
-        },
-        NativeEntry::OfList(_) => match world.payload(object) {
-            Payload::List(items) => {
-                let items = copy_args(world.alloc(), items)?;
-                Ok(Some(items))
-            }
-            _ => Ok(None),
-        },
-        _ => Ok(None),
+    match (kind, world.payload(object)) {
+        (Repeated::Text | Repeated::RightText, Payload::Text(_)) => true,
+        (Repeated::Tuple | Repeated::RightTuple, Payload::Tuple(_)) => true,
+        (Repeated::List | Repeated::RightList | Repeated::ListInPlace, Payload::List(_)) => true,
+        _ => false,
     }
 }
 
@@ -88,13 +69,13 @@ pub(crate) fn given(
 ) -> Result<Step<RepeatKept>, OutOfMemory>
     requires kept { AllHold world.old (of_repeat_kept kept) }
     requires index { Holds world.old (IsNode index) }
-    ensures goes { IfOk result (λ step. Resumes kept (Ok (Answer.Value index)) world.old world.new step) }
+    ensures goes { IfOk result (λ step. Resumes kept (Ok (answer.Value index)) world.old world.new step) }
     ensures safe { Leaves of_repeat_kept world.old world.new result }
 {
     match count_in(world.number(index)) {
         Err(raised) => Ok(Step::End(Err(raised))),
         Ok(n) => {
-            let ended = repeat_kept(world, kept, n)?;
+            let ended = native_repeat(world, entry_of(kept.kind), kept.object, n)?;
             Ok(Step::End(ended))
         }
     }

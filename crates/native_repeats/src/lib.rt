@@ -2,57 +2,41 @@
 //! object stands for first, and is a small automaton: `begin` and `resume`.
 #![tactic(auto, using(class_world::proofs::Items::item_holds), unfolding(crate::specs::Say::repeat_job_say))]
 
-ghost use Rattle.std.specs.Prelude.{◌≡◌, IfOk};
-ghost use Rattle.class_world.specs.Claims.{of_args, of_ended, Leaves};
-ghost use Rattle.class_world.specs.Sound.{AllHold};
+ghost use Rattle.std.specs.Prelude.{◌≡◌, Some, IfOk};
+ghost use Rattle.class_world.specs.Claims.{of_args, of_ended, of_step, Leaves};
+ghost use Rattle.class_world.specs.Sound.{AllHold, AreNodes, Holds};
 ghost use Rattle.py_node.specs.declared.task.Task.TheVariants as task;
-ghost use Rattle.native_repeats.specs.Rows.{Begins, Resumes, of_repeat_kept};
-ghost use Rattle.native_repeats.specs.Say.{repeats};
+ghost use Rattle.native_repeats.specs.Rows.{Begins, Enters, Resumes, of_repeat_kept};
+ghost use Rattle.native_repeats.specs.Say.{kind_of, repeats};
 
 mod by_name;
 mod count;
+pub mod kind;
 mod repeated;
 
-use crate::by_name::{given, own_items};
+use crate::by_name::{check_sequence, given};
+use crate::kind::{Repeated, kind_of};
 use class_world::World;
 use class_world::takes::two;
 pub use count::{check_repeat_or_overflow_error, count_in};
 use py_node::protocol::ProtocolTask;
 use py_node::task::{Args, Keywords};
-use py_node::{
-    Answer, ListNative, NativeEntry, OutOfMemory, PyObjectRef, Raised, Step, StrNative, Task,
-    TupleNative,
-};
+use py_node::{Answer, NativeEntry, OutOfMemory, PyObjectRef, PyStrInterned, Raised, Step, Task};
 pub use repeated::native_repeat;
 
 /// What a repetition by name keeps while it waits for the index that tells how often.
-#[derive(Drop)]
+#[derive(Clone, Copy, Drop)]
 pub struct RepeatKept {
-    /// The native.
-    pub entry: NativeEntry,
+    pub kind: Repeated,
     /// What is repeated.
     pub object: PyObjectRef,
-    /// Its items, as they stood before the number was asked for. A text has none.
-    pub items: Args,
 }
 
 /// Whether a native is one of these.
 pub fn repeats(entry: NativeEntry) -> bool
     ensures { result ≡ repeats entry }
 {
-    match entry {
-        NativeEntry::OfStr(native) => {
-            matches!(native, StrNative::Multiply | StrNative::RightMultiply)
-        }
-        NativeEntry::OfTuple(native) => {
-            matches!(native, TupleNative::Multiply | TupleNative::RightMultiply)
-        }
-        NativeEntry::OfList(native) => matches!(
-            native,
-            ListNative::Multiply | ListNative::RightMultiply | ListNative::InplaceMultiply
-        ),
-        _ => false,
-    }
+    kind_of(entry).is_some()
 }
 
 /// The first step of one of these natives.
@@ -66,18 +50,33 @@ pub fn begin(
     ensures goes { IfOk result (λ step. Begins (task.Native entry args kw) world.old world.new step) }
     ensures safe { Leaves of_repeat_kept world.old world.new result }
 {
-    match own_items(world, entry, &args)? {
-        Err(raised) => Ok(Step::End(Err(raised))),
-        Ok((object, items)) => match two(&args, &kw) {
-            Err(raised) => Ok(Step::End(Err(raised))),
-            Ok((_, index)) => {
-                let kept = RepeatKept {
-                    entry,
-                    object,
-                    items,
-                };
-                Ok(Step::Ask(Task::Protocol(ProtocolTask::Index(index)), kept))
-            }
+    match kind_of(entry) {
+        None => Ok(Step::not_yet()),
+        Some(kind) => Ok(begin_kind(world, entry, kind, &args, &kw)),
+    }
+}
+
+// The index is asked that tells how often.
+fn begin_kind(
+    world: &World,
+    entry: NativeEntry,
+    kind: Repeated,
+    args: &[PyObjectRef],
+    kw: &[(PyStrInterned, PyObjectRef)],
+) -> Step<RepeatKept>
+    requires args { Holds world.now (AreNodes args.now) }
+    requires kind { kind_of entry ≡ Some kind }
+    ensures goes { Enters entry args.now kw.now world.now result }
+    ensures safe { AllHold world.now (of_step of_repeat_kept result) }
+{
+    match check_sequence(world, kind, args) {
+        Err(raised) => Step::End(Err(raised)),
+        Ok(()) => match two(args, kw) {
+            Err(raised) => Step::End(Err(raised)),
+            Ok((object, index)) => Step::Ask(
+                Task::Protocol(ProtocolTask::Index(index)),
+                RepeatKept { kind, object },
+            ),
         },
     }
 }

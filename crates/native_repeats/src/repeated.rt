@@ -10,11 +10,10 @@ ghost use Rattle.plain_machine.specs.Plain.{Ends, PlainWorld, Said};
 ghost use Rattle.class_world.specs.Held.{Held};
 ghost use Rattle.class_world.specs.Rows.{EndsAs, LeavesEnd};
 ghost use Rattle.class_world.specs.Sound.{AllHold, AreNodes, Holding, Holds, IsNode};
-ghost use Rattle.native_base.specs.Repeats.{list_repeated, native_repeat, repeated, with_times};
-ghost use Rattle.native_repeats.specs.Rows.{of_place, of_repeat_kept};
-ghost use Rattle.native_repeats.specs.Say.{ended_with, repeated_datum};
+ghost use Rattle.native_base.specs.Repeats.{list_repeated, native_repeat, with_times};
+ghost use Rattle.native_repeats.specs.Rows.{of_place};
+ghost use Rattle.native_repeats.specs.Say.{ended_with};
 
-use crate::RepeatKept;
 use crate::count::times_within;
 use class_world::World;
 use native_base::give::new_text;
@@ -54,36 +53,6 @@ pub fn native_repeat(
             _ => Ok(Err(Raised::new(Cause::SelfType))),
         },
         _ => Ok(Err(Raised::new(Cause::SelfType))),
-    }
-}
-
-/// What was kept is repeated so many times.
-pub(crate) fn repeat_kept(
-    world: &mut World,
-    kept: RepeatKept,
-    n: i64,
-) -> Result<Result<Answer, Raised>, OutOfMemory>
-    requires { AllHold world.old (of_repeat_kept kept) }
-    ensures ends { IfOk result (λ r. EndsAs (λ t u.
-        repeated u kept.entry kept.object n (repeated_datum u kept.entry kept.object kept.items.items))
-        world.old world.new r) }
-    ensures safe { LeavesEnd world.old world.new result }
-{
-    let RepeatKept {
-        entry,
-        object,
-        items,
-    } = kept;
-    match entry {
-        NativeEntry::OfTuple(_) => {
-            let all = repeat_items(world.alloc(), &items, n)?;
-            end_with(world, entry, object, all)
-        }
-        NativeEntry::OfList(_) => {
-            let all = repeat_items(world.alloc(), &items, n)?;
-            end_with(world, entry, object, all)
-        }
-        _ => native_repeat(world, entry, object, n),
     }
 }
 

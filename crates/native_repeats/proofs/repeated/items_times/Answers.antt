@@ -1,7 +1,6 @@
-use Rattle.std.proofs.Common.{◌≡◌, ◌++◌, ◌∙◌, ◌<◌, length, sym, ap, subst, arith, true-eqb}
+use Rattle.std.proofs.Common.{◌≡◌, ◌++◌, ◌∙◌, length, sym, ap, arith, true-eqb}
 use Rattle.std.specs.List.{repeat}
-use Rattle.class_world.specs.Held.{Held}
-use Rattle.native_repeats.proofs.Repeats.{repeat-none, repeat-more, repeat-hold}
+use Rattle.native_repeats.proofs.Lists.{repeat-none, repeat-more, repeat-hold}
 use Rattle.native_repeats.proofs.repeated.items_times.Goals as goal
 
 pub returns-then-is_empty : goal.returns-then-is_empty
