@@ -23,13 +23,13 @@ returns-else-next-len-clause-goes c =
     let k = c.args.kept in
     let h = c.len.ensures in
     elim c.else-next-len.branch [
-      else-next-len-via-then-next-len+else-next-len-2 w ↦
-        let g = w.len-then-next-len.ensures in
-        let q = w.if-next-len-2.false in
-        let l : length k.second.items ≤ k.next = omega (arith, g, q) in
-        asks-none k c.args.world.now c.truth.result (none-second k l) c.truth.ensures.object
-    | else-next-len-via-else-next-len w ↦
-        let q = w.if-next-len.false in
-        let l : length k.first.items ≤ k.next = omega (arith, h, q) in
-        asks-none k c.args.world.now c.truth.result (none-first k l) c.truth.ensures.object
+      | else-next-len-via-then-next-len+else-next-len-2 w ↦
+          let g = w.len-then-next-len.ensures in
+          let q = w.if-next-len-2.false in
+          let l : length k.second.items ≤ k.next = omega (arith, g, q) in
+          asks-none k c.args.world.now c.truth.result (none-second k l) c.truth.ensures.object
+      | else-next-len-via-else-next-len w ↦
+          let q = w.if-next-len.false in
+          let l : length k.first.items ≤ k.next = omega (arith, h, q) in
+          asks-none k c.args.world.now c.truth.result (none-first k l) c.truth.ensures.object
     ]
