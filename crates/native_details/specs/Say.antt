@@ -114,7 +114,7 @@ member_qualname w args kw = with_read (member_name w args kw) (name_rest w)
 
 abbrev pub details_native_say : PlainWorld → NativeEntry → List PyObjectRef → Bindings → Row
 details_native_say w (GetterOf built_in.Property d) args kw = property_abstract w args kw
-details_native_say w (GetterOf b d) args kw = member_qualname w args kw
+details_native_say w (GetterOf built_in.MemberDescriptor d) args kw = member_qualname w args kw
 details_native_say w n args kw = end w not_yet
 
 -- these natives, as a group of rows

@@ -9,6 +9,8 @@ ghost use Rattle.class_world.specs.Claims.{of_ended, of_step, of_task};
 ghost use Rattle.class_world.specs.Reading.{Reading, Reads, bindings, ended_of, plain, task_of};
 ghost use Rattle.class_world.specs.Sound.{AllHold, AreNodes, Holds, IsNode};
 ghost use Rattle.plain_machine.specs.World.{datum_at};
+ghost use Rattle.py_node.specs.declared.built_in.BuiltIn.TheVariants as built_in;
+ghost use Rattle.py_node.specs.declared.entry.NativeEntry.TheVariants as entry;
 ghost use Rattle.native_details.specs.Rows.{Does, Resumes, of_detail_kept};
 ghost use Rattle.native_details.specs.Say.{listed, or_false, property_abstract, setter_at};
 
@@ -17,19 +19,19 @@ use class_world::World;
 use class_world::takes::one;
 use native_objects::own_property;
 use py_node::{
-    Answer, AttributeTask, Known, NativeEntry, OperatorTask, Payload, PyNumberBinaryOp,
-    PyObjectRef, PyStrInterned, Raised, Step, Task,
+    Answer, AttributeTask, Detail, Known, OperatorTask, Payload, PyNumberBinaryOp, PyObjectRef,
+    PyStrInterned, Raised, Step, Task,
 };
 
 /// The getter is asked first, if there is one.
 pub(crate) fn begin_abstract(
     world: &World,
-    entry: NativeEntry,
+    detail: Detail,
     args: &[PyObjectRef],
     kw: &[(PyStrInterned, PyObjectRef)],
 ) -> Step<DetailKept>
     requires { Holds world.now (AreNodes args.now) }
-    ensures goes { Does entry args.now (λ t. bindings t kw.now) (λ t u. property_abstract u args.now (bindings t kw.now) [])
+    ensures goes { Does (entry.GetterOf built_in.Property detail) args.now (λ t. bindings t kw.now) (λ t u. property_abstract u args.now (bindings t kw.now) [])
         world.now world.now result }
     ensures safe { AllHold world.now (of_step of_detail_kept result) }
 {

@@ -54,8 +54,12 @@ pub fn begin(
     ensures safe { Leaves of_detail_kept world.old world.new result }
 {
     match entry {
-        NativeEntry::GetterOf(BuiltIn::Property, _) => Ok(begin_abstract(world, entry, &args, &kw)),
-        NativeEntry::GetterOf(_, _) => begin_name(world, entry, &args, &kw),
+        NativeEntry::GetterOf(BuiltIn::Property, detail) => {
+            Ok(begin_abstract(world, detail, &args, &kw))
+        }
+        NativeEntry::GetterOf(BuiltIn::MemberDescriptor, detail) => {
+            begin_name(world, detail, &args, &kw)
+        }
         _ => Ok(Step::not_yet()),
     }
 }

@@ -11,6 +11,8 @@ ghost use Rattle.plain_machine.specs.Plain.{Said, Ends};
 ghost use Rattle.py_node.specs.Tree.{Text};
 ghost use Rattle.native_objects.specs.Takes.{with_own};
 ghost use Rattle.plain_machine.specs.World.{datum_at};
+ghost use Rattle.py_node.specs.declared.built_in.BuiltIn.TheVariants as built_in;
+ghost use Rattle.py_node.specs.declared.entry.NativeEntry.TheVariants as entry;
 ghost use Rattle.native_details.specs.Rows.{Does, Resumes, of_detail_kept};
 ghost use Rattle.native_details.specs.Say.{dotted, kept_name, member_name, named_by};
 
@@ -21,19 +23,19 @@ use class_world::{Fixed, World};
 use native_base::give::new_text;
 use native_objects::limited_text;
 use py_node::{
-    Answer, AttributeTask, Cause, Kind, Known, MemberDescriptor, NativeEntry, OutOfMemory, Payload,
+    Answer, AttributeTask, Cause, Detail, Kind, Known, MemberDescriptor, OutOfMemory, Payload,
     PyObjectRef, PyStrInterned, Raised, Step, Task,
 };
 
 /// The name that is kept, or else the class is asked.
 pub(crate) fn begin_name(
     world: &mut World,
-    entry: NativeEntry,
+    detail: Detail,
     args: &[PyObjectRef],
     kw: &[(PyStrInterned, PyObjectRef)],
 ) -> Result<Step<DetailKept>, OutOfMemory>
     requires { Holds world.old (AreNodes args.now) }
-    ensures goes { IfOk result (λ step. Does entry args.now (λ t. bindings t kw.now)
+    ensures goes { IfOk result (λ step. Does (entry.GetterOf built_in.MemberDescriptor detail) args.now (λ t. bindings t kw.now)
         (λ t u. member_name u args.now (bindings t kw.now)) world.old world.new step) }
     ensures safe { Leaves of_detail_kept world.old world.new result }
 {
