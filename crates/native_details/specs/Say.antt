@@ -59,14 +59,17 @@ abbrev pub joined : PlainWorld → PyObjectRef → PyObjectRef → Row
 joined w s g = ask w (ToOperator (DoBinary Or s g)) (or_not_abstract w)
 
 -- the getter is asked and then the setter, and both answers are joined as by `|`
+abbrev pub abstract_by : PlainWorld → List PyObjectRef → List PyObjectRef → Row
+abstract_by w getters setters =
+    read_objects getters (λ gs. abstract_of w gs (λ g. read_objects setters (λ ss. abstract_of w ss (λ s. joined w s g))))
+
+-- they are read of the property as each is asked
 abbrev pub is_abstract : PlainWorld → PyObjectRef → Row
-is_abstract w m =
-    read_objects (getter_at (datum_at w m)) (λ gs. abstract_of w gs (λ g.
-    read_objects (setter_at (datum_at w m)) (λ ss. abstract_of w ss (λ s. joined w s g))))
+is_abstract w m = abstract_by w (getter_at (datum_at w m)) (setter_at (datum_at w m))
 
 abbrev pub property_abstract : PlainWorld → List PyObjectRef → Bindings → Row
 property_abstract w args kw =
-    tested_first (with_own property_in w args (λ o p. with_one w args kw (λ a. is_abstract w o []))) (is_abstract w (argument args 0))
+    tested_first (with_own property_in w args (λ o p. with_one w args kw (λ a. abstract_by w (listed p.fget) (listed p.fset) []))) (is_abstract w (argument args 0))
 
 -- the qualified name of a member is kept, or else its class is asked for its own
 abbrev pub name_known : PlainWorld → PyObjectRef → ℕ → Option Text → Said

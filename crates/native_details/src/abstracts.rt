@@ -1,10 +1,14 @@
 //! Whether a property is abstract: its getter and its setter are asked.
 
-ghost use Rattle.std.specs.Prelude.{◌≡◌, [], IfSome};
+ghost use Rattle.std.specs.Prelude.{◌≡◌, [], Err, IfErr, IfOk, IfSome};
+ghost use Rattle.py_node.specs.declared.payload.PyProperty.{PyProperty as Parts};
+ghost use Rattle.py_node.specs.declared.refs.PyObjectRef.{PyObjectRef as Object};
+ghost use Rattle.native_containers.specs.Asking.{argument};
+ghost use Rattle.native_objects.specs.Takes.{property_in, with_own};
 ghost use Rattle.py_node.specs.declared.known.Known.TheVariants as known;
 ghost use Rattle.py_node.specs.declared.task.OperatorTask.TheVariants as operator;
 ghost use Rattle.py_node.specs.Known.{known_text};
-ghost use Rattle.plain_machine.specs.Plain.{ToAttribute, DoGetAttr};
+ghost use Rattle.plain_machine.specs.Plain.{DoGetAttr, Ends, Said, ToAttribute};
 ghost use Rattle.class_world.specs.Claims.{of_ended, of_step, of_task};
 ghost use Rattle.class_world.specs.Reading.{Reading, Reads, bindings, ended_of, plain, task_of};
 ghost use Rattle.class_world.specs.Sound.{AllHold, AreNodes, Holds, IsNode};
@@ -17,10 +21,9 @@ ghost use Rattle.native_details.specs.Say.{listed, or_false, property_abstract, 
 use crate::DetailKept;
 use class_world::World;
 use class_world::takes::one;
-use native_objects::own_property;
 use py_node::{
-    Answer, AttributeTask, Detail, Known, OperatorTask, Payload, PyNumberBinaryOp, PyObjectRef,
-    PyStrInterned, Raised, Step, Task,
+    Answer, AttributeTask, Cause, Detail, Known, OperatorTask, Payload, PyNumberBinaryOp,
+    PyObjectRef, PyProperty, PyStrInterned, Raised, Step, Task,
 };
 
 /// The getter is asked first, if there is one.
@@ -146,5 +149,26 @@ fn setter_at(world: &World, object: PyObjectRef) -> Option<PyObjectRef>
     match world.payload(object) {
         Payload::Property(parts) => parts.fset,
         _ => None,
+    }
+}
+
+// The property that the first argument is, with its parts, or why it is refused.
+fn own_property(world: &World, args: &[PyObjectRef]) -> Result<(PyObjectRef, PyProperty), Raised>
+    requires { Holds world.now (AreNodes args.now) }
+    ensures given { IfOk result (λ p. (t : Reading) (go : Object → Parts → Said) →
+        with_own property_in (plain t world.now) args.now go ≡ go p.0 p.1) }
+    ensures refused { IfErr result (λ x. (t : Reading) (go : Object → Parts → Said) →
+        with_own property_in (plain t world.now) args.now go ≡ Ends (plain t world.now) (Err x)) }
+    ensures first { IfOk result (λ p. argument args.now 0 ≡ p.0) }
+    ensures node { IfOk result (λ p. Holds world.now (IsNode p.0)) }
+    ensures getter { IfOk result (λ p. IfSome p.1.fget (λ r. Holds world.now (IsNode r))) }
+    ensures setter { IfOk result (λ p. IfSome p.1.fset (λ r. Holds world.now (IsNode r))) }
+{
+    match args {
+        [] => Err(Raised::new(Cause::ArgCount)),
+        [o, ..] => match world.payload(*o) {
+            Payload::Property(p) => Ok((*o, *p)),
+            _ => Err(Raised::new(Cause::SelfType)),
+        },
     }
 }
