@@ -1,7 +1,9 @@
 //! The qualified name of a member: it is kept, or its class is asked for its own.
 
-ghost use Rattle.std.specs.Prelude.{◌≡◌, ℕ, Option, Ok, Err, IfErr, IfOk, string_bytes};
+ghost use Rattle.std.specs.Prelude.{◌≡◌, ◌++◌, ℕ, codes, Option, Ok, Err, IfErr, IfOk, string_bytes};
 ghost use Rattle.py_node.specs.declared.refs.PyObjectRef.{PyObjectRef as Object};
+ghost use Rattle.py_node.specs.declared.built_in.BuiltIn.TheVariants as built_in;
+ghost use Rattle.py_node.specs.declared.entry.NativeEntry.TheVariants as entry;
 ghost use Rattle.py_node.specs.declared.payload.Payload.TheVariants as payload;
 ghost use Rattle.class_world.specs.Claims.{of_ended, Leaves};
 ghost use Rattle.class_world.specs.Reading.{Reading, Reads, bindings, plain, spelled, spelled_option};
@@ -11,9 +13,8 @@ ghost use Rattle.plain_machine.specs.Plain.{Said, Ends};
 ghost use Rattle.py_node.specs.Tree.{Text};
 ghost use Rattle.native_objects.specs.Takes.{with_own};
 ghost use Rattle.plain_machine.specs.World.{datum_at};
-ghost use Rattle.py_node.specs.declared.built_in.BuiltIn.TheVariants as built_in;
-ghost use Rattle.py_node.specs.declared.entry.NativeEntry.TheVariants as entry;
 ghost use Rattle.native_details.specs.Rows.{Does, Resumes, of_detail_kept};
+ghost use Rattle.native_base.specs.Say.{in_length};
 ghost use Rattle.native_details.specs.Say.{dotted, kept_name, member_name, named_by};
 
 use crate::DetailKept;
@@ -35,8 +36,8 @@ pub(crate) fn begin_name(
     kw: &[(PyStrInterned, PyObjectRef)],
 ) -> Result<Step<DetailKept>, OutOfMemory>
     requires { Holds world.old (AreNodes args.now) }
-    ensures goes { IfOk result (λ step. Does (entry.GetterOf built_in.MemberDescriptor detail) args.now (λ t. bindings t kw.now)
-        (λ t u. member_name u args.now (bindings t kw.now)) world.old world.new step) }
+    ensures goes { IfOk result (λ step. Does (entry.GetterOf built_in.MemberDescriptor detail) args.now
+        (λ t. bindings t kw.now) (λ t u. member_name u args.now (bindings t kw.now)) world.old world.new step) }
     ensures safe { Leaves of_detail_kept world.old world.new result }
 {
     let (object, member) = match own_member(world, args) {
@@ -132,16 +133,33 @@ fn dotted(
 {
     match world.payload(qualname) {
         Payload::Text(qualname) => {
-            let alloc = world.alloc();
-            let name = world.spelling(name)?;
-            let text = format!(in alloc; "{qualname}.{name}")?;
-            if is_within_limit(text.len()) {
-                Ok(Ok(text))
-            } else {
-                Ok(Err(Raised::new(Cause::TooLong)))
-            }
+            let text = dotted_text(world, qualname, name)?;
+            Ok(in_length(text))
         }
         _ => Ok(Err(Raised::new(Cause::QualnameType))),
+    }
+}
+
+// A name in what a text names.
+fn dotted_text(world: &World, qualname: &str, name: PyStrInterned) -> Result<String, OutOfMemory>
+    requires { Holds world.now (IsName name) }
+    ensures { IfOk result (λ s. (t : Reading) → Reads t world.now →
+        string_bytes s ≡ qualname.now ++ codes "." ++ spelled t name) }
+{
+    let alloc = world.alloc();
+    let name = world.spelling(name)?;
+    Ok(format!(in alloc; "{qualname}.{name}")?)
+}
+
+// A text, unless it is too long.
+fn in_length(text: String) -> Result<String, Raised>
+    ensures text { IfOk result (λ s. in_length (string_bytes text) ≡ Ok (string_bytes s)) }
+    ensures refused { IfErr result (λ x. in_length (string_bytes text) ≡ Err x) }
+{
+    if is_within_limit(text.len()) {
+        Ok(text)
+    } else {
+        Err(Raised::new(Cause::TooLong))
     }
 }
 
