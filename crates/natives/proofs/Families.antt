@@ -32,7 +32,9 @@ use Rattle.native_compare.specs.declared.ComparedKept.{ComparedKept}
 use Rattle.native_compare.specs.Say.{compared_job_say}
 use Rattle.native_compare.specs.Rows.{compared_stands}
 use Rattle.native_repeats.specs.declared.RepeatKept.{RepeatKept}
-use Rattle.native_repeats.specs.Say.{repeat_job_say}
+use Rattle.native_repeats.specs.declared.kind.Repeated.{Repeated}
+use Rattle.native_repeats.specs.declared.kind.Repeated.TheVariants as repeated
+use Rattle.native_repeats.specs.Say.{entry_of, repeat_job_say}
 use Rattle.native_repeats.specs.Rows.{repeat_stands}
 use Rattle.native_details.specs.declared.DetailKept.{DetailKept}
 use Rattle.native_details.specs.declared.DetailKept.TheVariants as details
@@ -138,8 +140,17 @@ pub comparisons-family : AmongNatives family.Comparisons compared_job_say compar
 unfolding compared_job_say
 comparisons-family = record { says = λ w n args kw told. refl; keeps = λ t k. refl; owns = compared-owns }
 
+repeat-family : (k : Repeated) → family_of (entry_of k) ≡ family.Repeats
+repeat-family repeated.Text = refl
+repeat-family repeated.RightText = refl
+repeat-family repeated.Tuple = refl
+repeat-family repeated.RightTuple = refl
+repeat-family repeated.List = refl
+repeat-family repeated.RightList = refl
+repeat-family repeated.ListInPlace = refl
+
 repeat-owns : (t : Reading) (k : RepeatKept) → IsOfFamily family.Repeats (repeat_stands t k).task
-repeat-owns t k = record { is = refl; of = refl }
+repeat-owns t k = record { is = refl; of = repeat-family k.kind }
 
 pub repeats-family : AmongNatives family.Repeats repeat_job_say repeat_stands ForRepeats
 unfolding repeat_job_say
