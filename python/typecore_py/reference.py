@@ -88,7 +88,7 @@ def truth(value: bool) -> ast.Constant:
 
 
 def compiled(tree: ast.Module | ast.Expression, mode: str) -> CodeType:
-    return compile(ast.fix_missing_locations(tree), OWN, mode)
+    return compile(ast.fix_missing_locations(tree), OWN, mode, dont_inherit=True)
 
 
 def bound_by(statement: ast.stmt) -> str | None:

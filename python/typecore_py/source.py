@@ -16,6 +16,8 @@ from .statements import parts, sequence
 # How deep a script's arrays may stand in one another, and how many bytes it may have.
 DEEPEST, LONGEST = 127, 2**24
 
+ENDS_OF_LINES = re.compile(r"\r\n|\r|\n")
+
 MARK = re.compile(r"#\s*differs:\s*([\w-]+)\s*$")
 
 
@@ -42,7 +44,7 @@ def read(path: str, source: bytes) -> list[Command]:
         raise Refused(1, 1, str(error)) from None
     except RecursionError:
         raise Refused(1, 1, "the source is nested too deep") from None
-    found = commands(without_text(tree.body), text.splitlines(), marks)
+    found = commands(without_text(tree.body), ENDS_OF_LINES.split(text), marks)
     if not found:
         raise Refused(1, 1, "there is no command")
     return found
