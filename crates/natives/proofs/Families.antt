@@ -7,7 +7,7 @@ use Rattle.py_node.specs.declared.entry.NativeEntry.{NativeEntry}
 use Rattle.py_node.specs.declared.task.Answer.{Answer}
 use Rattle.py_node.specs.declared.task.Step.{Step}
 use Rattle.py_node.specs.declared.task.Step.TheVariants.{Ask, End}
-use Rattle.plain_machine.specs.Plain.{PlainWorld, PlainTask, Bindings, ToNative, Answered, Told, Said, Asks, Ends, Saying}
+use Rattle.plain_machine.specs.Plain.{PlainWorld, PlainTask, Bindings, ToEval, ToAttribute, ToDescriptor, ToCall, ToClass, ToOperator, ToCompare, ToProtocol, ToObject, ToNative, Answered, Told, Said, Asks, Ends, Saying}
 use Rattle.plain_machine.specs.Row.{Row}
 use Rattle.plain_machine.specs.Rows.{Pending, Alike, fresh, given}
 use Rattle.class_world.specs.declared.world.World.{World}
@@ -48,12 +48,9 @@ use Rattle.natives.specs.Say.{NativeJob, by_family, family_of, native_by, native
 use Rattle.natives.specs.Rows.{as_job, job_of, kept_among, native_job, natives_stands, Begins, Resumes}
 
 -- a task is a native of a family
-pub record IsOfFamily (f : Family) (task : PlainTask) : Type 0 where
-  pub entry : NativeEntry
-  pub args : List PyObjectRef
-  pub kw : Bindings
-  pub is : task ≡ ToNative entry args kw
-  pub of : family_of entry ≡ f
+abbrev pub IsOfFamily : Family → PlainTask → Type 0
+IsOfFamily f (ToNative n args kw) = family_of n ≡ f
+IsOfFamily f _ = ⊥
 
 -- a family of natives, among all
 pub record AmongNatives {K : Type 0} (f : Family) (group : Saying PlainTask) (held : Reading → K → Pending PlainTask) (for : K → NativesKept) : Type 0 where
@@ -64,9 +61,16 @@ pub record AmongNatives {K : Type 0} (f : Family) (group : Saying PlainTask) (he
 module _ {K : Type 0} (f : Family) (group : Saying PlainTask) (held : Reading → K → Pending PlainTask) (for : K → NativesKept) (g : AmongNatives f group held for) where
   says-among : (w : PlainWorld) (task : PlainTask) (told : Told) → IsOfFamily f task → native_job_say w (job_of task) told ≡ group w task told
   unfolding native_job_say
-  says-among w task told o =
-      subst (λ task. native_job_say w (job_of task) told ≡ group w task told) (sym o.is)
-      (ap (λ f. by_family w f o.entry o.args o.kw told) o.of ∙ sym (g.says w o.entry o.args o.kw told))
+  says-among w (ToNative n args kw) told o = ap (λ f. by_family w f n args kw told) o ∙ sym (g.says w n args kw told)
+  says-among w (ToEval j) told o = absurd o
+  says-among w (ToAttribute j) told o = absurd o
+  says-among w (ToDescriptor j) told o = absurd o
+  says-among w (ToCall j) told o = absurd o
+  says-among w (ToClass j) told o = absurd o
+  says-among w (ToOperator j) told o = absurd o
+  says-among w (ToCompare j) told o = absurd o
+  says-among w (ToProtocol j) told o = absurd o
+  says-among w (ToObject j) told o = absurd o
 
   alike-among : (p q : Pending PlainTask) → IsOfFamily f p.task → IsOfFamily f q.task → Alike group p q → Alike native_job_say (as_job p) (as_job q)
   alike-among p q i j a = record { says = λ w r more. says-among w p.task (p.told ++ Answered r ∷ more) i ∙ a.says w r more ∙ sym (says-among w q.task (q.told ++ Answered r ∷ more) j) }
@@ -89,7 +93,7 @@ module _ {K : Type 0} (f : Family) (group : Saying PlainTask) (held : Reading �
   pub family-begins : (n : NativeEntry) (args : List PyObjectRef) (kw : List (PyStrInterned × PyObjectRef)) (old new : World) (step : Step K) (next : Step NativesKept) → family_of n ≡ f → next ≡ kept_among for step → Goes group held (λ t. fresh (ToNative n args (bindings t kw))) old new step → Begins n args kw old new next
   family-begins n args kw old new step next is same h =
       subst (Begins n args kw old new) (sym same)
-      (goes-among (λ t. fresh (ToNative n args (bindings t kw))) old new step (λ t. record { entry = n; args = args; kw = bindings t kw; is = refl; of = is }) h)
+      (goes-among (λ t. fresh (ToNative n args (bindings t kw))) old new step (λ t. is) h)
 
   kept-goes : (kept : K) (r : Result Answer Fault) (old new : World) (step : Step K) → Goes group held (λ t. given (held t kept) (ended_of r)) old new step → Resumes (for kept) r old new (kept_among for step)
   kept-goes kept r old new step h = λ t reads.
@@ -104,37 +108,37 @@ module _ {K : Type 0} (f : Family) (group : Saying PlainTask) (held : Reading �
       subst (λ full. Resumes full r old new next) (sym is) (subst (Resumes (for kept) r old new) (sym same) (kept-goes kept r old new step h))
 
 item-owns : (t : Reading) (k : ItemKept) → IsOfFamily family.Items (item_stands t k).task
-item-owns t (items.Getting o stood) = record { is = refl; of = refl }
-item-owns t (items.GettingCharacter o) = record { is = refl; of = refl }
-item-owns t (items.Setting o k v stood) = record { is = refl; of = refl }
-item-owns t (items.Deleting o stood) = record { is = refl; of = refl }
-item-owns t (items.Extending o stood) = record { is = refl; of = refl }
-item-owns t (items.Searching x rs next) = record { is = refl; of = refl }
-item-owns t (items.Iterating o) = record { is = refl; of = refl }
+item-owns t (items.Getting o stood) = refl
+item-owns t (items.GettingCharacter o) = refl
+item-owns t (items.Setting o k v stood) = refl
+item-owns t (items.Deleting o stood) = refl
+item-owns t (items.Extending o stood) = refl
+item-owns t (items.Searching x rs next) = refl
+item-owns t (items.Iterating o) = refl
 
 pub items-family : AmongNatives family.Items item_job_say item_stands ForItems
 unfolding item_job_say
 items-family = record { says = λ w n args kw told. refl; keeps = λ t k. refl; owns = item-owns }
 
 parts-owns : (t : Reading) (k : PartsKept) → IsOfFamily family.Parts (parts_stands t k).task
-parts-owns t (parts.Texts container.Tuple p) = record { is = refl; of = refl }
-parts-owns t (parts.Texts container.List p) = record { is = refl; of = refl }
-parts-owns t (parts.Texts container.Dict p) = record { is = refl; of = refl }
-parts-owns t (parts.Hashes h) = record { is = refl; of = refl }
-parts-owns t (parts.Wrapped wrapper.Class) = record { is = refl; of = refl }
-parts-owns t (parts.Wrapped wrapper.Static) = record { is = refl; of = refl }
-parts-owns t (parts.NewInt c) = record { is = refl; of = refl }
-parts-owns t parts.NewBool = record { is = refl; of = refl }
-parts-owns t (parts.NewStr c) = record { is = refl; of = refl }
-parts-owns t (parts.NewTuple c) = record { is = refl; of = refl }
-parts-owns t (parts.Filling o) = record { is = refl; of = refl }
+parts-owns t (parts.Texts container.Tuple p) = refl
+parts-owns t (parts.Texts container.List p) = refl
+parts-owns t (parts.Texts container.Dict p) = refl
+parts-owns t (parts.Hashes h) = refl
+parts-owns t (parts.Wrapped wrapper.Class) = refl
+parts-owns t (parts.Wrapped wrapper.Static) = refl
+parts-owns t (parts.NewInt c) = refl
+parts-owns t parts.NewBool = refl
+parts-owns t (parts.NewStr c) = refl
+parts-owns t (parts.NewTuple c) = refl
+parts-owns t (parts.Filling o) = refl
 
 pub parts-family : AmongNatives family.Parts parts_job_say parts_stands ForParts
 unfolding parts_job_say
 parts-family = record { says = λ w n args kw told. refl; keeps = λ t k. refl; owns = parts-owns }
 
 compared-owns : (t : Reading) (k : ComparedKept) → IsOfFamily family.Comparisons (compared_stands t k).task
-compared-owns t k = record { is = refl; of = refl }
+compared-owns t k = refl
 
 pub comparisons-family : AmongNatives family.Comparisons compared_job_say compared_stands ForComparisons
 unfolding compared_job_say
@@ -150,31 +154,31 @@ repeat-family repeated.RightList = refl
 repeat-family repeated.ListInPlace = refl
 
 repeat-owns : (t : Reading) (k : RepeatKept) → IsOfFamily family.Repeats (repeat_stands t k).task
-repeat-owns t k = record { is = refl; of = repeat-family k.kind }
+repeat-owns t k = repeat-family k.kind
 
 pub repeats-family : AmongNatives family.Repeats repeat_job_say repeat_stands ForRepeats
 unfolding repeat_job_say
 repeats-family = record { says = λ w n args kw told. refl; keeps = λ t k. refl; owns = repeat-owns }
 
 detail-owns : (t : Reading) (k : DetailKept) → IsOfFamily family.Details (detail_stands t k).task
-detail-owns t (details.AfterGetter m) = record { is = refl; of = refl }
-detail-owns t (details.AfterSetter g) = record { is = refl; of = refl }
-detail-owns t details.AfterBoth = record { is = refl; of = refl }
-detail-owns t (details.AfterClass m) = record { is = refl; of = refl }
+detail-owns t (details.AfterGetter m) = refl
+detail-owns t (details.AfterSetter g) = refl
+detail-owns t details.AfterBoth = refl
+detail-owns t (details.AfterClass m) = refl
 
 pub details-family : AmongNatives family.Details detail_job_say detail_stands ForDetails
 unfolding detail_job_say
 details-family = record { says = λ w n args kw told. refl; keeps = λ t k. refl; owns = detail-owns }
 
 call-owns : (t : Reading) (k : NativeKept) → IsOfFamily family.Calls (asking_stands t k).task
-call-owns t calls.Pass = record { is = refl; of = refl }
-call-owns t (calls.AfterGet k f) = record { is = refl; of = refl }
-call-owns t (calls.AfterDoc Class c f) = record { is = refl; of = refl }
-call-owns t (calls.AfterDoc Static c f) = record { is = refl; of = refl }
-call-owns t (calls.AfterSet r) = record { is = refl; of = refl }
-call-owns t calls.Answering = record { is = refl; of = refl }
-call-owns t (calls.Binding c o) = record { is = refl; of = refl }
-call-owns t calls.Marked = record { is = refl; of = refl }
+call-owns t calls.Pass = refl
+call-owns t (calls.AfterGet k f) = refl
+call-owns t (calls.AfterDoc Class c f) = refl
+call-owns t (calls.AfterDoc Static c f) = refl
+call-owns t (calls.AfterSet r) = refl
+call-owns t calls.Answering = refl
+call-owns t (calls.Binding c o) = refl
+call-owns t calls.Marked = refl
 
 pub calls-family : AmongNatives family.Calls asking_job_say asking_stands ForCalls
 unfolding asking_job_say

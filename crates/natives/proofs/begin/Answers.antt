@@ -52,8 +52,8 @@ returns-in_ok-step-in-Calls-clause-goes c =
     let step = c.in_ok-step-in-Calls in
     family-begins family.Calls asking_job_say asking_stands ForCalls calls-family a.entry a.args.items a.kw.items _ _ step.step c.of_calls.result (sym c.family_of.ensures ∙ c.in-Calls.is) c.of_calls.ensures.step step.ensures.goes
 
-pub returns-in_ok-answer-clause-goes : goal.returns-in_ok-answer-clause-goes
-returns-in_ok-answer-clause-goes c =
+pub returns-in_ok-answer-in-Plain-clause-goes : goal.returns-in_ok-answer-in-Plain-clause-goes
+returns-in_ok-answer-in-Plain-clause-goes c =
     let a = c.args in
-    let ends = rw (c.deref.ensures.value, c.deref-2.ensures.value) at c.in_ok-answer.ensures.ends in
-    plain-begins a.entry a.args.items a.kw.items _ _ c.in_ok-answer.answer (sym c.family_of.ensures ∙ c.in-Plain.is) ends
+    let ends = rw (c.deref.ensures.value, c.deref-in-Plain.ensures.value) at c.in_ok-answer-in-Plain.ensures.ends in
+    plain-begins a.entry a.args.items a.kw.items _ _ c.in_ok-answer-in-Plain.answer (sym c.family_of.ensures ∙ c.in-Plain.is) ends
