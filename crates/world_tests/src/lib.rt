@@ -4,6 +4,8 @@
 #[cfg(test)]
 mod definitions;
 #[cfg(test)]
+mod members;
+#[cfg(test)]
 mod objects;
 #[cfg(test)]
 mod payloads;
