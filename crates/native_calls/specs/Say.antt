@@ -19,7 +19,7 @@ use Rattle.class_model.specs.Class.{is_sub}
 use Rattle.plain_machine.specs.Plain.{Datum, AFunction, AMethodDescriptor, AGetSet, AClassMethod, AStaticMethod, AMember, AProperty, ASuper, PlainWorld, Bindings, DoGetAttr, DoSetAttr, DoSuperGet, DoSuperInit, DoNew, PlainTask, ToAttribute, ToDescriptor, ToCall, ToNative, AsValue, Ended, Made, ReadObjects, Said, Asks, Ends}
 use Rattle.plain_machine.specs.World.{datum_at, with_node, next_node}
 use Rattle.plain_machine.specs.Objects.{class_object, class_number}
-use Rattle.plain_machine.specs.Row.{Row, start, build, pass, end, value, none, fault, not_yet, on_done}
+use Rattle.plain_machine.specs.Row.{Row, start, build, pass, end, value, none, fault, elsewhere, on_done}
 use Rattle.plain_machine.specs.Takes.{with_one, with_two, with_text, without_keywords, native_end}
 use Rattle.native_calls.specs.declared.way.Kind.{Kind}
 use Rattle.native_calls.specs.declared.way.Kind.TheVariants as kind
@@ -304,4 +304,4 @@ asking_say w n args kw = start_with (asking_by w n args kw) (asking_rest w n)
 -- the natives that ask, as a group of rows
 unfoldable pub asking_job_say : PlainWorld → PlainTask → Row
 asking_job_say w (ToNative n args kw) told = asking_say w n args kw told
-asking_job_say w _ told = end w not_yet told
+asking_job_say w _ told = end w elsewhere told

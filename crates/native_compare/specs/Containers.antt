@@ -5,7 +5,7 @@ use Rattle.py_node.specs.declared.entry.CompareNative.{CompareNative}
 use Rattle.py_node.specs.declared.entry.CompareNative.TheVariants as compare
 use Rattle.plain_machine.specs.Plain.{PlainWorld, Bindings, CompareJob, DoIdEq, DoSeqLt, DoSeqGt, ToCompare, ReadObjects, Ended, Said, Ends}
 use Rattle.plain_machine.specs.World.{datum_at}
-use Rattle.plain_machine.specs.Row.{Row, ask, end, value, truth, not_implemented, not_yet, on_truth, on_maybe, read_objects}
+use Rattle.plain_machine.specs.Row.{Row, ask, end, value, truth, not_implemented, elsewhere, on_truth, on_maybe, read_objects}
 use Rattle.native_containers.specs.declared.take.Kind.{Kind}
 use Rattle.native_containers.specs.declared.take.Kind.TheVariants as kind
 use Rattle.native_containers.specs.Take.{is_of, items_at, entries_at, with_own_and}
@@ -59,7 +59,7 @@ turns_of compare.All n m = Missing
 abbrev pub by_turns : PlainWorld → Turns → Pairs → Row
 by_turns w (Each way last) ps = in_turn w way last ps
 by_turns w (Told b) ps = ends_with w b
-by_turns w Missing ps = end w not_yet
+by_turns w Missing ps = end w elsewhere
 
 -- a comparison of two sequences of items
 abbrev pub items_compared : PlainWorld → CompareNative → Objects → Objects → Row
@@ -107,7 +107,7 @@ dicts_equal w n differ d e =
 abbrev pub dict_compared : PlainWorld → CompareNative → PyObjectRef → PyObjectRef → Said
 dict_compared w compare.Eq d e = dicts_equal w compare.Eq false d e
 dict_compared w compare.Ne d e = dicts_equal w compare.Ne true d e
-dict_compared w compare.All d e = Ends w not_yet
+dict_compared w compare.All d e = Ends w elsewhere
 dict_compared w n d e = Ends w (value not_implemented)
 
 abbrev pub dicts_by : PlainWorld → CompareNative → Objects → Bindings → Said

@@ -5,7 +5,7 @@ use Rattle.py_node.specs.declared.built_in.BuiltIn.TheVariants as built_in
 use Rattle.py_node.specs.declared.entry.NativeEntry.{NativeEntry}
 use Rattle.py_node.specs.declared.entry.NativeEntry.TheVariants.{Compare}
 use Rattle.plain_machine.specs.Plain.{PlainWorld, PlainTask, ToNative, Bindings}
-use Rattle.plain_machine.specs.Row.{Row, end, not_yet}
+use Rattle.plain_machine.specs.Row.{Row, end, elsewhere}
 use Rattle.native_containers.specs.declared.take.Kind.TheVariants as kind
 use Rattle.native_compare.specs.Containers.{sequences_say, dicts_say}
 
@@ -20,9 +20,9 @@ abbrev pub compare_native_say : PlainWorld → NativeEntry → List PyObjectRef 
 compare_native_say w (Compare built_in.Tuple n) args kw = sequences_say kind.Tuple w n args kw
 compare_native_say w (Compare built_in.List n) args kw = sequences_say kind.List w n args kw
 compare_native_say w (Compare built_in.Dict n) args kw = dicts_say w n args kw
-compare_native_say w _ args kw = end w not_yet
+compare_native_say w _ args kw = end w elsewhere
 
 -- these natives, as a group of rows
 unfoldable pub compared_job_say : PlainWorld → PlainTask → Row
 compared_job_say w (ToNative n args kw) told = compare_native_say w n args kw told
-compared_job_say w _ told = end w not_yet told
+compared_job_say w _ told = end w elsewhere told

@@ -36,7 +36,7 @@ pub(crate) fn dicts(
         Ok((a, b)) => match native {
             CompareNative::Eq => dicts_equal(world, native, false, a, b),
             CompareNative::Ne => dicts_equal(world, native, true, a, b),
-            CompareNative::All => Ok(Step::not_yet()),
+            CompareNative::All => Ok(Step::elsewhere()),
             _ => {
                 let other = world.fixed(Fixed::NotImplemented);
                 Ok(Step::End(Ok(Answer::Value(other))))

@@ -67,7 +67,7 @@ pub fn begin(
             sequences(world, Kind::List, native, &args, &kw)
         }
         NativeEntry::Compare(BuiltIn::Dict, native) => dicts(world, native, &args, &kw),
-        _ => Ok(Step::not_yet()),
+        _ => Ok(Step::elsewhere()),
     }
 }
 

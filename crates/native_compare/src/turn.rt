@@ -29,7 +29,7 @@ pub(crate) fn compare(
 {
     match turns_of(native, first.len(), second.len()) {
         Turns::Told(truth) => Step::End(Ok(Answer::Value(world.truth(truth)))),
-        Turns::Missing => Step::not_yet(),
+        Turns::Missing => Step::elsewhere(),
         Turns::Each(way, last) => {
             let kept = ComparedKept {
                 way,

@@ -16,7 +16,7 @@ use Rattle.plain_machine.specs.Dicts.{Entries, is_like, value_in, with_entry, wi
 use Rattle.plain_machine.specs.Known.{the_tuple, the_list}
 use Rattle.plain_machine.specs.Objects.{with_datum}
 use Rattle.plain_machine.specs.Plain.{ATuple, AList, PlainWorld, Bindings, Ended, Said, Ends}
-use Rattle.plain_machine.specs.Row.{value, none, truth, most_items, fault, not_yet}
+use Rattle.plain_machine.specs.Row.{value, none, truth, most_items, fault, elsewhere}
 use Rattle.plain_machine.specs.World.{datum_at, with_node, next_node}
 use Rattle.native_base.specs.Say.{object_made, number_told, iterator_made}
 use Rattle.native_containers.specs.declared.take.Kind.{Kind}
@@ -52,7 +52,7 @@ abbrev pub tuple_say : PlainWorld → TupleNative → List PyObjectRef → Bindi
 tuple_say w tuple.Length args kw = with_lone kind.Tuple w args kw (λ o. counted w (items_at w o))
 tuple_say w tuple.Iter args kw = with_lone kind.Tuple w args kw (iterator_made w)
 tuple_say w tuple.Add args kw = with_joined kind.Tuple w args kw (tuple_made w)
-tuple_say w _ args kw = Ends w not_yet
+tuple_say w _ args kw = Ends w elsewhere
 
 -- a list with other items
 abbrev pub list_changed : PlainWorld → PyObjectRef → List PyObjectRef → Said
@@ -63,7 +63,7 @@ list_say w list.Length args kw = with_lone kind.List w args kw (λ o. counted w 
 list_say w list.Iter args kw = with_lone kind.List w args kw (iterator_made w)
 list_say w list.Add args kw = with_joined kind.List w args kw (list_made w)
 list_say w list.Append args kw = with_own_and kind.List w args kw (λ o a. list_changed w o (items_at w o ++ a ∷ []))
-list_say w _ args kw = Ends w not_yet
+list_say w _ args kw = Ends w elsewhere
 
 -- dicts
 
@@ -126,7 +126,7 @@ dict_filled w d _ kw = Ends w (fault ArgCount)
 
 abbrev pub dict_say : PlainWorld → DictNative → List PyObjectRef → Bindings → Said
 dict_say w dict.Init args kw = with_own kind.Dict w args (λ d. dict_filled w d args kw)
-dict_say w dict.Repr args kw = Ends w not_yet
+dict_say w dict.Repr args kw = Ends w elsewhere
 dict_say w dict.Length args kw = with_lone kind.Dict w args kw (λ d. counted w (entries_at w d))
 dict_say w dict.GetItem args kw = with_dict_and_key w args kw (λ d k. given_or w (value_under w d k) (fault MissingKey))
 dict_say w dict.SetItem args kw =
@@ -145,4 +145,4 @@ dict_say w dict.Update args kw = with_own_and kind.Dict w args kw (λ d o. dict_
 
 abbrev pub iterator_say : PlainWorld → IteratorNative → List PyObjectRef → Bindings → Said
 iterator_say w iterator.Iter args kw = with_lone kind.Iterator w args kw (λ o. Ends w (value o))
-iterator_say w iterator.Next args kw = Ends w not_yet
+iterator_say w iterator.Next args kw = Ends w elsewhere

@@ -42,7 +42,7 @@ pub fn dict_native(
 {
     match native {
         DictNative::Init => init(world, args, kw),
-        DictNative::Repr => Ok(Err(Raised::new(Cause::NotYet))),
+        DictNative::Repr => Ok(Err(Raised::new(Cause::SelfType))),
         DictNative::Length => Ok(length(world, args, kw)),
         DictNative::GetItem => Ok(get_item(world, args, kw)),
         DictNative::SetItem => set_item(world, args, kw),

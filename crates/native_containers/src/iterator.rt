@@ -27,6 +27,6 @@ pub fn iterator_native(
             let iterator = lone(world, Kind::Iterator, args, kw)?;
             Ok(Answer::Value(iterator))
         }
-        IteratorNative::Next => Err(Raised::new(Cause::NotYet)),
+        IteratorNative::Next => Err(Raised::new(Cause::SelfType)),
     }
 }

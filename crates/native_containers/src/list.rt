@@ -31,7 +31,7 @@ pub fn list_native(
         ListNative::Iter => iter(world, Kind::List, args, kw),
         ListNative::Add => add(world, args, kw),
         ListNative::Append => append(world, args, kw),
-        _ => Ok(Err(Raised::new(Cause::NotYet))),
+        _ => Ok(Err(Raised::new(Cause::SelfType))),
     }
 }
 

@@ -29,7 +29,7 @@ pub fn tuple_native(
         TupleNative::Length => Ok(length(world, Kind::Tuple, args, kw)),
         TupleNative::Iter => iter(world, Kind::Tuple, args, kw),
         TupleNative::Add => add(world, args, kw),
-        _ => Ok(Err(Raised::new(Cause::NotYet))),
+        _ => Ok(Err(Raised::new(Cause::SelfType))),
     }
 }
 

@@ -13,7 +13,7 @@ use Rattle.py_node.specs.declared.task.PyNumberBinaryOp.TheVariants.{Or}
 use Rattle.py_node.specs.Tree.{Text}
 use Rattle.plain_machine.specs.Objects.{class_object, with_datum}
 use Rattle.plain_machine.specs.Plain.{Datum, AText, AMember, AProperty, PlainWorld, Bindings, DoGetAttr, DoBinary, PlainTask, ToAttribute, ToOperator, ToNative, AsValue, Ended, ReadObjects, Said, Asks, Ends}
-use Rattle.plain_machine.specs.Row.{Row, start, ask, end, value, none, truth, fault, not_yet, is_attribute_error, on_value, read_objects}
+use Rattle.plain_machine.specs.Row.{Row, start, ask, end, value, none, truth, fault, elsewhere, is_attribute_error, on_value, read_objects}
 use Rattle.plain_machine.specs.Takes.{with_one}
 use Rattle.plain_machine.specs.World.{datum_at}
 use Rattle.native_base.specs.Say.{in_length, text_made}
@@ -118,9 +118,9 @@ member_qualname w args kw = with_read (member_name w args kw) (name_rest w)
 abbrev pub details_native_say : PlainWorld → NativeEntry → List PyObjectRef → Bindings → Row
 details_native_say w (GetterOf built_in.Property d) args kw = property_abstract w args kw
 details_native_say w (GetterOf built_in.MemberDescriptor d) args kw = member_qualname w args kw
-details_native_say w n args kw = end w not_yet
+details_native_say w n args kw = end w elsewhere
 
 -- these natives, as a group of rows
 unfoldable pub detail_job_say : PlainWorld → PlainTask → Row
 detail_job_say w (ToNative n args kw) told = details_native_say w n args kw told
-detail_job_say w _ told = end w not_yet told
+detail_job_say w _ told = end w elsewhere told

@@ -60,7 +60,7 @@ pub fn begin(
         NativeEntry::GetterOf(BuiltIn::MemberDescriptor, detail) => {
             begin_name(world, detail, &args, &kw)
         }
-        _ => Ok(Step::not_yet()),
+        _ => Ok(Step::elsewhere()),
     }
 }
 

@@ -8,7 +8,7 @@ use Rattle.py_node.specs.declared.entry.IteratorNative.TheVariants as iterator
 use Rattle.py_node.specs.declared.entry.NativeEntry.{NativeEntry}
 use Rattle.py_node.specs.declared.entry.NativeEntry.TheVariants.{OfStr, OfTuple, OfList, OfIterator}
 use Rattle.plain_machine.specs.Plain.{PlainWorld, PlainTask, ToNative, Bindings}
-use Rattle.plain_machine.specs.Row.{Row, end, not_yet}
+use Rattle.plain_machine.specs.Row.{Row, end, elsewhere}
 use Rattle.native_containers.specs.declared.take.Kind.TheVariants as kind
 use Rattle.native_items.specs.Items.{tuple_get_item, list_get_item, str_get_item, list_set_item, list_del_item, contains, list_extend}
 use Rattle.native_items.specs.Iterators.{iterator_next}
@@ -36,9 +36,9 @@ items_native_say w (OfList list.DelItem) args kw = list_del_item w args kw
 items_native_say w (OfList list.Contains) args kw = contains kind.List w args kw
 items_native_say w (OfList list.InplaceAdd) args kw = list_extend w args kw
 items_native_say w (OfIterator iterator.Next) args kw = iterator_next w args kw
-items_native_say w _ args kw = end w not_yet
+items_native_say w _ args kw = end w elsewhere
 
 -- these natives, as a group of rows
 unfoldable pub item_job_say : PlainWorld → PlainTask → Row
 item_job_say w (ToNative n args kw) told = items_native_say w n args kw told
-item_job_say w _ told = end w not_yet told
+item_job_say w _ told = end w elsewhere told

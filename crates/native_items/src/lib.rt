@@ -92,7 +92,7 @@ pub fn begin(
         NativeEntry::OfList(ListNative::Contains) => contains(world, Sequence::List, &args, &kw),
         NativeEntry::OfList(ListNative::InplaceAdd) => extend_list(world, &args, &kw),
         NativeEntry::OfIterator(IteratorNative::Next) => next_item(world, &args, &kw),
-        _ => Ok(Step::not_yet()),
+        _ => Ok(Step::elsewhere()),
     }
 }
 

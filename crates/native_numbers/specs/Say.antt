@@ -21,7 +21,7 @@ use Rattle.py_node.specs.Tree.{Text}
 use Rattle.plain_machine.specs.Plain.{ANumber, ATuple, PlainWorld, Bindings, Said, Ends}
 use Rattle.plain_machine.specs.World.{class_at, datum_at, number_of, with_node, next_node}
 use Rattle.plain_machine.specs.Known.{the_int, the_tuple}
-use Rattle.plain_machine.specs.Row.{value, truth, not_implemented, fault, not_yet}
+use Rattle.plain_machine.specs.Row.{value, truth, not_implemented, fault, elsewhere}
 use Rattle.plain_machine.specs.Takes.{with_one, with_two, with_three}
 use Rattle.native_base.specs.Say.{int_made, number_told, text_made, numbers_of, with_lone_number, with_number_and, with_numbers}
 use Rattle.native_numbers.specs.Numbers.{is_zero, number_hash, negated, absolute, inverted, difference, product, quotient, remainder, power, right_shifted, left_shifted}
@@ -188,5 +188,5 @@ compared w n x (Some y) = Ends w (value (truth (order_by n x y)))
 compared w n x None = Ends w (value not_implemented)
 
 abbrev pub compare_say : PlainWorld → CompareNative → List PyObjectRef → Bindings → Said
-compare_say w compare.All args kw = Ends w not_yet
+compare_say w compare.All args kw = Ends w elsewhere
 compare_say w n args kw = with_number_and w args kw (λ x a. compared w n x (number_of (datum_at w a)))

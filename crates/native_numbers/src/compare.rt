@@ -23,7 +23,7 @@ pub fn compare_native(
     ensures holds { AllHold world.now (of_ended result) }
 {
     if native == CompareNative::All {
-        return Err(Raised::new(Cause::NotYet));
+        return Err(Raised::new(Cause::SelfType));
     }
     let (x, other) = number_and(world, args, kw)?;
     match world.number(other) {

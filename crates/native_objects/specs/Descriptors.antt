@@ -19,7 +19,7 @@ use Rattle.plain_machine.specs.Plain.{Datum, AProperty, AStaticMethod, AText, Pl
 use Rattle.plain_machine.specs.World.{class_at, datum_at, is_text}
 use Rattle.plain_machine.specs.Objects.{with_datum}
 use Rattle.plain_machine.specs.ClassText.{name_at}
-use Rattle.plain_machine.specs.Row.{value, none, fault, not_yet}
+use Rattle.plain_machine.specs.Row.{value, none, fault, elsewhere}
 use Rattle.plain_machine.specs.Takes.{with_one, with_two, with_three, without_keywords}
 use Rattle.native_base.specs.Say.{in_length, object_made, text_made}
 use Rattle.native_objects.specs.Takes.{with_own, method_in, member_in, property_in, static_in, super_in}
@@ -42,11 +42,11 @@ member_repr w args kw =
 
 abbrev pub callable_say : PlainWorld → CallableNative → List PyObjectRef → Bindings → Said
 callable_say w callable.ReprMethodDescriptor args kw = method_repr w args kw
-callable_say w _ args kw = Ends w not_yet
+callable_say w _ args kw = Ends w elsewhere
 
 abbrev pub descriptor_native_say : PlainWorld → DescriptorNative → List PyObjectRef → Bindings → Said
 descriptor_native_say w descriptor.MemberRepr args kw = member_repr w args kw
-descriptor_native_say w _ args kw = Ends w not_yet
+descriptor_native_say w _ args kw = Ends w elsewhere
 
 -- `super`
 
@@ -64,7 +64,7 @@ super_repr w args kw =
 
 abbrev pub super_say : PlainWorld → SuperNative → List PyObjectRef → Bindings → Said
 super_say w super.Repr args kw = super_repr w args kw
-super_say w _ args kw = Ends w not_yet
+super_say w _ args kw = Ends w elsewhere
 
 -- an object gets other contents, and the native answers None
 abbrev pub changed : PlainWorld → PyObjectRef → Datum → Said
@@ -86,7 +86,7 @@ static_get w args kw = with_own static_in w args (λ m f. bound_by_name w args k
 abbrev pub wrapper_say : PlainWorld → WrapperNative → List PyObjectRef → Bindings → Said
 wrapper_say w wrapper.StaticInit args kw = static_init w args kw
 wrapper_say w wrapper.StaticGet args kw = static_get w args kw
-wrapper_say w _ args kw = Ends w not_yet
+wrapper_say w _ args kw = Ends w elsewhere
 
 -- `property`
 
@@ -147,7 +147,7 @@ property_init w args kw = with_own property_in w args (λ o p. property_with w o
 
 -- a property of the same class with another part, unless that is None, and with neither doc nor name
 abbrev pub property_made : PlainWorld → Option ℕ → PyProperty → Said
-property_made w None p = Ends w not_yet
+property_made w None p = Ends w elsewhere
 property_made w (Some c) p = object_made w c (AProperty p)
 
 abbrev pub or_old : PyObjectRef → Option PyObjectRef → Option PyObjectRef
@@ -179,4 +179,4 @@ property_say w property.SetName args kw = property_set_name w args kw
 property_say w property.Getter args kw = property_part w property.Getter args kw
 property_say w property.Setter args kw = property_part w property.Setter args kw
 property_say w property.Deleter args kw = property_part w property.Deleter args kw
-property_say w _ args kw = Ends w not_yet
+property_say w _ args kw = Ends w elsewhere

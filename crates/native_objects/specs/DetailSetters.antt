@@ -8,7 +8,7 @@ use Rattle.py_node.specs.declared.entry.Detail.{Detail}
 use Rattle.py_node.specs.declared.entry.Detail.TheVariants as detail
 use Rattle.plain_machine.specs.Plain.{AProperty, PlainWorld, Bindings, Said, Ends}
 use Rattle.plain_machine.specs.Objects.{with_datum}
-use Rattle.plain_machine.specs.Row.{value, none, not_yet}
+use Rattle.plain_machine.specs.Row.{value, none, elsewhere}
 use Rattle.native_objects.specs.Setters.{with_given}
 use Rattle.native_objects.specs.Takes.{property_in, with_one_or_two, with_own}
 
@@ -20,8 +20,8 @@ with_doc w o p d = Ends (with_datum w o (AProperty (record p { doc = Some d })))
 abbrev pub set_of_property : PlainWorld → Detail → List PyObjectRef → Bindings → Said
 set_of_property w detail.Doc args kw =
     with_own property_in w args (λ o p. with_one_or_two w args kw (λ a v. with_given w v (with_doc w o p)))
-set_of_property w d args kw = Ends w not_yet
+set_of_property w d args kw = Ends w elsewhere
 
 abbrev pub setter_of_say : PlainWorld → BuiltIn → Detail → List PyObjectRef → Bindings → Said
 setter_of_say w built_in.Property d args kw = set_of_property w d args kw
-setter_of_say w b d args kw = Ends w not_yet
+setter_of_say w b d args kw = Ends w elsewhere

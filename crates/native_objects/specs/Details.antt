@@ -11,12 +11,12 @@ use Rattle.py_node.specs.Tree.{Text}
 use Rattle.plain_machine.specs.Plain.{Datum, AFunction, AMethod, ANativeFunction, ABuiltinMethod, AMethodDescriptor, AGetSet, AClassMethod, AStaticMethod, AMember, AProperty, ASuper, ASlice, PlainWorld, Bindings, Said, Ends}
 use Rattle.plain_machine.specs.World.{ref}
 use Rattle.plain_machine.specs.ClassText.{name_at}
-use Rattle.plain_machine.specs.Row.{value, none, not_yet}
+use Rattle.plain_machine.specs.Row.{value, none, elsewhere}
 use Rattle.plain_machine.specs.Takes.{with_one}
 use Rattle.native_base.specs.Say.{in_length, text_made}
 use Rattle.native_objects.specs.Takes.{with_own}
 
--- a part of what an object holds: a name, what the objects of a class have under a name, a class, an object that may be absent, or what is told by another task, which is not there yet
+-- a part of what an object holds: a name, what the objects of a class have under a name, a class, an object that may be absent, or what is told by another task
 pub data Part : Type 0 where
   NamePart : Text → Part
   DottedPart : ℕ → Text → Part
@@ -182,7 +182,7 @@ part_given w (NamePart x) = text_made w (in_length x)
 part_given w (DottedPart c x) = text_made w (in_length (dotted_text w c x))
 part_given w (ClassPart c) = Ends w (value (ref c))
 part_given w (ObjectPart o) = Ends w (value (or_none o))
-part_given w LaterPart = Ends w not_yet
+part_given w LaterPart = Ends w elsewhere
 
 abbrev pub getter_of_say : PlainWorld → BuiltIn → Detail → List PyObjectRef → Bindings → Said
 getter_of_say w b d args kw = with_own (part_of b d) w args (λ o p. with_one w args kw (λ a. part_given w p))

@@ -8,7 +8,7 @@ use Rattle.py_node.specs.BuiltIns.{place_of}
 use Rattle.plain_machine.specs.Plain.{ADict, AList, AProperty, ASuper, PlainWorld, Said, Ends}
 use Rattle.plain_machine.specs.Known.{the_object}
 use Rattle.plain_machine.specs.Objects.{nearest_built_in}
-use Rattle.plain_machine.specs.Row.{fault, not_yet}
+use Rattle.plain_machine.specs.Row.{fault, elsewhere}
 use Rattle.native_base.specs.Say.{object_made}
 use Rattle.native_objects.specs.Takes.{with_class}
 
@@ -20,17 +20,17 @@ safe_for w b (Some c) go = cond (eqb c b) go (Ends w (fault UnsafeNew))
 abbrev pub with_heir : PlainWorld → BuiltIn → List PyObjectRef → (ℕ → Said) → Said
 with_heir w b args go = with_class w args (λ c. safe_for w (place_of b) (nearest_built_in w.classes c) (go c))
 
--- new objects are empty, and a new `super` is one of `object` that is bound to nothing. Those that ask for what they are made of are not there yet; other classes make none
+-- new objects are empty, and a new `super` is one of `object` that is bound to nothing. Those that ask for what they are made of are made elsewhere; other classes make none
 abbrev pub maker_say : PlainWorld → BuiltIn → List PyObjectRef → Said
 maker_say w built_in.List args = with_heir w built_in.List args (λ c. object_made w c (AList []))
 maker_say w built_in.Dict args = with_heir w built_in.Dict args (λ c. object_made w c (ADict []))
 maker_say w built_in.Property args =
     with_heir w built_in.Property args (λ c. object_made w c (AProperty (record { fget = None; fset = None; fdel = None; doc = None; name = None })))
 maker_say w built_in.Super args = with_heir w built_in.Super args (λ c. object_made w c (ASuper the_object None))
-maker_say w built_in.Int args = Ends w not_yet
-maker_say w built_in.Bool args = Ends w not_yet
-maker_say w built_in.Str args = Ends w not_yet
-maker_say w built_in.Tuple args = Ends w not_yet
-maker_say w built_in.ClassMethod args = Ends w not_yet
-maker_say w built_in.StaticMethod args = Ends w not_yet
+maker_say w built_in.Int args = Ends w elsewhere
+maker_say w built_in.Bool args = Ends w elsewhere
+maker_say w built_in.Str args = Ends w elsewhere
+maker_say w built_in.Tuple args = Ends w elsewhere
+maker_say w built_in.ClassMethod args = Ends w elsewhere
+maker_say w built_in.StaticMethod args = Ends w elsewhere
 maker_say w b args = with_heir w b args (λ c. Ends w (fault CannotCreate))

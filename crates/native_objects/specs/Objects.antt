@@ -12,7 +12,7 @@ use Rattle.plain_machine.specs.Plain.{AList, ADict, PlainWorld, Bindings, Said, 
 use Rattle.plain_machine.specs.World.{class_at, datum_at, ref}
 use Rattle.plain_machine.specs.Known.{the_list, the_dict}
 use Rattle.plain_machine.specs.Objects.{class_number, is_instance}
-use Rattle.plain_machine.specs.Row.{value, truth, not_implemented, fault, not_yet}
+use Rattle.plain_machine.specs.Row.{value, truth, not_implemented, fault, elsewhere}
 use Rattle.plain_machine.specs.Takes.{with_one, with_two}
 use Rattle.native_base.specs.Say.{object_made, number_told, text_made}
 use Rattle.native_objects.specs.Attributes.{type_dir}
@@ -22,7 +22,7 @@ use Rattle.native_objects.specs.Names.{object_text, class_text}
 -- the natives of `object`
 
 abbrev pub repr_of : PlainWorld → PyObjectRef → Option ℕ → Said
-repr_of w o None = Ends w not_yet
+repr_of w o None = Ends w elsewhere
 repr_of w o (Some c) = text_made w (object_text w c o.0)
 
 -- the same object is equal; of others the native says nothing
@@ -60,7 +60,7 @@ object_native_say w object.Le args kw = says_nothing w args kw
 object_native_say w object.Ge args kw = says_nothing w args kw
 object_native_say w object.Gt args kw = says_nothing w args kw
 object_native_say w object.SubclassHook args kw = object_subclass_hook w args
-object_native_say w _ args kw = Ends w not_yet
+object_native_say w _ args kw = Ends w elsewhere
 
 -- the natives of `type`
 
@@ -109,4 +109,4 @@ type_native_say w type.Dir args kw = type_dir w args kw
 type_native_say w type.Mro args kw = type_mro w args kw
 type_native_say w type.Prepare args kw = type_prepare w args
 type_native_say w type.SubclassHook args kw = type_subclass_hook w args
-type_native_say w _ args kw = Ends w not_yet
+type_native_say w _ args kw = Ends w elsewhere

@@ -32,7 +32,7 @@ pub fn callable_native(
 {
     match native {
         CallableNative::ReprMethodDescriptor => method_repr(world, args, kw),
-        _ => Ok(Err(Raised::new(Cause::NotYet))),
+        _ => Ok(Err(Raised::new(Cause::SelfType))),
     }
 }
 
@@ -50,7 +50,7 @@ pub fn descriptor_native(
 {
     match native {
         DescriptorNative::MemberRepr => member_repr(world, args, kw),
-        _ => Ok(Err(Raised::new(Cause::NotYet))),
+        _ => Ok(Err(Raised::new(Cause::SelfType))),
     }
 }
 
@@ -68,7 +68,7 @@ pub fn super_native(
 {
     match native {
         SuperNative::Repr => super_repr(world, args, kw),
-        _ => Ok(Err(Raised::new(Cause::NotYet))),
+        _ => Ok(Err(Raised::new(Cause::SelfType))),
     }
 }
 
@@ -87,7 +87,7 @@ pub fn wrapper_native(
     match native {
         WrapperNative::StaticInit => Ok(static_init(world, args, kw)),
         WrapperNative::StaticGet => Ok(static_get(world, args, kw)),
-        _ => Ok(Err(Raised::new(Cause::NotYet))),
+        _ => Ok(Err(Raised::new(Cause::SelfType))),
     }
 }
 

@@ -29,7 +29,7 @@ pub fn setter_of_native(
 {
     match class {
         BuiltIn::Property => Ok(set_of_property(world, detail, args, kw)),
-        _ => Ok(Err(Raised::new(Cause::NotYet))),
+        _ => Ok(Err(Raised::new(Cause::SelfType))),
     }
 }
 
@@ -47,7 +47,7 @@ fn set_of_property(
 {
     match detail {
         Detail::Doc => set_doc(world, args, kw),
-        _ => Err(Raised::new(Cause::NotYet)),
+        _ => Err(Raised::new(Cause::SelfType)),
     }
 }
 

@@ -28,7 +28,7 @@ pub(crate) enum Part {
     Dotted(PyTypeRef, PyStrInterned),
     Class(PyTypeRef),
     Object(Option<PyObjectRef>),
-    /// What another task tells, which is not there yet.
+    /// What another task tells.
     Later,
 }
 
@@ -395,7 +395,7 @@ fn give_part(world: &mut World, part: Part) -> Result<Result<Answer, Raised>, Ou
         Part::Class(class) => Ok(Ok(Answer::Value(world.class_node(class)))),
         Part::Object(Some(object)) => Ok(Ok(Answer::Value(object))),
         Part::Object(None) => Ok(Ok(Answer::Value(world.fixed(Fixed::None)))),
-        Part::Later => Ok(Err(Raised::new(Cause::NotYet))),
+        Part::Later => Ok(Err(Raised::new(Cause::SelfType))),
     }
 }
 

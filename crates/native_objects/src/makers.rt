@@ -27,8 +27,8 @@ pub fn maker_native(
     ensures safe { LeavesEnd world.old world.new result }
 {
     match built_in {
-        BuiltIn::Int | BuiltIn::Bool | BuiltIn::Str | BuiltIn::Tuple => not_yet(),
-        BuiltIn::ClassMethod | BuiltIn::StaticMethod => not_yet(),
+        BuiltIn::Int | BuiltIn::Bool | BuiltIn::Str | BuiltIn::Tuple => elsewhere(),
+        BuiltIn::ClassMethod | BuiltIn::StaticMethod => elsewhere(),
         BuiltIn::List => new_list(world, args),
         BuiltIn::Dict => new_dict(world, args),
         BuiltIn::Property => new_property(world, args),
@@ -40,11 +40,11 @@ pub fn maker_native(
     }
 }
 
-// What asks a task is not there yet.
-fn not_yet() -> Result<Result<Answer, Raised>, OutOfMemory>
-    ensures { result ≡ Ok (Err (raised Cause.NotYet)) }
+// What asks another task to make an object is not made here.
+fn elsewhere() -> Result<Result<Answer, Raised>, OutOfMemory>
+    ensures { result ≡ Ok (Err (raised Cause.SelfType)) }
 {
-    Ok(Err(Raised::new(Cause::NotYet)))
+    Ok(Err(Raised::new(Cause::SelfType)))
 }
 
 /// The class that is the first argument, where its objects are those of a built-in class, or why it is refused.

@@ -33,7 +33,7 @@ pub fn object_native(
             Ok(says_nothing(world, args, kw))
         }
         ObjectNative::SubclassHook => Ok(subclass_hook(world, args)),
-        _ => Ok(Err(Raised::new(Cause::NotYet))),
+        _ => Ok(Err(Raised::new(Cause::SelfType))),
     }
 }
 

@@ -37,7 +37,7 @@ pub fn property_native(
         PropertyNative::Getter | PropertyNative::Setter | PropertyNative::Deleter => {
             property_part(world, native, args, kw)
         }
-        _ => Ok(Err(Raised::new(Cause::NotYet))),
+        _ => Ok(Err(Raised::new(Cause::SelfType))),
     }
 }
 

@@ -38,7 +38,7 @@ pub fn type_native(
         TypeNative::Mro => type_mro(world, args, kw),
         TypeNative::Prepare => type_prepare(world, args),
         TypeNative::SubclassHook => Ok(type_subclass_hook(world, args)),
-        _ => Ok(Err(Raised::new(Cause::NotYet))),
+        _ => Ok(Err(Raised::new(Cause::SelfType))),
     }
 }
 

@@ -9,7 +9,7 @@ use Rattle.py_node.specs.declared.entry.WrapperNative.TheVariants as wrapper
 use Rattle.py_node.specs.declared.entry.NativeEntry.{NativeEntry}
 use Rattle.py_node.specs.declared.entry.NativeEntry.TheVariants.{OfTuple, OfList, OfDict, OfWrapper, NewOf}
 use Rattle.plain_machine.specs.Plain.{PlainWorld, Bindings, PlainTask, ToNative}
-use Rattle.plain_machine.specs.Row.{Row, end, not_yet}
+use Rattle.plain_machine.specs.Row.{Row, end, elsewhere}
 use Rattle.native_parts.specs.declared.take.Container.TheVariants as container
 use Rattle.native_parts.specs.declared.wrapped.Wrapper.TheVariants.{Class, Static}
 use Rattle.native_parts.specs.Texts.{tuple_hash, container_repr, wrapper_repr}
@@ -43,9 +43,9 @@ parts_native_say w (NewOf built_in.Int) args kw = int_new_say w args kw
 parts_native_say w (NewOf built_in.Bool) args kw = bool_new_say w args kw
 parts_native_say w (NewOf built_in.Str) args kw = str_new w args kw
 parts_native_say w (NewOf built_in.Tuple) args kw = tuple_new w args kw
-parts_native_say w _ args kw = end w not_yet
+parts_native_say w _ args kw = end w elsewhere
 
 -- these natives, as a group of rows
 unfoldable pub parts_job_say : PlainWorld → PlainTask → Row
 parts_job_say w (ToNative n args kw) told = parts_native_say w n args kw told
-parts_job_say w _ told = end w not_yet told
+parts_job_say w _ told = end w elsewhere told

@@ -95,7 +95,7 @@ pub fn begin(
         NativeEntry::NewOf(BuiltIn::Bool) => Ok(begin_bool(world, &args, &kw)),
         NativeEntry::NewOf(BuiltIn::Str) => begin_str(world, &args, &kw),
         NativeEntry::NewOf(BuiltIn::Tuple) => begin_tuple(world, &args, &kw),
-        _ => Ok(Step::not_yet()),
+        _ => Ok(Step::elsewhere()),
     }
 }
 

@@ -12,7 +12,7 @@ use Rattle.py_node.specs.declared.task.Answer.TheVariants.{Value}
 use Rattle.py_node.specs.declared.task.Step.TheVariants.{Ask, End}
 use Rattle.py_node.specs.declared.task.Task.TheVariants as task
 use Rattle.plain_machine.specs.Plain.{PlainWorld, Bindings, Answered, ReadObjects, DoIndex, ToNative, ToProtocol, Told, Asks, Ends}
-use Rattle.plain_machine.specs.Row.{Row, not_yet, value, within_index}
+use Rattle.plain_machine.specs.Row.{Row, elsewhere, value, within_index}
 use Rattle.plain_machine.specs.World.{datum_at, number_of}
 use Rattle.class_world.specs.declared.world.World.{World}
 use Rattle.class_world.specs.Reading.{Reading, bindings, plain}
@@ -60,11 +60,11 @@ enters-index n k args kw w o i is says = λ t q. (
 )
 
 -- what is none of these ends at once
-pub begins-not-yet : (n : NativeEntry) (args : List PyObjectRef) (kw : List (PyStrInterned × PyObjectRef)) (w : World) → kind_of n ≡ None → Enters n args kw w (End not_yet)
+pub begins-elsewhere : (n : NativeEntry) (args : List PyObjectRef) (kw : List (PyStrInterned × PyObjectRef)) (w : World) → kind_of n ≡ None → Enters n args kw w (End elsewhere)
 unfolding repeat_job_say
-begins-not-yet n args kw w is = λ t q. (
+begins-elsewhere n args kw w is = λ t q. (
   q,
-  subst (λ s. Steps repeat_job_say (repeat_stands t) t (ToNative n args (bindings t kw)) [] s (End not_yet) w)
+  subst (λ s. Steps repeat_job_say (repeat_stands t) t (ToNative n args (bindings t kw)) [] s (End elsewhere) w)
       (sym (ap (λ o. repeat_by_kind (plain t w) o args (bindings t kw) []) is)) (refl, refl),
 )
 

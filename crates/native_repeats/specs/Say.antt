@@ -11,7 +11,7 @@ use Rattle.py_node.specs.declared.raised.Raised.{Raised as Fault}
 use Rattle.py_node.specs.declared.raised.Cause.TheVariants.{ArgCount, SelfType}
 use Rattle.plain_machine.specs.Plain.{Datum, PlainWorld, Bindings, DoIndex, PlainTask, ToNative, ToProtocol, Ended, ReadObjects, Said, Asks, Ends}
 use Rattle.plain_machine.specs.World.{datum_at}
-use Rattle.plain_machine.specs.Row.{Row, end, fault, not_yet}
+use Rattle.plain_machine.specs.Row.{Row, end, fault, elsewhere}
 use Rattle.plain_machine.specs.Takes.{with_two}
 use Rattle.native_base.specs.Repeats.{list_repeated, native_repeat, on_count, sequence_for}
 use Rattle.native_containers.specs.Asking.{as_said, with_read}
@@ -58,7 +58,7 @@ repeat_rest w n [] r = end w r
 repeat_rest w n (o ∷ rs) r = on_count w r (λ z. as_said (native_repeat w n o z))
 
 abbrev pub repeat_by_kind : PlainWorld → Option Repeated → List PyObjectRef → Bindings → Row
-repeat_by_kind w None args kw = end w not_yet
+repeat_by_kind w None args kw = end w elsewhere
 repeat_by_kind w (Some k) args kw = with_read (repeat_by_name w (entry_of k) args kw) (repeat_rest w (entry_of k))
 
 abbrev pub repeat_native_say : PlainWorld → NativeEntry → List PyObjectRef → Bindings → Row
@@ -67,7 +67,7 @@ repeat_native_say w n args kw = repeat_by_kind w (kind_of n) args kw
 -- these natives, as a group of rows
 unfoldable pub repeat_job_say : PlainWorld → PlainTask → Row
 repeat_job_say w (ToNative n args kw) told = repeat_native_say w n args kw told
-repeat_job_say w _ told = end w not_yet told
+repeat_job_say w _ told = end w elsewhere told
 
 -- a sequence ends with these items, or as they were refused
 abbrev pub made_of : PlainWorld → NativeEntry → PyObjectRef → List PyObjectRef → Said

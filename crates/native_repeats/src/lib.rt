@@ -51,7 +51,7 @@ pub fn begin(
     ensures safe { Leaves of_repeat_kept world.old world.new result }
 {
     match kind_of(entry) {
-        None => Ok(Step::not_yet()),
+        None => Ok(Step::elsewhere()),
         Some(kind) => Ok(begin_kind(world, entry, kind, &args, &kw)),
     }
 }

@@ -15,7 +15,7 @@ use Rattle.py_node.specs.Tree.{Text}
 use Rattle.plain_machine.specs.Plain.{Datum, AText, PlainWorld, Bindings, Said, Ends}
 use Rattle.plain_machine.specs.World.{class_at, datum_at}
 use Rattle.plain_machine.specs.Known.{the_str}
-use Rattle.plain_machine.specs.Row.{value, truth, not_implemented, fault, not_yet}
+use Rattle.plain_machine.specs.Row.{value, truth, not_implemented, fault, elsewhere}
 use Rattle.plain_machine.specs.Takes.{with_one, with_two, with_text}
 use Rattle.native_base.specs.Say.{in_length, number_told, text_made, iterator_made}
 use Rattle.native_texts.specs.Texts.{text_length, text_hash, repr_text, stands_in}
@@ -87,7 +87,7 @@ add_by w x (Some y) = text_made w (in_length (x ++ y))
 abbrev pub str_add : PlainWorld → List PyObjectRef → Bindings → Said
 str_add w args kw = with_text_and w args kw (λ x a. add_by w x (text_of (datum_at w a)))
 
--- the natives that ask a task are not there yet
+-- the natives that ask a task are said elsewhere
 abbrev pub text_say : PlainWorld → StrNative → List PyObjectRef → Bindings → Said
 text_say w str.Repr args kw = str_repr w args kw
 text_say w str.Str args kw = str_str w args kw
@@ -97,7 +97,7 @@ text_say w str.Contains args kw = str_contains w args kw
 text_say w str.Iter args kw = str_iter w args kw
 text_say w str.Add args kw = str_add w args kw
 text_say w str.Upper args kw = str_upper w args kw
-text_say w _ args kw = Ends w not_yet
+text_say w _ args kw = Ends w elsewhere
 
 -- comparisons of texts, by their bytes
 
@@ -116,5 +116,5 @@ compared w n x (Some y) = Ends w (value (truth (order_by n (slice_cmp nat_cmp x 
 compared w n x None = Ends w (value not_implemented)
 
 abbrev pub compare_text_say : PlainWorld → CompareNative → List PyObjectRef → Bindings → Said
-compare_text_say w compare.All args kw = Ends w not_yet
+compare_text_say w compare.All args kw = Ends w elsewhere
 compare_text_say w n args kw = with_text_and w args kw (λ x a. compared w n x (text_of (datum_at w a)))

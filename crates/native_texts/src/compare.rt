@@ -24,7 +24,7 @@ pub fn compare_text(
     ensures holds { AllHold world.now (of_ended result) }
 {
     if native == CompareNative::All {
-        return Err(Raised::new(Cause::NotYet));
+        return Err(Raised::new(Cause::SelfType));
     }
     let (text, other) = text_and(world, args, kw)?;
     match text_of(world, other) {

@@ -16,7 +16,7 @@ use class_world::limits::is_within_limit;
 use native_base::give::{new_iterator, new_text};
 use py_node::{Answer, BuiltIn, Cause, OutOfMemory, PyObjectRef, PyStrInterned, Raised, StrNative};
 
-/// A native of texts. Those that ask a task are not there yet.
+/// A native of texts. Those that ask a task are not done here.
 pub fn text_native(
     world: &mut World,
     native: StrNative,
@@ -38,7 +38,7 @@ pub fn text_native(
         StrNative::Add => str_add(world, args, kw),
         StrNative::Upper => str_upper(world, args, kw),
         StrNative::GetItem | StrNative::Multiply | StrNative::RightMultiply => {
-            Ok(Err(Raised::new(Cause::NotYet)))
+            Ok(Err(Raised::new(Cause::SelfType)))
         }
     }
 }

@@ -5,7 +5,7 @@ use Rattle.py_node.specs.declared.built_in.BuiltIn.TheVariants.{Int, Str}
 use Rattle.py_node.specs.declared.entry.NativeEntry.{NativeEntry}
 use Rattle.py_node.specs.declared.entry.NativeEntry.TheVariants.{OfFixed, OfNumber, OfArithmetic, OfBits, OfStr, Compare, OfTuple, OfList, OfDict, OfIterator, OfCallable, OfDescriptor, OfProperty, OfWrapper, OfSuper, NewOf, Getter, Setter, GetterOf, SetterOf}
 use Rattle.plain_machine.specs.Plain.{PlainWorld, Bindings, Said, Ends}
-use Rattle.plain_machine.specs.Row.{Row, start, end, not_yet}
+use Rattle.plain_machine.specs.Row.{Row, start, end, elsewhere}
 use Rattle.native_items.specs.Say.{asks_for_items, items_native_say}
 use Rattle.native_parts.specs.Say.{asks_for_parts, parts_native_say}
 use Rattle.native_compare.specs.Say.{compares_items, compare_native_say}
@@ -47,7 +47,7 @@ native_by w (Getter p) args kw = getter_say w p args kw
 native_by w (Setter p) args kw = setter_say w p args kw
 native_by w (GetterOf b d) args kw = getter_of_say w b d args kw
 native_by w (SetterOf b d) args kw = setter_of_say w b d args kw
-native_by w _ args kw = Ends w not_yet
+native_by w _ args kw = Ends w elsewhere
 
 -- the family of natives that one is of, by what it asks
 abbrev pub family_of : NativeEntry → Family

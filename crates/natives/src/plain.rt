@@ -53,6 +53,6 @@ pub(crate) fn plain_native(
         NativeEntry::Setter(property) => setter_native(world, property, args, kw),
         NativeEntry::GetterOf(class, detail) => getter_of_native(world, class, detail, args, kw),
         NativeEntry::SetterOf(class, detail) => setter_of_native(world, class, detail, args, kw),
-        _ => Ok(Err(Raised::new(Cause::NotYet))),
+        _ => Ok(Err(Raised::new(Cause::SelfType))),
     }
 }

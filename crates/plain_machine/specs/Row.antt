@@ -5,7 +5,7 @@ use Rattle.py_node.specs.declared.raised.Raised.{Raised as Fault}
 use Rattle.py_node.specs.declared.raised.Kind.{Kind}
 use Rattle.py_node.specs.declared.raised.Kind.TheVariants.{AttributeError}
 use Rattle.py_node.specs.declared.raised.Cause.{Cause}
-use Rattle.py_node.specs.declared.raised.Cause.TheVariants.{NotYet, SelfType, TooLong}
+use Rattle.py_node.specs.declared.raised.Cause.TheVariants.{SelfType, TooLong}
 use Rattle.py_node.specs.declared.entry.SlotEntry.{SlotEntry}
 use Rattle.py_node.specs.BuiltIns.{fixed_none, fixed_not_implemented, fixed_false, fixed_true}
 use Rattle.py_node.specs.Tree.{Tree}
@@ -57,9 +57,9 @@ pass w task = Asks w [] task
 abbrev pub fault : {A : Type 0} → Cause → Result A Fault
 fault cause = Err (raised cause)
 
--- how a row ends that is not there yet
-abbrev pub not_yet : {A : Type 0} → Result A Fault
-not_yet = fault NotYet
+-- what a row says that is asked for what another group of rows does. No task comes to it: each is handed to its own group
+abbrev pub elsewhere : {A : Type 0} → Result A Fault
+elsewhere = fault SelfType
 
 -- whether a fault is an AttributeError
 abbrev pub is_attribute_error : Kind → Bool

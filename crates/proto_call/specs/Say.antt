@@ -30,7 +30,7 @@ use Rattle.plain_machine.specs.Known.{the_object, the_type, the_int, the_tuple}
 use Rattle.plain_machine.specs.Native.{native_task}
 use Rattle.plain_machine.specs.Show.{show}
 use Rattle.native_objects.specs.Objects.{object_native_say}
-use Rattle.plain_machine.specs.Row.{Row, start, fork, ask, pass, end, value, done, fault, not_yet, none, truth, is_not_implemented, on_value, on_truth, on_done, make}
+use Rattle.plain_machine.specs.Row.{Row, start, fork, ask, pass, end, value, done, fault, elsewhere, none, truth, is_not_implemented, on_value, on_truth, on_done, make}
 
 abbrev pub is_empty : {A : Type 0} → List A → Bool
 is_empty [] = true
@@ -53,9 +53,9 @@ call_native (OfType type.Call) (Some (AClass c)) f args kw = Some (ToCall (DoTyp
 call_native (OfWrapper wrapper.StaticCall) (Some (AStaticMethod g)) f args kw = Some (ToCall (DoCall g args kw))
 call_native _ d f args kw = None
 
--- what is asked, where the native entry is one of these. Others are not there yet
+-- what is asked, where the native entry is one of these. No class has another one
 abbrev pub asked_of_native : PlainWorld → Option PlainTask → Said
-asked_of_native w None = Ends w not_yet
+asked_of_native w None = Ends w elsewhere
 asked_of_native w (Some task) = pass w task
 
 abbrev pub call_by : PlainWorld → Option SlotEntry → PyObjectRef → List PyObjectRef → Bindings → Said

@@ -36,7 +36,7 @@ pub(crate) fn begin_call(
         Some(SlotEntry::Native(native)) => {
             match native_call(world, native, f, args, kw)? {
                 Some(task) => Ok(Step::Ask(task, CallKept::Named)),
-                None => Ok(Step::not_yet()),
+                None => Ok(Step::elsewhere()),
             }
         }
         Some(SlotEntry::Wrapper(_)) => {

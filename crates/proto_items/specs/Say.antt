@@ -1,6 +1,6 @@
 -- What the rows of items, slices and views say.
 use Rattle.plain_machine.specs.Plain.{PlainWorld, ProtocolJob, DoGetItem, DoSetItem, DoDelItem, DoGetSlice, DoSetSlice, DoDelSlice, DoKeys, DoValues, DoItems}
-use Rattle.plain_machine.specs.Row.{Row, end, not_yet}
+use Rattle.plain_machine.specs.Row.{Row, end, elsewhere}
 use Rattle.proto_items.specs.Items.{get_item_say, set_item_say, del_item_say}
 use Rattle.proto_items.specs.Slices.{get_slice_say, set_slice_say, del_slice_say}
 use Rattle.proto_items.specs.Views.{keys_say, values_say, items_say}
@@ -15,4 +15,4 @@ items_job_say w (DoDelSlice o i j) told = del_slice_say w o i j told
 items_job_say w (DoKeys o) told = keys_say w o told
 items_job_say w (DoValues o) told = values_say w o told
 items_job_say w (DoItems o) told = items_say w o told
-items_job_say w _ told = end w not_yet told
+items_job_say w _ told = end w elsewhere told

@@ -59,7 +59,7 @@ pub fn begin(world: &mut World, task: ProtocolTask) -> Result<Step<ItemsKept>, O
         ProtocolTask::Keys(o) => begin_keys(world, o),
         ProtocolTask::Values(o) => begin_values(world, o),
         ProtocolTask::Items(o) => begin_items(world, o),
-        _ => Ok(Step::not_yet()),
+        _ => Ok(Step::elsewhere()),
     }
 }
 

@@ -57,7 +57,7 @@ pub fn begin(world: &mut World, task: ProtocolTask) -> Result<Step<IterKept>, Ou
         ProtocolTask::Contains(o, x) => contains(world, o, x),
         ProtocolTask::Count(o, x) => Ok(begin_search(Search::Count, o, x)),
         ProtocolTask::Find(o, x) => Ok(begin_search(Search::Find, o, x)),
-        _ => Ok(Step::not_yet()),
+        _ => Ok(Step::elsewhere()),
     }
 }
 

@@ -1,6 +1,6 @@
 -- What the rows say by which an object stands for a truth value, a whole number or a length.
 use Rattle.plain_machine.specs.Plain.{PlainWorld, ProtocolJob, DoIsTrue, DoIndex, DoWhole, DoLength, DoHint}
-use Rattle.plain_machine.specs.Row.{Row, end, not_yet}
+use Rattle.plain_machine.specs.Row.{Row, end, elsewhere}
 use Rattle.proto_number.specs.Truth.{is_true_say}
 use Rattle.proto_number.specs.Numbers.{index_say, whole_say}
 use Rattle.proto_number.specs.Lengths.{length_say, hint_say}
@@ -11,4 +11,4 @@ number_job_say w (DoIndex o) told = index_say w o told
 number_job_say w (DoWhole o) told = whole_say w o told
 number_job_say w (DoLength o) told = length_say w o told
 number_job_say w (DoHint o d) told = hint_say w o d told
-number_job_say w _ told = end w not_yet told
+number_job_say w _ told = end w elsewhere told

@@ -59,7 +59,7 @@ pub fn begin(world: &mut World, task: ProtocolTask) -> Result<Step<NumberKept>, 
         ProtocolTask::Int(o) => begin_int(world, o),
         ProtocolTask::Length(o) => begin_length(world, o),
         ProtocolTask::Hint(o, given) => Ok(begin_hint(o, given)),
-        _ => Ok(Step::not_yet()),
+        _ => Ok(Step::elsewhere()),
     }
 }
 

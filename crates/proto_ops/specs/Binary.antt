@@ -17,7 +17,7 @@ use Rattle.plain_machine.specs.Plain.{PlainWorld, PlainTask, DoBinOp1, DoEnter, 
 use Rattle.plain_machine.specs.World.{class_at, slot_at, candidates_at}
 use Rattle.plain_machine.specs.Native.{native_task}
 use Rattle.plain_machine.specs.Objects.{special_at}
-use Rattle.plain_machine.specs.Row.{Row, start, fork, ask, pass, end, value, not_implemented, fault, not_yet, or_else, read_once}
+use Rattle.plain_machine.specs.Row.{Row, start, fork, ask, pass, end, value, not_implemented, fault, elsewhere, or_else, read_once}
 
 -- the candidates are read once, and entered in turn, until one gives another answer than NotImplemented
 abbrev pub in_turn : PlainWorld → PyObjectRef → PyObjectRef → List SlotEntry → Row
@@ -36,9 +36,9 @@ abbrev pub method_of : List Known → PyObjectRef → List PyObjectRef → Optio
 method_of [] o args = None
 method_of (x ∷ xs) o args = Some (ToAttribute (DoSpecial o (known_text x) args []))
 
--- the special method that a wrapper stands for: that of its slot's first name. That of a slot without one is not there yet
+-- the special method that a wrapper stands for: that of its slot's first name. No wrapper stands for a slot without one
 abbrev pub asked_of_method : PlainWorld → Option PlainTask → Said
-asked_of_method w None = Ends w not_yet
+asked_of_method w None = Ends w elsewhere
 asked_of_method w (Some task) = pass w task
 
 abbrev pub enter_method : PlainWorld → SlotId → Bool → PyObjectRef → PyObjectRef → List PyObjectRef → Said
@@ -49,7 +49,7 @@ enter_method w s reflected a b more =
 abbrev pub enter_by : PlainWorld → SlotEntry → PyObjectRef → PyObjectRef → Said
 enter_by w (Native n) a b = pass w (native_task n (a ∷ b ∷ []) [])
 enter_by w (Wrapper s) a b = enter_method w s (is_reflected s) a b []
-enter_by w Unhashable a b = Ends w not_yet
+enter_by w Unhashable a b = Ends w elsewhere
 
 abbrev pub enter_say : PlainWorld → SlotEntry → PyObjectRef → PyObjectRef → Row
 enter_say w s a b = start (enter_by w s a b) (end w)

@@ -13,7 +13,7 @@ use Rattle.class_model.specs.Class.{is_sub}
 use Rattle.plain_machine.specs.Plain.{PlainWorld, DoEnter, DoEnterPower, DoPower, ToOperator, Ended, Said, Asks, Ends, Chose}
 use Rattle.plain_machine.specs.World.{class_at, slot_at, candidates_at}
 use Rattle.plain_machine.specs.Native.{native_task}
-use Rattle.plain_machine.specs.Row.{Row, start, fork, ask, pass, end, fault, not_yet, or_else, choose, read_once}
+use Rattle.plain_machine.specs.Row.{Row, start, fork, ask, pass, end, fault, elsewhere, or_else, choose, read_once}
 use Rattle.proto_ops.specs.Binary.{enter_method, unsupported}
 
 -- a method takes the modulus where there is one
@@ -23,7 +23,7 @@ modulus c = cond (eqb c.0 fixed_none) [] (c ∷ [])
 abbrev pub enter_power_by : PlainWorld → SlotEntry → PyObjectRef → PyObjectRef → PyObjectRef → Said
 enter_power_by w (Native n) a b c = pass w (native_task n (a ∷ b ∷ c ∷ []) [])
 enter_power_by w (Wrapper s) a b c = enter_method w s (is_slot s RightPower) a b (modulus c)
-enter_power_by w Unhashable a b c = Ends w not_yet
+enter_power_by w Unhashable a b c = Ends w elsewhere
 
 abbrev pub enter_power_say : PlainWorld → SlotEntry → PyObjectRef → PyObjectRef → PyObjectRef → Row
 enter_power_say w s a b c = start (enter_power_by w s a b c) (end w)

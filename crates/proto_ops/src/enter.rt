@@ -42,10 +42,10 @@ pub(crate) fn begin_enter(
             let args = alone(alloc, other)?;
             match method_of(world, slot, object, args) {
                 Some(task) => Ok(Step::Ask(task, OperatorKept::Pass)),
-                None => Ok(Step::not_yet()),
+                None => Ok(Step::elsewhere()),
             }
         }
-        SlotEntry::Unhashable => Ok(Step::not_yet()),
+        SlotEntry::Unhashable => Ok(Step::elsewhere()),
     }
 }
 
@@ -73,10 +73,10 @@ pub(crate) fn begin_enter_power(
             let args = with_modulus(world, other, c)?;
             match method_of(world, slot, object, args) {
                 Some(task) => Ok(Step::Ask(task, OperatorKept::Pass)),
-                None => Ok(Step::not_yet()),
+                None => Ok(Step::elsewhere()),
             }
         }
-        SlotEntry::Unhashable => Ok(Step::not_yet()),
+        SlotEntry::Unhashable => Ok(Step::elsewhere()),
     }
 }
 

@@ -14,9 +14,9 @@ kind-test _ = refl
 pub kind_below : (k : Kind) → kind_place k < 12
 kind_below k = ltb-true _ _ (kind-test k)
 
-cause-test : (c : Cause) → nat_lt (cause_place c) 99 ≡ true
+cause-test : (c : Cause) → nat_lt (cause_place c) 98 ≡ true
 cause-test DuplicateBase = refl
 cause-test _ = refl
 
-pub cause_below : (c : Cause) → cause_place c < 99
+pub cause_below : (c : Cause) → cause_place c < 98
 cause_below c = ltb-true _ _ (cause-test c)

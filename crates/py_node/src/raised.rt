@@ -162,15 +162,13 @@ pub enum Cause {
     NoArguments,
     SetNameCalled,
     DepthLimit,
-    /// What no stage so far has named.
-    NotYet,
     /// Raised by a script itself.
     Body,
 }
 
 /// The causes with their words and the kinds of their faults. A script that raises by itself, with
 /// the cause `Body`, gives a kind of its own.
-pub const CAUSES: [(Cause, &str, Kind); 99] = [
+pub const CAUSES: [(Cause, &str, Kind); 98] = [
     (Cause::DuplicateBase, "DuplicateBase", Kind::TypeError),
     (Cause::LocalPrecedence, "LocalPrecedence", Kind::TypeError),
     (Cause::MroConflict, "MroConflict", Kind::TypeError),
@@ -288,14 +286,13 @@ pub const CAUSES: [(Cause, &str, Kind); 99] = [
     (Cause::NoArguments, "NoArguments", Kind::RuntimeError),
     (Cause::SetNameCalled, "SetNameCalled", Kind::RuntimeError),
     (Cause::DepthLimit, "DepthLimit", Kind::RecursionError),
-    (Cause::NotYet, "NotYet", Kind::NotImplementedError),
     (Cause::Body, "Body", Kind::RuntimeError),
 ];
 
 // The causes with their words and kinds.
 fn all_causes() -> &'static [(Cause, &'static str, Kind)]
     ensures rows { map (λ r. (r.1.now, r.2)) result.now ≡ cause_rows }
-    ensures count { length result.now ≡ 99 }
+    ensures count { length result.now ≡ 98 }
 {
     &CAUSES
 }
@@ -305,7 +302,7 @@ impl Cause {
     #[tactic(auto, using(crate::proofs::Faults::cause_below))]
     fn place(self) -> usize
         ensures place { result ≡ cause_place self }
-        ensures within { result < 99 }
+        ensures within { result < 98 }
     {
         self as usize
     }

@@ -236,11 +236,12 @@ pub enum Step<K> {
 }
 
 impl<K> Step<K> {
-    /// The end of a row that is not there yet.
-    pub fn not_yet() -> Step<K>
-        ensures { result ≡ Step.End (Err (raised Cause.NotYet)) }
+    /// What a row says that is asked for what another group of rows does. No task comes to it: each is
+    /// handed to its own group.
+    pub fn elsewhere() -> Step<K>
+        ensures { result ≡ Step.End (Err (raised Cause.SelfType)) }
     {
-        Step::raise(Cause::NotYet)
+        Step::raise(Cause::SelfType)
     }
 
     /// The row ends with a fault of a cause.
