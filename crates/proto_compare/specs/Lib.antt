@@ -1,3 +1,4 @@
 pub mod Comparisons
+pub mod Values
 pub mod Say
 pub mod Rows

@@ -1,5 +1,4 @@
-//! The rows of comparisons, each a small automaton: `begin` and `resume`. The comparisons of tuples, lists and dicts,
-//! which ask those of their items, are two more: `begin_native` and `resume_native`.
+//! The rows of comparisons, each a small automaton: `begin` and `resume`.
 #![tactic(auto, unfolding(crate::specs::Say::compare_job_say))]
 
 ghost use Rattle.std.specs.Prelude.{◌≡◌, IfOk};
@@ -10,6 +9,7 @@ ghost use Rattle.proto_compare.specs.Rows.{Begins, Resumes, of_compare_kept};
 pub mod comparisons;
 mod rich;
 mod truths;
+pub mod values;
 
 use class_world::World;
 use py_node::{Answer, CompareTask, OutOfMemory, PyComparisonOp, PyObjectRef, Raised, Step, Task};

@@ -7,4 +7,6 @@ pub mod type_slots;
 
 pub use number::{PyNumberMethods, PyNumberSlots};
 pub use op::{PyNumberBinaryOp, PyNumberTernaryOp};
-pub use type_slots::{HeapTypeExt, PyMappingMethods, PySequenceMethods, PyTypeSlots};
+pub use type_slots::{
+    HeapTypeExt, PyMappingMethods, PySequenceMethods, PyTypeSlots, hash_not_implemented,
+};

@@ -52,6 +52,13 @@ pub struct PyTypeSlots {
     pub del: Option<SlotEntry>,
 }
 
+/// The `hash` entry of a class whose objects have no hash.
+pub fn hash_not_implemented() -> SlotEntry
+    ensures { result ≡ SlotEntry.Unhashable }
+{
+    SlotEntry::Unhashable
+}
+
 /// What a class that a script makes keeps of its own: its name, and the names that its `__slots__` give, if it has any.
 #[derive(Drop)]
 pub struct HeapTypeExt {
