@@ -15,11 +15,7 @@ use py_node::{BuiltIn, BuiltinMethod, OutOfMemory, Payload, PyObjectRef};
 impl PyMethodDescriptor {
     /// A new object of `builtin_method`: this method, bound to an object. Where memory runs out the world stays as it
     /// was.
-    pub fn bind(
-        self,
-        world: &mut World,
-        obj: PyObjectRef,
-    ) -> Result<PyObjectRef, OutOfMemory>
+    pub fn bind(self, world: &mut World, obj: PyObjectRef) -> Result<PyObjectRef, OutOfMemory>
         requires obj { Holds world.old (IsNode obj) }
         requires class { Holds world.old (IsClass self.common.typ.0) }
         requires name { Holds world.old (IsName self.common.name) }
