@@ -1,5 +1,5 @@
 -- The replies to commands are those to the first ones, and then those to the rest in the world after them.
-use Rattle.std.proofs.Common.{◌≡◌, ℕ, ◌+◌, List, [], ◌∷◌, ◌++◌, length, refl, sym, ap, ◌∙◌, arith}
+use Rattle.std.proofs.Common.{◌≡◌, ℕ, ◌+◌, List, [], ◌∷◌, ◌++◌, length, refl, ap, ◌∙◌, arith}
 use Rattle.py_node.specs.Tree.{Tree}
 use Rattle.plain_machine.specs.Plain.{PlainWorld, DoEval, PlainTask, ToEval, Saying}
 use Rattle.plain_machine.specs.Answer.{Outcome, Out, Run, answer, answering, replied, plain_run}
@@ -19,7 +19,7 @@ pub run-append : (say : Saying PlainTask) (xs ys : List Tree) (units : ℕ) (w :
 run-append say [] ys units w = refl
 run-append say (x ∷ xs) ys units w =
     replied-then (λ v. plain_run say v (xs ++ ys) units) (λ v. plain_run say v xs units) (λ v. plain_run say v ys units)
-      (λ v. run-append say xs ys units v) (answer say w (ToEval (DoEval x)) units 0)
+    (λ v. run-append say xs ys units v) (answer say w (ToEval (DoEval x)) units 0)
 
 replied-length : (f : PlainWorld → Run) (n : ℕ) → ((w : PlainWorld) → length (f w).replies ≡ n) → (o : Outcome) → length (replied f o).replies ≡ n + 1
 replied-length f n each (Out w e left) = let rest = each (without_calls w) in omega (arith, rest)

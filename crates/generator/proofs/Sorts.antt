@@ -1,5 +1,5 @@
 -- Each reply is of one sort.
-use Rattle.std.proofs.Common.{◌≡◌, ℕ, ◌+◌, List, [], ◌∷◌, ◌++◌, length, refl, sym, ap, ◌∙◌, arith}
+use Rattle.std.proofs.Common.{◌≡◌, ◌+◌, List, [], ◌∷◌, ◌++◌, length, refl, sym, ap, ◌∙◌, arith}
 use Rattle.std.specs.Prelude.{cond}
 use Rattle.py_node.specs.Replies.{PlainReply, PlainReplyAnswer, GivesValue, GivesRaise, GivesBudget}
 use Rattle.std.proofs.lemmas.List.{length-append}
@@ -15,8 +15,14 @@ one-sort GivesBudget = refl
 pub sorts-add-up : (replies : List PlainReply) → values replies + raised replies + budget replies ≡ length replies
 sorts-add-up [] = refl
 sorts-add-up (r ∷ rs) =
-    omega (arith, one-sort r.answer, sorts-add-up rs, sum_by-cons (λ (s : PlainReply). cond (is_value s.answer) 1 0) r rs,
-      sum_by-cons (λ (s : PlainReply). cond (is_raise s.answer) 1 0) r rs, sum_by-cons (λ (s : PlainReply). cond (is_budget s.answer) 1 0) r rs)
+    omega (
+      arith,
+      one-sort r.answer,
+      sorts-add-up rs,
+      sum_by-cons (λ (s : PlainReply). cond (is_value s.answer) 1 0) r rs,
+      sum_by-cons (λ (s : PlainReply). cond (is_raise s.answer) 1 0) r rs,
+      sum_by-cons (λ (s : PlainReply). cond (is_budget s.answer) 1 0) r rs,
+    )
 
 -- one more reply is counted
 pub counts-one-more : (old new : Tally) (rs : List PlainReply) (r : PlainReply) → Added old r new → Counts old rs → Counts new (rs ++ r ∷ [])

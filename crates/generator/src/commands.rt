@@ -1,6 +1,6 @@
 //! The commands that are generated: eight that make classes, and then changes of them.
 
-ghost use Rattle.std.specs.Prelude.{◌≡◌, ◌+◌, ◌<◌, ◌^◌, if◌then◌else◌, ◌==◌, [], ◌∷◌, IfOk, OnOk, map, string_bytes};
+ghost use Rattle.std.specs.Prelude.{◌≡◌, ◌<◌, ◌^◌, if◌then◌else◌, ◌==◌, IfOk, OnOk, map, string_bytes};
 ghost use Rattle.py_node.specs.Tree.{tree_of, trees_of, TName};
 ghost use Rattle.generator.specs.Draws.{after};
 ghost use Rattle.generator.specs.Commands.{name, base, class_command, integer, object_of, sum, set, adder, change, change_command};
@@ -96,7 +96,10 @@ fn adder(alloc: Global, i: u64) -> Result<Expr, AllocError>
     requires { i < 2 ^ 63 }
     ensures { IfOk result (λ e. tree_of e ≡ adder i) }
 {
-    let params = vec![in alloc; String::from_str(alloc, "s")?, String::from_str(alloc, "o")?]?;
+    let params = vec![in alloc;
+        String::from_str(alloc, "s")?,
+        String::from_str(alloc, "o")?,
+    ]?;
     let name = String::from_str(alloc, "add")?;
     Ok(Expr::Func(name, params, false, Box::new(alloc, integer(i))?))
 }

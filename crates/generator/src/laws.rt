@@ -12,5 +12,4 @@ pub fn replies_add_up()
     ensures { (say : Saying PlainTask) (w : PlainWorld) (seed count units : ℕ) →
         let replies = (plain_run say w (generated seed count) units).replies in
         values replies + raised replies + budget replies ≡ 8 + count }
-{
-}
+{}

@@ -38,7 +38,8 @@ impl Tally {
     /// Counts more replies.
     pub fn add_all(&mut self, replies: &[Reply])
         requires { self.old.replies + length replies.now < 2 ^ 63 }
-        ensures counts { (rs : List PlainReply) → Counts self.old rs → Counts self.new (rs ++ map reply_of replies.now) }
+        ensures counts { (rs : List PlainReply) → Counts self.old rs
+            → Counts self.new (rs ++ map reply_of replies.now) }
         ensures replies { self.new.replies ≡ self.old.replies + length replies.now }
     {
         for reply in replies {
@@ -64,13 +65,9 @@ impl Tally {
     pub fn text(&self, alloc: Global) -> Result<Vec<u8>, OutOfMemory>
         ensures { IfOk result (λ v. (rs : List PlainReply) → Counts self.now rs → v.items ≡ summary rs) }
     {
-        let text = format!(
-            in alloc;
+        let text = format!(in alloc;
             "values {}\nraised {}\nbudget {}\ncalls {}\n",
-            self.values,
-            self.raised,
-            self.budget,
-            self.calls
+            self.values, self.raised, self.budget, self.calls
         )?;
         Ok(text.into_bytes())
     }

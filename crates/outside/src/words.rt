@@ -1,6 +1,6 @@
 //! The words that the program is called with: `run N` runs N units, and `gen SEED COUNT` generates commands.
 
-ghost use Rattle.std.specs.Prelude.{◌≡◌, ◌≤◌, length, map, string_bytes, None, IfSome};
+ghost use Rattle.std.specs.Prelude.{◌≡◌, ◌≤◌, map, string_bytes, None, IfSome};
 ghost use Rattle.outside.specs.Words.{units_in, generation_in, number_written, is_numeral};
 ghost use Rattle.std.specs.List.{list_all};
 ghost use Rattle.std.specs.Char.{is_ascii_digit};

@@ -1,5 +1,6 @@
 -- One command more is run: the plain machine goes on where the commands before it left it, and its one reply is counted.
-use Rattle.std.proofs.Common.{◌≡◌, ℕ, List, [], ◌∷◌, ◌++◌, length, map, sym, ap, ◌∙◌, subst}
+use Rattle.std.proofs.Common.{◌≡◌, List, [], ◌∷◌, ◌++◌, length, map, sym, ap, ◌∙◌, subst}
+use Rattle.std.specs.Prelude.{Result, Ok, Err, IfOk}
 use Rattle.std.proofs.lemmas.List.{length-map}
 use Rattle.py_node.specs.declared.reply.Reply.{Reply}
 use Rattle.py_node.specs.Tree.{Tree}
@@ -33,8 +34,13 @@ ran-more done command old new so_far more replies runs counts ran = λ t reads.
     let last = runs t reads in
     let until = ran t last.0 in
     let here : plain_run say (plain_run say start done 10000).world (command ∷ []) 10000 ≡ record { world = plain t new; replies = map reply_of replies } =
-        ap (λ (w : PlainWorld). plain_run say w (command ∷ []) 10000) until.0 ∙ last.1 in
+    ap (λ (w : PlainWorld). plain_run say w (command ∷ []) 10000) until.0 ∙ last.1 in
     let whole : plain_run say start (done ++ command ∷ []) 10000 ≡ record { world = plain t new; replies = (plain_run say start done 10000).replies ++ map reply_of replies } =
-        run-append say done (command ∷ []) 10000 start
-        ∙ ap (λ (rest : Run). record { world = rest.world; replies = (plain_run say start done 10000).replies ++ rest.replies }) here in
+    run-append say done (command ∷ []) 10000 start
+    ∙ ap (λ (rest : Run). record { world = rest.world; replies = (plain_run say start done 10000).replies ++ rest.replies }) here in
     (ap (λ (run : Run). run.world) whole, subst (Counts more) (sym (ap (λ (run : Run). run.replies) whole)) (counts (plain_run say start done 10000).replies until.1))
+
+-- what follows of a value holds of it
+pub when-ok : {T E : Type 0} (r : Result T E) (P Q : T → Type 0) → ((v : T) → P v → Q v) → IfOk r P → IfOk r Q
+when-ok (Ok v) P Q follows holds = follows v holds
+when-ok (Err e) P Q follows holds = holds

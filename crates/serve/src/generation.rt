@@ -68,11 +68,7 @@ fn generation_text(alloc: Global, generation: Generation) -> Result<Vec<u8>, Out
 }
 
 // Runs one command, and counts its reply.
-fn run_one(
-    vm: &mut VirtualMachine,
-    command: Command,
-    tally: &mut Tally,
-) -> Result<(), OutOfMemory>
+fn run_one(vm: &mut VirtualMachine, command: Command, tally: &mut Tally) -> Result<(), OutOfMemory>
     requires { tally.old.replies < 2 ^ 62 }
     ensures ran { OnOk result ((done : List Tree) → Ran done vm.old.world tally.old →
         Ran (done ++ tree_of command.expr ∷ []) vm.new.world tally.new) }

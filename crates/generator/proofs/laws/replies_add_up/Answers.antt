@@ -1,10 +1,8 @@
 -- Each command has one reply, and each reply is of one sort.
-use Rattle.std.proofs.Common.{◌∙◌, ◌≡◌, ◌+◌, ℕ, length, map, arith, sym, ap}
-use Rattle.std.proofs.lemmas.List.{length-append}
+use Rattle.std.proofs.Common.{◌∙◌, ◌≡◌, ◌+◌, ℕ, length, arith}
 use Rattle.std.proofs.lemmas.List.FromFn.{length-map-range_with_len}
 use Rattle.plain_machine.specs.Answer.{plain_run}
-use Rattle.generator.specs.Draws.{after}
-use Rattle.generator.specs.Commands.{generated, class_command, change_command}
+use Rattle.generator.specs.Commands.{generated}
 use Rattle.generator.proofs.OneByOne.{run-length}
 use Rattle.generator.proofs.Sorts.{sorts-add-up}
 use Rattle.generator.proofs.laws.replies_add_up.Goals as goal
@@ -12,7 +10,7 @@ use Rattle.generator.proofs.laws.replies_add_up.Goals as goal
 count-of : (seed count : ℕ) → length (generated seed count) ≡ 8 + count
 unfolding generated
 count-of seed count =
-    simp (length-append, length-map-range_with_len) (omega arith)
+    simp length-map-range_with_len (omega arith)
 
 pub returns : goal.returns
 returns c = λ say w seed count units.

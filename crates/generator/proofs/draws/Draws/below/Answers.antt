@@ -1,5 +1,5 @@
 -- A product that wraps may be added to before it wraps.
-use Rattle.std.proofs.Common.{◌*◌, ◌+◌, ◌%◌, ap, sym, ◌∙◌}
+use Rattle.std.proofs.Common.{◌*◌, ap}
 use Rattle.std.proofs.Math.Nat.{mod-add-mod}
 use Rattle.generator.specs.Draws.{next}
 use Rattle.generator.proofs.draws.Draws.below.Goals as goal

@@ -1,9 +1,8 @@
 -- The replies are counted one after another.
-use Rattle.std.proofs.Common.{rules, arith, ◌≡◌, ◌<◌, ◌+◌, ℕ, List, [], ◌∷◌, ◌++◌, map, take, length, slice_index_or, sym, ap, ◌∙◌, subst}
+use Rattle.std.proofs.Common.{arith, ◌≡◌, ◌<◌, ◌+◌, ℕ, List, [], ◌∷◌, ◌++◌, map, take, length, slice_index_or, sym, ap, ◌∙◌, subst}
 use Rattle.std.proofs.lemmas.List.{append-nil, append_assoc, map_more, take_all}
 use Rattle.py_node.specs.declared.reply.Reply.{Reply}
 use Rattle.py_node.specs.Replies.{PlainReply, reply_of}
-use Rattle.generator.specs.declared.tally.Tally.{Tally}
 use Rattle.generator.specs.Summary.{Counts}
 use Rattle.generator.proofs.Sorts.{counts-one-more}
 use Rattle.generator.proofs.tally.Tally.add_all.Goals as goal
@@ -27,7 +26,7 @@ one-more rs xs i r h is =
 pub loop-reply-preserved : goal.loop-reply-preserved
 loop-reply-preserved c = record {
   counts = λ rs has. subst (Counts c.add.new.self) (one-more rs c.args.replies.now c.loop-reply.reply-index c.reply-item.result c.loop-reply-test.true c.reply-item.is)
-    (counts-one-more c.loop-reply.self c.add.new.self _ (reply_of c.reply-item.result) c.add.ensures (c.loop-reply.invariant.counts rs has));
+      (counts-one-more c.loop-reply.self c.add.new.self _ (reply_of c.reply-item.result) c.add.ensures (c.loop-reply.invariant.counts rs has));
   replies = omega (arith, c.add.ensures.replied);
 }
 
