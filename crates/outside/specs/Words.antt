@@ -3,6 +3,7 @@ use Rattle.std.specs.Prelude.{◌==◌, ℕ, nat_le, Bool, false, not, ◌&&◌,
 use Rattle.std.specs.Char.{is_ascii_digit}
 use Rattle.std.specs.List.{list_all}
 use Rattle.std.specs.Str.Parse.{digits_value}
+use Rattle.outside.specs.declared.words.Generation.{Generation}
 
 abbrev pub Text : Type 0
 Text = List ℕ
@@ -15,15 +16,25 @@ abbrev pub is_numeral : Text → Bool
 is_numeral [] = false
 is_numeral (first ∷ others) = list_all is_ascii_digit (first ∷ others) && (not (first == 48) || is_empty others)
 
--- how many units a run may have
-abbrev pub is_in_range : ℕ → Bool
-is_in_range units = nat_le 1 units && nat_le units 1000000000
+-- a number from `low` to `high`
+abbrev pub is_in_range : ℕ → ℕ → ℕ → Bool
+is_in_range low high n = nat_le low n && nat_le n high
 
--- the number that a text writes, where it is a numeral of so many units
-abbrev pub units_written : Text → Option ℕ
-units_written text = if is_numeral text && is_in_range (digits_value 10 text) then Some (digits_value 10 text) else None
+-- the number that a text writes, where it is a numeral of one from `low` to `high`
+abbrev pub number_written : ℕ → ℕ → Text → Option ℕ
+number_written low high text = if is_numeral text && is_in_range low high (digits_value 10 text) then Some (digits_value 10 text) else None
 
 -- the units N of the two words `run N`; no other words say any
 abbrev pub units_in : List Text → Option ℕ
-units_in (command ∷ number ∷ []) = if bytes_eq command (codes "run") then units_written number else None
+units_in (command ∷ number ∷ []) = if bytes_eq command (codes "run") then number_written 1 1000000000 number else None
 units_in words = None
+
+-- both numbers, where there are both
+abbrev pub generation_by : Option ℕ → Option ℕ → Option Generation
+generation_by (Some seed) (Some count) = Some (record { seed = seed; count = count })
+generation_by seed count = None
+
+-- the seed and the count of the three words `gen SEED COUNT`; no other words say any
+abbrev pub generation_in : List Text → Option Generation
+generation_in (command ∷ seed ∷ count ∷ []) = if bytes_eq command (codes "gen") then generation_by (number_written 0 18446744073709551615 seed) (number_written 0 100000 count) else None
+generation_in words = None

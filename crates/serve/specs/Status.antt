@@ -27,6 +27,13 @@ HasReadAll (Script e) = Unit {0}
 HasReadAll WriteFault = Unit {0}
 HasReadAll _ = ⊥
 
+-- all was written, the sink failed, or memory could not be had
+abbrev pub IsWriteEnd : Status → Type 0
+IsWriteEnd Done = Unit {0}
+IsWriteEnd WriteFault = Unit {0}
+IsWriteEnd OutOfMemory = Unit {0}
+IsWriteEnd _ = ⊥
+
 -- the word that standard error is told, where the call did not end well
 unfoldable pub word_of : Status → Option Text
 word_of Done = None

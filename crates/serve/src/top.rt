@@ -1,50 +1,48 @@
 //! The one top call: words, a source and a sink.
 
-ghost use Rattle.std.specs.Prelude.{◌≡◌, ◌<◌, ◌≤◌, ◌+◌, ◌^◌, [], ◌++◌, ℕ, List, length, take, drop, map, string_bytes, Some, None, IfOk, Ok, Err};
+ghost use Rattle.std.specs.Prelude.{◌≡◌, ◌<◌, ◌≤◌, ◌+◌, ◌^◌, [], ◌++◌, ℕ, List, length, take, drop, map, string_bytes, Some, None, Ok, Err};
 ghost use Rattle.std.specs.Option.{ForSome};
 ghost use Rattle.outside.specs.Count.{Rose};
-ghost use Rattle.outside.specs.Words.{units_in};
+ghost use Rattle.outside.specs.Words.{units_in, generation_in};
+ghost use Rattle.outside.specs.declared.words.Generation.{Generation};
 ghost use Rattle.script_text.specs.Script.{script_of};
 ghost use Rattle.script_text.specs.declared.read.ScriptError.{ScriptError as Refusal};
 ghost use Rattle.py_node.specs.Tree.{Tree};
-ghost use Rattle.serve.specs.Headline.{IsTextOf, run_text};
-ghost use Rattle.serve.specs.Status.{HasReadAll, IsDoneOrPoor};
-ghost use Rattle.vm_eval.specs.Runs.{trees_in};
+ghost use Rattle.serve.specs.Headline.{IsTextOf, run_text, generation_text};
+ghost use Rattle.serve.specs.Status.{HasReadAll, IsDoneOrPoor, IsWriteEnd};
 
+use crate::generation::generate;
+use crate::script::run;
 use crate::status::Status;
-use class_world::class_lines::push_classes;
-use outside::read_all::read_all;
-use outside::words::units_of;
-use outside::write_all::write_all;
-use outside::{ReadEnd, Sink, Source};
-use py_node::{Command, OutOfMemory};
-use reply_text::write::write_replies;
-use script_text::ScriptFault;
-use script_text::read::read_script;
+use outside::words::{generation_of, units_of};
+use outside::{Sink, Source};
 use std::alloc::Global;
-use vm_eval::VirtualMachine;
 
-/// Reads a script to the source's end, runs each command of it with the units that the words give, and
-/// writes the replies and the classes that it made to the sink. Nothing is written before all was read and run.
+/// With the words `run N`, reads a script to the source's end, runs each command of it with N units, and writes the
+/// replies and the classes that it made to the sink. With `gen SEED COUNT`, runs the commands that the seed generates,
+/// and writes what their replies add up to. Nothing is written before all was read and run.
 pub fn serve<S: Source, K: Sink>(
     alloc: Global,
     words: &[String],
     source: &mut S,
     sink: &mut K,
 ) -> Status
-    // What is written is the text of the plain machine's run, and nothing else.
-    ensures done { result ≡ Status.Done → (units : ℕ) × (units_in (map string_bytes words.now) ≡ Some units)
-        × ForSome (S.left source.old) (λ bytes. (length bytes ≤ 2 ^ 24) × (text : List ℕ) × IsTextOf bytes units text
+    // With `run N`, what is written is the text of the plain machine's run, and nothing else.
+    ensures done { (units : ℕ) → units_in (map string_bytes words.now) ≡ Some units → result ≡ Status.Done
+        → ForSome (S.left source.old) (λ bytes. (length bytes ≤ 2 ^ 24) × (text : List ℕ) × IsTextOf bytes units text
         × ForSome (K.taken sink.old) (λ old. K.taken sink.new ≡ Some (old ++ text))) }
     // What has a script's answer, or failed in writing it, has read all; whatever comes, at most one byte
     // past the limit is read, and for words that are none nothing.
-    ensures read { HasReadAll result → ForSome (S.left source.old) (λ _. S.left source.new ≡ Some []) }
+    ensures read { (units : ℕ) → units_in (map string_bytes words.now) ≡ Some units → HasReadAll result
+        → ForSome (S.left source.old) (λ _. S.left source.new ≡ Some []) }
     ensures at_most { ForSome (S.left source.old) (λ bytes. (n : ℕ) × (n ≤ 2 ^ 24 + 1) ×
         (S.left source.new ≡ Some (drop n bytes))) }
     ensures unread { result ≡ Status.Usage → source.new ≡ source.old }
     // Usage comes exactly where the words are none that the program knows.
-    ensures usage { result ≡ Status.Usage → units_in (map string_bytes words.now) ≡ None }
-    ensures only_usage { units_in (map string_bytes words.now) ≡ None → result ≡ Status.Usage }
+    ensures usage { result ≡ Status.Usage → (units_in (map string_bytes words.now) ≡ None)
+        × (generation_in (map string_bytes words.now) ≡ None) }
+    ensures only_usage { units_in (map string_bytes words.now) ≡ None
+        → generation_in (map string_bytes words.now) ≡ None → result ≡ Status.Usage }
     // A word of a script comes only where the bytes, which are few enough, give it.
     ensures script { (e : Refusal) → result ≡ Status.Script e → ForSome (S.left source.old) (λ bytes.
         (length bytes ≤ 2 ^ 24) × (script_of bytes ≡ Err e)) }
@@ -53,14 +51,14 @@ pub fn serve<S: Source, K: Sink>(
     ensures fits { ForSome (S.left source.old) (λ bytes. length bytes ≤ 2 ^ 24 → result ≡ Status.TooLarge → ⊥) }
     ensures write_fault { result ≡ Status.WriteFault → Rose (K.faults sink.old) (K.faults sink.new) }
     // What was taken before a fault is a front of the text.
-    ensures front { result ≡ Status.WriteFault → (units : ℕ) × (units_in (map string_bytes words.now) ≡ Some units)
-        × ForSome (S.left source.old) (λ bytes. (length bytes ≤ 2 ^ 24) × (text : List ℕ) × IsTextOf bytes units text
+    ensures front { (units : ℕ) → units_in (map string_bytes words.now) ≡ Some units → result ≡ Status.WriteFault
+        → ForSome (S.left source.old) (λ bytes. (length bytes ≤ 2 ^ 24) × (text : List ℕ) × IsTextOf bytes units text
         × ForSome (K.taken sink.old) (λ old. (n : ℕ) × (n < length text) ×
         (K.taken sink.new ≡ Some (old ++ take n text)))) }
     // With any other end nothing is written.
     ensures nothing { (result ≡ Status.Done → ⊥) → (result ≡ Status.WriteFault → ⊥) → K.taken sink.new ≡
         K.taken sink.old }
-    // Words that are known, bytes that spell a script and are few enough, and no failure: then all is
+    // The words `run N`, bytes that spell a script and are few enough, and no failure: then all is
     // written, or memory could not be had.
     ensures complete { (units : ℕ) → units_in (map string_bytes words.now) ≡ Some units
         → ForSome (S.left source.old) (λ bytes. (commands : List Tree) → script_of bytes ≡ Ok commands
@@ -79,71 +77,27 @@ pub fn serve<S: Source, K: Sink>(
         → length text ≤ K.sure sink.old → result ≡ Status.WriteFault → ⊥) }
     ensures later { S.faults source.old ≤ S.faults source.new }
     ensures later_sink { K.faults sink.old ≤ K.faults sink.new }
-{
-    match units_of(words) {
-        None => Status::Usage,
-        Some(units) => match read_all(alloc, source) {
-            Err(ReadEnd::Fault) => Status::ReadFault,
-            Err(ReadEnd::TooLarge) => Status::TooLarge,
-            Err(ReadEnd::OutOfMemory) => Status::OutOfMemory,
-            Ok(bytes) => answer(alloc, &bytes, units, sink),
-        },
-    }
-}
-
-// Runs the script that bytes spell, and writes the text of the run.
-fn answer<K: Sink>(alloc: Global, bytes: &[u8], units: u64, sink: &mut K) -> Status
-    ensures done { result ≡ Status.Done → (text : List ℕ) × IsTextOf bytes.now units text
-        × ForSome (K.taken sink.old) (λ old. K.taken sink.new ≡ Some (old ++ text)) }
-    ensures usage { result ≡ Status.Usage → ⊥ }
-    ensures script { (e : Refusal) → result ≡ Status.Script e → script_of bytes.now ≡ Err e }
-    ensures read_fault { result ≡ Status.ReadFault → ⊥ }
-    ensures too_large { result ≡ Status.TooLarge → ⊥ }
-    ensures write_fault { result ≡ Status.WriteFault → Rose (K.faults sink.old) (K.faults sink.new) }
-    ensures front { result ≡ Status.WriteFault → (text : List ℕ) × IsTextOf bytes.now units text
-        × ForSome (K.taken sink.old) (λ old. (n : ℕ) × (n < length text) ×
-        (K.taken sink.new ≡ Some (old ++ take n text))) }
-    ensures nothing { (result ≡ Status.Done → ⊥) → (result ≡ Status.WriteFault → ⊥) → K.taken sink.new ≡
-        K.taken sink.old }
-    ensures complete { (commands : List Tree) → script_of bytes.now ≡ Ok commands
+    // With `gen SEED COUNT`, the source is left alone, and what is written is what the replies of the plain machine to
+    // the generated commands add up to; it ends so, or the sink failed, or memory could not be had.
+    ensures gen_unread { (g : Generation) → generation_in (map string_bytes words.now) ≡ Some g
+        → source.new ≡ source.old }
+    ensures gen_ends { (g : Generation) → generation_in (map string_bytes words.now) ≡ Some g → IsWriteEnd result }
+    ensures gen_done { (g : Generation) → generation_in (map string_bytes words.now) ≡ Some g → result ≡ Status.Done
+        → ForSome (K.taken sink.old) (λ old. K.taken sink.new ≡ Some (old ++ generation_text g.seed g.count)) }
+    ensures gen_front { (g : Generation) → generation_in (map string_bytes words.now) ≡ Some g
+        → result ≡ Status.WriteFault → ForSome (K.taken sink.old) (λ old. (n : ℕ)
+        × (n < length (generation_text g.seed g.count))
+        × (K.taken sink.new ≡ Some (old ++ take n (generation_text g.seed g.count)))) }
+    ensures gen_complete { (g : Generation) → generation_in (map string_bytes words.now) ≡ Some g
         → (Rose (K.faults sink.old) (K.faults sink.new) → ⊥) → IsDoneOrPoor result }
-    ensures sure { (text : List ℕ) → IsTextOf bytes.now units text → length text ≤ K.sure sink.old
-        → result ≡ Status.WriteFault → ⊥ }
-    ensures later { K.faults sink.old ≤ K.faults sink.new }
+    ensures gen_ahead { (g : Generation) → generation_in (map string_bytes words.now) ≡ Some g
+        → length (generation_text g.seed g.count) ≤ K.sure sink.old → IsDoneOrPoor result }
 {
-    match text_of(alloc, bytes, units) {
-        Err(ScriptFault::Script(error)) => Status::Script(error),
-        Err(ScriptFault::OutOfMemory(_)) => Status::OutOfMemory,
-        Ok(text) => match write_all(sink, &text) {
-            Ok(()) => Status::Done,
-            Err(_) => Status::WriteFault,
-        },
-    }
-}
-
-// The text of the run of the script that bytes spell.
-fn text_of(alloc: Global, bytes: &[u8], units: u64) -> Result<Vec<u8>, ScriptFault>
-    ensures text { IfOk result (λ v. IsTextOf bytes.now units v.items) }
-    ensures script { (e : Refusal) → result ≡ Err (ScriptFault.Script e) → script_of bytes.now ≡ Err e }
-{
-    let commands = read_script(alloc, bytes)?;
-    match run_text(alloc, &commands, units) {
-        Ok(text) => Ok(text),
-        Err(error) => Err(ScriptFault::OutOfMemory(error)),
-    }
-}
-
-// The text of the replies to commands, and of the classes that they made.
-fn run_text(alloc: Global, commands: &[Command], units: u64) -> Result<Vec<u8>, OutOfMemory>
-    ensures { IfOk result (λ v. v.items ≡ run_text (trees_in commands.now) units) }
-{
-    let mut vm = VirtualMachine::new(alloc)?;
-    match vm.run(commands, units) {
-        Ok(replies) => {
-            let mut text = write_replies(alloc, &replies)?;
-            push_classes(&mut text, vm.world())?;
-            Ok(text)
-        }
-        Err(_) => Err(OutOfMemory),
+    if let Some(units) = units_of(words) {
+        run(alloc, units, source, sink)
+    } else if let Some(generation) = generation_of(words) {
+        generate(alloc, generation, sink)
+    } else {
+        Status::Usage
     }
 }

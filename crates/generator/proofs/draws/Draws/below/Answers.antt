@@ -1,0 +1,10 @@
+-- A product that wraps may be added to before it wraps.
+use Rattle.std.proofs.Common.{◌*◌, ap}
+use Rattle.std.proofs.Math.Nat.{mod-add-mod}
+use Rattle.generator.specs.Draws.{next}
+use Rattle.generator.proofs.draws.Draws.below.Goals as goal
+
+pub returns-clause-moves : goal.returns-clause-moves
+unfolding next
+returns-clause-moves c = rw (mod-add-mod (c.self.inside.state * 6364136223846793005) 18446744073709551616 1442695040888963407)
+    (ap next c.self.view_is)

@@ -1,0 +1,11 @@
+use Rattle.std.proofs.Common.{◌≡◌, ◌+◌, ◌++◌, List, map, take}
+use Rattle.py_node.specs.Replies.{PlainReply, reply_of}
+use Rattle.generator.specs.Summary.{Counts}
+use Rattle.generator.proofs.tally.Tally.add_all.Given as goal
+
+-- the replies so far are counted
+abbrev pub invariant-loop-reply : goal.invariant-loop-reply
+invariant-loop-reply l = record {
+  counts : (rs : List PlainReply) → Counts l.fn.self rs → Counts l.self (rs ++ map reply_of (take l.reply-index l.replies));
+  replies : l.self.replies ≡ l.fn.self.replies + l.reply-index;
+}

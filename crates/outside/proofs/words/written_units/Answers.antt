@@ -1,9 +1,0 @@
--- What isn't read as 64 bits is no number in range.
-use Rattle.std.proofs.Common.{sym, ◌∙◌, ap}
-use Rattle.outside.specs.Words.{is_numeral}
-use Rattle.outside.proofs.Numerals.{too_large}
-use Rattle.outside.proofs.words.written_units.Goals as goal
-
-pub returns-in-Err : goal.returns-in-Err
-returns-in-Err c = too_large c.args.text.now c.parse.result _ c.parse.ensures.value.0 c.in-Err.is
-    (ap is_numeral (sym c.as_bytes.ensures.value) ∙ sym c.is_plain.ensures ∙ c.if-not-is_plain.false)
