@@ -1,0 +1,90 @@
+-- What a host is told that asks the machine for a task.
+use Rattle.std.specs.Prelude.{◌≡◌, ℕ, ℤ, Bool, true, false, cond, List, [], Option, Some, None, Result, Ok, Err, IfOk, OnOk, OnErr, IsTrue}
+use Rattle.py_node.specs.declared.refs.PyObjectRef.{PyObjectRef}
+use Rattle.py_node.specs.declared.task.Answer.{Answer}
+use Rattle.py_node.specs.declared.task.PyMethod.{PyMethod}
+use Rattle.py_node.specs.declared.task.PyResult.{PyResult}
+use Rattle.py_node.specs.declared.task.PyResult.TheVariants.{Done, Raised, Budget}
+use Rattle.py_node.specs.declared.task.Task.{Task}
+use Rattle.plain_machine.specs.Plain.{PlainWorld}
+use Rattle.plain_machine.specs.Sound.{IsSound}
+use Rattle.class_world.specs.Claims.{of_answer, of_method}
+use Rattle.class_world.specs.Reading.{Reading, Reads, plain, IsReadable}
+use Rattle.class_world.specs.Sound.{AllHold, Claim, Grows, of_node_ref, of_option}
+use Rattle.vm_eval.specs.declared.machine.RunFault.{RunFault}
+use Rattle.vm_eval.specs.declared.machine.RunFault.TheVariants as run_fault
+use Rattle.vm_eval.specs.Asks.{Asked, of_done}
+use Rattle.vm_eval.specs.State.{State}
+use Rattle.vm_calls.specs.Readings.{object_in, maybe_in, truth_in, opposite_in, order_in, method_in, number_in, length_in, length_opt_in, length_or}
+
+-- how a task ended, its value as it is read
+abbrev pub told_by : {A T : Type 0} → (A → T) → PyResult A → PyResult T
+told_by read (Done a) = Done (read a)
+told_by read (Raised x) = Raised x
+told_by read Budget = Budget
+
+-- the machine answers the task, from one machine to the other: where there is an answer, it and the world then are the plain machine's, the value as it is read; what the value names is there. On a machine that has failed nothing is done, else only want of memory is another answer, and the machine has failed then. However the task ends, the world is sound, what held of numbers holds still, and no body runs
+pub record Told {T : Type 0} (read : Answer → T) (of : T → List Claim) (task : Task) (units : ℕ) (old new : State) (result : Result (PyResult T) RunFault) : Type 0 where
+  pub answers : IfOk result (λ told. (end : PyResult Answer) × Asked task old.world units new.world end × (told ≡ told_by read end))
+  pub holds : IfOk result (λ told. AllHold new.world (of_done of told))
+  pub failed : IsTrue old.failed → (result ≡ Err run_fault.Failed) × (new ≡ old)
+  pub memory : old.failed ≡ false → result ≡ Err run_fault.Failed → ⊥
+  pub works : OnOk result (new.failed ≡ old.failed)
+  pub gives_up : OnErr result (IsTrue new.failed)
+  pub readable : OnOk result (IsReadable new.world)
+  pub grows : Grows old.world new.world
+  pub rests : (t : Reading) → (plain t new.world).scopes ≡ []
+  pub sound : (t : Reading) → IsSound (plain t new.world)
+
+-- what names nothing
+abbrev pub of_nothing : {T : Type 0} → T → List Claim
+of_nothing x = []
+
+-- the same, by what the value is
+
+abbrev pub TellsAnswer : Task → ℕ → State → State → Result (PyResult Answer) RunFault → Type 0
+TellsAnswer = Told (λ a. a) of_answer
+
+abbrev pub TellsObject : Task → ℕ → State → State → Result (PyResult PyObjectRef) RunFault → Type 0
+TellsObject = Told object_in of_node_ref
+
+abbrev pub TellsMaybe : Task → ℕ → State → State → Result (PyResult (Option PyObjectRef)) RunFault → Type 0
+TellsMaybe = Told maybe_in (of_option of_node_ref)
+
+abbrev pub TellsMethod : Task → ℕ → State → State → Result (PyResult PyMethod) RunFault → Type 0
+TellsMethod = Told method_in of_method
+
+abbrev pub TellsDone : Task → ℕ → State → State → Result (PyResult (Unit {0})) RunFault → Type 0
+TellsDone = Told (λ a. tt) of_nothing
+
+abbrev pub TellsTruth : Task → ℕ → State → State → Result (PyResult Bool) RunFault → Type 0
+TellsTruth = Told truth_in of_nothing
+
+abbrev pub TellsOpposite : Task → ℕ → State → State → Result (PyResult Bool) RunFault → Type 0
+TellsOpposite = Told opposite_in of_nothing
+
+abbrev pub TellsOrder : Task → ℕ → State → State → Result (PyResult (Option Bool)) RunFault → Type 0
+TellsOrder = Told order_in of_nothing
+
+abbrev pub TellsNumber : Task → ℕ → State → State → Result (PyResult ℤ) RunFault → Type 0
+TellsNumber = Told number_in of_nothing
+
+abbrev pub TellsLength : Task → ℕ → State → State → Result (PyResult ℕ) RunFault → Type 0
+TellsLength = Told length_in of_nothing
+
+abbrev pub TellsLengthOpt : Task → ℕ → State → State → Result (PyResult (Option ℕ)) RunFault → Type 0
+TellsLengthOpt = Told length_opt_in of_nothing
+
+abbrev pub TellsLengthOr : ℕ → Task → ℕ → State → State → Result (PyResult ℕ) RunFault → Type 0
+TellsLengthOr n = Told (length_or n) of_nothing
+
+-- the task is asked where the test holds of the world, and what it gives is told as some; else none is told and nothing is done, on a machine that has not failed
+pub record ToldWhere {T : Type 0} (test : PlainWorld → Bool) (read : Answer → T) (of : T → List Claim) (task : Task) (units : ℕ) (old new : State) (result : Result (PyResult (Option T)) RunFault) : Type 0 where
+  pub some : (t : Reading) → Reads t old.world → test (plain t old.world) ≡ true → Told (λ a. Some (read a)) (of_option of) task units old new result
+  pub none : (t : Reading) → Reads t old.world → test (plain t old.world) ≡ false → (new ≡ old) × (result ≡ cond old.failed (Err run_fault.Failed) (Ok (Done None)))
+
+abbrev pub TellsObjectWhere : (PlainWorld → Bool) → Task → ℕ → State → State → Result (PyResult (Option PyObjectRef)) RunFault → Type 0
+TellsObjectWhere test = ToldWhere test object_in of_node_ref
+
+abbrev pub TellsLengthWhere : (PlainWorld → Bool) → Task → ℕ → State → State → Result (PyResult (Option ℕ)) RunFault → Type 0
+TellsLengthWhere test = ToldWhere test length_in of_nothing

@@ -1,0 +1,177 @@
+//! What objects stand for as truth values, as whole numbers and as lengths.
+
+ghost use Rattle.std.specs.Prelude.{◌≡◌, [], ◌∷◌, cond};
+ghost use Rattle.class_world.specs.Reading.{Reading, Reads, plain};
+ghost use Rattle.class_world.specs.Sound.{AllHold, Holds, IsNode};
+ghost use Rattle.vm_calls.specs.Tests.{has_index, has_length};
+ghost use Rattle.vm_calls.specs.Told.{TellsLength, TellsLengthOpt, TellsLengthOr, TellsLengthWhere, TellsObject, TellsObjectWhere, TellsOpposite, TellsTruth};
+
+use crate::asked::ask;
+use class_world::World;
+use py_node::protocol::ProtocolTask;
+use py_node::{PyObjectRef, PyResult, SlotId, Task};
+use vm_eval::{RunFault, VirtualMachine};
+
+/// Whether an object counts as true.
+pub fn is_true(
+    vm: &mut VirtualMachine,
+    object: PyObjectRef,
+    budget: u64,
+) -> Result<PyResult<bool>, RunFault>
+    requires { AllHold vm.old.world (IsNode object ∷ []) }
+    ensures { TellsTruth (Task.Protocol (ProtocolTask.IsTrue object)) budget vm.old vm.new result }
+{
+    let task = Task::Protocol(ProtocolTask::IsTrue(object));
+    ask(vm, task, budget)
+}
+
+/// Whether an object counts as false.
+pub fn not(
+    vm: &mut VirtualMachine,
+    object: PyObjectRef,
+    budget: u64,
+) -> Result<PyResult<bool>, RunFault>
+    requires { AllHold vm.old.world (IsNode object ∷ []) }
+    ensures { TellsOpposite (Task.Protocol (ProtocolTask.IsTrue object)) budget vm.old vm.new result }
+{
+    match is_true(vm, object, budget)? {
+        PyResult::Done(truth) => Ok(PyResult::Done(!truth)),
+        other => Ok(other),
+    }
+}
+
+/// An object as a whole number that it stands for exactly.
+pub fn try_index(
+    vm: &mut VirtualMachine,
+    object: PyObjectRef,
+    budget: u64,
+) -> Result<PyResult<PyObjectRef>, RunFault>
+    requires { AllHold vm.old.world (IsNode object ∷ []) }
+    ensures { TellsObject (Task.Protocol (ProtocolTask.Index object)) budget vm.old vm.new result }
+{
+    let task = Task::Protocol(ProtocolTask::Index(object));
+    ask(vm, task, budget)
+}
+
+/// The same, or none, where the object holds no number and its class itself has no slot for an index.
+pub fn try_index_opt(
+    vm: &mut VirtualMachine,
+    object: PyObjectRef,
+    budget: u64,
+) -> Result<PyResult<Option<PyObjectRef>>, RunFault>
+    requires { AllHold vm.old.world (IsNode object ∷ []) }
+    ensures { TellsObjectWhere (has_index object) (Task.Protocol (ProtocolTask.Index object))
+        budget vm.old vm.new result }
+{
+    if !has_index(vm.world(), object) {
+        return none_told(vm);
+    }
+    match try_index(vm, object, budget)? {
+        PyResult::Done(number) => Ok(PyResult::Done(Some(number))),
+        PyResult::Raised(raised) => Ok(PyResult::Raised(raised)),
+        PyResult::Budget => Ok(PyResult::Budget),
+    }
+}
+
+// Whether an object holds a number, or its class itself has a slot for an index.
+fn has_index(world: &World, object: PyObjectRef) -> bool
+    requires { Holds world.now (IsNode object) }
+    ensures { (t : Reading) → Reads t world.now → has_index object (plain t world.now) ≡ result }
+{
+    world.number(object).is_some() || world.slot(object, SlotId::Index).is_some()
+}
+
+// None is told, unless the machine has failed.
+fn none_told<T>(vm: &VirtualMachine) -> Result<PyResult<Option<T>>, RunFault>
+    ensures { result ≡ cond vm.now.failed (Err RunFault.Failed) (Ok (PyResult.Done None)) }
+{
+    if vm.has_failed() {
+        return Err(RunFault::Failed);
+    }
+    Ok(PyResult::Done(None))
+}
+
+/// An object as a whole number.
+pub fn try_int(
+    vm: &mut VirtualMachine,
+    object: PyObjectRef,
+    budget: u64,
+) -> Result<PyResult<PyObjectRef>, RunFault>
+    requires { AllHold vm.old.world (IsNode object ∷ []) }
+    ensures { TellsObject (Task.Protocol (ProtocolTask.Int object)) budget vm.old vm.new result }
+{
+    let task = Task::Protocol(ProtocolTask::Int(object));
+    ask(vm, task, budget)
+}
+
+/// An object's length.
+pub fn length(
+    vm: &mut VirtualMachine,
+    object: PyObjectRef,
+    budget: u64,
+) -> Result<PyResult<usize>, RunFault>
+    requires { AllHold vm.old.world (IsNode object ∷ []) }
+    ensures { TellsLength (Task.Protocol (ProtocolTask.Length object)) budget vm.old vm.new result }
+{
+    let task = Task::Protocol(ProtocolTask::Length(object));
+    ask(vm, task, budget)
+}
+
+/// The same, or none, where the object's class has no slot for a length, as a sequence or as a mapping.
+pub fn length_opt(
+    vm: &mut VirtualMachine,
+    object: PyObjectRef,
+    budget: u64,
+) -> Result<PyResult<Option<usize>>, RunFault>
+    requires { AllHold vm.old.world (IsNode object ∷ []) }
+    ensures { TellsLengthWhere (has_length object) (Task.Protocol (ProtocolTask.Length object))
+        budget vm.old vm.new result }
+{
+    if !has_length(vm.world(), object) {
+        return none_told(vm);
+    }
+    match length(vm, object, budget)? {
+        PyResult::Done(length) => Ok(PyResult::Done(Some(length))),
+        PyResult::Raised(raised) => Ok(PyResult::Raised(raised)),
+        PyResult::Budget => Ok(PyResult::Budget),
+    }
+}
+
+// Whether an object's class has a slot for a length.
+fn has_length(world: &World, object: PyObjectRef) -> bool
+    requires { Holds world.now (IsNode object) }
+    ensures { (t : Reading) → Reads t world.now → has_length object (plain t world.now) ≡ result }
+{
+    world.slot(object, SlotId::SeqLength).is_some()
+        || world.slot(object, SlotId::MapLength).is_some()
+}
+
+/// An object's length, or what it says to expect, or else the number that is given.
+pub fn length_hint(
+    vm: &mut VirtualMachine,
+    object: PyObjectRef,
+    default: usize,
+    budget: u64,
+) -> Result<PyResult<usize>, RunFault>
+    requires { AllHold vm.old.world (IsNode object ∷ []) }
+    ensures { TellsLengthOr default (Task.Protocol (ProtocolTask.Hint object None)) budget vm.old vm.new result }
+{
+    match length_hint_opt(vm, object, budget)? {
+        PyResult::Done(hint) => Ok(PyResult::Done(hint.unwrap_or(default))),
+        PyResult::Raised(raised) => Ok(PyResult::Raised(raised)),
+        PyResult::Budget => Ok(PyResult::Budget),
+    }
+}
+
+/// An object's length, or what it says to expect, or that there is neither.
+pub fn length_hint_opt(
+    vm: &mut VirtualMachine,
+    object: PyObjectRef,
+    budget: u64,
+) -> Result<PyResult<Option<usize>>, RunFault>
+    requires { AllHold vm.old.world (IsNode object ∷ []) }
+    ensures { TellsLengthOpt (Task.Protocol (ProtocolTask.Hint object None)) budget vm.old vm.new result }
+{
+    let task = Task::Protocol(ProtocolTask::Hint(object, None));
+    ask(vm, task, budget)
+}
