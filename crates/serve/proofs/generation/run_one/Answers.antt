@@ -9,7 +9,7 @@ use Rattle.serve.proofs.generation.run_one.Goals as goal
 pub returns-in-Ok-clause-ran : goal.returns-in-Ok-clause-ran
 returns-in-Ok-clause-ran c = λ done ran.
     ran-more done (tree_of c.args.command.expr) c.args.vm.now.world c.run.new.self.world c.args.tally.now c.add_all.new.self c.in-Ok.replies.items c.in-Ok.ensures.runs
-      (λ rs has. subst (λ xs. Counts c.add_all.new.self (rs ++ map reply_of xs)) c.deref.ensures.value (c.add_all.ensures.counts rs has)) ran
+    (λ rs has. subst (λ xs. Counts c.add_all.new.self (rs ++ map reply_of xs)) c.deref.ensures.value (c.add_all.ensures.counts rs has)) ran
 
 pub returns-in-Ok-clause-replies : goal.returns-in-Ok-clause-replies
 returns-in-Ok-clause-replies c =
