@@ -17,6 +17,7 @@ mod class_get;
 pub mod find;
 mod generic;
 mod get_attr;
+pub mod laws;
 mod load;
 mod named;
 mod object_set;

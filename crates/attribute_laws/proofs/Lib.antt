@@ -1,0 +1,4 @@
+pub mod Standing
+pub mod Loading
+pub mod Fast
+pub mod Answering

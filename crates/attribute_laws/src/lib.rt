@@ -1,0 +1,4 @@
+//! What is so of several groups of rows together, and is the result of no call.
+#![tactic(auto)]
+
+pub mod methods;
