@@ -14,7 +14,6 @@ from .machine import Reply
 from .source import Command
 
 KNOWN: dict[str, str] = {
-    "not-there-yet": "the machine has no row for this yet",
     "units": "each command has a budget of units",
     "bounds": "integers have 128 bits, containers 2^24 items, and a thousand tasks wait for one another at most",
     "keys": "a key of a dict is a text or a number",
@@ -46,7 +45,6 @@ KNOWN: dict[str, str] = {
 
 # Causes that show a known difference by themselves.
 CAUSES = {
-    "NotYet": "not-there-yet",
     "IntRange": "bounds",
     "TooLong": "bounds",
     "RepeatTooLong": "bounds",
@@ -58,7 +56,7 @@ CAUSES = {
 }
 
 # After these the two are in different states, and nothing more can be compared.
-LAST = frozenset({"not-there-yet", "units", "bounds"})
+LAST = frozenset({"units", "bounds"})
 
 
 @dataclass(frozen=True)

@@ -12,7 +12,7 @@ use std::{env, io};
 use vm_eval::VirtualMachine;
 
 // What each command may spend.
-const UNITS: u64 = 1_000;
+const UNITS: u64 = 1_000_000;
 
 fn main(rt: HostRuntime) -> io::Result<ExitCode> {
     let mut words = Vec::new(rt.alloc());

@@ -6,9 +6,8 @@ pub mod def;
 pub mod extend;
 pub mod member;
 pub mod payloads;
-pub mod signature;
 
 pub use def::PyMethodDef;
 pub use extend::extend_methods;
 pub use member::{PyMemberDef, new_member};
-pub use signature::get_text_signature_from_internal_doc;
+pub use signatures::get_text_signature_from_internal_doc;

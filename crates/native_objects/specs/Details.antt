@@ -14,14 +14,16 @@ use Rattle.plain_machine.specs.ClassText.{name_at}
 use Rattle.plain_machine.specs.Row.{value, none, elsewhere}
 use Rattle.plain_machine.specs.Takes.{with_one}
 use Rattle.native_base.specs.Say.{in_length, text_made}
+use Rattle.signatures.specs.Signature.{signature_of}
 use Rattle.native_objects.specs.Takes.{with_own}
 
--- a part of what an object holds: a name, what the objects of a class have under a name, a class, an object that may be absent, or what is told by another task
+-- a part of what an object holds: a name, what the objects of a class have under a name, a class, an object that may be absent, the signature that a text for readers gives for a name, or what is told by another task
 pub data Part : Type 0 where
   NamePart : Text → Part
   DottedPart : ℕ → Text → Part
   ClassPart : ℕ → Part
   ObjectPart : Option PyObjectRef → Part
+  SignaturePart : Text → Text → Part
   LaterPart : Part
 
 -- the parts of the objects of each class, by the names under which they are read
@@ -70,13 +72,13 @@ doc_part None = ObjectPart None
 doc_part (Some x) = NamePart x
 
 -- the signature that such a text begins with
-abbrev pub signature_part : Option Text → Part
-signature_part None = ObjectPart None
-signature_part (Some x) = LaterPart
+abbrev pub signature_part : Text → Option Text → Part
+signature_part x None = ObjectPart None
+signature_part x (Some doc) = SignaturePart x doc
 
 abbrev pub described_part : Detail → ℕ → Text → Option Text → Option Part
 described_part detail.Doc c x doc = Some (doc_part doc)
-described_part detail.TextSignature c x doc = Some (signature_part doc)
+described_part detail.TextSignature c x doc = Some (signature_part x doc)
 described_part d c x doc = in_class_part d c x
 
 abbrev pub method_descriptor_part : Detail → Option Datum → Option Part
@@ -176,12 +178,18 @@ or_none (Some r) = r
 abbrev pub dotted_text : PlainWorld → ℕ → Text → Text
 dotted_text w c x = name_at w.classes c ++ codes "." ++ x
 
+-- a signature, or else None
+abbrev pub signature_given : PlainWorld → Option Text → Said
+signature_given w None = Ends w (value none)
+signature_given w (Some x) = text_made w (in_length x)
+
 -- a name is a new text each time
 abbrev pub part_given : PlainWorld → Part → Said
 part_given w (NamePart x) = text_made w (in_length x)
 part_given w (DottedPart c x) = text_made w (in_length (dotted_text w c x))
 part_given w (ClassPart c) = Ends w (value (ref c))
 part_given w (ObjectPart o) = Ends w (value (or_none o))
+part_given w (SignaturePart x doc) = signature_given w (signature_of x doc)
 part_given w LaterPart = Ends w elsewhere
 
 abbrev pub getter_of_say : PlainWorld → BuiltIn → Detail → List PyObjectRef → Bindings → Said

@@ -7,10 +7,11 @@ ghost use Rattle.class_world.specs.Held.{Held};
 ghost use Rattle.class_world.specs.Reading.{Reading, Reads, bindings, datum, plain, spelled, spelled_option};
 ghost use Rattle.class_world.specs.Rows.{EndsAs, LeavesEnd};
 ghost use Rattle.class_world.specs.Sound.{AllHold, AreNodes, IsClass, IsName, Holds, of_name_ref, of_node_ref, of_option, of_optional, of_payload, of_start};
-ghost use Rattle.native_objects.specs.Details.{Part as Read, accessor_part, bounds_part, builtin_method_part, callable_part, class_method_part, doc_part, dotted_text, function_part, getset_part, getter_of_say, in_class_part, kept_part, looked_part, member_part, method_descriptor_part, method_part, name_part, native_function_part, native_part, part_given, part_of, property_part, signature_part, slice_part, static_method_part, super_part};
+ghost use Rattle.native_objects.specs.Details.{Part as Read, accessor_part, bounds_part, builtin_method_part, callable_part, class_method_part, doc_part, dotted_text, function_part, getset_part, getter_of_say, in_class_part, kept_part, looked_part, member_part, method_descriptor_part, method_part, name_part, native_function_part, native_part, part_given, part_of, property_part, signature_given, signature_part, slice_part, static_method_part, super_part};
 ghost use Rattle.native_objects.specs.DetailParts.{of_part, read_part};
 ghost use Rattle.native_objects.specs.Properties.{of_property};
 ghost use Rattle.native_objects.specs.Takes.{with_own};
+ghost use Rattle.signatures.specs.Signature.{signature_of};
 
 use crate::names::limited_text;
 use class_world::takes::one;
@@ -19,6 +20,7 @@ use py_node::{
     Answer, BuiltIn, Cause, Detail, OutOfMemory, Payload, PyObjectRef, PyProperty, PySlice,
     PyStrInterned, PySuper, PyTypeRef, Raised,
 };
+use signatures::get_text_signature_from_internal_doc;
 
 /// A part of what an object holds.
 #[derive(Clone, Copy)]
@@ -28,6 +30,8 @@ pub(crate) enum Part {
     Dotted(PyTypeRef, PyStrInterned),
     Class(PyTypeRef),
     Object(Option<PyObjectRef>),
+    /// The signature that a text for readers gives for a name.
+    Signature(PyStrInterned, PyStrInterned),
     /// What another task tells.
     Later,
 }
@@ -178,7 +182,7 @@ fn method_descriptor_part(detail: Detail, payload: &Payload) -> Option<Part>
     match payload {
         Payload::MethodDescriptor(m) => match detail {
             Detail::Doc => Some(doc_part(m.doc)),
-            Detail::TextSignature => Some(signature_part(m.doc)),
+            Detail::TextSignature => Some(signature_part(m.name, m.doc)),
             detail => in_class_part(detail, m.class, m.name),
         },
         _ => None,
@@ -223,13 +227,14 @@ fn doc_part(doc: Option<PyStrInterned>) -> Part
 }
 
 // The signature that such a text begins with.
-fn signature_part(doc: Option<PyStrInterned>) -> Part
-    ensures part { (t : Reading) → signature_part (spelled_option t doc) ≡ read_part t result }
-    ensures holds { (w : Held) → AllHold w (of_part result) }
+fn signature_part(name: PyStrInterned, doc: Option<PyStrInterned>) -> Part
+    ensures part { (t : Reading) → signature_part (spelled t name) (spelled_option t doc) ≡ read_part t result }
+    ensures holds { (w : Held) → Holds w (IsName name) → AllHold w (of_option of_name_ref doc) →
+        AllHold w (of_part result) }
 {
     match doc {
         None => Part::Object(None),
-        Some(_) => Part::Later,
+        Some(doc) => Part::Signature(name, doc),
     }
 }
 
@@ -395,7 +400,45 @@ fn give_part(world: &mut World, part: Part) -> Result<Result<Answer, Raised>, Ou
         Part::Class(class) => Ok(Ok(Answer::Value(world.class_node(class)))),
         Part::Object(Some(object)) => Ok(Ok(Answer::Value(object))),
         Part::Object(None) => Ok(Ok(Answer::Value(world.fixed(Fixed::None)))),
+        Part::Signature(name, doc) => give_signature(world, name, doc),
         Part::Later => Ok(Err(Raised::new(Cause::SelfType))),
+    }
+}
+
+// Ends with the signature that a text for readers gives for a name, as a new text, or with None.
+fn give_signature(
+    world: &mut World,
+    name: PyStrInterned,
+    doc: PyStrInterned,
+) -> Result<Result<Answer, Raised>, OutOfMemory>
+    requires name { Holds world.old (IsName name) }
+    requires doc { Holds world.old (IsName doc) }
+    ensures ends { IfOk result (λ r. EndsAs (λ t u. signature_given u (signature_of (spelled t name) (spelled t doc)))
+        world.old world.new r) }
+    ensures safe { LeavesEnd world.old world.new result }
+{
+    match signature(world, name, doc)? {
+        Some(text) => limited_text(world, text),
+        None => Ok(Ok(Answer::Value(world.fixed(Fixed::None)))),
+    }
+}
+
+// The signature that a text for readers gives for a name, if it gives one.
+fn signature(
+    world: &World,
+    name: PyStrInterned,
+    doc: PyStrInterned,
+) -> Result<Option<String>, OutOfMemory>
+    requires name { Holds world.now (IsName name) }
+    requires doc { Holds world.now (IsName doc) }
+    ensures { IfOk result (λ o. (t : Reading) → Reads t world.now →
+        signature_of (spelled t name) (spelled t doc) ≡ option_map string_bytes o) }
+{
+    let name = world.spelling(name)?;
+    let doc = world.spelling(doc)?;
+    match get_text_signature_from_internal_doc(name.as_str(), doc.as_str()) {
+        None => Ok(None),
+        Some(text) => Ok(Some(String::from_str(world.alloc(), text)?)),
     }
 }
 

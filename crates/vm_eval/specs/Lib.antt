@@ -2,3 +2,4 @@ pub mod Say
 pub mod Stack
 pub mod Runs
 pub mod State
+pub mod Asks

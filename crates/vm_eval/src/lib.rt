@@ -1,6 +1,7 @@
 //! The machine: rows on an explicit stack of frames, with a budget of units and a limit on the depth.
 #![tactic(auto)]
 
+mod ask;
 pub mod calls;
 pub mod machine;
 pub mod protocols;

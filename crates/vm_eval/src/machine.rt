@@ -31,7 +31,7 @@ impl From<OutOfMemory> for RunFault {
 #[derive(Drop)]
 pub struct VirtualMachine {
     pub(crate) world: World,
-    stack: Vec<Kept>,
+    pub(crate) stack: Vec<Kept>,
     pub(crate) failed: bool,
 }
 

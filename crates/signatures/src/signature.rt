@@ -1,7 +1,7 @@
 //! The signature that a native's text for readers begins with.
 
-ghost use Rattle.std.specs.Prelude.{◌≡◌, IfSome, IfNone};
-ghost use Rattle.native_defs.specs.Signature.{IsSignature, HasNoSignature, IsSignatureOf, HasNoSignatureOf, opening, StandsAt};
+ghost use Rattle.std.specs.Prelude.{◌≡◌, IfSome, IfNone, option_map};
+ghost use Rattle.signatures.specs.Signature.{IsSignature, HasNoSignature, IsSignatureOf, HasNoSignatureOf, opening, signature_of, StandsAt};
 
 use class_table::last_part;
 
@@ -14,6 +14,7 @@ const ENDING: &str = ")\n--\n\n";
 pub fn get_text_signature_from_internal_doc<'a>(name: &str, doc: &'a str) -> Option<&'a str>
     ensures found { IfSome result (λ x. IsSignatureOf name.now doc.now x.now) }
     ensures none { IfNone result (HasNoSignatureOf name.now doc.now) }
+    ensures equals { option_map (λ x. x.now) result ≡ signature_of name.now doc.now }
 {
     signature(last_part(name), doc)
 }

@@ -1,8 +1,8 @@
-use Rattle.std.proofs.Common.{◌≡◌, ◌≤◌, ◌++◌, ◌-◌, ◌+◌, length, IfNone, Option, Some, None, List, ℕ, refl, sym, ap, ◌∙◌, subst, arith}
+use Rattle.std.proofs.Common.{◌≡◌, ◌≤◌, ◌++◌, length, IfNone, Option, Some, None, List, ℕ, sym, ap, ◌∙◌, subst, arith}
 use Rattle.std.specs.Prelude.{drop, take}
 use Rattle.std.proofs.lemmas.List.{append_cancel_left}
-use Rattle.native_defs.specs.Signature.{IsSignature, HasNoSignature, opening, ending, StandsAt}
-use Rattle.native_defs.proofs.signature.signature.Goals as goal
+use Rattle.signatures.specs.Signature.{HasNoSignature, ending}
+use Rattle.signatures.proofs.signature.signature.Goals as goal
 
 if-none : {A : Type 0} (r : Option A) {P : Type 0} → P → IfNone r P
 if-none None p = p
