@@ -3,7 +3,7 @@
 ghost use Rattle.std.specs.Prelude.{◌≡◌, ◌≤◌};
 
 use crate::classes::{class, fresh, told_class, with_child};
-use crate::table::{NoValue, Table};
+use crate::table::{Line, NoValue};
 use crate::telling::{told_attributes, told_classes};
 use class_table::start::known_names;
 use class_table::{ClassTable, Steps};
@@ -26,15 +26,20 @@ const NAME: PyStrInterned = PyStrInterned(9);
 
 const VALUE: PyObjectRef = PyObjectRef(8);
 
-pub fn put_lines(table: &mut Table, alloc: Global) -> Result<(), NoValue> {
-    table.put("ClassTable::takes", free_numbers(alloc)?)?;
-    table.put("ClassTable::subclasses", below(alloc)?)?;
-    table.put("ClassTable::set_attr", set_attr(alloc)?)?;
-    table.put("ClassTable::slot", late_slot(alloc)?)?;
-    table.put("ClassTable::del_attr_direct", take_attr(alloc)?)?;
-    table.put("ClassTable::put_attr", put_attr(alloc)?)?;
-    table.put("ClassTable::set_name", set_name(alloc)?)?;
-    table.put("ClassTable::set_bases", set_bases::<Brand>(alloc, Blank::new(2))?)
+pub fn lines(alloc: Global) -> Result<Vec<Line>, NoValue> {
+    Ok(vec![in alloc;
+        Line("ClassTable::takes", free_numbers(alloc)),
+        Line("ClassTable::subclasses", below(alloc)),
+        Line("ClassTable::set_attr", set_attr(alloc)),
+        Line("ClassTable::slot", late_slot(alloc)),
+        Line("ClassTable::del_attr_direct", take_attr(alloc)),
+        Line("ClassTable::put_attr", put_attr(alloc)),
+        Line("ClassTable::set_name", set_name(alloc)),
+        Line(
+            "ClassTable::set_bases",
+            set_bases::<Brand>(alloc, Blank::new(2))
+        ),
+    ]?)
 }
 
 // The own attributes of a class.

@@ -4,7 +4,7 @@ ghost use Rattle.std.specs.Prelude.{◌≡◌, ◌≤◌, true, IfOk};
 ghost use Rattle.class_model.specs.Class.{is_class};
 ghost use Rattle.class_model.specs.Numbers.{limit};
 
-use crate::table::{NoValue, Table};
+use crate::table::{Line, NoValue};
 use crate::telling::{told_attributes, told_classes};
 use class_table::ClassTable;
 use class_table::start::known_names;
@@ -23,19 +23,21 @@ const NAME: PyStrInterned = PyStrInterned(7);
 
 const VALUE: PyObjectRef = PyObjectRef(8);
 
-pub fn put_lines(table: &mut Table, alloc: Global) -> Result<(), NoValue> {
-    table.put("class_table::known_names", known(alloc)?)?;
-    table.put("ClassTable::new", built_in_classes(alloc)?)?;
-    table.put("ClassTable::new_heap", heap_class(alloc)?)?;
-    table.put("ClassTable::new_simple_heap", simple_class(alloc)?)?;
-    table.put("ClassTable::new_static", static_class(alloc)?)?;
-    table.put("ClassTable::new_single", single_class(alloc)?)?;
-    table.put("ClassTable::may_derive", derives(alloc)?)?;
-    table.put("ClassTable::mro_collect", line(alloc)?)?;
-    table.put("ClassTable::mro_map_collect", mapped_line(alloc)?)?;
-    table.put("ClassTable::get_attributes", inherited(alloc)?)?;
-    table.put("ClassTable::iter_base_chain", chain(alloc)?)?;
-    table.put("ClassTable::member_count", places(alloc)?)
+pub fn lines(alloc: Global) -> Result<Vec<Line>, NoValue> {
+    Ok(vec![in alloc;
+        Line("class_table::known_names", known(alloc)),
+        Line("ClassTable::new", built_in_classes(alloc)),
+        Line("ClassTable::new_heap", heap_class(alloc)),
+        Line("ClassTable::new_simple_heap", simple_class(alloc)),
+        Line("ClassTable::new_static", static_class(alloc)),
+        Line("ClassTable::new_single", single_class(alloc)),
+        Line("ClassTable::may_derive", derives(alloc)),
+        Line("ClassTable::mro_collect", line(alloc)),
+        Line("ClassTable::mro_map_collect", mapped_line(alloc)),
+        Line("ClassTable::get_attributes", inherited(alloc)),
+        Line("ClassTable::iter_base_chain", chain(alloc)),
+        Line("ClassTable::member_count", places(alloc)),
+    ]?)
 }
 
 /// The class of a number, if the table has one.
@@ -65,7 +67,11 @@ pub fn fresh(table: &ClassTable, number: u64) -> Result<PyTypeRef, NoValue>
 /// A class with its linearisation, by the numbers of the classes.
 pub fn told_class(alloc: Global, table: &ClassTable, number: u64) -> Result<String, NoValue> {
     let class = class(table, number)?;
-    let kind = if table.is_heap(class) { "heap" } else { "static" };
+    let kind = if table.is_heap(class) {
+        "heap"
+    } else {
+        "static"
+    };
     let line = told_classes(alloc, table.mro(class))?;
     Ok(format!(in alloc; "{kind} {}, {}", table.name(class), line.as_str())?)
 }

@@ -4,11 +4,16 @@
 
 mod changes;
 mod classes;
+mod definitions;
+mod descriptors;
+mod lists;
 mod members;
 mod merges;
 mod nodes;
+mod payloads;
 mod table;
 mod telling;
+mod texts;
 mod world_classes;
 mod worlds;
 
@@ -30,11 +35,14 @@ fn main(rt: HostRuntime) -> io::Result<ExitCode> {
 
 // The lines of each subject.
 fn put_all(table: &mut Table, alloc: Global) -> Result<(), NoValue> {
-    nodes::put_lines(table, alloc)?;
-    merges::put_lines(table, alloc)?;
-    classes::put_lines(table, alloc)?;
-    changes::put_lines(table, alloc)?;
-    worlds::put_lines(table, alloc)?;
-    world_classes::put_lines(table, alloc)?;
-    members::put_lines(table, alloc)
+    table.put(nodes::lines(alloc))?;
+    table.put(merges::lines(alloc))?;
+    table.put(classes::lines(alloc))?;
+    table.put(changes::lines(alloc))?;
+    table.put(worlds::lines(alloc))?;
+    table.put(world_classes::lines(alloc))?;
+    table.put(members::lines(alloc))?;
+    table.put(definitions::lines(alloc))?;
+    table.put(descriptors::lines(alloc))?;
+    table.put(texts::lines(alloc))
 }

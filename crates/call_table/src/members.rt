@@ -1,36 +1,20 @@
 //! What stands in the places of a class's objects.
 
-ghost use Rattle.std.specs.Prelude.{◌≡◌, ◌∷◌, [], true, IfOk};
+ghost use Rattle.std.specs.Prelude.{◌≡◌, true, IfOk};
 ghost use Rattle.py_node.specs.declared.built_in.BuiltIn.TheVariants.{Object};
 ghost use Rattle.class_world.specs.Sound.{Holds, IsClass, IsNode, IsOf};
 
-use crate::table::{NoValue, Table};
+use crate::lists::{one_class, one_name};
+use crate::table::{Line, NoValue};
 use class_table::ClassFault;
 use class_world::show::show;
 use class_world::{Fixed, World};
-use py_node::{
-    BuiltIn, Known, OutOfMemory, Payload, PyAttributes, PyObjectRef, PySetterValue, PyStrInterned,
-    PyTypeRef,
-};
+use py_node::{BuiltIn, Known, Payload, PyAttributes, PyObjectRef, PySetterValue, PyTypeRef};
 use std::alloc::Global;
 
-pub fn put_lines(table: &mut Table, alloc: Global) -> Result<(), NoValue> {
+pub fn lines(alloc: Global) -> Result<Vec<Line>, NoValue> {
     let mut world = World::new(alloc)?;
-    table.put("World::set_member_value", member_set(&mut world)?)
-}
-
-// A list of one name.
-fn one_name(alloc: Global, name: PyStrInterned) -> Result<Vec<PyStrInterned>, OutOfMemory>
-    ensures { IfOk result (λ v. v.items ≡ name ∷ []) }
-{
-    Ok(vec![in alloc; name]?)
-}
-
-// A list of one class.
-fn one(alloc: Global, class: PyTypeRef) -> Result<Vec<PyTypeRef>, OutOfMemory>
-    ensures { IfOk result (λ v. v.items ≡ class ∷ []) }
-{
-    Ok(vec![in alloc; class]?)
+    Ok(vec![in alloc; Line("World::set_member_value", member_set(&mut world))]?)
 }
 
 // A class below `object` with one member.
@@ -39,7 +23,7 @@ fn with_member(world: &mut World) -> Result<PyTypeRef, ClassFault>
 {
     let alloc = world.alloc();
     let metaclass = world.built_in(BuiltIn::TypeType);
-    let bases = one(alloc, world.built_in(BuiltIn::Object))?;
+    let bases = one_class(alloc, world.built_in(BuiltIn::Object))?;
     let members = one_name(alloc, world.known(Known::Qualname))?;
     world.new_heap("M", bases, PyAttributes::new(alloc), members, metaclass)
 }

@@ -1,6 +1,6 @@
 //! The order of classes over their bases.
 
-use crate::table::{NoValue, Table};
+use crate::table::{Line, NoValue};
 use crate::telling::told_classes;
 use mro_merge::laws::{linearise_mro, resolve_mro};
 use py_node::PyTypeRef;
@@ -12,9 +12,11 @@ const FIRST: PyTypeRef = PyTypeRef(1);
 
 const SECOND: PyTypeRef = PyTypeRef(2);
 
-pub fn put_lines(table: &mut Table, alloc: Global) -> Result<(), NoValue> {
-    table.put("mro_merge::linearise_mro", linearised(alloc)?)?;
-    table.put("mro_merge::resolve_mro", resolved(alloc)?)
+pub fn lines(alloc: Global) -> Result<Vec<Line>, NoValue> {
+    Ok(vec![in alloc;
+        Line("mro_merge::linearise_mro", linearised(alloc)),
+        Line("mro_merge::resolve_mro", resolved(alloc)),
+    ]?)
 }
 
 // Two branches over one root.

@@ -1,26 +1,35 @@
 //! Names, attributes and members, and copies of what scripts and replies consist of.
 
-use crate::table::{NoValue, Table};
+use crate::table::{Line, NoValue};
 use crate::telling::{told_attributes, told_expr, told_reply};
 use py_node::{
     BodyCall, Cause, Command, Constant, Expr, Kind, MemberPlace, Names, PyAttributes, PyMembers,
-    PyNumberBinaryOp, PyObjectRef, PyStrInterned, PyTypeFlags, PyTypeRef, Raised, Reply, ReplyAnswer, Word,
+    PyNumberBinaryOp, PyObjectRef, PyStrInterned, PyTypeFlags, PyTypeRef, Raised, Reply,
+    ReplyAnswer, Word,
 };
 use std::alloc::{AllocError, Global};
 
-pub fn put_lines(table: &mut Table, alloc: Global) -> Result<(), NoValue> {
-    table.put("Names::intern", interned(alloc)?)?;
-    table.put("PyTypeFlags::heap_type_flags", flags(alloc, PyTypeFlags::heap_type_flags())?)?;
-    table.put("PyTypeFlags::of_script_class", flags(alloc, PyTypeFlags::of_script_class())?)?;
-    table.put("PyAttributes::insert", inserted(alloc)?)?;
-    table.put("PyAttributes::try_clone", copied_attributes(alloc)?)?;
-    table.put("PyMembers::set", set_member(alloc)?)?;
-    table.put("Constant::try_clone", copied_constant(alloc)?)?;
-    table.put("Expr::try_clone", copied_expr(alloc)?)?;
-    table.put("Command::try_clone", copied_command(alloc)?)?;
-    table.put("BodyCall::try_clone", copied_call(alloc)?)?;
-    table.put("ReplyAnswer::try_clone", copied_answer(alloc)?)?;
-    table.put("Reply::try_clone", copied_reply(alloc)?)
+pub fn lines(alloc: Global) -> Result<Vec<Line>, NoValue> {
+    Ok(vec![in alloc;
+        Line("Names::intern", interned(alloc)),
+        Line(
+            "PyTypeFlags::heap_type_flags",
+            flags(alloc, PyTypeFlags::heap_type_flags())
+        ),
+        Line(
+            "PyTypeFlags::of_script_class",
+            flags(alloc, PyTypeFlags::of_script_class())
+        ),
+        Line("PyAttributes::insert", inserted(alloc)),
+        Line("PyAttributes::try_clone", copied_attributes(alloc)),
+        Line("PyMembers::set", set_member(alloc)),
+        Line("Constant::try_clone", copied_constant(alloc)),
+        Line("Expr::try_clone", copied_expr(alloc)),
+        Line("Command::try_clone", copied_command(alloc)),
+        Line("BodyCall::try_clone", copied_call(alloc)),
+        Line("ReplyAnswer::try_clone", copied_answer(alloc)),
+        Line("Reply::try_clone", copied_reply(alloc)),
+    ]?)
 }
 
 // Two texts, and the first again.
@@ -82,7 +91,10 @@ fn copied_constant(alloc: Global) -> Result<String, NoValue> {
 
 // The sum of two numbers.
 fn sum(alloc: Global) -> Result<Expr, AllocError> {
-    let operands = vec![in alloc; Expr::Const(Constant::Int(33)), Expr::Const(Constant::Int(12))]?;
+    let operands = vec![in alloc;
+        Expr::Const(Constant::Int(33)),
+        Expr::Const(Constant::Int(12)),
+    ]?;
     Ok(Expr::Op(Word::Binary(PyNumberBinaryOp::Add), operands))
 }
 

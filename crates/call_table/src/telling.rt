@@ -17,10 +17,7 @@ pub fn told_classes(alloc: Global, classes: &[PyTypeRef]) -> Result<String, OutO
 }
 
 /// The numbers of names, each with that of its value, in order.
-pub fn told_attributes(
-    alloc: Global,
-    attributes: &PyAttributes,
-) -> Result<String, OutOfMemory> {
+pub fn told_attributes(alloc: Global, attributes: &PyAttributes) -> Result<String, OutOfMemory> {
     let mut pairs = Vec::new(alloc);
     for i in 0..attributes.len() {
         let (name, value) = attributes.at(i);

@@ -1,17 +1,18 @@
 //! The classes of a world: how a host makes and changes them.
 
-ghost use Rattle.std.specs.Prelude.{◌≡◌, ◌≤◌, ◌∷◌, [], IfOk, OnOk};
-ghost use Rattle.class_world.specs.Sound.{Holds, IsClass, Grows};
+ghost use Rattle.std.specs.Prelude.{◌≡◌, ◌≤◌, IfOk};
+ghost use Rattle.class_world.specs.Sound.{Holds, IsClass};
 
-use crate::table::{NoValue, Table};
+use crate::lists::{no_names, one_class};
+use crate::table::{Line, NoValue};
 use crate::telling::told_bytes;
 use class_table::{ClassFault, Steps};
 use class_world::class_lines::push_classes;
 use class_world::show::show;
 use class_world::{Fixed, World};
 use py_node::{
-    BuiltIn, Known, NativeEntry, ObjectNative, OutOfMemory, PyAttributes, PyTypeFlags, PyTypeRef,
-    SlotEntry, SlotId,
+    BuiltIn, Known, NativeEntry, ObjectNative, PyAttributes, PyTypeFlags, PyTypeRef, SlotEntry,
+    SlotId,
 };
 use std::alloc::Global;
 use std::marker::Brand;
@@ -19,34 +20,32 @@ use std::sync::ledger::{Blank, Ledger};
 
 const REPR: SlotEntry = SlotEntry::Native(NativeEntry::OfObject(ObjectNative::Repr));
 
-pub fn put_lines(table: &mut Table, alloc: Global) -> Result<(), NoValue> {
+pub fn lines(alloc: Global) -> Result<Vec<Line>, NoValue> {
     let mut world = World::new(alloc)?;
-    table.put("World::new_heap", heap_class(&mut world)?)?;
-    table.put("class_world::push_classes", class_lines(&world)?)?;
-    table.put("World::new_simple_heap", simple_class(&mut world)?)?;
-    table.put("World::new_static", static_class(&mut world)?)?;
-    table.put("World::set_attr", attribute(&mut world)?)?;
-    table.put("World::set_str_attr", attribute_by_text(&mut world)?)?;
-    table.put("World::del_attr_direct", attribute_out(&mut world)?)?;
-    table.put("World::get_attributes", inherited(&mut world)?)?;
-    table.put("World::set_name", renamed(&mut world)?)?;
-    table.put("World::set_bases", rebased::<Brand>(&mut world, Blank::new(2))?)
-}
-
-// A list of one class.
-fn one(alloc: Global, class: PyTypeRef) -> Result<Vec<PyTypeRef>, OutOfMemory>
-    ensures { IfOk result (λ v. v.items ≡ class ∷ []) }
-{
-    Ok(vec![in alloc; class]?)
+    Ok(vec![in alloc;
+        Line("World::new_heap", heap_class(&mut world)),
+        Line("class_world::push_classes", class_lines(&world)),
+        Line("World::new_simple_heap", simple_class(&mut world)),
+        Line("World::new_static", static_class(&mut world)),
+        Line("World::set_attr", attribute(&mut world)),
+        Line("World::set_str_attr", attribute_by_text(&mut world)),
+        Line("World::del_attr_direct", attribute_out(&mut world)),
+        Line("World::get_attributes", inherited(&mut world)),
+        Line("World::set_name", renamed(&mut world)),
+        Line(
+            "World::set_bases",
+            rebased::<Brand>(&mut world, Blank::new(2))
+        ),
+    ]?)
 }
 
 // A class below `object`.
 fn heap_class(world: &mut World) -> Result<String, NoValue> {
     let alloc = world.alloc();
     let metaclass = world.built_in(BuiltIn::TypeType);
-    let bases = one(alloc, world.built_in(BuiltIn::Object))?;
+    let bases = one_class(alloc, world.built_in(BuiltIn::Object))?;
     let attrs = PyAttributes::new(alloc);
-    let class = world.new_heap("A", bases, attrs, Vec::new(alloc), metaclass)?;
+    let class = world.new_heap("A", bases, attrs, no_names(alloc), metaclass)?;
     Ok(show(world, world.class_node(class))?)
 }
 
@@ -79,7 +78,10 @@ fn static_class(world: &mut World) -> Result<String, NoValue> {
     let is_heap = world.class_is_heap(class);
     let inherits = world.class_slot(class, SlotId::Repr) == Some(REPR);
     let text = show(world, world.class_node(class))?;
-    Ok(format!(in world.alloc(); "{}, heap {is_heap}, repr of object {inherits}", text.as_str())?)
+    Ok(format!(in world.alloc();
+        "{}, heap {is_heap}, repr of object {inherits}",
+        text.as_str()
+    )?)
 }
 
 // The text of a class's attribute that is a known name.
@@ -143,7 +145,7 @@ fn rebased<L: Ledger>(world: &mut World, blank: Blank) -> Result<String, NoValue
     let left = simple(world, "L")?;
     let right = world.new_simple_heap("R", left)?;
     let was_below = world.is_sub(right, left);
-    let bases = one(world.alloc(), world.built_in(BuiltIn::Object))?;
+    let bases = one_class(world.alloc(), world.built_in(BuiltIn::Object))?;
     let mut steps = Steps::<L>::new(blank);
     world.set_bases(right, bases, &mut steps)?;
     let is_below = world.is_sub(right, left);

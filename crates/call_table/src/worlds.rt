@@ -4,7 +4,7 @@ ghost use Rattle.std.specs.Prelude.{IfOk};
 ghost use Rattle.py_node.specs.declared.built_in.BuiltIn.TheVariants.{Dict};
 ghost use Rattle.class_world.specs.Sound.{Holds, Holding, IsNode};
 
-use crate::table::{NoValue, Table};
+use crate::table::{Line, NoValue};
 use class_world::expressions::add_expr;
 use class_world::show::show;
 use class_world::{Fixed, World};
@@ -14,20 +14,22 @@ use py_node::{
 };
 use std::alloc::Global;
 
-pub fn put_lines(table: &mut Table, alloc: Global) -> Result<(), NoValue> {
+pub fn lines(alloc: Global) -> Result<Vec<Line>, NoValue> {
     let mut world = World::new(alloc)?;
-    table.put("World::new", fixed_object(&world)?)?;
-    table.put("World::is_node", nodes(&world)?)?;
-    table.put("World::is_class", classes(&world)?)?;
-    table.put("World::is_name", names(&world)?)?;
-    table.put("World::is_expression", expressions(&world)?)?;
-    table.put("World::spelling", known_text(&world)?)?;
-    table.put("World::intern", interned(&mut world)?)?;
-    table.put("World::bind", bound(&mut world)?)?;
-    table.put("World::make_node", made_number(&mut world)?)?;
-    table.put("World::set_value_in", value_in_dict(&mut world)?)?;
-    table.put("class_world::show", shown_dict(&mut world)?)?;
-    table.put("class_world::add_expr", stored_sum(&mut world)?)
+    Ok(vec![in alloc;
+        Line("World::new", fixed_object(&world)),
+        Line("World::is_node", nodes(&world)),
+        Line("World::is_class", classes(&world)),
+        Line("World::is_name", names(&world)),
+        Line("World::is_expression", expressions(&world)),
+        Line("World::spelling", known_text(&world)),
+        Line("World::intern", interned(&mut world)),
+        Line("World::bind", bound(&mut world)),
+        Line("World::make_node", made_number(&mut world)),
+        Line("World::set_value_in", value_in_dict(&mut world)),
+        Line("class_world::show", shown_dict(&mut world)),
+        Line("class_world::add_expr", stored_sum(&mut world)),
+    ]?)
 }
 
 // An object that every world has.
@@ -119,7 +121,10 @@ fn shown_dict(world: &mut World) -> Result<String, NoValue> {
 // The number of a sum, whose parts are stored first.
 fn stored_sum(world: &mut World) -> Result<String, NoValue> {
     let alloc = world.alloc();
-    let operands = vec![in alloc; Expr::Const(Constant::Int(33)), Expr::Const(Constant::Int(12))]?;
+    let operands = vec![in alloc;
+        Expr::Const(Constant::Int(33)),
+        Expr::Const(Constant::Int(12)),
+    ]?;
     let sum = Expr::Op(Word::Binary(PyNumberBinaryOp::Add), operands);
     let number = add_expr(world, &sum)?;
     Ok(format!(in alloc; "{number}")?)
