@@ -11,3 +11,5 @@ mod objects;
 mod payloads;
 #[cfg(test)]
 mod tables;
+#[cfg(test)]
+mod views;
