@@ -1,0 +1,4 @@
+use Rattle.view_calls.proofs.sequence.tuple.Goals as goal
+
+pub returns : goal.returns
+returns c = ?
