@@ -9,6 +9,7 @@ use Rattle.py_node.specs.declared.task.Task.{Task}
 use Rattle.plain_machine.specs.Plain.{PlainWorld}
 use Rattle.plain_machine.specs.Sound.{IsSound}
 use Rattle.class_world.specs.Claims.{of_answer, of_method}
+use Rattle.class_world.specs.Held.{Held}
 use Rattle.class_world.specs.Reading.{Reading, Reads, plain, IsReadable}
 use Rattle.class_world.specs.Sound.{AllHold, Claim, Grows, of_node_ref, of_option}
 use Rattle.vm_eval.specs.declared.machine.RunFault.{RunFault}
@@ -23,10 +24,10 @@ told_by read (Done a) = Done (read a)
 told_by read (Raised x) = Raised x
 told_by read Budget = Budget
 
--- the machine answers the task, from one machine to the other: where there is an answer, it and the world then are the plain machine's, the value as it is read; what the value names is there. On a machine that has failed nothing is done, else only want of memory is another answer, and the machine has failed then. However the task ends, the world is sound, what held of numbers holds still, and no body runs
-pub record Told {T : Type 0} (read : Answer → T) (of : T → List Claim) (task : Task) (units : ℕ) (old new : State) (result : Result (PyResult T) RunFault) : Type 0 where
-  pub answers : IfOk result (λ told. (end : PyResult Answer) × Asked task old.world units new.world end × (told ≡ told_by read end))
-  pub holds : IfOk result (λ told. AllHold new.world (of_done of told))
+-- the machine tells something: where there is an answer, this holds of the worlds before and after it and of the answer; what it names is there. On a machine that has failed nothing is done, else only want of memory is another answer, and the machine has failed then. However it ends, the world is sound, what held of numbers holds still, and no body runs
+pub record Tells {R : Type 0} (Leads : Held → Held → R → Type 0) (of : R → List Claim) (old new : State) (result : Result R RunFault) : Type 0 where
+  pub leads : IfOk result (λ r. Leads old.world new.world r)
+  pub holds : IfOk result (λ r. AllHold new.world (of r))
   pub failed : IsTrue old.failed → (result ≡ Err run_fault.Failed) × (new ≡ old)
   pub memory : old.failed ≡ false → result ≡ Err run_fault.Failed → ⊥
   pub works : OnOk result (new.failed ≡ old.failed)
@@ -35,6 +36,14 @@ pub record Told {T : Type 0} (read : Answer → T) (of : T → List Claim) (task
   pub grows : Grows old.world new.world
   pub rests : (t : Reading) → (plain t new.world).scopes ≡ []
   pub sound : (t : Reading) → IsSound (plain t new.world)
+
+-- this task ended between the worlds, and its value is told as it is read
+abbrev pub EndIs : {T : Type 0} → (Held → Held → PyResult Answer → Type 0) → (Answer → T) → Held → Held → PyResult T → Type 0
+EndIs Ended read old new told = (end : PyResult Answer) × Ended old new end × (told ≡ told_by read end)
+
+-- the machine answers the task, from one machine to the other: the answer and the world then are the plain machine's, the value as it is read
+abbrev pub Told : {T : Type 0} → (Answer → T) → (T → List Claim) → Task → ℕ → State → State → Result (PyResult T) RunFault → Type 0
+Told read of task units = Tells (EndIs (λ old. Asked task old units) read) (of_done of)
 
 -- what names nothing
 abbrev pub of_nothing : {T : Type 0} → T → List Claim
@@ -78,13 +87,24 @@ TellsLengthOpt = Told length_opt_in of_nothing
 abbrev pub TellsLengthOr : ℕ → Task → ℕ → State → State → Result (PyResult ℕ) RunFault → Type 0
 TellsLengthOr n = Told (length_or n) of_nothing
 
--- the task is asked where the test holds of the world, and what it gives is told as some; else none is told and nothing is done, on a machine that has not failed
+-- no task is asked and nothing changes: the call ends so, unless the machine has failed
+abbrev pub Keeps : {T : Type 0} → PyResult T → State → State → Result (PyResult T) RunFault → Type 0
+Keeps end old new result = (new ≡ old) × (result ≡ cond old.failed (Err run_fault.Failed) (Ok end))
+
+-- the same task, its value told as some
+abbrev pub ToldSome : {T : Type 0} → (Answer → T) → (T → List Claim) → Task → ℕ → State → State → Result (PyResult (Option T)) RunFault → Type 0
+ToldSome read of = Told (λ a. Some (read a)) (of_option of)
+
+-- the task is asked where the test holds of the world, and what it gives is told as some; else none is told
 pub record ToldWhere {T : Type 0} (test : PlainWorld → Bool) (read : Answer → T) (of : T → List Claim) (task : Task) (units : ℕ) (old new : State) (result : Result (PyResult (Option T)) RunFault) : Type 0 where
-  pub some : (t : Reading) → Reads t old.world → test (plain t old.world) ≡ true → Told (λ a. Some (read a)) (of_option of) task units old new result
-  pub none : (t : Reading) → Reads t old.world → test (plain t old.world) ≡ false → (new ≡ old) × (result ≡ cond old.failed (Err run_fault.Failed) (Ok (Done None)))
+  pub some : (t : Reading) → Reads t old.world → test (plain t old.world) ≡ true → ToldSome read of task units old new result
+  pub none : (t : Reading) → Reads t old.world → test (plain t old.world) ≡ false → Keeps (Done None) old new result
 
 abbrev pub TellsObjectWhere : (PlainWorld → Bool) → Task → ℕ → State → State → Result (PyResult (Option PyObjectRef)) RunFault → Type 0
 TellsObjectWhere test = ToldWhere test object_in of_node_ref
 
 abbrev pub TellsLengthWhere : (PlainWorld → Bool) → Task → ℕ → State → State → Result (PyResult (Option ℕ)) RunFault → Type 0
 TellsLengthWhere test = ToldWhere test length_in of_nothing
+
+abbrev pub TellsLengthSome : Task → ℕ → State → State → Result (PyResult (Option ℕ)) RunFault → Type 0
+TellsLengthSome = ToldSome length_in of_nothing

@@ -3,15 +3,16 @@
 //! Nothing states that the tasks of one sort give values of one kind alone. So each reading is one of any
 //! value, and has something fixed for a value of another kind.
 
-ghost use Rattle.std.specs.Prelude.{◌≡◌, List};
+ghost use Rattle.std.specs.Prelude.{◌≡◌, List, cond};
 ghost use Rattle.py_node.specs.declared.task.Answer.{Answer as GivenValue};
 ghost use Rattle.class_world.specs.Claims.{of_answer, of_method, of_task};
 ghost use Rattle.class_world.specs.Sound.{AllHold, Claim, of_node_ref, of_option};
 ghost use Rattle.vm_calls.specs.Readings.{object_in, maybe_in, truth_in, order_in, method_in, number_in, length_of, length_in, length_opt_in};
-ghost use Rattle.vm_calls.specs.Told.{Told, of_nothing};
+ghost use Rattle.vm_calls.specs.Told.{Told, ToldSome, of_nothing};
+ghost use Rattle.vm_calls.specs.Views.{lacks};
 
 use class_world::{Fixed, World};
-use py_node::{Answer, PyMethod, PyObjectRef, PyResult, Task};
+use py_node::{Answer, Cause, PyMethod, PyObjectRef, PyResult, Raised, Task};
 use vm_eval::{RunFault, VirtualMachine};
 
 /// What is read of a task's value.
@@ -41,6 +42,42 @@ pub fn ask<T: FromAnswer>(
         PyResult::Raised(raised) => Ok(PyResult::Raised(raised)),
         PyResult::Budget => Ok(PyResult::Budget),
     }
+}
+
+/// The same, its value told as some.
+pub fn ask_some<T: FromAnswer>(
+    vm: &mut VirtualMachine,
+    task: Task,
+    budget: u64,
+) -> Result<PyResult<Option<T>>, RunFault>
+    requires { AllHold vm.old.world (of_task task) }
+    ensures { ToldSome T.read T.names task budget vm.old vm.new result }
+{
+    match ask::<T>(vm, task, budget)? {
+        PyResult::Done(value) => Ok(PyResult::Done(Some(value))),
+        PyResult::Raised(raised) => Ok(PyResult::Raised(raised)),
+        PyResult::Budget => Ok(PyResult::Budget),
+    }
+}
+
+/// None is told and no task is asked, unless the machine has failed.
+pub fn none_told<T>(vm: &VirtualMachine) -> Result<PyResult<Option<T>>, RunFault>
+    ensures { result ≡ cond vm.now.failed (Err RunFault.Failed) (Ok (PyResult.Done None)) }
+{
+    if vm.has_failed() {
+        return Err(RunFault::Failed);
+    }
+    Ok(PyResult::Done(None))
+}
+
+/// A fault of a cause is told and no task is asked, unless the machine has failed.
+pub fn lacking<T>(vm: &VirtualMachine, cause: Cause) -> Result<PyResult<T>, RunFault>
+    ensures { result ≡ cond vm.now.failed (Err RunFault.Failed) (Ok (lacks cause)) }
+{
+    if vm.has_failed() {
+        return Err(RunFault::Failed);
+    }
+    Ok(PyResult::Raised(Raised::new(cause)))
 }
 
 impl FromAnswer for Answer {

@@ -1,15 +1,21 @@
 //! What a host asks a machine for, by name: each function asks one task, with so many units, and reads its
-//! value.
+//! value. Those of `sequence`, `mapping`, `number` and `callable` ask it of an object by a view.
 #![tactic(auto)]
 
 mod asked;
 pub mod attributes;
+pub mod callable;
 pub mod calls;
 pub mod comparisons;
 pub mod in_place;
+mod lengths;
+mod made;
+pub mod mapping;
+pub mod number;
 pub mod numbers;
 pub mod objects;
 pub mod operators;
+pub mod sequence;
 
 pub use attributes::{
     call_set_attr, del_attr, generic_getattr, generic_getattr_opt, generic_setattr, get_attr,

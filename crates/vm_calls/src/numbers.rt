@@ -1,12 +1,12 @@
 //! What objects stand for as truth values, as whole numbers and as lengths.
 
-ghost use Rattle.std.specs.Prelude.{◌≡◌, [], ◌∷◌, cond};
+ghost use Rattle.std.specs.Prelude.{◌≡◌, [], ◌∷◌};
 ghost use Rattle.class_world.specs.Reading.{Reading, Reads, plain};
 ghost use Rattle.class_world.specs.Sound.{AllHold, Holds, IsNode};
 ghost use Rattle.vm_calls.specs.Tests.{has_index, has_length};
 ghost use Rattle.vm_calls.specs.Told.{TellsLength, TellsLengthOpt, TellsLengthOr, TellsLengthWhere, TellsObject, TellsObjectWhere, TellsOpposite, TellsTruth};
 
-use crate::asked::ask;
+use crate::asked::{ask, ask_some, none_told};
 use class_world::World;
 use py_node::protocol::ProtocolTask;
 use py_node::{PyObjectRef, PyResult, SlotId, Task};
@@ -66,11 +66,8 @@ pub fn try_index_opt(
     if !has_index(vm.world(), object) {
         return none_told(vm);
     }
-    match try_index(vm, object, budget)? {
-        PyResult::Done(number) => Ok(PyResult::Done(Some(number))),
-        PyResult::Raised(raised) => Ok(PyResult::Raised(raised)),
-        PyResult::Budget => Ok(PyResult::Budget),
-    }
+    let task = Task::Protocol(ProtocolTask::Index(object));
+    ask_some(vm, task, budget)
 }
 
 // Whether an object holds a number, or its class itself has a slot for an index.
@@ -79,16 +76,6 @@ fn has_index(world: &World, object: PyObjectRef) -> bool
     ensures { (t : Reading) → Reads t world.now → has_index object (plain t world.now) ≡ result }
 {
     world.number(object).is_some() || world.slot(object, SlotId::Index).is_some()
-}
-
-// None is told, unless the machine has failed.
-fn none_told<T>(vm: &VirtualMachine) -> Result<PyResult<Option<T>>, RunFault>
-    ensures { result ≡ cond vm.now.failed (Err RunFault.Failed) (Ok (PyResult.Done None)) }
-{
-    if vm.has_failed() {
-        return Err(RunFault::Failed);
-    }
-    Ok(PyResult::Done(None))
 }
 
 /// An object as a whole number.
@@ -130,11 +117,8 @@ pub fn length_opt(
     if !has_length(vm.world(), object) {
         return none_told(vm);
     }
-    match length(vm, object, budget)? {
-        PyResult::Done(length) => Ok(PyResult::Done(Some(length))),
-        PyResult::Raised(raised) => Ok(PyResult::Raised(raised)),
-        PyResult::Budget => Ok(PyResult::Budget),
-    }
+    let task = Task::Protocol(ProtocolTask::Length(object));
+    ask_some(vm, task, budget)
 }
 
 // Whether an object's class has a slot for a length.
