@@ -1,26 +1,40 @@
-//! What no script reaches: numbers that a host may have, and the refusals of a class in their order.
+//! What hosts are refused, and merges.
 
 ghost use Rattle.std.specs.Prelude.{◌≤◌, length};
 ghost use Rattle.class_world.specs.Sound.{AllHold, of_class_ref, of_each};
 
 use class_table::ClassFault;
 use class_world::{Fixed, World};
-use py_node::{
-    BuiltIn, Cause, Known, OutOfMemory, PyAttributes, PyObjectRef, PyStrInterned, PyTypeRef,
-};
+use mro_merge::MroFault;
+use mro_merge::laws::linearise_mro;
+use py_node::{BuiltIn, Cause, Known, OutOfMemory, PyAttributes, PyTypeFlags, PyTypeRef};
 use std::test::Fail;
 
+// Lists whose heads stand in another order than a later list has.
 #[test]
-fn tells_its_numbers(rt: HostRuntime) -> Result<(), Fail> {
-    let world = World::new(rt.alloc())?;
-    // The nodes of the own attributes of built-in classes are the last ones.
-    assert!(rt; world.is_node(PyObjectRef(290)));
-    assert!(rt; !world.is_node(PyObjectRef(291)));
-    assert!(rt; world.is_class(PyTypeRef(22)));
-    assert!(rt; !world.is_class(PyTypeRef(23)));
-    assert!(rt; world.is_name(PyStrInterned(69)));
-    assert!(rt; !world.is_name(PyStrInterned(u64::MAX)));
-    assert!(rt; !world.is_expression(0));
+fn a_merge_is_refused(rt: HostRuntime) -> Result<(), Fail> {
+    let alloc = rt.alloc();
+    let first = vec![in alloc; PyTypeRef(1)]?;
+    let second = vec![in alloc; PyTypeRef(2)]?;
+    let both = vec![in alloc; PyTypeRef(1), PyTypeRef(2)]?;
+    let refused = linearise_mro(alloc, vec![in alloc; first, second, both]?);
+    assert!(rt; matches!(&refused, Err(MroFault::LocalPrecedence)));
+    Ok(())
+}
+
+#[test]
+fn a_static_class_is_not_set(rt: HostRuntime) -> Result<(), Fail> {
+    let alloc = rt.alloc();
+    let mut world = World::new(alloc)?;
+    let object = world.built_in(BuiltIn::Object);
+    let metaclass = world.built_in(BuiltIn::TypeType);
+    let attrs = PyAttributes::new(alloc);
+    let class = world.new_static("S", object, attrs, PyTypeFlags::DEFAULT, metaclass)?;
+    let name = world.known(Known::Qualname);
+    let none = world.fixed(Fixed::None);
+    assert!(rt;
+        world.set_attr(class, name, none) == Err(ClassFault::Refused(Cause::ImmutableType))
+    );
     Ok(())
 }
 
@@ -50,6 +64,8 @@ fn refusal(
 fn refuses_a_class_in_order(rt: HostRuntime) -> Result<(), Fail> {
     let alloc = rt.alloc();
     let mut world = World::new(alloc)?;
+    let bool = world.built_in(BuiltIn::Bool);
+    assert!(rt; world.new_simple_heap("A", bool) == Err(ClassFault::Refused(Cause::NotBaseType)));
     let none = Vec::new(alloc);
     assert!(rt; refusal(&mut world, none, Fixed::None)? == Some(Cause::EmptyBases));
     let bool = vec![in alloc; world.built_in(BuiltIn::Bool)]?;
