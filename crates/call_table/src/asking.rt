@@ -1,84 +1,113 @@
-//! A machine with some variables, and what it is asked for with the objects that they hold.
+//! A machine with some variables, and how it is asked about the objects that they hold.
 
-ghost use Rattle.std.specs.Prelude.{IfOk};
+ghost use Rattle.std.specs.Prelude.{ℕ, [], ◌∷◌, IfOk};
+ghost use Rattle.py_node.specs.declared.refs.PyObjectRef.{PyObjectRef as Object};
 ghost use Rattle.vm_eval.specs.Asks.{of_done};
-ghost use Rattle.class_world.specs.Sound.{AllHold, Holds, IsNode, of_node_ref, of_option};
+ghost use Rattle.class_world.specs.Sound.{AllHold, Holds, IsNode, of_node_ref};
 
 use crate::table::NoValue;
-use class_world::World;
+use class_world::Fixed;
 use class_world::show::show;
-use py_node::{PyObjectRef, PyResult, Raised};
+use py_node::{PyObjectRef, PyResult};
 use script_text::read::read_script;
 use std::alloc::Global;
-use std::fmt::Debug;
-use vm_eval::VirtualMachine;
+use vm_eval::{RunFault, VirtualMachine};
 
 /// How many units each question may spend.
 pub const UNITS: u64 = 1000;
 
-// Numbers, a text, containers, a function, and a class with an object.
-const SCRIPT: &[u8] = br#"[["bind","a",13],["bind","b",4],["bind","one",1],["bind","none",null],["bind","key","x"],["bind","empty",""],
+// Numbers, texts, containers, an iterator, a function, and a class with an object.
+const SCRIPT: &[u8] = br#"[["bind","a",13],["bind","b",4],["bind","one",1],["bind","key","x"],["bind","empty",""],
 ["bind","items",["list",1,2,3]],["bind","pairs",["dict",["x",1]]],["bind","iterator",["op","iter",["name","items"]]],
 ["bind","double",["func","double",["n"],["op","+",["name","n"],["name","n"]]]],
 ["bind","A",["class","A",[],[["x",5],["twice",["func","twice",["s"],8]],["__truediv__",["func","t",["s","o"],6]],["__matmul__",["func","m",["s","o"],7]]]]],
 ["bind","o",["call",["name","A"],[]]]]"#;
 
-/// A machine that has these variables.
-pub fn machine(alloc: Global) -> Result<VirtualMachine, NoValue> {
-    let mut vm = VirtualMachine::new(alloc)?;
-    vm.run(&read_script(alloc, SCRIPT)?, UNITS)?;
-    Ok(vm)
+/// Binds the variables, and tells how many commands that took.
+pub fn bind_variables(vm: &mut VirtualMachine, alloc: Global) -> Result<usize, NoValue> {
+    let commands = read_script(alloc, SCRIPT)?;
+    Ok(vm.run(&commands, UNITS)?.len())
 }
 
-/// The object that a variable holds.
-pub fn variable(world: &World, name: &str) -> Result<PyObjectRef, NoValue>
-    ensures { IfOk result (λ r. Holds world.now (IsNode r)) }
+/// The object that a variable holds; None where there is no such variable.
+pub fn object(vm: &VirtualMachine, name: &str) -> PyObjectRef
+    ensures { Holds vm.now.world (IsNode result) }
 {
+    let world = vm.world();
     match world.names().interned_str(name) {
         Some(name) if world.is_name(name) => match world.variable(name) {
-            Some(value) => Ok(value),
-            None => Err(NoValue),
+            Some(object) => object,
+            None => world.fixed(Fixed::None),
         },
+        _ => world.fixed(Fixed::None),
+    }
+}
+
+/// The text of the object that a call gave.
+pub fn shown(
+    vm: &VirtualMachine,
+    told: Result<PyResult<PyObjectRef>, RunFault>,
+) -> Result<String, NoValue>
+    requires { IfOk told (λ r. AllHold vm.now.world (of_done of_node_ref r)) }
+{
+    match told {
+        Ok(PyResult::Done(object)) => Ok(show(vm.world(), object)?),
         _ => Err(NoValue),
     }
 }
 
-/// The text of an object, or the fault.
-pub fn shown(vm: &VirtualMachine, told: PyResult<PyObjectRef>) -> Result<String, NoValue>
-    requires { AllHold vm.now.world (of_done of_node_ref told) }
+/// What a call gave that gave no fault.
+pub fn done<T: Drop>(told: Result<PyResult<T>, RunFault>) -> Result<T, NoValue> {
+    match told {
+        Ok(PyResult::Done(value)) => Ok(value),
+        _ => Err(NoValue),
+    }
+}
+
+/// The text of the object that a call gives for a variable's object.
+pub fn of_one<F>(vm: &mut VirtualMachine, a: &str, call: F) -> Result<String, NoValue>
+where
+    F: FnOnce(&mut VirtualMachine, PyObjectRef, u64) -> Result<PyResult<PyObjectRef>, RunFault>,
+    requires pre { (m : _) (x : Object) (n : ℕ) → AllHold m.now.world (IsNode x ∷ []) → F.pre call m x n }
+    requires post { (m : _) (x : Object) (n : ℕ) (r : _) (k : _) → F.post call m x n r k →
+        IfOk r (λ told. AllHold k.now.world (of_done of_node_ref told)) }
 {
-    match told {
-        PyResult::Done(object) => Ok(show(vm.world(), object)?),
-        PyResult::Raised(raised) => fault(vm.world().alloc(), raised),
-        PyResult::Budget => Err(NoValue),
-    }
+    let a = object(vm, a);
+    let told = call(vm, a, UNITS);
+    shown(vm, told)
 }
 
-/// The text of an object that may be lacking, or the fault.
-pub fn shown_option(
-    vm: &VirtualMachine,
-    told: PyResult<Option<PyObjectRef>>,
-) -> Result<String, NoValue>
-    requires { AllHold vm.now.world (of_done (of_option of_node_ref) told) }
+/// The text of the object that a call gives for two variables' objects.
+pub fn of_two<F>(vm: &mut VirtualMachine, a: &str, b: &str, call: F) -> Result<String, NoValue>
+where
+    F: FnOnce(&mut VirtualMachine, PyObjectRef, PyObjectRef, u64) -> Result<PyResult<PyObjectRef>, RunFault>,
+    requires pre { (m : _) (x y : Object) (n : ℕ) → AllHold m.now.world (IsNode x ∷ IsNode y ∷ []) → F.pre call m x y n }
+    requires post { (m : _) (x y : Object) (n : ℕ) (r : _) (k : _) → F.post call m x y n r k →
+        IfOk r (λ told. AllHold k.now.world (of_done of_node_ref told)) }
 {
-    match told {
-        PyResult::Done(Some(object)) => Ok(show(vm.world(), object)?),
-        PyResult::Done(None) => Ok(String::from_str(vm.world().alloc(), "nothing")?),
-        PyResult::Raised(raised) => fault(vm.world().alloc(), raised),
-        PyResult::Budget => Err(NoValue),
-    }
+    let a = object(vm, a);
+    let b = object(vm, b);
+    let told = call(vm, a, b, UNITS);
+    shown(vm, told)
 }
 
-/// A value that is no object, or the fault.
-pub fn plain<T: Debug + Drop>(alloc: Global, told: PyResult<T>) -> Result<String, NoValue> {
-    match told {
-        PyResult::Done(value) => Ok(format!(in alloc; "{value:?}")?),
-        PyResult::Raised(raised) => fault(alloc, raised),
-        PyResult::Budget => Err(NoValue),
-    }
+/// What a call tells of a variable's object.
+pub fn told_of_one<T: Drop, F>(vm: &mut VirtualMachine, a: &str, call: F) -> Result<T, NoValue>
+where
+    F: FnOnce(&mut VirtualMachine, PyObjectRef, u64) -> Result<PyResult<T>, RunFault>,
+    requires { (m : _) (x : Object) (n : ℕ) → AllHold m.now.world (IsNode x ∷ []) → F.pre call m x n }
+{
+    let a = object(vm, a);
+    done(call(vm, a, UNITS))
 }
 
-/// The words of a fault.
-pub fn fault(alloc: Global, raised: Raised) -> Result<String, NoValue> {
-    Ok(format!(in alloc; "{} {}", raised.kind.word(), raised.cause.word())?)
+/// What a call tells of two variables' objects.
+pub fn told_of_two<T: Drop, F>(vm: &mut VirtualMachine, a: &str, b: &str, call: F) -> Result<T, NoValue>
+where
+    F: FnOnce(&mut VirtualMachine, PyObjectRef, PyObjectRef, u64) -> Result<PyResult<T>, RunFault>,
+    requires { (m : _) (x y : Object) (n : ℕ) → AllHold m.now.world (IsNode x ∷ IsNode y ∷ []) → F.pre call m x y n }
+{
+    let a = object(vm, a);
+    let b = object(vm, b);
+    done(call(vm, a, b, UNITS))
 }

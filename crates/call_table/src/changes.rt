@@ -1,132 +1,125 @@
-//! How the classes of a table are changed.
+//! A table of classes: what is read of them, and how they are changed.
 
 ghost use Rattle.std.specs.Prelude.{◌≡◌, ◌≤◌};
 
-use crate::classes::{class, fresh, told_class, with_child};
-use crate::table::{Line, NoValue};
-use crate::telling::{told_attributes, told_classes};
-use class_table::start::known_names;
+use crate::classes::{CHILD, FIRST, OBJECT, SINGLE, STATIC, VALUE, there};
+use crate::table::{NoValue, Table};
 use class_table::{ClassTable, Steps};
-use py_node::{BuiltIn, PyObjectRef, PyStrInterned, PyTypeRef, SlotEntry, SlotId};
+use py_node::{Known, PyObjectRef, PyStrInterned, PyTypeRef, SlotEntry, SlotId};
 use std::alloc::Global;
 use std::marker::Brand;
 use std::sync::ledger::{Blank, Ledger};
 
-const OBJECT: u64 = 0;
+const OTHER: PyStrInterned = PyStrInterned(9);
 
-const FIRST: u64 = 100;
-
-const CHILD: u64 = 200;
-
-const LEFT: u64 = 300;
-
-const RIGHT: u64 = 400;
-
-const NAME: PyStrInterned = PyStrInterned(9);
-
-const VALUE: PyObjectRef = PyObjectRef(8);
-
-pub fn lines(alloc: Global) -> Result<Vec<Line>, NoValue> {
-    Ok(vec![in alloc;
-        Line("ClassTable::takes", free_numbers(alloc)),
-        Line("ClassTable::subclasses", below(alloc)),
-        Line("ClassTable::set_attr", set_attr(alloc)),
-        Line("ClassTable::slot", late_slot(alloc)),
-        Line("ClassTable::del_attr_direct", take_attr(alloc)),
-        Line("ClassTable::put_attr", put_attr(alloc)),
-        Line("ClassTable::set_name", set_name(alloc)),
-        Line(
-            "ClassTable::set_bases",
-            set_bases::<Brand>(alloc, Blank::new(2))
-        ),
-    ]?)
+pub fn put(table: &mut Table, classes: &mut ClassTable, alloc: Global) {
+    table.put("ClassTable::mro_collect", line(classes));
+    table.put("ClassTable::mro_map_collect", mapped_line(classes));
+    table.put("ClassTable::iter_base_chain", chain(classes, alloc));
+    table.put("ClassTable::solid_base, base, member_count", layout(classes));
+    table.put("ClassTable::name", name(classes, CHILD));
+    table.put("ClassTable::name", name(classes, STATIC));
+    table.put("ClassTable::set_attr", set_attr(classes));
+    table.put("ClassTable::del_attr_direct", take_attr(classes));
+    table.put("ClassTable::slot", late_slot(classes));
+    table.put("ClassTable::get_attributes", inherited(classes));
+    table.put("ClassTable::put_attr", put_attr(classes));
+    table.put("ClassTable::set_name", set_name(classes));
+    let blank = Blank::new(2);
+    table.put("ClassTable::set_bases", set_bases::<Brand>(classes, alloc, blank));
 }
 
-// The own attributes of a class.
-fn told_own(alloc: Global, table: &ClassTable, number: u64) -> Result<String, NoValue> {
-    let class = class(table, number)?;
-    Ok(told_attributes(alloc, table.attributes(class))?)
+fn line(classes: &ClassTable) -> Result<Vec<PyTypeRef>, NoValue> {
+    let child = there(classes, CHILD)?;
+    Ok(classes.mro_collect(child)?)
 }
 
-// A table whose class `a.child` has an attribute.
-fn with_attr(alloc: Global) -> Result<ClassTable, NoValue> {
-    let mut table = with_child(alloc)?;
-    let child = class(&table, CHILD)?;
-    table.set_attr(child, NAME, VALUE)?;
-    Ok(table)
+// The number of each class, the last bit turned.
+fn mapped_line(classes: &ClassTable) -> Result<Vec<u64>, NoValue> {
+    let child = there(classes, CHILD)?;
+    Ok(classes.mro_map_collect(child, |class| class.0 ^ 1)?)
 }
 
-fn set_attr(alloc: Global) -> Result<String, NoValue> {
-    told_own(alloc, &with_attr(alloc)?, CHILD)
+// The same attribute, of all that the class has.
+fn inherited(classes: &ClassTable) -> Result<Option<PyObjectRef>, NoValue> {
+    let child = there(classes, CHILD)?;
+    Ok(classes.get_attributes(child)?.get(Known::Add.interned()))
 }
 
-// Whether new classes may have numbers below, at and past the last one.
-fn free_numbers(alloc: Global) -> Result<String, NoValue> {
-    let table = with_child(alloc)?;
-    let below = table.takes(PyTypeRef(150));
-    let last = table.takes(PyTypeRef(CHILD));
-    let past = table.takes(PyTypeRef(LEFT));
-    Ok(format!(in alloc; "150 {below}, 200 {last}, 300 {past}")?)
+fn chain(classes: &ClassTable, alloc: Global) -> Result<Vec<PyTypeRef>, NoValue> {
+    let child = there(classes, CHILD)?;
+    let mut line = Vec::new(alloc);
+    for class in classes.iter_base_chain(child) {
+        line.push(class)?;
+    }
+    Ok(line)
 }
 
-fn below(alloc: Global) -> Result<String, NoValue> {
-    let table = with_child(alloc)?;
-    let first = class(&table, FIRST)?;
-    Ok(told_classes(alloc, table.subclasses(first))?)
+// The solid class of a class, its best base, and how many places its objects have.
+fn layout(classes: &ClassTable) -> Result<(PyTypeRef, Option<PyTypeRef>, usize), NoValue> {
+    let child = there(classes, CHILD)?;
+    Ok((
+        classes.solid_base(child),
+        classes.base(child),
+        classes.member_count(child),
+    ))
 }
 
-// An operator that a base gets late, as the class below it has it.
-fn late_slot(alloc: Global) -> Result<String, NoValue> {
-    let mut table = with_child(alloc)?;
-    let add = known_names(alloc)?.intern("__add__")?;
-    let first = class(&table, FIRST)?;
-    table.set_attr(first, add, VALUE)?;
-    let child = class(&table, CHILD)?;
-    let is_found = table.get_attr(child, add) == Some(VALUE);
-    let is_filled = table.slot(child, SlotId::Add) == Some(SlotEntry::Wrapper(SlotId::Add));
-    Ok(format!(in alloc; "found {is_found}, filled {is_filled}")?)
+// A class's name, and whether a script made the class.
+fn name(classes: &ClassTable, class: PyTypeRef) -> Result<(&str, bool), NoValue> {
+    let class = there(classes, class)?;
+    Ok((classes.name(class), classes.is_heap(class)))
+}
+
+fn set_attr(classes: &mut ClassTable) -> Result<Option<PyObjectRef>, NoValue> {
+    let child = there(classes, CHILD)?;
+    classes.set_attr(child, OTHER, VALUE)?;
+    let child = there(classes, CHILD)?;
+    Ok(classes.get_direct_attr(child, OTHER))
 }
 
 // Whether an attribute was there.
-fn take_attr(alloc: Global) -> Result<String, NoValue> {
-    let mut table = with_attr(alloc)?;
-    let child = class(&table, CHILD)?;
-    let first = table.del_attr_direct(child, NAME)?;
-    let child = class(&table, CHILD)?;
-    let again = table.del_attr_direct(child, NAME)?;
-    Ok(format!(in alloc; "{first} {again}")?)
+fn take_attr(classes: &mut ClassTable) -> Result<bool, NoValue> {
+    let child = there(classes, CHILD)?;
+    Ok(classes.del_attr_direct(child, OTHER)?)
+}
+
+// Whether a class has an operator that its base gets late.
+fn late_slot(classes: &mut ClassTable) -> Result<bool, NoValue> {
+    let first = there(classes, FIRST)?;
+    classes.set_attr(first, Known::Add.interned(), VALUE)?;
+    let child = there(classes, CHILD)?;
+    Ok(classes.slot(child, SlotId::Add) == Some(SlotEntry::Wrapper(SlotId::Add)))
 }
 
 // An attribute of a built-in class.
-fn put_attr(alloc: Global) -> Result<String, NoValue> {
-    let mut table = ClassTable::new(alloc)?;
-    table.put_attr(BuiltIn::Object.class(), NAME, VALUE)?;
-    told_own(alloc, &table, OBJECT)
+fn put_attr(classes: &mut ClassTable) -> Result<Option<PyObjectRef>, NoValue> {
+    let object = there(classes, OBJECT)?;
+    classes.put_attr(object, OTHER, VALUE)?;
+    let object = there(classes, OBJECT)?;
+    Ok(classes.get_direct_attr(object, OTHER))
 }
 
-fn set_name(alloc: Global) -> Result<String, NoValue> {
-    let mut table = with_child(alloc)?;
-    let child = class(&table, CHILD)?;
-    table.set_name(child, "b.other")?;
-    told_class(alloc, &table, CHILD)
+fn set_name(classes: &mut ClassTable) -> Result<(&str, bool), NoValue> {
+    let child = there(classes, CHILD)?;
+    classes.set_name(child, "b.other")?;
+    name(classes, CHILD)
 }
 
-// A class below another one, which gets that one's base for it.
-fn set_bases<L: Ledger>(alloc: Global, blank: Blank) -> Result<String, NoValue>
+// A class below `object` that goes below another one.
+fn set_bases<L: Ledger>(
+    classes: &mut ClassTable,
+    alloc: Global,
+    blank: Blank,
+) -> Result<Vec<PyTypeRef>, NoValue>
     requires name { blank.name ≡ L.name }
     requires parts { blank.parts ≡ L.parts }
     requires both { 2 ≤ L.parts }
 {
-    let mut table = ClassTable::new(alloc)?;
-    let object = class(&table, OBJECT)?;
-    let left = fresh(&table, LEFT)?;
-    table.new_simple_heap(left, "left", object)?;
-    let left = class(&table, LEFT)?;
-    let right = fresh(&table, RIGHT)?;
-    table.new_simple_heap(right, "right", left)?;
-    let bases = vec![in alloc; class(&table, OBJECT)?]?;
-    let right = class(&table, RIGHT)?;
+    let class = there(classes, SINGLE)?;
+    let bases = vec![in alloc; there(classes, STATIC)?]?;
     let mut steps = Steps::<L>::new(blank);
-    table.set_bases(right, bases, &mut steps)?;
-    told_class(alloc, &table, RIGHT)
+    classes.set_bases(class, bases, &mut steps)?;
+    let class = there(classes, SINGLE)?;
+    Ok(classes.mro_collect(class)?)
 }

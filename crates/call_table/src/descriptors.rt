@@ -2,13 +2,12 @@
 
 use crate::definitions::upper;
 use crate::payloads::{told_node, told_payload};
-use crate::table::{Line, NoValue};
+use crate::table::{NoValue, Table};
 use accessors::{PyClassMethod, PyMethodDescriptor, PyStaticMethod};
 use class_world::{Fixed, World};
 use native_defs::{PyMemberDef, new_member};
 use py_node::{
-    BuiltIn, MemberGetter, MemberKind, MemberSetter, NativeEntry, OutOfMemory, PyMethodFlags,
-    StrNative,
+    BuiltIn, MemberGetter, MemberKind, MemberSetter, NativeEntry, OutOfMemory, StrNative,
 };
 use std::alloc::Global;
 
@@ -16,44 +15,41 @@ const UPPER: MemberGetter = MemberGetter::Getter(NativeEntry::OfStr(StrNative::U
 
 const NOTHING: MemberSetter = MemberSetter::Setter(None);
 
-pub fn lines(alloc: Global) -> Result<Vec<Line>, NoValue> {
-    let mut world = World::new(alloc)?;
-    Ok(vec![in alloc;
-        Line("PyMethodDescriptor::new", method(&mut world)),
-        Line("PyMethodDescriptor::bind", bound(&mut world)),
-        Line("PyClassMethod::new_ref", class_method(&mut world)),
-        Line("PyStaticMethod::new_ref", static_method(&mut world)),
-        Line("PyMemberDef::new_const", defined(alloc)),
-        Line("native_defs::new_member", member(&mut world)),
-    ]?)
+pub fn put(table: &mut Table, world: &mut World, alloc: Global) {
+    table.put_text("PyMethodDescriptor::new", method(world));
+    table.put_text("PyMethodDescriptor::bind", bound(world));
+    table.put_text("PyClassMethod::new_ref", class_method(world));
+    table.put_text("PyStaticMethod::new_ref", static_method(world));
+    table.put("PyMemberDef::new_const", defined(alloc));
+    table.put_text("native_defs::new_member", member(world));
 }
 
 fn method(world: &mut World) -> Result<String, NoValue> {
-    let def = upper(world.alloc(), PyMethodFlags::METHOD)?;
+    let def = upper(world.alloc())?;
     let class = world.built_in(BuiltIn::Str);
     let method = PyMethodDescriptor::new(world, &def, class)?;
-    Ok(told_payload(world, &method.payload())?)
+    told_payload(world, Ok(method.payload()))
 }
 
 fn bound(world: &mut World) -> Result<String, NoValue> {
-    let def = upper(world.alloc(), PyMethodFlags::METHOD)?;
+    let def = upper(world.alloc())?;
     let class = world.built_in(BuiltIn::Str);
     let method = PyMethodDescriptor::new(world, &def, class)?;
     let none = world.fixed(Fixed::None);
-    let node = method.bind(world, none)?;
-    Ok(told_node(world, node)?)
+    let made = method.bind(world, none);
+    told_node(world, made)
 }
 
 fn class_method(world: &mut World) -> Result<String, NoValue> {
     let callable = world.built_in_node(BuiltIn::Int);
-    let node = PyClassMethod::new_ref(world, callable)?;
-    Ok(told_node(world, node)?)
+    let made = PyClassMethod::new_ref(world, callable);
+    told_node(world, made)
 }
 
 fn static_method(world: &mut World) -> Result<String, NoValue> {
     let callable = world.built_in_node(BuiltIn::Int);
-    let node = PyStaticMethod::new_ref(world, callable)?;
-    Ok(told_node(world, node)?)
+    let made = PyStaticMethod::new_ref(world, callable);
+    told_node(world, made)
 }
 
 // A definition of a member that a native reads and that nothing sets.
@@ -62,14 +58,11 @@ fn capitals(alloc: Global) -> Result<PyMemberDef, OutOfMemory> {
     PyMemberDef::new_const(alloc, "capitals", MemberKind::ObjectEx, UPPER, NOTHING, doc)
 }
 
-fn defined(alloc: Global) -> Result<String, NoValue> {
+// The name, whether the member is only read, and the text for readers.
+fn defined(alloc: Global) -> Result<(String, bool, Option<String>), OutOfMemory> {
     let def = capitals(alloc)?;
-    let is_read_only = def.getter == UPPER && def.setter == NOTHING;
-    let doc = match &def.doc {
-        None => "no text",
-        Some(doc) => doc.as_str(),
-    };
-    Ok(format!(in alloc; "{}, only read: {is_read_only}, {doc}", def.name.as_str())?)
+    let is_only_read = def.getter == UPPER && def.setter == NOTHING;
+    Ok((def.name, is_only_read, def.doc))
 }
 
 // The member of `str` of such a definition.
@@ -83,6 +76,6 @@ fn member(world: &mut World) -> Result<String, NoValue> {
         setter: NOTHING,
         doc: None,
     };
-    let node = new_member(world, class, def)?;
-    Ok(told_node(world, node)?)
+    let made = new_member(world, class, def);
+    told_node(world, made)
 }

@@ -3,49 +3,27 @@
 ghost use Rattle.std.specs.Prelude.{IfOk};
 ghost use Rattle.class_world.specs.Sound.{Holds, IsClass};
 
+use crate::asking::{UNITS, bind_variables};
 use crate::lists::{no_names, one_class};
-use crate::table::{Line, NoValue};
-use crate::telling::told_bytes;
+use crate::table::{NoValue, Table};
 use class_table::ClassFault;
 use class_world::Fixed;
 use class_world::show::show;
 use py_node::{
-    Answer, BuiltIn, Constant, Expr, Known, OperatorTask, PyAttributes, PyResult,
+    Answer, BuiltIn, Constant, Expr, Known, OperatorTask, OutOfMemory, PyAttributes, PyResult,
     PyTypeRef, Task,
 };
-use reply_text::write::write_replies;
-use script_text::read::read_script;
 use std::alloc::Global;
 use vm_eval::VirtualMachine;
 
-// How many units each command may spend.
-const UNITS: u64 = 1000;
-
-// A variable, and a sum with it.
-const SCRIPT: &[u8] = b"[[\"bind\",\"n\",33],[\"op\",\"+\",[\"name\",\"n\"],12]]";
-
-pub fn lines(alloc: Global) -> Result<Vec<Line>, NoValue> {
-    let mut vm = VirtualMachine::new(alloc)?;
-    Ok(vec![in alloc;
-        Line("VirtualMachine::new", fixed_object(&vm)),
-        Line("VirtualMachine::run", replies(&mut vm, alloc)),
-        Line("VirtualMachine::ask", asked(&mut vm)),
-        Line("VirtualMachine::intern", interned(&mut vm)),
-        Line("VirtualMachine::add_expr", stored(&mut vm, alloc)),
-        Line("VirtualMachine::new_heap", made_class(&mut vm)),
-        Line("VirtualMachine::set_attr", attribute(&mut vm)),
-    ]?)
-}
-
-fn fixed_object(vm: &VirtualMachine) -> Result<String, NoValue> {
-    Ok(show(vm.world(), vm.world().fixed(Fixed::NotImplemented))?)
-}
-
-// The replies to a script.
-fn replies(vm: &mut VirtualMachine, alloc: Global) -> Result<String, NoValue> {
-    let commands = read_script(alloc, SCRIPT)?;
-    let replies = vm.run(&commands, UNITS)?;
-    Ok(told_bytes(alloc, &write_replies(alloc, &replies)?)?)
+pub fn put(table: &mut Table, vm: &mut VirtualMachine, alloc: Global) {
+    table.tell("VirtualMachine::new", &vm.has_failed());
+    table.put("VirtualMachine::run", bind_variables(vm, alloc));
+    table.put_text("VirtualMachine::ask", asked(vm));
+    table.put_text("VirtualMachine::intern", interned(vm));
+    table.put("VirtualMachine::add_expr", stored(vm));
+    table.put_text("VirtualMachine::new_heap", made_class(vm));
+    table.put_text("VirtualMachine::set_attr", attribute(vm));
 }
 
 // The sum of True and True.
@@ -58,16 +36,15 @@ fn asked(vm: &mut VirtualMachine) -> Result<String, NoValue> {
 }
 
 // A text that no machine knows.
-fn interned(vm: &mut VirtualMachine) -> Result<String, NoValue> {
+fn interned(vm: &mut VirtualMachine) -> Result<String, OutOfMemory> {
     let name = vm.intern("a name")?;
-    Ok(vm.world().spelling(name)?)
+    vm.world().spelling(name)
 }
 
 // Whether a constant is an expression of the world then.
-fn stored(vm: &mut VirtualMachine, alloc: Global) -> Result<String, NoValue> {
+fn stored(vm: &mut VirtualMachine) -> Result<bool, OutOfMemory> {
     let number = vm.add_expr(&Expr::Const(Constant::True))?;
-    let is_there = vm.world().is_expression(number);
-    Ok(format!(in alloc; "an expression: {is_there}")?)
+    Ok(vm.world().is_expression(number))
 }
 
 // A class below `object`.
@@ -78,7 +55,7 @@ fn class(vm: &mut VirtualMachine) -> Result<PyTypeRef, ClassFault>
     let metaclass = vm.world().built_in(BuiltIn::TypeType);
     let bases = one_class(alloc, vm.world().built_in(BuiltIn::Object))?;
     let attrs = PyAttributes::new(alloc);
-    vm.new_heap("A", bases, attrs, no_names(alloc), metaclass)
+    vm.new_heap("C", bases, attrs, no_names(alloc), metaclass)
 }
 
 fn made_class(vm: &mut VirtualMachine) -> Result<String, NoValue> {

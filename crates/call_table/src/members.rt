@@ -5,16 +5,14 @@ ghost use Rattle.py_node.specs.declared.built_in.BuiltIn.TheVariants.{Object};
 ghost use Rattle.class_world.specs.Sound.{Holds, IsClass, IsNode, IsOf};
 
 use crate::lists::{one_class, one_name};
-use crate::table::{Line, NoValue};
+use crate::table::{NoValue, Table};
 use class_table::ClassFault;
 use class_world::show::show;
 use class_world::{Fixed, World};
 use py_node::{BuiltIn, Known, Payload, PyAttributes, PyObjectRef, PySetterValue, PyTypeRef};
-use std::alloc::Global;
 
-pub fn lines(alloc: Global) -> Result<Vec<Line>, NoValue> {
-    let mut world = World::new(alloc)?;
-    Ok(vec![in alloc; Line("World::set_member_value", member_set(&mut world))]?)
+pub fn put(table: &mut Table, world: &mut World) {
+    table.put_text("World::set_member_value", member_set(world));
 }
 
 // A class below `object` with one member.

@@ -1,7 +1,7 @@
 //! The order of classes over their bases.
 
-use crate::table::{Line, NoValue};
-use crate::telling::told_classes;
+use crate::table::Table;
+use mro_merge::MroFault;
 use mro_merge::laws::{linearise_mro, resolve_mro};
 use py_node::PyTypeRef;
 use std::alloc::Global;
@@ -12,25 +12,21 @@ const FIRST: PyTypeRef = PyTypeRef(1);
 
 const SECOND: PyTypeRef = PyTypeRef(2);
 
-pub fn lines(alloc: Global) -> Result<Vec<Line>, NoValue> {
-    Ok(vec![in alloc;
-        Line("mro_merge::linearise_mro", linearised(alloc)),
-        Line("mro_merge::resolve_mro", resolved(alloc)),
-    ]?)
+pub fn put(table: &mut Table, alloc: Global) {
+    table.put("mro_merge::linearise_mro", linearised(alloc));
+    table.put("mro_merge::resolve_mro", resolved(alloc));
 }
 
 // Two branches over one root.
-fn linearised(alloc: Global) -> Result<String, NoValue> {
+fn linearised(alloc: Global) -> Result<Vec<PyTypeRef>, MroFault> {
     let first = vec![in alloc; FIRST, OBJECT]?;
     let second = vec![in alloc; SECOND, OBJECT]?;
-    let line = linearise_mro(alloc, vec![in alloc; first, second]?)?;
-    Ok(told_classes(alloc, &line)?)
+    linearise_mro(alloc, vec![in alloc; first, second]?)
 }
 
 // A base whose linearisation goes further than the other's.
-fn resolved(alloc: Global) -> Result<String, NoValue> {
+fn resolved(alloc: Global) -> Result<Vec<PyTypeRef>, MroFault> {
     let first = vec![in alloc; FIRST, OBJECT]?;
     let second = vec![in alloc; SECOND]?;
-    let line = resolve_mro(alloc, &[FIRST, SECOND], vec![in alloc; first, second]?)?;
-    Ok(told_classes(alloc, &line)?)
+    resolve_mro(alloc, &[FIRST, SECOND], vec![in alloc; first, second]?)
 }

@@ -1,121 +1,90 @@
 //! Names, attributes and members, and copies of what scripts and replies consist of.
 
-use crate::table::{Line, NoValue};
-use crate::telling::{told_attributes, told_expr, told_reply};
+use crate::table::Table;
 use py_node::{
-    BodyCall, Cause, Command, Constant, Expr, Kind, MemberPlace, Names, PyAttributes, PyMembers,
-    PyNumberBinaryOp, PyObjectRef, PyStrInterned, PyTypeFlags, PyTypeRef, Raised, Reply,
-    ReplyAnswer, Word,
+    BodyCall, Cause, Command, Constant, Expr, Kind, MemberPlace, Names, OutOfMemory, PyAttributes,
+    PyMembers, PyObjectRef, PyStrInterned, PyTypeFlags, PyTypeRef, Raised, Reply, ReplyAnswer,
 };
 use std::alloc::{AllocError, Global};
 
-pub fn lines(alloc: Global) -> Result<Vec<Line>, NoValue> {
-    Ok(vec![in alloc;
-        Line("Names::intern", interned(alloc)),
-        Line(
-            "PyTypeFlags::heap_type_flags",
-            flags(alloc, PyTypeFlags::heap_type_flags())
-        ),
-        Line(
-            "PyTypeFlags::of_script_class",
-            flags(alloc, PyTypeFlags::of_script_class())
-        ),
-        Line("PyAttributes::insert", inserted(alloc)),
-        Line("PyAttributes::try_clone", copied_attributes(alloc)),
-        Line("PyMembers::set", set_member(alloc)),
-        Line("Constant::try_clone", copied_constant(alloc)),
-        Line("Expr::try_clone", copied_expr(alloc)),
-        Line("Command::try_clone", copied_command(alloc)),
-        Line("BodyCall::try_clone", copied_call(alloc)),
-        Line("ReplyAnswer::try_clone", copied_answer(alloc)),
-        Line("Reply::try_clone", copied_reply(alloc)),
-    ]?)
+const NAME: PyStrInterned = PyStrInterned(5);
+
+const VALUE: PyObjectRef = PyObjectRef(10);
+
+pub fn put(table: &mut Table, alloc: Global) {
+    table.put("Names::intern", Names::new(alloc).intern("x"));
+    table.put("PyAttributes::insert", inserted(alloc));
+    table.put("PyAttributes::try_clone", copied_attributes(alloc));
+    table.put("PyMembers::set", set_member(alloc));
+    table.put("Constant::try_clone", copied_constant(alloc));
+    table.put("Expr::try_clone", copied_expr(alloc));
+    table.put("Command::try_clone", copied_command(alloc));
+    table.put("BodyCall::try_clone", copied_call(alloc));
+    table.put("ReplyAnswer::try_clone", copied_answer(alloc));
+    table.put("Reply::try_clone", copied_reply(alloc));
+    table.tell("PyTypeFlags::heap_type_flags", &flags(PyTypeFlags::heap_type_flags()));
+    table.tell("PyTypeFlags::of_script_class", &flags(PyTypeFlags::of_script_class()));
 }
 
-// Two texts, and the first again.
-fn interned(alloc: Global) -> Result<String, NoValue> {
-    let mut names = Names::new(alloc);
-    let first = names.intern("x")?.0;
-    let second = names.intern("y")?.0;
-    let again = names.intern("x")?.0;
-    Ok(format!(in alloc; "{first} {second} {again}")?)
-}
-
-// What the classes with some flags are.
-fn flags(alloc: Global, flags: PyTypeFlags) -> Result<String, NoValue> {
-    let is_base = flags.has_feature(PyTypeFlags::BASETYPE);
-    let has_dict = flags.has_feature(PyTypeFlags::HAS_DICT);
-    let is_fixed = flags.has_feature(PyTypeFlags::IMMUTABLETYPE);
-    Ok(format!(in alloc; "base {is_base}, dict {has_dict}, immutable {is_fixed}")?)
-}
-
-// Two names, of which the first gets another value.
-fn attributes(alloc: Global) -> Result<PyAttributes, NoValue> {
+// A name that has a value.
+fn attributes(alloc: Global) -> Result<PyAttributes, OutOfMemory> {
     let mut attributes = PyAttributes::new(alloc);
-    attributes.insert(PyStrInterned(5), PyObjectRef(10))?;
-    attributes.insert(PyStrInterned(3), PyObjectRef(11))?;
-    attributes.insert(PyStrInterned(5), PyObjectRef(12))?;
+    attributes.insert(NAME, VALUE)?;
     Ok(attributes)
 }
 
-fn inserted(alloc: Global) -> Result<String, NoValue> {
-    Ok(told_attributes(alloc, &attributes(alloc)?)?)
+fn inserted(alloc: Global) -> Result<Option<PyObjectRef>, OutOfMemory> {
+    Ok(attributes(alloc)?.get(NAME))
 }
 
-fn copied_attributes(alloc: Global) -> Result<String, NoValue> {
-    let copy = attributes(alloc)?.try_clone(alloc)?;
-    Ok(told_attributes(alloc, &copy)?)
+fn copied_attributes(alloc: Global) -> Result<Option<PyObjectRef>, OutOfMemory> {
+    Ok(attributes(alloc)?.try_clone(alloc)?.get(NAME))
 }
 
-// A place that is set, and one that is set and then emptied.
-fn set_member(alloc: Global) -> Result<String, NoValue> {
-    let first = MemberPlace {
+fn set_member(alloc: Global) -> Result<Option<PyObjectRef>, OutOfMemory> {
+    let place = MemberPlace {
         class: PyTypeRef(30),
         index: 0,
     };
-    let second = MemberPlace {
-        class: PyTypeRef(30),
-        index: 1,
-    };
     let mut members = PyMembers::new(alloc);
-    members.set(first, Some(PyObjectRef(8)))?;
-    members.set(second, Some(PyObjectRef(9)))?;
-    members.set(second, None)?;
-    Ok(format!(in alloc; "{:?} {:?}", members.get(first), members.get(second))?)
+    members.set(place, Some(VALUE))?;
+    Ok(members.get(place))
 }
 
-fn copied_constant(alloc: Global) -> Result<String, NoValue> {
-    let constant = Constant::Str(String::from_str(alloc, "text")?);
-    Ok(told_expr(alloc, &Expr::Const(constant.try_clone(alloc)?))?)
+fn copied_constant(alloc: Global) -> Result<Constant, OutOfMemory> {
+    Constant::Str(String::from_str(alloc, "text")?).try_clone(alloc)
 }
 
-// The sum of two numbers.
-fn sum(alloc: Global) -> Result<Expr, AllocError> {
-    let operands = vec![in alloc;
-        Expr::Const(Constant::Int(33)),
-        Expr::Const(Constant::Int(12)),
-    ]?;
-    Ok(Expr::Op(Word::Binary(PyNumberBinaryOp::Add), operands))
+/// The number that an expression is.
+pub fn number_in(expr: &Expr) -> Option<i64> {
+    match expr {
+        Expr::Const(Constant::Int(number)) => Some(*number),
+        _ => None,
+    }
 }
 
-fn copied_expr(alloc: Global) -> Result<String, NoValue> {
-    let copy = sum(alloc)?.try_clone(alloc)?;
-    Ok(told_expr(alloc, &copy)?)
+fn copied_expr(alloc: Global) -> Result<Option<i64>, OutOfMemory> {
+    let copy = Expr::Const(Constant::Int(33)).try_clone(alloc)?;
+    Ok(number_in(&copy))
 }
 
-fn copied_command(alloc: Global) -> Result<String, NoValue> {
-    let command = Command { expr: sum(alloc)? };
-    let copy = command.try_clone(alloc)?;
-    Ok(told_expr(alloc, &copy.expr)?)
+fn copied_command(alloc: Global) -> Result<Option<i64>, OutOfMemory> {
+    let command = Command {
+        expr: Expr::Const(Constant::Int(12)),
+    };
+    Ok(number_in(&command.try_clone(alloc)?.expr))
 }
 
-// A body that was started with one argument.
+// A body that was started.
 fn call(alloc: Global) -> Result<BodyCall, AllocError> {
-    let args = vec![in alloc; String::from_str(alloc, "1")?]?;
     Ok(BodyCall {
         name: String::from_str(alloc, "f")?,
-        args,
+        args: Vec::new(alloc),
     })
+}
+
+fn copied_call(alloc: Global) -> Result<String, OutOfMemory> {
+    Ok(call(alloc)?.try_clone(alloc)?.name)
 }
 
 const FAULT: Raised = Raised {
@@ -123,29 +92,34 @@ const FAULT: Raised = Raised {
     cause: Cause::NotCallable,
 };
 
-// A reply with one body that was started.
-fn told(alloc: Global, answer: ReplyAnswer, call: BodyCall) -> Result<String, NoValue> {
-    let calls = vec![in alloc; call]?;
-    Ok(told_reply(alloc, Reply { answer, calls })?)
+// The fault that a command ended with.
+fn fault_in(answer: &ReplyAnswer) -> Option<Raised> {
+    match answer {
+        ReplyAnswer::Raised(raised) => Some(*raised),
+        _ => None,
+    }
 }
 
-fn copied_call(alloc: Global) -> Result<String, NoValue> {
-    let copy = call(alloc)?.try_clone(alloc)?;
-    told(alloc, ReplyAnswer::Budget, copy)
+fn copied_answer(alloc: Global) -> Result<Option<Raised>, OutOfMemory> {
+    let copy = ReplyAnswer::Raised(FAULT).try_clone(alloc)?;
+    Ok(fault_in(&copy))
 }
 
-fn copied_answer(alloc: Global) -> Result<String, NoValue> {
-    let text = String::from_str(alloc, "45")?;
-    let answer = ReplyAnswer::Value(PyObjectRef(7), text);
-    let copy = answer.try_clone(alloc)?;
-    told(alloc, copy, call(alloc)?)
-}
-
-fn copied_reply(alloc: Global) -> Result<String, NoValue> {
+// The fault, and how many bodies were started.
+fn copied_reply(alloc: Global) -> Result<(Option<Raised>, usize), OutOfMemory> {
     let reply = Reply {
         answer: ReplyAnswer::Raised(FAULT),
         calls: vec![in alloc; call(alloc)?]?,
     };
     let copy = reply.try_clone(alloc)?;
-    Ok(told_reply(alloc, copy)?)
+    Ok((fault_in(&copy.answer), copy.calls.len()))
+}
+
+// Whether a class with these flags may have subclasses, whether its objects have dicts, and whether it can't be changed.
+fn flags(flags: PyTypeFlags) -> (bool, bool, bool) {
+    (
+        flags.has_feature(PyTypeFlags::BASETYPE),
+        flags.has_feature(PyTypeFlags::HAS_DICT),
+        flags.has_feature(PyTypeFlags::IMMUTABLETYPE),
+    )
 }

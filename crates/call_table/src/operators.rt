@@ -1,154 +1,93 @@
-//! What a machine gives for operators of two numbers and of one.
+//! What a machine gives for operators.
 
-use crate::asking::{UNITS, machine, shown, variable};
-use crate::table::{Line, NoValue};
-use std::alloc::Global;
-use vm_calls::{_abs, _add, _and, _divmod, _floordiv, _invert, _lshift, _matmul, _mod, _mul, _neg, _or, _pos, _pow, _rshift, _sub, _truediv, _xor};
+use crate::asking::{UNITS, object, of_one, of_two, shown};
+use crate::table::{NoValue, Table};
+use py_node::PyNumberBinaryOp;
+use vm_calls::{
+    _abs, _add, _and, _divmod, _floordiv, _iadd, _iand, _ifloordiv, _ilshift, _imatmul, _imod,
+    _imul, _invert, _ior, _ipow, _irshift, _isub, _itruediv, _ixor, _lshift, _matmul, _mod, _mul,
+    _neg, _or, _pos, _pow, _rshift, _sub, _truediv, _xor, binary_op, binary_op1,
+};
 use vm_eval::VirtualMachine;
 
-pub fn lines(alloc: Global) -> Result<Vec<Line>, NoValue> {
-    let mut vm = machine(alloc)?;
-    Ok(vec![in alloc;
-        Line("vm_calls::_add", sum(&mut vm)),
-        Line("vm_calls::_sub", difference(&mut vm)),
-        Line("vm_calls::_mul", product(&mut vm)),
-        Line("vm_calls::_mod", rest(&mut vm)),
-        Line("vm_calls::_divmod", quotient_and_rest(&mut vm)),
-        Line("vm_calls::_lshift", to_the_left(&mut vm)),
-        Line("vm_calls::_rshift", to_the_right(&mut vm)),
-        Line("vm_calls::_and", both_bits(&mut vm)),
-        Line("vm_calls::_xor", differing_bits(&mut vm)),
-        Line("vm_calls::_or", either_bits(&mut vm)),
-        Line("vm_calls::_floordiv", rounded_quotient(&mut vm)),
-        Line("vm_calls::_truediv", quotient(&mut vm)),
-        Line("vm_calls::_matmul", product_of_matrices(&mut vm)),
-        Line("vm_calls::_pow", power(&mut vm)),
-        Line("vm_calls::_neg", negative(&mut vm)),
-        Line("vm_calls::_pos", positive(&mut vm)),
-        Line("vm_calls::_abs", without_sign(&mut vm)),
-        Line("vm_calls::_invert", turned(&mut vm)),
-    ]?)
+pub fn put(table: &mut Table, vm: &mut VirtualMachine) {
+    put_of_one(table, vm);
+    put_of_two(table, vm);
+    put_bits(table, vm);
+    put_in_place(table, vm);
+    put_bits_in_place(table, vm);
+    table.put_text("vm_calls::_pow", power(vm));
+    table.put_text("vm_calls::_ipow", power_in_place(vm));
+    table.put_text("vm_calls::binary_op", by_operator(vm));
+    table.put_text("vm_calls::binary_op1", by_candidates(vm));
 }
 
-fn sum(vm: &mut VirtualMachine) -> Result<String, NoValue> {
-    let a = variable(vm.world(), "a")?;
-    let b = variable(vm.world(), "b")?;
-    let told = _add(vm, a, b, UNITS)?;
-    shown(vm, told)
+fn put_of_one(table: &mut Table, vm: &mut VirtualMachine) {
+    table.put_text("vm_calls::_neg", of_one(vm, "a", _neg));
+    table.put_text("vm_calls::_pos", of_one(vm, "a", _pos));
+    table.put_text("vm_calls::_abs", of_one(vm, "a", _abs));
+    table.put_text("vm_calls::_invert", of_one(vm, "a", _invert));
 }
 
-fn difference(vm: &mut VirtualMachine) -> Result<String, NoValue> {
-    let a = variable(vm.world(), "a")?;
-    let b = variable(vm.world(), "b")?;
-    let told = _sub(vm, a, b, UNITS)?;
-    shown(vm, told)
+fn put_of_two(table: &mut Table, vm: &mut VirtualMachine) {
+    table.put_text("vm_calls::_add", of_two(vm, "a", "b", _add));
+    table.put_text("vm_calls::_sub", of_two(vm, "a", "b", _sub));
+    table.put_text("vm_calls::_mul", of_two(vm, "a", "b", _mul));
+    table.put_text("vm_calls::_mod", of_two(vm, "a", "b", _mod));
+    table.put_text("vm_calls::_divmod", of_two(vm, "a", "b", _divmod));
+    table.put_text("vm_calls::_floordiv", of_two(vm, "a", "b", _floordiv));
+    table.put_text("vm_calls::_truediv", of_two(vm, "o", "b", _truediv));
+    table.put_text("vm_calls::_matmul", of_two(vm, "o", "b", _matmul));
 }
 
-fn product(vm: &mut VirtualMachine) -> Result<String, NoValue> {
-    let a = variable(vm.world(), "a")?;
-    let b = variable(vm.world(), "b")?;
-    let told = _mul(vm, a, b, UNITS)?;
-    shown(vm, told)
+fn put_bits(table: &mut Table, vm: &mut VirtualMachine) {
+    table.put_text("vm_calls::_lshift", of_two(vm, "a", "b", _lshift));
+    table.put_text("vm_calls::_rshift", of_two(vm, "a", "one", _rshift));
+    table.put_text("vm_calls::_and", of_two(vm, "a", "b", _and));
+    table.put_text("vm_calls::_xor", of_two(vm, "a", "b", _xor));
+    table.put_text("vm_calls::_or", of_two(vm, "a", "b", _or));
 }
 
-fn rest(vm: &mut VirtualMachine) -> Result<String, NoValue> {
-    let a = variable(vm.world(), "a")?;
-    let b = variable(vm.world(), "b")?;
-    let told = _mod(vm, a, b, UNITS)?;
-    shown(vm, told)
+fn put_in_place(table: &mut Table, vm: &mut VirtualMachine) {
+    table.put_text("vm_calls::_iadd", of_two(vm, "a", "b", _iadd));
+    table.put_text("vm_calls::_isub", of_two(vm, "a", "b", _isub));
+    table.put_text("vm_calls::_imul", of_two(vm, "a", "b", _imul));
+    table.put_text("vm_calls::_imod", of_two(vm, "a", "b", _imod));
+    table.put_text("vm_calls::_ifloordiv", of_two(vm, "a", "b", _ifloordiv));
+    table.put_text("vm_calls::_itruediv", of_two(vm, "o", "b", _itruediv));
+    table.put_text("vm_calls::_imatmul", of_two(vm, "o", "b", _imatmul));
 }
 
-fn quotient_and_rest(vm: &mut VirtualMachine) -> Result<String, NoValue> {
-    let a = variable(vm.world(), "a")?;
-    let b = variable(vm.world(), "b")?;
-    let told = _divmod(vm, a, b, UNITS)?;
-    shown(vm, told)
+fn put_bits_in_place(table: &mut Table, vm: &mut VirtualMachine) {
+    table.put_text("vm_calls::_ilshift", of_two(vm, "a", "b", _ilshift));
+    table.put_text("vm_calls::_irshift", of_two(vm, "a", "one", _irshift));
+    table.put_text("vm_calls::_iand", of_two(vm, "a", "b", _iand));
+    table.put_text("vm_calls::_ixor", of_two(vm, "a", "b", _ixor));
+    table.put_text("vm_calls::_ior", of_two(vm, "a", "b", _ior));
 }
 
-fn to_the_left(vm: &mut VirtualMachine) -> Result<String, NoValue> {
-    let a = variable(vm.world(), "a")?;
-    let b = variable(vm.world(), "b")?;
-    let told = _lshift(vm, a, b, UNITS)?;
-    shown(vm, told)
-}
-
-fn to_the_right(vm: &mut VirtualMachine) -> Result<String, NoValue> {
-    let a = variable(vm.world(), "a")?;
-    let b = variable(vm.world(), "b")?;
-    let told = _rshift(vm, a, b, UNITS)?;
-    shown(vm, told)
-}
-
-fn both_bits(vm: &mut VirtualMachine) -> Result<String, NoValue> {
-    let a = variable(vm.world(), "a")?;
-    let b = variable(vm.world(), "b")?;
-    let told = _and(vm, a, b, UNITS)?;
-    shown(vm, told)
-}
-
-fn differing_bits(vm: &mut VirtualMachine) -> Result<String, NoValue> {
-    let a = variable(vm.world(), "a")?;
-    let b = variable(vm.world(), "b")?;
-    let told = _xor(vm, a, b, UNITS)?;
-    shown(vm, told)
-}
-
-fn either_bits(vm: &mut VirtualMachine) -> Result<String, NoValue> {
-    let a = variable(vm.world(), "a")?;
-    let b = variable(vm.world(), "b")?;
-    let told = _or(vm, a, b, UNITS)?;
-    shown(vm, told)
-}
-
-fn rounded_quotient(vm: &mut VirtualMachine) -> Result<String, NoValue> {
-    let a = variable(vm.world(), "a")?;
-    let b = variable(vm.world(), "b")?;
-    let told = _floordiv(vm, a, b, UNITS)?;
-    shown(vm, told)
-}
-
-fn quotient(vm: &mut VirtualMachine) -> Result<String, NoValue> {
-    let a = variable(vm.world(), "o")?;
-    let b = variable(vm.world(), "b")?;
-    let told = _truediv(vm, a, b, UNITS)?;
-    shown(vm, told)
-}
-
-fn product_of_matrices(vm: &mut VirtualMachine) -> Result<String, NoValue> {
-    let a = variable(vm.world(), "o")?;
-    let b = variable(vm.world(), "b")?;
-    let told = _matmul(vm, a, b, UNITS)?;
-    shown(vm, told)
-}
-
+// 13 to the fourth power. A variable that isn't there stands for None: there is no modulus.
 fn power(vm: &mut VirtualMachine) -> Result<String, NoValue> {
-    let a = variable(vm.world(), "a")?;
-    let b = variable(vm.world(), "b")?;
-    let c = variable(vm.world(), "none")?;
-    let told = _pow(vm, a, b, c, UNITS)?;
+    let (a, b, none) = (object(vm, "a"), object(vm, "b"), object(vm, ""));
+    let told = _pow(vm, a, b, none, UNITS);
     shown(vm, told)
 }
 
-fn negative(vm: &mut VirtualMachine) -> Result<String, NoValue> {
-    let a = variable(vm.world(), "a")?;
-    let told = _neg(vm, a, UNITS)?;
+fn power_in_place(vm: &mut VirtualMachine) -> Result<String, NoValue> {
+    let (a, b, none) = (object(vm, "a"), object(vm, "b"), object(vm, ""));
+    let told = _ipow(vm, a, b, none, UNITS);
     shown(vm, told)
 }
 
-fn positive(vm: &mut VirtualMachine) -> Result<String, NoValue> {
-    let a = variable(vm.world(), "a")?;
-    let told = _pos(vm, a, UNITS)?;
+fn by_operator(vm: &mut VirtualMachine) -> Result<String, NoValue> {
+    let (a, b) = (object(vm, "a"), object(vm, "b"));
+    let told = binary_op(vm, PyNumberBinaryOp::Subtract, a, b, UNITS);
     shown(vm, told)
 }
 
-fn without_sign(vm: &mut VirtualMachine) -> Result<String, NoValue> {
-    let a = variable(vm.world(), "a")?;
-    let told = _abs(vm, a, UNITS)?;
-    shown(vm, told)
-}
-
-fn turned(vm: &mut VirtualMachine) -> Result<String, NoValue> {
-    let a = variable(vm.world(), "a")?;
-    let told = _invert(vm, a, UNITS)?;
+// What the candidates give of which none knows its operands.
+fn by_candidates(vm: &mut VirtualMachine) -> Result<String, NoValue> {
+    let (a, b) = (object(vm, "key"), object(vm, "b"));
+    let told = binary_op1(vm, PyNumberBinaryOp::Subtract, a, b, UNITS);
     shown(vm, told)
 }

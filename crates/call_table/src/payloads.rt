@@ -1,20 +1,48 @@
 //! What the objects are that definitions make.
 
+ghost use Rattle.std.specs.Prelude.{IfOk};
 ghost use Rattle.class_world.specs.Sound.{AllHold, Holds, IsClass, IsName, IsNode, of_payload};
 
+use crate::table::NoValue;
 use class_world::World;
 use class_world::show::show;
 use py_node::{OutOfMemory, Payload, PyObjectRef, PyStrInterned, PyTypeRef};
 
-/// What an object is that holds a native, or wraps an object.
-pub fn told_payload(world: &World, payload: &Payload) -> Result<String, OutOfMemory>
+/// What a new node is that holds a native, or wraps an object.
+pub fn told_node(
+    world: &World,
+    made: Result<PyObjectRef, OutOfMemory>,
+) -> Result<String, NoValue>
+    requires { IfOk made (λ r. Holds world.now (IsNode r)) }
+{
+    match made {
+        Ok(node) => Ok(told(world, world.payload(node))?),
+        Err(OutOfMemory) => Err(NoValue),
+    }
+}
+
+/// What an object is that holds this.
+pub fn told_payload(
+    world: &World,
+    made: Result<Payload, OutOfMemory>,
+) -> Result<String, NoValue>
+    requires { IfOk made (λ p. AllHold world.now (of_payload p)) }
+{
+    match made {
+        Ok(payload) => Ok(told(world, &payload)?),
+        Err(OutOfMemory) => Err(NoValue),
+    }
+}
+
+// The same, by its sort.
+fn told(world: &World, payload: &Payload) -> Result<String, OutOfMemory>
     requires { AllHold world.now (of_payload payload.now) }
 {
     match payload {
         Payload::NativeFunction(function) => match function.target {
-            None => told(world, "a function", function.name),
+            None => named(world, "a function", function.name),
             Some(target) => {
-                let text = told(world, "a function", function.name)?;
+                let text = named(world, "a function", function.name)?;
                 bound(world, text, target)
             }
         },
@@ -30,15 +58,8 @@ pub fn told_payload(world: &World, payload: &Payload) -> Result<String, OutOfMem
     }
 }
 
-/// What a node is, in the same way.
-pub fn told_node(world: &World, node: PyObjectRef) -> Result<String, OutOfMemory>
-    requires { Holds world.now (IsNode node) }
-{
-    told_payload(world, world.payload(node))
-}
-
 // Something that has a name.
-fn told(world: &World, what: &str, name: PyStrInterned) -> Result<String, OutOfMemory>
+fn named(world: &World, what: &str, name: PyStrInterned) -> Result<String, OutOfMemory>
     requires { Holds world.now (IsName name) }
 {
     let name = world.spelling(name)?;

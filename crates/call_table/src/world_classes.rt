@@ -4,39 +4,37 @@ ghost use Rattle.std.specs.Prelude.{◌≡◌, ◌≤◌, IfOk};
 ghost use Rattle.class_world.specs.Sound.{Holds, IsClass};
 
 use crate::lists::{no_names, one_class};
-use crate::table::{Line, NoValue};
-use crate::telling::told_bytes;
+use crate::table::{NoValue, Table};
 use class_table::{ClassFault, Steps};
 use class_world::class_lines::push_classes;
 use class_world::show::show;
 use class_world::{Fixed, World};
 use py_node::{
-    BuiltIn, Known, NativeEntry, ObjectNative, PyAttributes, PyTypeFlags, PyTypeRef, SlotEntry,
-    SlotId,
+    BuiltIn, Known, NativeEntry, ObjectNative, OutOfMemory, PyAttributes, PyTypeFlags, PyTypeRef,
+    SlotEntry, SlotId,
 };
-use std::alloc::Global;
 use std::marker::Brand;
 use std::sync::ledger::{Blank, Ledger};
 
-const REPR: SlotEntry = SlotEntry::Native(NativeEntry::OfObject(ObjectNative::Repr));
+pub fn put(table: &mut Table, world: &mut World) {
+    table.put_text("World::new_heap", heap_class(world));
+    table.put_bytes("class_world::push_classes", class_lines(world));
+    table.put_text("World::new_simple_heap", simple_class(world));
+    table.put("World::new_static", static_class(world));
+    table.put_text("World::set_attr", attribute(world));
+    table.put_text("World::set_str_attr", attribute_by_text(world));
+    table.put("World::del_attr_direct", attribute_out(world));
+    table.put("World::get_attributes", inherited(world));
+    table.put_text("World::set_name", renamed(world));
+    let blank = Blank::new(2);
+    table.put("World::set_bases", rebased::<Brand>(world, blank));
+}
 
-pub fn lines(alloc: Global) -> Result<Vec<Line>, NoValue> {
-    let mut world = World::new(alloc)?;
-    Ok(vec![in alloc;
-        Line("World::new_heap", heap_class(&mut world)),
-        Line("class_world::push_classes", class_lines(&world)),
-        Line("World::new_simple_heap", simple_class(&mut world)),
-        Line("World::new_static", static_class(&mut world)),
-        Line("World::set_attr", attribute(&mut world)),
-        Line("World::set_str_attr", attribute_by_text(&mut world)),
-        Line("World::del_attr_direct", attribute_out(&mut world)),
-        Line("World::get_attributes", inherited(&mut world)),
-        Line("World::set_name", renamed(&mut world)),
-        Line(
-            "World::set_bases",
-            rebased::<Brand>(&mut world, Blank::new(2))
-        ),
-    ]?)
+// The text of a class.
+fn shown(world: &World, class: PyTypeRef) -> Result<String, NoValue>
+    requires { Holds world.now (IsClass class.0) }
+{
+    Ok(show(world, world.class_node(class))?)
 }
 
 // A class below `object`.
@@ -46,14 +44,14 @@ fn heap_class(world: &mut World) -> Result<String, NoValue> {
     let bases = one_class(alloc, world.built_in(BuiltIn::Object))?;
     let attrs = PyAttributes::new(alloc);
     let class = world.new_heap("A", bases, attrs, no_names(alloc), metaclass)?;
-    Ok(show(world, world.class_node(class))?)
+    shown(world, class)
 }
 
 // The lines of that class alone.
-fn class_lines(world: &World) -> Result<String, NoValue> {
+fn class_lines(world: &World) -> Result<Vec<u8>, OutOfMemory> {
     let mut out = Vec::new(world.alloc());
     push_classes(&mut out, world)?;
-    Ok(told_bytes(world.alloc(), &out)?)
+    Ok(out)
 }
 
 // A simple class below `object`.
@@ -66,78 +64,75 @@ fn simple(world: &mut World, name: &str) -> Result<PyTypeRef, ClassFault>
 
 fn simple_class(world: &mut World) -> Result<String, NoValue> {
     let class = simple(world, "B")?;
-    Ok(show(world, world.class_node(class))?)
+    shown(world, class)
 }
 
-// A static class, which scripts don't make.
-fn static_class(world: &mut World) -> Result<String, NoValue> {
+// Whether a static class counts as one that a script makes, and whether it has the text of `object`.
+fn static_class(world: &mut World) -> Result<(bool, bool), ClassFault> {
     let object = world.built_in(BuiltIn::Object);
     let metaclass = world.built_in(BuiltIn::TypeType);
     let attrs = PyAttributes::new(world.alloc());
     let class = world.new_static("S", object, attrs, PyTypeFlags::DEFAULT, metaclass)?;
-    let is_heap = world.class_is_heap(class);
-    let inherits = world.class_slot(class, SlotId::Repr) == Some(REPR);
-    let text = show(world, world.class_node(class))?;
-    Ok(format!(in world.alloc();
-        "{}, heap {is_heap}, repr of object {inherits}",
-        text.as_str()
-    )?)
+    let repr = SlotEntry::Native(NativeEntry::OfObject(ObjectNative::Repr));
+    let inherits = world.class_slot(class, SlotId::Repr) == Some(repr);
+    Ok((world.class_is_heap(class), inherits))
 }
 
-// The text of a class's attribute that is a known name.
-fn told_attr(world: &World, class: PyTypeRef, name: Known) -> Result<String, NoValue>
+// The text of the attribute `__qualname__` of a class.
+fn told_attr(world: &World, class: PyTypeRef) -> Result<String, NoValue>
     requires { Holds world.now (IsClass class.0) }
 {
-    match world.own_attr(class, world.known(name)) {
-        None => Ok(String::from_str(world.alloc(), "nothing")?),
+    match world.own_attr(class, world.known(Known::Qualname)) {
+        None => Err(NoValue),
         Some(value) => Ok(show(world, value)?),
     }
 }
 
-fn attribute(world: &mut World) -> Result<String, NoValue> {
+// A class whose attribute `__qualname__` is None.
+fn with_attr(world: &mut World) -> Result<PyTypeRef, ClassFault>
+    ensures class { IfOk result (λ c. Holds world.new (IsClass c.0)) }
+{
     let class = simple(world, "C")?;
     let name = world.known(Known::Qualname);
     let none = world.fixed(Fixed::None);
     world.set_attr(class, name, none)?;
-    told_attr(world, class, Known::Qualname)
+    Ok(class)
+}
+
+fn attribute(world: &mut World) -> Result<String, NoValue> {
+    let class = with_attr(world)?;
+    told_attr(world, class)
 }
 
 fn attribute_by_text(world: &mut World) -> Result<String, NoValue> {
     let class = simple(world, "D")?;
-    let value = world.truth(false);
-    world.set_str_attr(class, "__qualname__", value)?;
-    told_attr(world, class, Known::Qualname)
+    world.set_str_attr(class, "__qualname__", world.truth(false))?;
+    told_attr(world, class)
 }
 
-// An attribute that is set and taken out.
-fn attribute_out(world: &mut World) -> Result<String, NoValue> {
-    let class = simple(world, "E")?;
+// Whether an attribute was there.
+fn attribute_out(world: &mut World) -> Result<bool, ClassFault> {
+    let class = with_attr(world)?;
     let name = world.known(Known::Qualname);
-    let none = world.fixed(Fixed::None);
-    world.set_attr(class, name, none)?;
-    let name = world.known(Known::Qualname);
-    let was_there = world.del_attr_direct(class, name)?;
-    let left = told_attr(world, class, Known::Qualname)?;
-    Ok(format!(in world.alloc(); "{was_there}, {} is left", left.as_str())?)
+    world.del_attr_direct(class, name)
 }
 
-// Whether a class inherits what `object` has.
-fn inherited(world: &mut World) -> Result<String, NoValue> {
+// How many attributes a class has of its own, and whether it inherits what `object` has.
+fn inherited(world: &mut World) -> Result<(usize, bool), NoValue> {
     let class = simple(world, "F")?;
-    let own = world.attributes(class).len();
     let all = world.get_attributes(class)?;
     let is_there = all.contains(world.known(Known::Repr));
-    Ok(format!(in world.alloc(); "{own} own, __repr__: {is_there}")?)
+    Ok((world.attributes(class).len(), is_there))
 }
 
 fn renamed(world: &mut World) -> Result<String, NoValue> {
     let class = simple(world, "G")?;
     world.set_name(class, "H")?;
-    Ok(show(world, world.class_node(class))?)
+    shown(world, class)
 }
 
-// A class below another one, which gets that one's base for it.
-fn rebased<L: Ledger>(world: &mut World, blank: Blank) -> Result<String, NoValue>
+// Whether a class is below another one, and whether it still is once it has that one's base.
+fn rebased<L: Ledger>(world: &mut World, blank: Blank) -> Result<(bool, bool), NoValue>
     requires name { blank.name ≡ L.name }
     requires parts { blank.parts ≡ L.parts }
     requires both { 2 ≤ L.parts }
@@ -148,6 +143,5 @@ fn rebased<L: Ledger>(world: &mut World, blank: Blank) -> Result<String, NoValue
     let bases = one_class(world.alloc(), world.built_in(BuiltIn::Object))?;
     let mut steps = Steps::<L>::new(blank);
     world.set_bases(right, bases, &mut steps)?;
-    let is_below = world.is_sub(right, left);
-    Ok(format!(in world.alloc(); "R below L: {was_below}, then {is_below}")?)
+    Ok((was_below, world.is_sub(right, left)))
 }
