@@ -3,6 +3,7 @@
 ghost use Rattle.std.specs.Prelude.{◌≡◌, ◌≤◌};
 
 use crate::classes::{CHILD, FIRST, OBJECT, SINGLE, STATIC, VALUE, there};
+use crate::lists::one_class;
 use crate::table::{NoValue, Table};
 use class_table::{ClassTable, Steps};
 use py_node::{Known, PyObjectRef, PyStrInterned, PyTypeRef, SlotEntry, SlotId};
@@ -25,8 +26,7 @@ pub fn put(table: &mut Table, classes: &mut ClassTable, alloc: Global) {
     table.put("ClassTable::get_attributes", inherited(classes));
     table.put("ClassTable::put_attr", put_attr(classes));
     table.put("ClassTable::set_name", set_name(classes));
-    let blank = Blank::new(2);
-    table.put("ClassTable::set_bases", set_bases::<Brand>(classes, alloc, blank));
+    table.put("ClassTable::set_bases", counted(classes, alloc));
 }
 
 fn line(classes: &ClassTable) -> Result<Vec<PyTypeRef>, NoValue> {
@@ -106,20 +106,25 @@ fn set_name(classes: &mut ClassTable) -> Result<(&str, bool), NoValue> {
     name(classes, CHILD)
 }
 
+// The best base that a class gets, whose merges and slots are counted by this call alone.
+fn counted(classes: &mut ClassTable, alloc: Global) -> Result<Option<PyTypeRef>, NoValue> {
+    set_bases::<Brand>(classes, alloc, Blank::new(2))
+}
+
 // A class below `object` that goes below another one.
 fn set_bases<L: Ledger>(
     classes: &mut ClassTable,
     alloc: Global,
     blank: Blank,
-) -> Result<Vec<PyTypeRef>, NoValue>
+) -> Result<Option<PyTypeRef>, NoValue>
     requires name { blank.name ≡ L.name }
     requires parts { blank.parts ≡ L.parts }
     requires both { 2 ≤ L.parts }
 {
+    let bases = one_class(alloc, there(classes, STATIC)?)?;
     let class = there(classes, SINGLE)?;
-    let bases = vec![in alloc; there(classes, STATIC)?]?;
     let mut steps = Steps::<L>::new(blank);
     classes.set_bases(class, bases, &mut steps)?;
     let class = there(classes, SINGLE)?;
-    Ok(classes.mro_collect(class)?)
+    Ok(classes.base(class))
 }

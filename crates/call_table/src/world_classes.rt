@@ -26,8 +26,7 @@ pub fn put(table: &mut Table, world: &mut World) {
     table.put("World::del_attr_direct", attribute_out(world));
     table.put("World::get_attributes", inherited(world));
     table.put_text("World::set_name", renamed(world));
-    let blank = Blank::new(2);
-    table.put("World::set_bases", rebased::<Brand>(world, blank));
+    table.put("World::set_bases", counted(world));
 }
 
 // The text of a class.
@@ -144,4 +143,9 @@ fn rebased<L: Ledger>(world: &mut World, blank: Blank) -> Result<(bool, bool), N
     let mut steps = Steps::<L>::new(blank);
     world.set_bases(right, bases, &mut steps)?;
     Ok((was_below, world.is_sub(right, left)))
+}
+
+// The same, whose merges and slots are counted by this call alone.
+fn counted(world: &mut World) -> Result<(bool, bool), NoValue> {
+    rebased::<Brand>(world, Blank::new(2))
 }

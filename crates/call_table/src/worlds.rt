@@ -24,15 +24,14 @@ pub fn put(table: &mut Table, world: &mut World) {
     table.put("class_world::add_expr", add_expr(world, &Expr::Const(Constant::Int(33))));
 }
 
-// Which numbers are those of something: the last one and the next, and of names the first and the greatest.
+// Which numbers are those of something. The nodes of the own attributes of built-in classes are the last ones.
 fn put_numbers(table: &mut Table, world: &World) {
-    let node = world.is_node(PyObjectRef(290));
-    table.tell("World::is_node", &(node, world.is_node(PyObjectRef(291))));
-    let class = world.is_class(PyTypeRef(22));
-    table.tell("World::is_class", &(class, world.is_class(PyTypeRef(23))));
-    let name = world.is_name(PyStrInterned(0));
-    table.tell("World::is_name", &(name, world.is_name(PyStrInterned(u64::MAX))));
-    table.tell("World::is_expression", &world.is_expression(0));
+    table.tell("World::is_node 290", &world.is_node(PyObjectRef(290)));
+    table.tell("World::is_node 291", &world.is_node(PyObjectRef(291)));
+    table.tell("World::is_class 22", &world.is_class(PyTypeRef(22)));
+    table.tell("World::is_class 23", &world.is_class(PyTypeRef(23)));
+    table.tell("World::is_name 69", &world.is_name(PyStrInterned(69)));
+    table.tell("World::is_expression 0", &world.is_expression(0));
 }
 
 // A text that no world knows.
