@@ -5,7 +5,7 @@
 use outside::StdSource;
 use outside::read_all::read_all;
 use outside::words::units_of;
-use script_text::read::read_script;
+use script_text::read_script;
 use std::alloc::Global;
 use std::process::ExitCode;
 use std::{env, io};

@@ -1,15 +1,17 @@
-//! How another program calls the machine: it makes a class, gives it an attribute, runs two commands and looks at the
-//! replies.
+//! How another program calls the machine: it makes a class and gives it an attribute, asks for this attribute of a new
+//! object, runs two commands, and looks at what it is told.
 #![tactic(auto)]
 
 ghost use Rattle.std.specs.Prelude.{◌≡◌, [], ◌∷◌, IfOk};
-ghost use Rattle.class_world.specs.Sound.{Holds, IsClass};
+ghost use Rattle.class_world.specs.Sound.{AllHold, Grows, Holds, IsClass, IsName, IsNode, of_node_ref};
+ghost use Rattle.vm_eval.specs.Asks.{of_done};
 
 use class_table::ClassFault;
 use class_world::Fixed;
+use class_world::show::show;
 use py_node::{
-    BuiltIn, Command, Constant, Expr, OutOfMemory, PyAttributes, PyNumberBinaryOp, PyTypeRef,
-    Reply, ReplyAnswer, Word,
+    BuiltIn, Command, Constant, Expr, OutOfMemory, PyAttributes, PyNumberBinaryOp, PyObjectRef,
+    PyResult, PyStrInterned, PyTypeRef, Reply, ReplyAnswer, Word,
 };
 use std::alloc::Global;
 use std::io;
@@ -20,9 +22,15 @@ fn main(rt: HostRuntime) -> io::Result<()> {
         return println!(rt; "no memory");
     };
     match changed(&mut vm, rt.alloc()) {
-        Ok(class) => {
-            let name = vm.world().class_name(class);
-            println!(rt; "a class: {name}")?;
+        Ok((class, name)) => {
+            let text = vm.world().class_name(class);
+            println!(rt; "a class: {text}")?;
+            match attribute(&mut vm, class, name, rt.alloc()) {
+                Ok(PyResult::Done(text)) => println!(rt; "an attribute: {text}")?,
+                Ok(PyResult::Raised(_)) => println!(rt; "a fault")?,
+                Ok(PyResult::Budget) => println!(rt; "no units are left")?,
+                Err(_) => println!(rt; "no answer")?,
+            }
         }
         Err(_) => println!(rt; "no class")?,
     }
@@ -42,9 +50,10 @@ fn main(rt: HostRuntime) -> io::Result<()> {
     println!(rt; "failed: {failed}")
 }
 
-// A class below `object`, with an attribute that is None.
-fn changed(vm: &mut VirtualMachine, alloc: Global) -> Result<PyTypeRef, ClassFault>
-    ensures { IfOk result (λ class. Holds vm.new.world (IsClass class.0)) }
+// A class below `object`, with an attribute that is None, and the attribute's name.
+fn changed(vm: &mut VirtualMachine, alloc: Global) -> Result<(PyTypeRef, PyStrInterned), ClassFault>
+    ensures class { IfOk result (λ made. Holds vm.new.world (IsClass made.0.0)) }
+    ensures name { IfOk result (λ made. Holds vm.new.world (IsName made.1)) }
 {
     let metaclass = vm.world().built_in(BuiltIn::TypeType);
     let bases = one(alloc, vm.world().built_in(BuiltIn::Object))?;
@@ -58,7 +67,55 @@ fn changed(vm: &mut VirtualMachine, alloc: Global) -> Result<PyTypeRef, ClassFau
     let name = vm.intern("x")?;
     let none = vm.world().fixed(Fixed::None);
     vm.set_attr(class, name, none)?;
-    Ok(class)
+    Ok((class, name))
+}
+
+// The text of an attribute of a new object of a class. The object and its attribute are asked for with 1,000 units each.
+fn attribute(
+    vm: &mut VirtualMachine,
+    class: PyTypeRef,
+    name: PyStrInterned,
+    alloc: Global,
+) -> Result<PyResult<String>, RunFault>
+    requires class { Holds vm.old.world (IsClass class.0) }
+    requires name { Holds vm.old.world (IsName name) }
+{
+    let class = vm.world().class_node(class);
+    match object_of(vm, class, alloc)? {
+        PyResult::Done(object) => attribute_text(vm, object, name),
+        PyResult::Raised(raised) => Ok(PyResult::Raised(raised)),
+        PyResult::Budget => Ok(PyResult::Budget),
+    }
+}
+
+// What a class makes that is called without arguments.
+#[tactic(auto, unfolding(class_world::specs::Sound::Holds))]
+fn object_of(
+    vm: &mut VirtualMachine,
+    class: PyObjectRef,
+    alloc: Global,
+) -> Result<PyResult<PyObjectRef>, RunFault>
+    requires { Holds vm.old.world (IsNode class) }
+    ensures object { IfOk result (λ told. AllHold vm.new.world (of_done of_node_ref told)) }
+    ensures grows { Grows vm.old.world vm.new.world }
+{
+    vm_calls::call(vm, class, Vec::new(alloc), Vec::new(alloc), 1000)
+}
+
+// The text of an attribute of an object.
+fn attribute_text(
+    vm: &mut VirtualMachine,
+    object: PyObjectRef,
+    name: PyStrInterned,
+) -> Result<PyResult<String>, RunFault>
+    requires object { Holds vm.old.world (IsNode object) }
+    requires name { Holds vm.old.world (IsName name) }
+{
+    match vm_calls::get_attr(vm, object, name, 1000)? {
+        PyResult::Done(value) => Ok(PyResult::Done(show(vm.world(), value)?)),
+        PyResult::Raised(raised) => Ok(PyResult::Raised(raised)),
+        PyResult::Budget => Ok(PyResult::Budget),
+    }
 }
 
 // A list of one class.

@@ -11,14 +11,11 @@ ghost use Rattle.serve.specs.Status.{HasReadAll, IsDoneOrPoor};
 ghost use Rattle.vm_eval.specs.Runs.{trees_in};
 
 use crate::status::Status;
-use class_world::class_lines::push_classes;
 use outside::read_all::read_all;
 use outside::write_all::write_all;
 use outside::{ReadEnd, Sink, Source};
 use py_node::{Command, OutOfMemory};
-use reply_text::write::write_replies;
-use script_text::ScriptFault;
-use script_text::read::read_script;
+use script_text::{ScriptFault, read_script, write_classes, write_replies};
 use std::alloc::Global;
 use vm_eval::VirtualMachine;
 
@@ -119,7 +116,7 @@ fn run_text(alloc: Global, commands: &[Command], units: u64) -> Result<Vec<u8>, 
     match vm.run(commands, units) {
         Ok(replies) => {
             let mut text = write_replies(alloc, &replies)?;
-            push_classes(&mut text, vm.world())?;
+            text.extend_from_slice(&write_classes(alloc, vm.world())?)?;
             Ok(text)
         }
         Err(_) => Err(OutOfMemory),

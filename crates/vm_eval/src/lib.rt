@@ -4,6 +4,7 @@
 mod ask;
 pub mod calls;
 pub mod machine;
+mod nodes;
 pub mod protocols;
 mod run;
 mod stack;
