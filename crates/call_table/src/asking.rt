@@ -9,7 +9,7 @@ use crate::table::NoValue;
 use class_world::Fixed;
 use class_world::show::show;
 use py_node::{PyObjectRef, PyResult};
-use script_text::read::read_script;
+use script_text::read_script;
 use std::alloc::Global;
 use vm_eval::{RunFault, VirtualMachine};
 

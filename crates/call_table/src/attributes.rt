@@ -91,11 +91,11 @@ fn got_or_not(vm: &mut VirtualMachine) -> Result<Option<PyObjectRef>, NoValue> {
     done(generic_getattr_opt(vm, object, name, None, UNITS))
 }
 
-// A method of an object.
+// A method of a list.
 fn method(vm: &mut VirtualMachine) -> Result<PyMethod, NoValue>
     ensures { IfOk result (λ m. AllHold vm.new.world (of_method m)) }
 {
-    let (object, name) = (object(vm, "o"), name(vm, "twice"));
+    let (object, name) = (object(vm, "items"), name(vm, "__len__"));
     match method_get(vm, object, name, UNITS)? {
         PyResult::Done(method) => Ok(method),
         _ => Err(NoValue),

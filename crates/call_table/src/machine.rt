@@ -10,8 +10,8 @@ use class_table::ClassFault;
 use class_world::Fixed;
 use class_world::show::show;
 use py_node::{
-    Answer, BuiltIn, Constant, Expr, Known, OperatorTask, OutOfMemory, PyAttributes, PyResult,
-    PyTypeRef, Task,
+    Answer, BuiltIn, Constant, Expr, Known, OperatorTask, OutOfMemory, Payload, PyAttributes,
+    PyResult, PyTypeRef, Task,
 };
 use std::alloc::Global;
 use vm_eval::VirtualMachine;
@@ -22,6 +22,7 @@ pub fn put(table: &mut Table, vm: &mut VirtualMachine, alloc: Global) {
     table.put_text("VirtualMachine::ask", asked(vm));
     table.put_text("VirtualMachine::intern", interned(vm));
     table.put("VirtualMachine::add_expr", stored(vm));
+    table.put_text("VirtualMachine::make_node", made_number(vm));
     table.put_text("VirtualMachine::new_heap", made_class(vm));
     table.put_text("VirtualMachine::set_attr", attribute(vm));
 }
@@ -45,6 +46,12 @@ fn interned(vm: &mut VirtualMachine) -> Result<String, OutOfMemory> {
 fn stored(vm: &mut VirtualMachine) -> Result<bool, OutOfMemory> {
     let number = vm.add_expr(&Expr::Const(Constant::True))?;
     Ok(vm.world().is_expression(number))
+}
+
+fn made_number(vm: &mut VirtualMachine) -> Result<String, NoValue> {
+    let class = vm.world().built_in(BuiltIn::Int);
+    let number = vm.make_node(class, Payload::Number(33))?;
+    Ok(show(vm.world(), number)?)
 }
 
 // A class below `object`.

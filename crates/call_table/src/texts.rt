@@ -4,24 +4,28 @@ use crate::nodes::number_in;
 use crate::table::{NoValue, Table};
 use outside::read_all::read_all;
 use outside::write_all::write_all;
-use outside::{MemorySink, MemorySource, QuietSink};
+use outside::{MemorySink, MemorySource, QuietSink, StdSink, StdSource};
 use py_node::{
     BodyCall, Cause, Kind, OutOfMemory, PyObjectRef, Raised, Reply, ReplyAnswer,
 };
 use reply_text::class::push_class_lines;
 use reply_text::escape::{escaped_string, quoted_string};
-use reply_text::write::write_replies;
-use script_text::read::read_script;
+use script_text::{read_script, write_replies};
 use std::alloc::Global;
+use std::io::sink;
+
+const HELLO: &[u8] = b"hello";
 
 pub fn put(table: &mut Table, alloc: Global) {
     table.put("script_text::read_script", script(alloc));
-    table.put_bytes("reply_text::write_replies", replies(alloc));
+    table.put_bytes("script_text::write_replies", replies(alloc));
     table.put_bytes("reply_text::push_class_lines", class_lines(alloc));
     table.put_text("reply_text::escaped_string", escaped_string(alloc, "a\n\"\\\u{1}\u{1f}é\r\u{7f}"));
     table.put_text("reply_text::quoted_string", quoted_string(alloc, "say \"é\""));
     table.put_bytes("outside::read_all", bytes_in(alloc));
+    table.put_bytes("outside::read_all of a StdSource", read_all(alloc, &mut StdSource::new(HELLO)));
     table.put_bytes("outside::write_all", bytes_out(alloc));
+    table.put("outside::write_all to a StdSink", write_all(&mut StdSink::new(sink()), HELLO));
     table.put_bytes("QuietSink::with_room", room(alloc));
 }
 
@@ -72,19 +76,19 @@ fn class_lines(alloc: Global) -> Result<Vec<u8>, OutOfMemory> {
 
 // All that a source has, two bytes in a call.
 fn bytes_in(alloc: Global) -> Result<Vec<u8>, NoValue> {
-    let mut source = MemorySource::new(b"hello".to_vec(alloc)?, 2, Vec::new(alloc));
+    let mut source = MemorySource::new(HELLO.to_vec(alloc)?, 2, Vec::new(alloc));
     Ok(read_all(alloc, &mut source)?)
 }
 
 // What a sink has taken, two bytes in a call.
 fn bytes_out(alloc: Global) -> Result<Vec<u8>, NoValue> {
     let mut sink = MemorySink::new(alloc, 2, Vec::new(alloc));
-    write_all(&mut sink, b"hello")?;
+    write_all(&mut sink, HELLO)?;
     Ok(sink.bytes().to_vec(alloc)?)
 }
 
 fn room(alloc: Global) -> Result<Vec<u8>, NoValue> {
     let mut sink = QuietSink::with_room(alloc, 5)?;
-    write_all(&mut sink, b"hello")?;
+    write_all(&mut sink, HELLO)?;
     Ok(sink.bytes().to_vec(alloc)?)
 }

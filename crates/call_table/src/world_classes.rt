@@ -6,19 +6,19 @@ ghost use Rattle.class_world.specs.Sound.{Holds, IsClass};
 use crate::lists::{no_names, one_class};
 use crate::table::{NoValue, Table};
 use class_table::{ClassFault, Steps};
-use class_world::class_lines::push_classes;
 use class_world::show::show;
 use class_world::{Fixed, World};
 use py_node::{
-    BuiltIn, Known, NativeEntry, ObjectNative, OutOfMemory, PyAttributes, PyTypeFlags, PyTypeRef,
+    BuiltIn, Known, NativeEntry, ObjectNative, PyAttributes, PyTypeFlags, PyTypeRef,
     SlotEntry, SlotId,
 };
+use script_text::write_classes;
 use std::marker::Brand;
 use std::sync::ledger::{Blank, Ledger};
 
 pub fn put(table: &mut Table, world: &mut World) {
     table.put_text("World::new_heap", heap_class(world));
-    table.put_bytes("class_world::push_classes", class_lines(world));
+    table.put_bytes("script_text::write_classes", write_classes(world.alloc(), world));
     table.put_text("World::new_simple_heap", simple_class(world));
     table.put("World::new_static", static_class(world));
     table.put_text("World::set_attr", attribute(world));
@@ -44,13 +44,6 @@ fn heap_class(world: &mut World) -> Result<String, NoValue> {
     let attrs = PyAttributes::new(alloc);
     let class = world.new_heap("A", bases, attrs, no_names(alloc), metaclass)?;
     shown(world, class)
-}
-
-// The lines of that class alone.
-fn class_lines(world: &World) -> Result<Vec<u8>, OutOfMemory> {
-    let mut out = Vec::new(world.alloc());
-    push_classes(&mut out, world)?;
-    Ok(out)
 }
 
 // A simple class below `object`.
