@@ -1,21 +1,11 @@
-//! Tests of what no script reaches: public calls of the crates below, each with ample memory, and the ends of `serve`.
+//! Tests of what no script reaches: what hosts are refused, scripts, words and streams, and the ends of `serve`.
 #![tactic(auto)]
 
 #[cfg(test)]
-mod merges;
-#[cfg(test)]
-mod nodes;
-#[cfg(test)]
-mod one_base;
+mod refusals;
 #[cfg(test)]
 mod scripts;
 #[cfg(test)]
 mod streams;
 #[cfg(test)]
-mod tables;
-#[cfg(test)]
-mod texts;
-#[cfg(test)]
 mod tops;
-#[cfg(test)]
-mod worlds;

@@ -1,6 +1,5 @@
-//! Scripts that are refused, and one that is read.
+//! Scripts that are refused, and some that are read.
 
-use py_node::{Constant, Expr, PyNumberBinaryOp, Word};
 use script_text::ScriptFault;
 use script_text::read::read_script;
 use std::alloc::Global;
@@ -47,20 +46,5 @@ fn refuses_in_order(rt: HostRuntime) -> Result<(), Fail> {
         assert!(rt; refusal(rt.alloc(), text.as_bytes()) == word, "{text}");
     }
     assert!(rt; refusal(rt.alloc(), b"[\"\xff\"]") == "NotJson");
-    Ok(())
-}
-
-#[test]
-fn reads_a_sum(rt: HostRuntime) -> Result<(), Fail> {
-    let Ok(commands) = read_script(rt.alloc(), b"[[\"op\",\"+\",33,12]]") else {
-        panic!(rt; "it is a script")
-    };
-    assert!(rt; commands.len() == 1);
-    let Expr::Op(Word::Binary(PyNumberBinaryOp::Add), parts) = &commands[0].expr else {
-        panic!(rt; "it is a sum")
-    };
-    assert!(rt; parts.len() == 2);
-    assert!(rt; matches!(&parts[0], Expr::Const(Constant::Int(33))));
-    assert!(rt; matches!(&parts[1], Expr::Const(Constant::Int(12))));
     Ok(())
 }

@@ -1,11 +1,11 @@
-//! Small tables: the words, reads of a byte at a time, and failures in mid-stream.
+//! The words, the greatest length, and failures in mid-stream.
 
 ghost use Rattle.std.specs.Prelude.{◌<◌};
 
 use outside::read_all::{LIMIT, read_all};
 use outside::words::units_of;
 use outside::write_all::write_all;
-use outside::{MemorySink, MemorySource, QuietSink, QuietSource, ReadEnd, StdSink, StdSource};
+use outside::{MemorySink, MemorySource, QuietSource, ReadEnd};
 use std::alloc::{AllocError, Global};
 use std::test::Fail;
 
@@ -69,18 +69,6 @@ fn is_end(read: &Result<Vec<u8>, ReadEnd>, end: ReadEnd) -> bool {
 }
 
 #[test]
-fn a_source_is_read_to_its_end(rt: HostRuntime) -> Result<(), Fail> {
-    assert!(rt; is_hello(&read_hello(rt.alloc(), 1, &[])?));
-    assert!(rt; is_hello(&read_hello(rt.alloc(), 2, &[])?));
-    assert!(rt; is_hello(&read_hello(rt.alloc(), 100, &[])?));
-    let mut quiet = QuietSource::new(b"hello".to_vec(rt.alloc())?);
-    assert!(rt; is_hello(&read_all(rt.alloc(), &mut quiet)));
-    let mut standard = StdSource::new(b"hello".as_slice());
-    assert!(rt; is_hello(&read_all(rt.alloc(), &mut standard)));
-    Ok(())
-}
-
-#[test]
 fn a_read_that_fails_is_no_end(rt: HostRuntime) -> Result<(), Fail> {
     assert!(rt; is_end(&read_hello(rt.alloc(), 1, &[1])?, ReadEnd::Fault));
     assert!(rt; is_end(&read_hello(rt.alloc(), 1, &[5])?, ReadEnd::Fault));
@@ -94,19 +82,6 @@ fn a_text_has_a_limit(rt: HostRuntime) -> Result<(), Fail> {
     assert!(rt; read_all(rt.alloc(), &mut longest).is_ok());
     let mut longer = QuietSource::new(vec![in rt.alloc(); 7; LIMIT + 1]?);
     assert!(rt; is_end(&read_all(rt.alloc(), &mut longer), ReadEnd::TooLarge));
-    Ok(())
-}
-
-#[test]
-fn a_sink_takes_all(rt: HostRuntime) -> Result<(), Fail> {
-    let mut slow = MemorySink::new(rt.alloc(), 1, Vec::new(rt.alloc()));
-    assert!(rt; write_all(&mut slow, b"hello").is_ok());
-    assert!(rt; slow.bytes() == b"hello".as_slice());
-    let mut quiet = QuietSink::with_room(rt.alloc(), 5)?;
-    assert!(rt; write_all(&mut quiet, b"hello").is_ok());
-    assert!(rt; quiet.bytes() == b"hello".as_slice());
-    let mut standard = StdSink::new(std::io::sink());
-    assert!(rt; write_all(&mut standard, b"hello").is_ok());
     Ok(())
 }
 

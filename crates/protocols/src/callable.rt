@@ -1,6 +1,6 @@
 //! An object that can be called.
 
-ghost use Rattle.std.specs.Prelude.{◌≡◌, is_some, option_map};
+ghost use Rattle.std.specs.Prelude.{◌≡◌, is_some, option_map, IfSome};
 ghost use Rattle.py_node.specs.declared.entry.SlotId.TheVariants.{Call};
 ghost use Rattle.plain_machine.specs.World.{slot_at};
 ghost use Rattle.class_world.specs.Reading.{Reading, Reads, plain};
@@ -21,8 +21,9 @@ impl PyCallable {
     /// The view of an object that can be called. None exactly where its class has nothing to call it with.
     pub fn new(world: &World, o: PyObjectRef) -> Option<PyCallable>
         requires { Holds world.now (IsNode o) }
-        ensures { (t : Reading) → Reads t world.now →
+        ensures read { (t : Reading) → Reads t world.now →
             result ≡ option_map (called_by o) (slot_at (plain t world.now) o Call) }
+        ensures obj { IfSome result (λ v. v.obj ≡ o) }
     {
         let call = world.slot(o, SlotId::Call)?;
         Some(PyCallable { obj: o, call })
@@ -32,8 +33,9 @@ impl PyCallable {
 /// The view of an object that can be called. None exactly where its class has nothing to call it with.
 pub fn to_callable(world: &World, o: PyObjectRef) -> Option<PyCallable>
     requires { Holds world.now (IsNode o) }
-    ensures { (t : Reading) → Reads t world.now →
+    ensures read { (t : Reading) → Reads t world.now →
         result ≡ option_map (called_by o) (slot_at (plain t world.now) o Call) }
+    ensures obj { IfSome result (λ v. v.obj ≡ o) }
 {
     PyCallable::new(world, o)
 }
