@@ -87,7 +87,8 @@ where
         PyObjectRef,
         u64,
     ) -> Result<PyResult<PyObjectRef>, RunFault>,
-    requires pre { (m : _) (x y : Object) (n : ℕ) → AllHold m.now.world (IsNode x ∷ IsNode y ∷ []) → F.pre call m x y n }
+    requires pre { (m : _) (x y : Object) (n : ℕ) →
+        AllHold m.now.world (IsNode x ∷ IsNode y ∷ []) → F.pre call m x y n }
     requires post { (m : _) (x y : Object) (n : ℕ) (r : _) (k : _) → F.post call m x y n r k →
         IfOk r (λ told. AllHold k.now.world (of_done of_node_ref told)) }
 {

@@ -31,6 +31,10 @@ fn put_made(table: &mut Table, world: &mut World, def: &PyMethodDef) {
         "PyMethodDef::to_proper_method",
         to_proper_method(world, def),
     );
+    table.put_text(
+        "PyMethodDef::to_proper_method of a static one",
+        to_proper_function(world),
+    );
     table.put_text("PyMethodDef::build_function", function(world, def));
     table.put_text(
         "PyMethodDef::build_bound_function",
@@ -85,6 +89,14 @@ fn to_bound_method(world: &mut World, def: &PyMethodDef) -> Result<String, NoVal
 }
 
 fn to_proper_method(world: &mut World, def: &PyMethodDef) -> Result<String, NoValue> {
+    let class = world.built_in(BuiltIn::Str);
+    let made = def.to_proper_method(world, class);
+    told_payload(world, made)
+}
+
+// A definition of which a flag says that it isn't bound.
+fn to_proper_function(world: &mut World) -> Result<String, NoValue> {
+    let def = raw(world.alloc())?;
     let class = world.built_in(BuiltIn::Str);
     let made = def.to_proper_method(world, class);
     told_payload(world, made)

@@ -151,7 +151,7 @@ fn copied_reply(alloc: Global) -> Result<(Option<Raised>, usize), OutOfMemory> {
     Ok((fault_in(&copy.answer), copy.calls.len()))
 }
 
-// Whether a class with these flags may have subclasses, whether its objects have dicts, and whether it can't be changed.
+// Whether a class with these flags may have subclasses, whether its objects have dicts, and whether it stays as it is.
 fn flags(flags: PyTypeFlags) -> (bool, bool, bool) {
     (
         flags.has_feature(PyTypeFlags::BASETYPE),

@@ -22,7 +22,8 @@ impl World {
         requires class { Holds self.old (IsClass class.0) }
         ensures refused { (t : Reading) → cause_of result ≡
             option_and_then (λ c. refused_class (plain t self.old).classes c class.0) (class_at (plain t self.old) object) }
-        ensures set { OnOk result ((t : Reading) → plain t self.new ≡ apply (plain t self.old) (SetClass object class.0)) }
+        ensures set { OnOk result ((t : Reading) →
+            plain t self.new ≡ apply (plain t self.old) (SetClass object class.0)) }
         ensures err { OnErr result (self.new ≡ self.old) }
         ensures reads { (t : Reading) → Reads t self.new → Reads t self.old }
         ensures grows { Grows self.old self.new }

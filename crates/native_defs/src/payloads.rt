@@ -20,8 +20,10 @@ impl PyMethodDef {
         &self,
         world: &mut World,
     ) -> Result<(PyStrInterned, Option<PyStrInterned>), OutOfMemory>
-        ensures name { IfOk result (λ x. (t : Reading) → Reads t world.new → spelled t x.0 ≡ (definition_of self.now).name) }
-        ensures doc { IfOk result (λ x. (t : Reading) → Reads t world.new → spelled_option t x.1 ≡ (definition_of self.now).doc) }
+        ensures name { IfOk result (λ x. (t : Reading) → Reads t world.new →
+            spelled t x.0 ≡ (definition_of self.now).name) }
+        ensures doc { IfOk result (λ x. (t : Reading) → Reads t world.new →
+            spelled_option t x.1 ≡ (definition_of self.now).doc) }
         ensures holds { IfOk result (λ x. Holds world.new (IsName x.0)) }
         ensures doc_holds { IfOk result (λ x. AllHold world.new (of_option of_name_ref x.1)) }
         ensures same { (t : Reading) → plain t world.new ≡ plain t world.old }

@@ -34,8 +34,8 @@ pub(crate) fn begin_abstract(
     kw: &[(PyStrInterned, PyObjectRef)],
 ) -> Step<DetailKept>
     requires { Holds world.now (AreNodes args.now) }
-    ensures goes { Does (entry.GetterOf built_in.Property detail) args.now (λ t. bindings t kw.now) (λ t u. property_abstract u args.now (bindings t kw.now) [])
-        world.now world.now result }
+    ensures goes { Does (entry.GetterOf built_in.Property detail) args.now (λ t. bindings t kw.now)
+        (λ t u. property_abstract u args.now (bindings t kw.now) []) world.now world.now result }
     ensures safe { AllHold world.now (of_step of_detail_kept result) }
 {
     let (property, parts) = match own_property(world, args) {

@@ -163,7 +163,8 @@ fn text_or(
     text: &str,
 ) -> Result<Option<String>, OutOfMemory>
     requires { AllHold world.now (of_option of_node_ref given) }
-    ensures { IfOk result (λ o. (t : Reading) → text_or (plain t world.now) given text.now ≡ option_map string_bytes o) }
+    ensures { IfOk result (λ o. (t : Reading) →
+        text_or (plain t world.now) given text.now ≡ option_map string_bytes o) }
 {
     match given {
         None => Ok(Some(String::from_str(world.alloc(), text)?)),

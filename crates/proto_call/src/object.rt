@@ -149,8 +149,8 @@ fn object_get_attribute(
     kw: &[(PyStrInterned, PyObjectRef)],
 ) -> Result<Step<CallKept>, OutOfMemory>
     requires { Holds world.old (AreNodes args.now) }
-    ensures goes { IfOk result (λ step. Does object.GetAttribute (λ t u. object_get_attribute u args.now (bindings t kw.now))
-        world.old world.new step) }
+    ensures goes { IfOk result (λ step. Does object.GetAttribute
+        (λ t u. object_get_attribute u args.now (bindings t kw.now)) world.old world.new step) }
     ensures safe { LeavesNone world.old world.new result }
 {
     match two(args, kw) {

@@ -58,7 +58,8 @@ fn generic(s: PyObjectRef, name: PyStrInterned) -> Step<DescriptorKept>
 // What a `super` is of, if it is bound.
 fn bound(world: &World, s: PyObjectRef) -> Option<BoundSuper>
     requires { Holds world.now (IsNode s) }
-    ensures reads { (t : Reading) (x : List ℕ) → super_attribute (plain t world.now) (datum_at (plain t world.now) s) s x ≡
+    ensures reads { (t : Reading) (x : List ℕ) →
+        super_attribute (plain t world.now) (datum_at (plain t world.now) s) s x ≡
         bound_attribute (plain t world.now) result s x }
     ensures holds { AllHold world.now (of_option of_bound result) }
 {
