@@ -28,7 +28,7 @@ of_four f (Some a) b c d = of_three (f a) b c d
 of_four f None b c d = None
 
 -- the kind of faults that a word stands for
-abbrev pub kind_named : Text → Option Kind
+unfoldable pub kind_named : Text → Option Kind
 kind_named text = option_map (λ row. row.0) (find (λ row. bytes_eq text row.1.now) KINDS)
 
 -- the strings of a list

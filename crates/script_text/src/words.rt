@@ -197,6 +197,7 @@ pub(crate) fn read_word(value: &Value) -> Result<(Word, Arity), Unread>
 }
 
 // The kind of faults that a word stands for.
+#[tactic(auto, unfolding(crate::specs::Forms::kind_named))]
 fn find_kind(text: &str) -> Option<Kind>
     ensures { result ≡ kind_named text.now }
 {
