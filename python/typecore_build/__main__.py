@@ -1,4 +1,4 @@
-"""The words are `proved` or `unproved`. ./typecore asks for one where that program is missing or older than its sources."""
+"""The word is `proved` or `unproved`: ./typecore asks for a program that is missing or older than its sources."""
 
 from __future__ import annotations
 

@@ -47,7 +47,8 @@ def in_order(needs: dict[str, list[str]], program: str) -> dict[str, list[str]]:
 
 def weight(folder: Path) -> int:
     """How long a crate's proof is reckoned to take: the bytes of its sources."""
-    return 1 + sum(it.stat().st_size for it in folder.rglob("*") if it.suffix in (".rt", ".antt") and "out" not in it.parts)
+    sources = (it for it in folder.rglob("*") if it.suffix in (".rt", ".antt") and "out" not in it.parts)
+    return 1 + sum(it.stat().st_size for it in sources)
 
 
 def read(top: Path, program: str) -> Crates:

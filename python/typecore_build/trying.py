@@ -52,7 +52,8 @@ def compiled(top: Path, rt: str, room: Path) -> list[Path]:
     told: set[str] = set()
     with open(log, "wb") as lines:
         how = {"stdin": subprocess.DEVNULL, "stdout": lines, "stderr": subprocess.STDOUT}
-        trial = start([rt, "try", "--", *WORDS], cwd=top / "crates/typecore", env={**os.environ, "TMPDIR": str(work)}, **how)
+        where = {"cwd": top / "crates/typecore", "env": {**os.environ, "TMPDIR": str(work)}}
+        trial = start([rt, "try", "--", *WORDS], **where, **how)
         with ended_with_this([trial]):
             while trial.poll() is None:
                 look(work, kept, found, told)
