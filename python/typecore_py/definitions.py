@@ -213,6 +213,8 @@ def entries_of(entry: ast.stmt, scope: Scope) -> list[tuple[str, Form]]:
             return [(name, function(entry, scope))]
         case ast.ClassDef(name=name):
             return [(name, new_class(entry, scope))]
+        case ast.Assign(targets=[ast.Name(id="__slots__")], value=value):
+            return [("__slots__", slots(value, scope))]
         case ast.Assign(targets=targets, value=value) if all(isinstance(it, ast.Name) for it in targets):
             return several([it.id for it in targets], expressions.form_of(value, scope), scope)
         case ast.Assign(targets=[ast.Tuple(elts=names)], value=ast.Tuple(elts=values)) if is_each_named(names, values):
@@ -221,6 +223,16 @@ def entries_of(entry: ast.stmt, scope: Scope) -> list[tuple[str, Form]]:
             assignments.plain_annotation(annotation, scope)
             return [(name, expressions.form_of(value, scope))] if value else []
     refuse(entry, "the body of a class has functions, classes and assignments to names")
+
+
+def slots(value: ast.expr, scope: Scope) -> Form:
+    """The value of `__slots__`, in which names that stand there are spelled as their attributes are."""
+    if isinstance(value, ast.Constant) and isinstance(value.value, str):
+        return scope.mangled(value.value)
+    if isinstance(value, (ast.Tuple, ast.List)):
+        word = "tuple" if isinstance(value, ast.Tuple) else "list"
+        return [word, *(slots(it, scope) for it in value.elts)]
+    return expressions.form_of(value, scope)
 
 
 def is_each_named(names: list[ast.expr], values: list[ast.expr]) -> bool:

@@ -26,7 +26,9 @@ NO_FUNCTIONS = frozenset({"<listcomp>", "<dictcomp>", "<setcomp>", "<genexpr>"})
 MOST_BODIES = 100_000
 
 # The keys that Python itself puts into the namespace of a class.
-OF_NAMESPACES = frozenset({"__module__", "__qualname__", "__classcell__"})
+OF_NAMESPACES = frozenset(
+    "__module__ __qualname__ __classcell__ __classdictcell__ __firstlineno__ __static_attributes__".split()
+)
 
 ESCAPES = {"\\": "\\\\", '"': '\\"', "\t": "\\t", "\n": "\\n", "\r": "\\r"}
 

@@ -55,7 +55,10 @@ def read(path: str, source: bytes) -> Program:
         raise Refusals([Refused(1, 1, "the source is nested too deep")]) from None
     lines = ENDS_OF_LINES.split(text)
     count_characters(tree, lines)
-    program = commands(without_text(tree.body), lines, marks)
+    try:
+        program = commands(without_text(tree.body), lines, marks)
+    except RecursionError:
+        raise Refusals([Refused(1, 1, "the source is nested too deep")]) from None
     if not program.commands:
         raise Refusals([Refused(1, 1, "there is no command")])
     return program
