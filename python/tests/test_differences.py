@@ -46,7 +46,7 @@ SHOWN = [
     ("class E:\n    def __mro_entries__(self, bases): return ()\nclass A(E()): pass", "mro-entries"),
     ("class E:\n    def __mro_entries__(self, bases): return ()\nclass A(object, E()): pass", "mro-entries"),
     ("def f(n):\n    for i in (1,):\n        return 0 if n == 0 else f(n - 1)\nf(100)", "depth-of-pieces"),
-    ("def f(x, k=1): pass\nf(1, k=2)", "keywords"),
+    ("class A:\n    def __init_subclass__(cls, k=1): pass\nclass B(A, k=2): pass", "keywords"),
     ("def f(*a): return a\nt = 'abcdefghijklmn'\nf(*t)", "starred"),
 ]
 

@@ -64,8 +64,7 @@ class Refused(unittest.TestCase):
         wrong = {
             "": "there is no command",
             "f(": "'(' was never closed",
-            "def f(**k): pass": "the rest of the keywords",
-            "def f(a, /): pass": "by place and by name",
+            "class C(**k): pass\nk = {}": "keywords from a dict can't be said",
             "def f():\n    try: pass\n    finally: pass": "finally can't be said",
             "try: pass\nexcept KeyError: pass": "one of AttributeError, StopIteration, IndexError, TypeError, Except",
             "try: pass\nexcept TypeError as e: e": "the fault that is caught is no object",
@@ -73,7 +72,7 @@ class Refused(unittest.TestCase):
             "raise Odd('x')": "a raise names one of",
             "raise KeyError from x": "the cause of a fault",
             "print(1, end='')": "print takes sep alone",
-            "f(*a, k=1)\ndef f(): pass\na = 1": "can't have keywords",
+            "f(*a, k=1)\ndef f(): pass\na = 1": "can't have these keywords",
             "return 1": "return outside a function",
             "break": "break stands in a loop",
             "class C:\n    x = [y for y in (1, 2)]": "a comprehension can't stand in the body of a class",

@@ -106,8 +106,9 @@ def parts_of(node: ast.AST) -> list[ast.AST]:
 def needs_cells(nodes: Iterable[ast.AST]) -> bool:
     """Whether a part stands among the nodes of this scope, or a function whose default values have to be kept."""
     every = list(own_nodes(nodes))
-    kept = (it for node in inner_functions(every) for it in node.args.defaults if not isinstance(it, ast.Constant))
-    return any(parts_of(node) for node in every) or any(True for _ in kept)
+    defaults = (it for node in inner_functions(nodes) for it in (*node.args.defaults, *node.args.kw_defaults))
+    is_kept = any(it is not None and not isinstance(it, ast.Constant) for it in defaults)
+    return is_kept or any(parts_of(node) for node in every)
 
 
 def in_parts(nodes: Iterable[ast.AST], is_stored: bool = False) -> set[str]:

@@ -24,13 +24,39 @@ def called(node: ast.Call, scope: Scope) -> Form:
             return super_called(node, scope)
     function = expressions.form_of(node.func, scope)
     given = runs(node.args, scope)
+    if scope.shared.keywords.hand_on(node):
+        return handed_on(node, function, given, scope)
     keywords = keywords_of(node.keywords, scope)
     if any(word != "tuple" for word, _ in given):
         if keywords:
-            refuse(node, "a call that takes arguments from a tuple can't have keywords")
+            refuse(node, "a call that takes arguments from a tuple can't have these keywords")
         return ["call", scope.shared.helper("(apply)"), [function, joined(given)]]
     arguments = [form for _, forms in given for form in forms]
     return ["call", function, arguments, keywords] if keywords else ["call", function, arguments]
+
+
+def handed_on(node: ast.Call, function: Form, given: list[tuple[str, list[Form]]], scope: Scope) -> Form:
+    """A call that hands its keywords on as an object behind its other arguments."""
+    form, may_be_none = named(node.keywords, scope)
+    if all(word == "tuple" for word, _ in given) and not may_be_none:
+        arguments = [form for _, forms in given for form in forms]
+        return ["call", function, [*arguments, ["call", scope.shared.helper("(keywords)"), [form]]]]
+    last = ("rest", [["call", scope.shared.helper("(last)"), [form]]])
+    return ["call", scope.shared.helper("(apply)"), [function, joined([*given, last])]]
+
+
+def named(keywords: list[ast.keyword], scope: Scope) -> tuple[Form, bool]:
+    """The dict of some keywords in order, those of dicts among them, and whether it may be empty."""
+    form: Form = ["dict"]
+    for keyword in keywords:
+        value = expressions.form_of(keyword.value, scope)
+        if keyword.arg is None:
+            form = ["call", scope.shared.helper("(merged)"), [form, value]]
+        elif form[0] == "dict":
+            form.append([keyword.arg, value])
+        else:
+            form = ["call", scope.shared.helper("(merged)"), [form, ["dict", [keyword.arg, value]]]]
+    return form, all(it.arg is None for it in keywords)
 
 
 def super_called(node: ast.Call, scope: Scope) -> Form:

@@ -14,11 +14,9 @@ from .analysis import (
     shared,
     values_of_entry,
 )
+from .parameters import SELF, Parameters, names_of
 from .refusal import Refused, refuse
 from .scope import AROUND, CELLS, Form, Scope
-
-# The last parameter of a function with default values, and the first of one that sees variables around it.
-REST, SELF = "(rest)", "(self)"
 
 # What stands before the name of the body of a function that sees variables around it.
 INNER = "(inner) "
@@ -54,82 +52,27 @@ def function(node: ast.FunctionDef, scope: Scope) -> Form:
 
 def function_of(node: Function, name: str, scope: Scope) -> Form:
     """A function or a lambda."""
-    every = parameters(node.args, scope)
     body = [node.body] if isinstance(node, ast.Lambda) else without_text(node.body)
+    every = names_of(node.args, scope)
     inside = scope.inside_function(name, {scope.mangled(it) for it in names_bound(body)}, every)
     inside.is_closure = any(is_around(scope, scope.mangled(it)) for it in free_names(node))
-    defaults, stored = default_values(node, scope, inside)
+    given = Parameters(node, scope, inside)
+    word, taken, prologue = given.taken()
     in_cells = {inside.mangled(it) for it in shared(body)} & inside.variables
     inside.cells = {it: it for it in in_cells}
-    prologue = cells_of(body, every, inside)
-    required = every[: len(node.args.args) - len(defaults)]
-    if defaults:
-        taken = [*required, REST]
-        prologue = [*filled(every, len(required), defaults, node, scope), *prologue]
-    else:
-        taken = every
+    prologue = [*prologue, *cells_of(body, every, inside)]
     if isinstance(node, ast.Lambda):
         forms = [expressions.form_of(node.body, inside)]
     else:
         forms = statements.body(body, inside)
-    form = made(node, name, taken, statements.sequence([*prologue, *forms]), inside, scope)
-    return ["seq", *stored, form] if stored else form
+    form = made(word, name, taken, statements.sequence([*prologue, *forms]), inside, scope)
+    return ["seq", *given.stored, form] if given.stored else form
 
 
 def is_around(scope: Scope, name: str) -> bool:
     """Whether a name is a variable of a function around, as seen from here."""
     owner = scope.owner(name)
     return owner is not None and not owner.is_file() and name not in scope.entries
-
-
-def parameters(given: ast.arguments, scope: Scope) -> list[str]:
-    """The names of a function's parameters, which can all be given by place and by name."""
-    for node in [*given.posonlyargs, *given.kwonlyargs]:
-        refuse(node, f"the parameter {node.arg} has to be one by place and by name")
-    if given.kwarg:
-        refuse(given.kwarg, "a parameter that takes the rest of the keywords can't be said")
-    every = [*given.args, *([given.vararg] if given.vararg else [])]
-    for node in every:
-        if node.annotation:
-            assignments.plain_annotation(node.annotation, scope)
-    return [scope.mangled(node.arg) for node in every]
-
-
-def default_values(node: Function, scope: Scope, inside: Scope) -> tuple[list[Form], list[Form]]:
-    """The forms that give the default values in a body, and those that keep these values where the function stands."""
-    forms, stored = [], []
-    for value in node.args.defaults:
-        form = expressions.form_of(value, scope)
-        if isinstance(value, ast.Constant) or not isinstance(form, list):
-            forms.append(form)
-            continue
-        kept = f"(default {scope.shared.number()})"
-        if scope.is_file() and not scope.is_part:
-            stored.append(["bind", kept, form])
-            forms.append(["name", kept])
-        else:
-            inside.is_closure = inside.is_closure or not scope.is_file()
-            stored.append(["setattr", scope.own_cells(), kept, form])
-            owner = scope.file() if scope.is_file() else None
-            forms.append(["attr", ["attr", ["name", SELF], AROUND] if owner is None else scope.own_cells(), kept])
-    return forms, stored
-
-
-def filled(every: list[str], required: int, defaults: list[Form], node: Function, scope: Scope) -> list[Form]:
-    """Gives each parameter that may be left out its value, and has the whole call told as it is then."""
-    drop = ["call", scope.shared.helper("(-)"), []]
-    names = every[required : required + len(defaults)]
-    count = ["op", "len", ["name", REST]]
-    forms: list[Form] = []
-    if not node.args.vararg:
-        forms.append(["if", ["op", ">", count, len(names)], ["seq", drop, ["raise", "TypeError"]], None])
-    for at, (name, value) in enumerate(zip(names, defaults)):
-        given = ["op", "getitem", ["name", REST], at]
-        forms.append(["bind", name, ["if", ["op", ">", count, at], given, value]])
-    if node.args.vararg:
-        forms.append(["bind", every[-1], ["op", "totuple", ["op", "slice", ["name", REST], len(names), 2**63 - 1]]])
-    told = ["func", "(=)", every, None]
-    return [*forms, ["call", told, [["name", it] for it in every]]]
 
 
 def cells_of(body: list[ast.stmt] | list[ast.AST], every: list[str], inside: Scope) -> list[Form]:
@@ -142,9 +85,8 @@ def cells_of(body: list[ast.stmt] | list[ast.AST], every: list[str], inside: Sco
     return forms + [["setattr", ["name", CELLS], it, ["name", it]] for it in every if it in inside.cells]
 
 
-def made(node: Function, name: str, taken: list[str], body: Form, inside: Scope, scope: Scope) -> Form:
+def made(word: str, name: str, taken: list[str], body: Form, inside: Scope, scope: Scope) -> Form:
     """The form that makes a function: where it sees variables around it, an object that can be called."""
-    word = "func*" if node.args.vararg or node.args.defaults else "func"
     if not inside.is_closure:
         return [word, name, taken, body]
     called = [word, f"{INNER}{name}", [SELF, *taken], body]

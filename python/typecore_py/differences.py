@@ -55,7 +55,7 @@ KNOWN: dict[str, str] = {
     "bound-methods": "two bound methods are never equal",
     "iterators": "an iterator ends after any raise",
     "bounds-of-slices": "the bounds of a slice are numbers of 64 bits",
-    "keywords": "a parameter with a default value is given by its place alone",
+    "keywords": "a keyword of a class can't be a parameter that may be left out",
     "starred": "a call takes twelve arguments from a tuple at most",
     "unpacking": "what is unpacked is collected first, to its end",
     "depth-of-pieces": "a loop, a try and an inner function are calls of their own, and count for the depth",

@@ -45,5 +45,7 @@ rows.forEach((it,i)=>it.classList.toggle("here",i===n));
 document.getElementById("line").value=rows[n].dataset.line;}
 at.addEventListener("input",show);
 rows.forEach((it,i)=>it.addEventListener("click",()=>{at.value=i;show();}));
+const asked=parseInt(location.hash.slice(1));
+if(asked>=0&&asked<rows.length)at.value=asked;
 show();
 """

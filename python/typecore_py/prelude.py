@@ -121,6 +121,9 @@ def built_in(function: str) -> Form:
 WHOLE = ["op", "concat", ["tuple", attr("s", "__self__")], name("rest")]
 FORWARDED = call(name("(apply)"), attr("s", "__func__"), WHOLE)
 
+# The last item of the tuple `r`, whose place is `n`.
+LAST = ["op", "getitem", name("r"), name("n")]
+
 HELPERS: dict[str, tuple[Form, list[str]]] = {
     "(object)": (name("object"), []),
     "(classmethod)": (name("classmethod"), []),
@@ -157,6 +160,40 @@ HELPERS: dict[str, tuple[Form, list[str]]] = {
     "(default)": (
         tried("(default)", "o n d", "(gets)", [name("o"), name("n"), name("d")], item("t", 2)),
         ["(gets)", "(AttributeError)"],
+    ),
+    # Keywords that are handed on as an object behind the arguments.
+    "(Keywords)": (new_class("(Keywords)"), []),
+    "(keywords)": (
+        func("(keywords)", "d", *filled("o", call(name("(Keywords)")), kept=name("d")), name("o")),
+        ["(Keywords)"],
+    ),
+    "(last)": (
+        func("(last)", "d", ["if", name("d"), ["tuple", call(name("(keywords)"), name("d"))], ["tuple"]]),
+        ["(keywords)"],
+    ),
+    "(merged)": (
+        func(
+            "(merged)",
+            "d e",
+            ["bind", "n", ["op", "+", ["op", "len", name("d")], ["op", "len", name("e")]]],
+            call(attr("d", "update"), name("e")),
+            ["if", ["op", "==", ["op", "len", name("d")], name("n")], name("d"), ["raise", "TypeError"]],
+        ),
+        [],
+    ),
+    "(split)": (
+        func(
+            "(split)",
+            "r",
+            ["bind", "n", ["op", "-", ["op", "len", name("r")], 1]],
+            [
+                "if",
+                ["if", ["op", "<", name("n"), 0], False, ["op", "is", ["op", "typeof", LAST], name("(Keywords)")]],
+                ["tuple", ["op", "slice", name("r"), 0, name("n")], ["attr", LAST, "kept"]],
+                ["tuple", name("r"), ["dict"]],
+            ],
+        ),
+        ["(Keywords)"],
     ),
     # Calls with the items of a tuple, and functions that see the variables around them.
     "(apply)": (func("(apply)", "f a", apply(0)), []),

@@ -9,6 +9,7 @@ from dataclasses import dataclass
 from functools import cached_property
 
 from .machine import Reply
+from .parameters import may_be_left_out
 from .source import Command
 
 
@@ -241,11 +242,12 @@ def is_depth_of_pieces(case: Case) -> bool:
 
 
 def is_keywords(case: Case) -> bool:
-    """A keyword of the command is a parameter with a default value somewhere in the file."""
-    given = {it.arg for it in case.nodes if isinstance(it, ast.keyword)}
+    """A keyword of a class is a parameter that may be left out somewhere in the file."""
+    given = {kw.arg for it in case.nodes if isinstance(it, ast.ClassDef) for kw in it.keywords}
     functions = (it for it in ast.walk(case.file) if isinstance(it, (ast.FunctionDef, ast.Lambda)))
-    named = {arg.arg for it in functions if it.args.defaults for arg in it.args.args[-len(it.args.defaults) :]}
-    return case.cause == "UnexpectedKeyword" and bool(given & named)
+    named = [it.args for it in functions]
+    left_out = {arg.arg for it in named for arg in may_be_left_out(it)}
+    return case.cause == "UnexpectedKeyword" and (bool(given & left_out) or any(it.kwarg for it in named))
 
 
 def by_cause(*causes: str) -> Callable[[Case], bool]:

@@ -18,7 +18,8 @@ from .words import KINDS
 OWN = "<the file>"
 
 OPTIMISED = 1  # of a function's code, and not of a class's body
-REST = 4  # of the code of a function whose last parameter takes the rest of the arguments
+REST = 4  # of the code of a function that takes the rest of the arguments
+NAMED = 8  # and of the keywords
 
 # Bodies that Python starts for what is no function in the source.
 NO_FUNCTIONS = frozenset({"<listcomp>", "<dictcomp>", "<setcomp>", "<genexpr>"})
@@ -112,8 +113,9 @@ def bound_by(statement: ast.stmt) -> str | None:
 
 
 def parameters_of(code: CodeType) -> tuple[str, ...]:
-    """The names of a function's parameters, with the one that takes the rest."""
-    count = code.co_argcount + (1 if code.co_flags & REST else 0)
+    """The names of a function's parameters, with those that take the rest."""
+    rest = bool(code.co_flags & REST) + bool(code.co_flags & NAMED)
+    count = code.co_argcount + code.co_kwonlyargcount + rest
     return code.co_varnames[:count]
 
 

@@ -10,11 +10,14 @@ import ast
 import builtins
 from collections.abc import Iterable
 from dataclasses import dataclass, field
-from typing import Any, Callable
+from typing import TYPE_CHECKING, Any, Callable
 
 from .analysis import names_bound
 from .refusal import Refused, refuse
 from .words import BUILT_IN, FIXED, FUNCTIONS, KINDS, SPECIAL_FUNCTIONS, VALUES
+
+if TYPE_CHECKING:
+    from .parameters import Keywords
 
 Form = Any  # a value of JSON: null, a truth value, a number, a text, or a list of forms
 
@@ -29,6 +32,7 @@ BOUND = "(bound)"
 class Shared:
     """What all scopes of a file share: which helpers its forms need, what was refused, and a count for names."""
 
+    keywords: Keywords
     helpers: set[str] = field(default_factory=set)
     refused: list[Refused] = field(default_factory=list)
     count: int = 0

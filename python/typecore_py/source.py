@@ -10,6 +10,7 @@ from dataclasses import dataclass
 
 from .analysis import in_parts, names_bound, names_declared, names_deleted
 from .definitions import without_text
+from .parameters import keywords_of_file
 from .refusal import Refusals, Refused, refuse
 from .scope import Form, Scope, Shared
 from .statements import parts, sequence
@@ -92,7 +93,7 @@ def count_characters(tree: ast.AST, lines: list[str]) -> None:
 
 def commands(statements: list[ast.stmt], lines: list[str], marks: dict[int, str]) -> Program:
     """The commands that the statements of a file are. A `pass` is none."""
-    shared = Shared()
+    shared = Shared(keywords_of_file(statements))
     scope, found = Scope(shared, names_bound(statements) | names_declared(statements)), list[Command]()
     in_cells = in_parts(statements, is_stored=True) | names_deleted(statements) | names_declared(statements)
     scope.cells = {name: name for name in in_cells & scope.variables}
