@@ -19,6 +19,10 @@ DONE, DIFFERS, USAGE, REFUSED, NOT_READ, NOT_WRITTEN, NOT_RUN = range(7)
 # (USAGE is the status with which argparse ends by itself)
 
 
+# How many commands it is said of that they are run, since that takes a while.
+MANY = 10_000
+
+
 @dataclass(frozen=True)
 class File:
     """A file that was read: its path as it was given, its text, and what it says."""
@@ -136,6 +140,8 @@ def one_file(file: File, asked: argparse.Namespace) -> int:
     words = machine_words(asked)
     if asked.html:
         return write_page(file, asked, words)
+    if len(commands) >= MANY:
+        say(f"{file.path}: running {len(commands):,} commands")
     answers = machine.run(commands, helpers, words)
     if asked.json:
         teller.text(json_telling.told(file.path, commands, answers))

@@ -83,6 +83,8 @@ def marks_of(text: str) -> dict[int, str]:
 
 def count_characters(tree: ast.AST, lines: list[str]) -> None:
     """Has all columns of a tree count characters, where Python counts bytes."""
+    if all(map(str.isascii, lines)):
+        return
     for node in ast.walk(tree):
         for line, column in (("lineno", "col_offset"), ("end_lineno", "end_col_offset")):
             at = getattr(node, line, None)
@@ -94,8 +96,9 @@ def count_characters(tree: ast.AST, lines: list[str]) -> None:
 def commands(statements: list[ast.stmt], lines: list[str], marks: dict[int, str]) -> Program:
     """The commands that the statements of a file are. A `pass` is none."""
     shared = Shared(keywords_of_file(statements))
-    scope, found = Scope(shared, names_bound(statements) | names_declared(statements)), list[Command]()
-    in_cells = in_parts(statements, is_stored=True) | names_deleted(statements) | names_declared(statements)
+    declared, found = names_declared(statements), list[Command]()
+    scope = Scope(shared, names_bound(statements) | declared)
+    in_cells = in_parts(statements, is_stored=True) | names_deleted(statements) | declared
     scope.cells = {name: name for name in in_cells & scope.variables}
     for statement in statements:
         try:
