@@ -82,7 +82,6 @@ class Refused(unittest.TestCase):
             "def f(): super()": "super() stands in a function of a class's body",
             "9223372036854775808": "an integer in a source has 64 bits",
             "lambda: (yield)": "yield can't be said",
-            "def f():\n    return x\n    x = 1": "may have no value yet here",
         }
         for text, why in wrong.items():
             with self.subTest(text):

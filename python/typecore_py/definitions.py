@@ -50,21 +50,25 @@ def function(node: ast.FunctionDef, scope: Scope) -> Form:
     return decorated(decorators, function_of(node, node.name, scope))
 
 
-def function_of(node: Function, name: str, scope: Scope) -> Form:
-    """A function or a lambda."""
+def function_of(node: Function, name: str, scope: Scope, kept: frozenset[str] = frozenset()) -> Form:
+    """A function or a lambda. What it reads where it may have no value is kept in cells, which tell that."""
+    refused = len(scope.shared.refused)
     body = [node.body] if isinstance(node, ast.Lambda) else without_text(node.body)
     every = names_of(node.args, scope)
     inside = scope.inside_function(name, {scope.mangled(it) for it in names_bound(body)}, every)
     inside.is_closure = any(is_around(scope, scope.mangled(it)) for it in free_names(node))
     given = Parameters(node, scope, inside)
     word, taken, prologue = given.taken()
-    in_cells = {inside.mangled(it) for it in shared(body)} & inside.variables
+    in_cells = ({inside.mangled(it) for it in shared(body)} | kept) & inside.variables
     inside.cells = {it: it for it in in_cells}
     prologue = [*prologue, *cells_of(body, every, inside)]
     if isinstance(node, ast.Lambda):
         forms = [expressions.form_of(node.body, inside)]
     else:
         forms = statements.body(body, inside)
+    if inside.function.unsure - kept:
+        del scope.shared.refused[refused:]
+        return function_of(node, name, scope, kept | inside.function.unsure)
     form = made(word, name, taken, statements.sequence([*prologue, *forms]), inside, scope)
     return ["seq", *given.stored, form] if given.stored else form
 

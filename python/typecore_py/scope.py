@@ -68,6 +68,13 @@ class Ending:
         refuse(node, "continue stands in a loop")
 
 
+class OneFunction:
+    """What all scopes of one function share: which variables are read where they may have no value."""
+
+    def __init__(self) -> None:
+        self.unsure: set[str] = set()
+
+
 class Scope:
     """Where an expression stands. `variables` are the names that are bound somewhere in the same scope."""
 
@@ -88,7 +95,7 @@ class Scope:
         self.is_closure = False
         self.is_part = False
         self.doubled = 0
-        self.function = object()  # the same for all scopes of one function
+        self.function = OneFunction()
         self.frame = object()  # the same for all scopes of one function of the machine
 
     def is_file(self) -> bool:
@@ -177,7 +184,7 @@ class Scope:
         if name in owner.cells:
             return ["attr", self.cells_of(owner), owner.cells[name]]
         if not owner.is_file() and (owner.frame is not self.frame or name not in self.bound):
-            refuse(node, f"the variable {name} may have no value yet here")
+            owner.function.unsure.add(name)
         return ["name", name]
 
     def built_in(self, node: ast.Name, name: str) -> Form:
