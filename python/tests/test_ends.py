@@ -2,6 +2,7 @@
 
 from __future__ import annotations
 
+import json
 import os
 import signal
 import subprocess
@@ -115,6 +116,19 @@ class Together(unittest.TestCase):
         ran = front("--machine", MACHINE, "--against-python", "-c", "1 + 1; 7 / 2")
         last = ran.stdout.splitlines()[-1]
         self.assertEqual((ran.returncode, last), (0, "-c: 1 of 2 commands alike, 1 known to differ"))
+
+    def test_where_a_fault_was_raised(self) -> None:
+        text = (
+            "def f(n):\n    for i in (1, 2):\n        try:\n            g(5)\n        except AttributeError:\n"
+            "            pass\n    return 0 if n else f(n + 1) // n\n\n\ndef g(x):\n    return x.nope\n\n\nf(0)\n"
+        )
+        ran = front("--machine", MACHINE, "--where", "--bodies", "0", "-", given=text)
+        self.assertEqual([it for it in ran.stdout.splitlines() if " in " in it], [
+            " 7    in f(0): return 0 if n else f(n + 1) // n",
+        ])
+        ran = front("--machine", MACHINE, "--where", "--json", "-c", "f = lambda x: g(x)\ng = lambda x: x.a\nf(1)")
+        where = json.loads(ran.stdout)["commands"][2]["where"]
+        self.assertEqual(where, [{"line": 1, "body": "<lambda>(1)"}, {"line": 2, "body": "<lambda>(1)"}])
 
     def test_several_files(self) -> None:
         ran = front("--machine", MACHINE, "-", given="x = 3\nx\n")

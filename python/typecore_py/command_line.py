@@ -6,10 +6,10 @@ import argparse
 import os
 import shutil
 import sys
-from dataclasses import dataclass
+from dataclasses import dataclass, replace
 from pathlib import Path
 
-from . import beside, graph, json_telling, machine, options, page, prompt, source, stopping, watching
+from . import beside, graph, json_telling, machine, options, page, prompt, source, stopping, tracing, watching
 from .differences import KNOWN, LAST, Comparison, Difference
 from .refusal import Refusals, Refused
 from .source import Program
@@ -25,9 +25,10 @@ MANY = 10_000
 
 @dataclass(frozen=True)
 class File:
-    """A file that was read: its path as it was given, its text, and what it says."""
+    """A file that was read: its path as it was given, its bytes, its text, and what it says."""
 
     path: str
+    given: bytes
     text: str
     program: Program
 
@@ -127,7 +128,7 @@ def read(path: str, text: str | None) -> File:
         raise Refusals([Refused(it.line, 1, f"no known difference has the name {it.mark}") for it in marked])
     if len(machine.script_of(program.commands, program.helpers).encode()) > source.LONGEST:
         raise Refusals([Refused(1, 1, "the script has more than 16,777,216 bytes")])
-    return File(path, source.text_of(given), program)
+    return File(path, given, source.text_of(given), program)
 
 
 def one_file(file: File, asked: argparse.Namespace) -> int:
@@ -143,6 +144,8 @@ def one_file(file: File, asked: argparse.Namespace) -> int:
     if len(commands) >= MANY:
         say(f"{file.path}: running {len(commands):,} commands")
     answers = machine.run(commands, helpers, words)
+    if asked.where:
+        answers = with_places(file, answers, asked)
     if asked.json:
         teller.text(json_telling.told(file.path, commands, answers))
     elif asked.graph:
@@ -154,9 +157,18 @@ def one_file(file: File, asked: argparse.Namespace) -> int:
     else:
         if len(asked.files) > 1:
             teller.line(f"{file.path}:")
-        teller.answers(commands, answers, asked.units)
+        teller.answers(commands, answers, asked.units, file.text)
     teller.flush()
     return DONE
+
+
+def with_places(file: File, answers: machine.Answers, asked: argparse.Namespace) -> machine.Answers:
+    """The answers with what was open at each fault, from a second run that is traced."""
+    program = source.read(file.path, file.given, is_traced=True)
+    words = [*machine_program(asked), "run", str(min(asked.units * tracing.TIMES, options.MOST_UNITS))]
+    traced = machine.run(program.commands, program.helpers, words)
+    same = ((one, two.where if two.lines() == one.lines() else ()) for one, two in zip(answers.replies, traced.replies))
+    return machine.Answers([replace(reply, where=where) for reply, where in same], answers.classes)
 
 
 def write_page(file: File, asked: argparse.Namespace, words: list[str]) -> int:

@@ -4,7 +4,7 @@ from __future__ import annotations
 
 import ast
 
-from . import assignments, calls, expressions, statements
+from . import assignments, calls, expressions, statements, tracing
 from .analysis import (
     Function,
     free_names,
@@ -61,9 +61,14 @@ def function_of(node: Function, name: str, scope: Scope, kept: frozenset[str] = 
     word, taken, prologue = given.taken()
     in_cells = ({inside.mangled(it) for it in shared(body)} | kept) & inside.variables
     inside.cells = {it: it for it in in_cells}
-    prologue = [*prologue, *cells_of(body, every, inside)]
+    own_cells = cells_of(body, every, inside)
+    prologue = [*prologue, *own_cells]
+    if scope.shared.is_traced:
+        inside.ending = tracing.Traced(inside)
+        prologue += tracing.entered(inside, bool(own_cells))
     if isinstance(node, ast.Lambda):
-        forms = [expressions.form_of(node.body, inside)]
+        line = tracing.at_line(inside, node.lineno)
+        forms = [*line, inside.ending.returned(expressions.form_of(node.body, inside))]
     else:
         forms = statements.body(body, inside)
     if inside.function.unsure - kept:

@@ -7,10 +7,11 @@ from __future__ import annotations
 
 import json
 import re
-from collections.abc import Iterable
+from collections.abc import Iterable, Iterator
 
 from .definitions import INNER
 from .prelude import HELPERS
+from .tracing import OpenBody, open_bodies
 
 CALL, PRINTED = "call ", "print "
 
@@ -32,6 +33,20 @@ def shown(line: str) -> str:
 def visible(bodies: Iterable[str]) -> list[str]:
     """The events of a command, in order, from the machine's lines of bodies."""
     events: list[str] = []
+    for _ in with_events(bodies, events):
+        pass
+    return events
+
+
+def where(bodies: Iterable[str]) -> tuple[OpenBody, ...]:
+    """The bodies that were open at the end of a command that was traced."""
+    events: list[str] = []
+    lines = (body for body in with_events(bodies, events))
+    return open_bodies((body, events[-1].removeprefix(CALL) if events else "") for body in lines)
+
+
+def with_events(bodies: Iterable[str], events: list[str]) -> Iterator[str]:
+    """The machine's lines of bodies, of which each has been added to the events where it is one."""
     for raw in bodies:
         body = shown(raw)
         if body.startswith(INNER):
@@ -48,7 +63,7 @@ def visible(bodies: Iterable[str]) -> list[str]:
         elif body.startswith("(-)("):
             # (a call with too many arguments, which starts no body)
             events.pop()
-    return events
+        yield raw
 
 
 def ended(bodies: list[str], end: str) -> str:

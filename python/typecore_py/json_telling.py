@@ -25,7 +25,9 @@ def told_command(command: Command, reply: Reply) -> dict[str, Any]:
     """A command: its line, its source, what happened in order, and how it ended."""
     events = [event.removeprefix(CALL) for event in reply.events if event.startswith(CALL)]
     printed = [unquoted(event.removeprefix(PRINTED)) for event in reply.events if event.startswith(PRINTED)]
-    return {"line": command.line, "source": command.text, "bodies": events, "printed": printed, "end": reply.end}
+    whole = {"line": command.line, "source": command.text, "bodies": events, "printed": printed, "end": reply.end}
+    where = [{"line": it.line, "body": it.called} for it in reply.where]
+    return {**whole, "where": where} if where else whole
 
 
 def told_class(made: NewClass) -> dict[str, Any]:

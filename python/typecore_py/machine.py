@@ -12,6 +12,7 @@ from pathlib import Path
 
 from . import events, prelude, stopping
 from .source import Command
+from .tracing import OpenBody
 
 TOP = Path(__file__).resolve().parents[2]
 
@@ -29,6 +30,7 @@ class Reply:
 
     events: tuple[str, ...]
     end: str
+    where: tuple[OpenBody, ...] = ()
 
     def lines(self) -> list[str]:
         """The reply as lines."""
@@ -127,7 +129,8 @@ def taken_apart(text: str, hidden: int) -> Answers:
             if name not in events.HIDDEN_CLASSES:
                 answers.classes.append(NewClass(name, order, slots_of(lines[at + 1 : at + 2], name)))
         elif word != "slots":
-            answers.replies.append(Reply(tuple(events.visible(bodies)), events.ended(bodies, line)))
+            where = events.where(bodies) if line.startswith("! ") else ()
+            answers.replies.append(Reply(tuple(events.visible(bodies)), events.ended(bodies, line), where))
             bodies = []
     del answers.replies[:hidden]
     return answers

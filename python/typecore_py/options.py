@@ -58,6 +58,7 @@ def parser() -> argparse.ArgumentParser:
         metavar="N",
         help=f"how many lines of bodies are told of a command, or 'all' ({MOST_BODIES})",
     )
+    made.add_argument("--where", action="store_true", help="tell of each fault which bodies were open, and where")
     how = made.add_mutually_exclusive_group()
     how.add_argument("--script", action="store_true", help="print the script that the source becomes, and run nothing")
     how.add_argument("--against-python", action="store_true", help="tell where Python itself answers otherwise")

@@ -129,6 +129,10 @@ HELPERS: dict[str, tuple[Form, list[str]]] = {
     "(classmethod)": (name("classmethod"), []),
     "(print)": (func("(print)", "text", None), []),
     "(-)": (func("(-)", "", None), []),
+    "(enter)": (func("(enter)", "id", None), ["(counting)"]),
+    "(counting)": (["setattr", name("(file)"), "(count)", 0], ["(file)"]),
+    "(at)": (func("(at)", "id line", None), []),
+    "(leave)": (func("(leave)", "id", None), []),
     "(assert)": (func("(assert)", "", ["raise", "RuntimeError"]), []),
     # The variables of a function that it shares with its parts, and of the file.
     "(Cells)": (new_class("(Cells)", getattr=func("(unbound)", "s n", ["raise", "NameError"])), []),

@@ -33,6 +33,7 @@ class Shared:
     """What all scopes of a file share: which helpers its forms need, what was refused, and a count for names."""
 
     keywords: Keywords
+    is_traced: bool = False
     helpers: set[str] = field(default_factory=set)
     refused: list[Refused] = field(default_factory=list)
     count: int = 0

@@ -42,8 +42,8 @@ class Program:
     helpers: set[str]
 
 
-def read(path: str, source: bytes) -> Program:
-    """The commands of a file. Raises `Refusals` for what can't be said."""
+def read(path: str, source: bytes, is_traced: bool = False) -> Program:
+    """The commands of a file, which tell where they are if traced. Raises `Refusals` for what can't be said."""
     try:
         tree = ast.parse(source, path)
         text = text_of(source)
@@ -57,7 +57,7 @@ def read(path: str, source: bytes) -> Program:
     lines = ENDS_OF_LINES.split(text)
     count_characters(tree, lines)
     try:
-        program = commands(without_text(tree.body), lines, marks)
+        program = commands(without_text(tree.body), lines, marks, is_traced)
     except RecursionError:
         raise Refusals([Refused(1, 1, "the source is nested too deep")]) from None
     if not program.commands:
@@ -93,9 +93,9 @@ def count_characters(tree: ast.AST, lines: list[str]) -> None:
                 setattr(node, column, len(before.decode(errors="ignore")))
 
 
-def commands(statements: list[ast.stmt], lines: list[str], marks: dict[int, str]) -> Program:
+def commands(statements: list[ast.stmt], lines: list[str], marks: dict[int, str], is_traced: bool) -> Program:
     """The commands that the statements of a file are. A `pass` is none."""
-    shared = Shared(keywords_of_file(statements))
+    shared = Shared(keywords_of_file(statements), is_traced)
     declared, found = names_declared(statements), list[Command]()
     scope = Scope(shared, names_bound(statements) | declared)
     in_cells = in_parts(statements, is_stored=True) | names_deleted(statements) | declared

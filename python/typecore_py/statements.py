@@ -5,7 +5,7 @@ from __future__ import annotations
 import ast
 from collections.abc import Iterable
 
-from . import assignments, definitions, expressions, loops
+from . import assignments, definitions, expressions, loops, tracing
 from .refusal import Refused, refuse, refuse_kind
 from .scope import Form, Scope
 from .words import KINDS
@@ -24,6 +24,7 @@ def body(statements: list[ast.stmt], scope: Scope) -> list[Form]:
     forms: list[Form] = []
     for at, statement in enumerate(statements):
         rest = statements[at + 1 :]
+        forms += tracing.at_line(scope, statement.lineno)
         try:
             ended = end_of_body(statement, rest, forms, scope)
         except Refused as refused:
@@ -136,6 +137,7 @@ def many(statements: Iterable[ast.stmt], scope: Scope) -> Form:
     """One form for statements of which none leaves."""
     forms: list[Form] = []
     for statement in statements:
+        forms += tracing.at_line(scope, statement.lineno)
         try:
             forms += parts(statement, scope)
         except Refused as refused:

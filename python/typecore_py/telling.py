@@ -10,7 +10,7 @@ from typing import TextIO
 from .differences import KNOWN, Difference
 from .events import CALL, PRINTED, unquoted
 from .machine import Answers, NewClass, Reply
-from .source import Command
+from .source import ENDS_OF_LINES, Command
 
 WIDEST = 44  # of the column of source lines
 
@@ -64,14 +64,16 @@ class Teller:
         """How a command ended, in its colour."""
         return self.coloured(line, line[:1])
 
-    def answers(self, commands: Sequence[Command], answers: Answers, units: int) -> None:
+    def answers(self, commands: Sequence[Command], answers: Answers, units: int, text: str = "") -> None:
         """Tells each command with its answer, then the classes, and which commands used up their units."""
+        lines = ENDS_OF_LINES.split(text)
         number = len(str(commands[-1].line))
         width = min(WIDEST, max(len(command.text) for command in commands))
         for command, reply in zip(commands, answers.replies):
             line = self.coloured(f"{command.line:>{number}}", "dim")
             self.line(f"{line}  {command.text:<{width}}  {self.ended(reply.end)}")
             self.events(reply, number + 6)
+            self.where(reply, lines, number)
         if answers.classes:
             self.line()
             self.classes(answers.classes)
@@ -86,6 +88,12 @@ class Teller:
         left = sum(count for _, count in told[most:])
         if left:
             self.line(" " * indent + self.coloured(f".. and {left} more: --bodies all tells all", "dim"))
+
+    def where(self, reply: Reply, lines: Sequence[str], number: int) -> None:
+        """Tells the bodies that were open at a fault, the last one last, each with its line."""
+        for it in reply.where:
+            line = lines[it.line - 1].strip() if it.line and it.line <= len(lines) else ""
+            self.line(f"{it.line or '':>{number}}    in {it.called}: {line}")
 
     def event(self, event: str) -> str:
         """A body that was started, or a line that was printed."""
