@@ -11,7 +11,7 @@ from typecore_py.reference import Reference
 
 from .here import MACHINE, TOP, needs_machine
 
-UNITS = "10000"
+UNITS = "100000"
 
 WORKED = sorted((Path(__file__).parent / "worked").glob("*.py")) + sorted((TOP / "examples").glob("*.py"))
 

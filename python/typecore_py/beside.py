@@ -2,14 +2,16 @@
 
 from __future__ import annotations
 
-import multiprocessing
 import resource
 import signal
 from collections.abc import Iterator
-from multiprocessing.connection import Connection
+from typing import TYPE_CHECKING
 
 from .reference import Reference
 from .source import Command
+
+if TYPE_CHECKING:
+    from multiprocessing.connection import Connection
 
 MOST_BYTES = 4 * 2**30
 
@@ -19,6 +21,8 @@ TIME, ENDED = "? Time", "? Ended"
 
 def answers(commands: list[Command], seconds: float) -> Iterator[list[str]]:
     """Python's answers to the commands, as far as they come: the last one may be that there is none."""
+    import multiprocessing  # (it takes a while, and is wanted here alone)
+
     context = multiprocessing.get_context("fork")
     here, there = context.Pipe(duplex=False)
     process = context.Process(target=answer_all, args=(commands, there), daemon=True)

@@ -18,6 +18,8 @@ def called(node: ast.Call, scope: Scope) -> Form:
     if isinstance(node.func, ast.Name) and not scope.is_variable(node.func.id):
         if node.func.id in FUNCTIONS:
             return word_called(node, scope)
+        if node.func.id == "_index" and scope.shared.library:
+            return ["op", "index", *expressions.forms_of(node.args, scope)]
         if node.func.id in SPECIAL_FUNCTIONS:
             return SPECIAL[node.func.id](node, scope)
         if node.func.id == "super" and not node.args and not node.keywords:

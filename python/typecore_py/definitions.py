@@ -74,7 +74,7 @@ def function_of(node: Function, name: str, scope: Scope, kept: frozenset[str] = 
     if inside.function.unsure - kept:
         del scope.shared.refused[refused:]
         return function_of(node, name, scope, kept | inside.function.unsure)
-    form = made(word, name, taken, statements.sequence([*prologue, *forms]), inside, scope)
+    form = made(word, scope.shared.spelled(name), taken, statements.sequence([*prologue, *forms]), inside, scope)
     return ["seq", *given.stored, form] if given.stored else form
 
 
@@ -116,9 +116,9 @@ def new_class(node: ast.ClassDef, scope: Scope) -> Form:
     keywords = calls.keywords_of(node.keywords, scope)
     inside = scope.inside_class(node.name)
     found = entries(node, inside)
-    if scope.path and not any(name == "__qualname__" for name, _ in found):
+    if scope.path and not scope.shared.library and not any(name == "__qualname__" for name, _ in found):
         found.insert(0, ["__qualname__", f"{scope.path}{node.name}"])
-    form = ["class", node.name, bases, found]
+    form = ["class", scope.shared.spelled(node.name), bases, found]
     return decorated(decorators, [*form, keywords] if keywords else form)
 
 

@@ -16,18 +16,27 @@ from .tracing import OpenBody, open_bodies
 CALL, PRINTED = "call ", "print "
 
 # Objects of helpers that stand for what Python has under the name between the brackets.
-STANDS_FOR = re.compile(r"<\((function|method|builtin_function_or_method)\) object>")
+STANDS_FOR = re.compile(r"<\((\w+)\) object>|<class '\((\w+)\)'>")
 
 INNER_FUNCTION = "<function object>"
 
-HIDDEN_CLASSES = frozenset({*HELPERS, "(function)", "(method)", "(builtin_function_or_method)"})
+# The classes of helpers that are no helpers themselves.
+CLASSES = frozenset({"(function)", "(method)", "(builtin_function_or_method)", "(range_iterator)"})
+
+# What comes between the start of a body and the values of all its parameters.
+BEFORE_VALUES = ("(split)(",)
 
 QUALNAME = re.compile(r'"__qualname__": "(?:[^"\\]|\\.)*"(?:, )?')
 
 
 def shown(line: str) -> str:
     """A line with the names that Python has for what helpers stand for."""
-    return QUALNAME.sub("", STANDS_FOR.sub(r"<\1 object>", line))
+    return QUALNAME.sub("", STANDS_FOR.sub(lambda it: it[0].replace("(", "").replace(")", ""), line))
+
+
+def is_hidden_class(name: str) -> bool:
+    """Whether a class is one of the helpers."""
+    return name in HELPERS or name in CLASSES
 
 
 def visible(bodies: Iterable[str]) -> list[str]:
@@ -47,9 +56,22 @@ def where(bodies: Iterable[str]) -> tuple[OpenBody, ...]:
 
 def with_events(bodies: Iterable[str], events: list[str]) -> Iterator[str]:
     """The machine's lines of bodies, of which each has been added to the events where it is one."""
+    is_told = True  # whether the body that began last is one of the file's own
     for raw in bodies:
         body = shown(raw)
-        if body.startswith(INNER):
+        if body.startswith("(=)(") or body.startswith("(-)("):
+            if is_told and body.startswith("(=)"):
+                # (the values of all parameters, where some were left out)
+                events[-1] = events[-1].partition("(")[0] + body.removeprefix("(=)")
+            elif is_told:
+                # (a call whose arguments don't fit, which starts no body)
+                events.pop()
+            yield raw
+            continue
+        is_told = is_told if body.startswith(BEFORE_VALUES) else body.startswith(INNER) or not body.startswith("(")
+        if body.startswith(f"{INNER}("):
+            is_told = False
+        elif body.startswith(INNER):
             name, _, rest = body.removeprefix(INNER).partition("(")
             rest = rest.removeprefix(INNER_FUNCTION).removeprefix(", ")
             events.append(f"{CALL}{name}({rest}")
@@ -57,12 +79,6 @@ def with_events(bodies: Iterable[str], events: list[str]) -> Iterator[str]:
             events.append(CALL + body)
         elif body.startswith("(print)("):
             events.append(PRINTED + body[len("(print)(") + 1 : -2])
-        elif body.startswith("(=)("):
-            # (the values of all parameters, where some were left out)
-            events[-1] = events[-1].partition("(")[0] + body.removeprefix("(=)")
-        elif body.startswith("(-)("):
-            # (a call with too many arguments, which starts no body)
-            events.pop()
         yield raw
 
 

@@ -6,7 +6,6 @@ import json
 import os
 import signal
 import subprocess
-from concurrent.futures import ThreadPoolExecutor
 from dataclasses import dataclass, field
 from pathlib import Path
 
@@ -74,6 +73,8 @@ def run_prefixes(commands: list[Command], helpers: set[str], words: list[str]) -
 
     Where the commands are many, only so many beginnings are run, and the others are told as the one before them.
     """
+    from concurrent.futures import ThreadPoolExecutor  # (it takes a while, and is wanted here alone)
+
     step = -(-len(commands) // MOST_PREFIXES)
     ends = [at for at in range(1, len(commands) + 1) if at % step == 0 or at == len(commands)]
     pool = ThreadPoolExecutor(max_workers=os.cpu_count())
@@ -126,7 +127,7 @@ def taken_apart(text: str, hidden: int) -> Answers:
             bodies.append(rest)
         elif word == "class":
             name, order = parted(rest)
-            if name not in events.HIDDEN_CLASSES:
+            if not events.is_hidden_class(name):
                 answers.classes.append(NewClass(name, order, slots_of(lines[at + 1 : at + 2], name)))
         elif word != "slots":
             where = events.where(bodies) if line.startswith("! ") else ()

@@ -50,7 +50,7 @@ def parser() -> argparse.ArgumentParser:
     made.add_argument("-c", dest="text", metavar="TEXT", help="run this source in place of a file")
     made.add_argument("-i", dest="prompt", action="store_true", help="ask for statements, after those of a file if any")
     made.add_argument("--version", action="version", version=f"typecore-py {__version__}")
-    made.add_argument("--units", type=units, default=10_000, metavar="N", help="what each command may spend (10000)")
+    made.add_argument("--units", type=units, default=100_000, metavar="N", help="what each command may spend (100000)")
     made.add_argument(
         "--bodies",
         type=bodies,

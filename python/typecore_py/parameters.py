@@ -21,6 +21,15 @@ from .words import SPECIAL_FUNCTIONS
 # The last parameter of what takes the rest of its arguments, and the first of what sees variables around it.
 REST, SELF = "(rest)", "(self)"
 
+# The keywords that functions of the library take.
+KEYWORDS_OF = {
+    "enumerate": ("start",),
+    "max": ("key", "default"),
+    "min": ("key", "default"),
+    "sorted": ("key", "reverse"),
+    "sum": ("start",),
+}
+
 # The arguments by place and those by name.
 PLACES, NAMED = "(places)", "(named)"
 
@@ -56,6 +65,7 @@ def keywords_of_file(statements: Iterable[ast.stmt]) -> Keywords:
     called = [it for it in nodes if isinstance(it, ast.Call) and it.keywords and not is_built_in(it.func)]
     is_any = any(it.args.kwarg for it in functions) or any(kw.arg is None for it in called for kw in it.keywords)
     names = {arg.arg for it in functions for arg in may_be_left_out(it.args)}
+    names |= {name for it in called if isinstance(it.func, ast.Name) for name in KEYWORDS_OF.get(it.func.id, ())}
     given = [{kw.arg for kw in it.keywords if kw.arg} for it in called]
     while any(one & names and not one <= names for one in given):
         names |= {name for one in given if one & names for name in one}

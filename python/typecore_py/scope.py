@@ -14,7 +14,7 @@ from typing import TYPE_CHECKING, Any, Callable
 
 from .analysis import names_bound
 from .refusal import Refused, refuse
-from .words import BUILT_IN, FIXED, FUNCTIONS, KINDS, SPECIAL_FUNCTIONS, VALUES
+from .words import BUILT_IN, FIXED, FUNCTIONS, KINDS, LIBRARY, SPECIAL_FUNCTIONS, VALUES
 
 if TYPE_CHECKING:
     from .parameters import Keywords
@@ -34,6 +34,7 @@ class Shared:
 
     keywords: Keywords
     is_traced: bool = False
+    library: frozenset[str] = frozenset()  # where the library itself is read: its names
     helpers: set[str] = field(default_factory=set)
     refused: list[Refused] = field(default_factory=list)
     count: int = 0
@@ -42,6 +43,10 @@ class Shared:
         """The form that gives a helper, which the script defines before the file's commands."""
         self.helpers.add(name)
         return ["name", name]
+
+    def spelled(self, name: str) -> str:
+        """The name that a function or a class is told by: those of the library stand between brackets."""
+        return f"({name})" if self.library else name
 
     def number(self) -> int:
         """A number that was not given before."""
@@ -192,7 +197,7 @@ class Scope:
         """The form that gives what is built in under a name, or a refusal where only Python has it."""
         if name in BUILT_IN:
             return ["name", name]
-        if name in VALUES:
+        if name in VALUES or name in LIBRARY or name in self.shared.library:
             return self.shared.helper(f"({name})")
         refuse_python_only(node, name)
         return ["name", name]

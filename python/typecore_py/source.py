@@ -8,12 +8,14 @@ import re
 import tokenize
 from dataclasses import dataclass
 
+from . import library
 from .analysis import in_parts, names_bound, names_declared, names_deleted
 from .definitions import without_text
 from .parameters import keywords_of_file
 from .refusal import Refusals, Refused, refuse
 from .scope import Form, Scope, Shared
 from .statements import parts, sequence
+from .words import LIBRARY
 
 # How deep a script's arrays may stand in one another, and how many bytes it may have.
 DEEPEST, LONGEST = 127, 2**24
@@ -109,6 +111,9 @@ def commands(statements: list[ast.stmt], lines: list[str], marks: dict[int, str]
             scope.refused(statement, refused)
     if shared.refused:
         raise Refusals(shared.refused)
+    for helper in shared.helpers:
+        if helper.strip("()") in LIBRARY:
+            library.define(helper.strip("()"))
     return Program(found, shared.helpers)
 
 

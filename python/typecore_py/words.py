@@ -38,6 +38,9 @@ SPECIAL_FUNCTIONS = frozenset("delattr dir format getattr hasattr print setattr"
 # Functions that may stand as values too.
 VALUES = frozenset(FUNCTIONS)
 
+# Functions that are written in Python (`library`).
+LIBRARY = frozenset("all any enumerate filter map max min range reversed sorted sum zip".split())
+
 # Names that a file may not bind, since what they mean here doesn't depend on variables.
 FIXED = frozenset(FUNCTIONS) | SPECIAL_FUNCTIONS | frozenset(KINDS) | {"Exception", "AssertionError"}
 
