@@ -9,8 +9,8 @@ from .refusal import refuse
 from .scope import Form, Scope
 from .words import BUILT_IN, FUNCTIONS, SPECIAL_FUNCTIONS
 
-# What the arguments of print are kept in.
-PRINTED = "(printed)"
+# What the arguments of print are kept in, and the cell of what super() gives in a function that a part of it wants.
+PRINTED, SUPER = "(printed)", "(super)"
 
 
 def called(node: ast.Call, scope: Scope) -> Form:
@@ -63,11 +63,18 @@ def named(keywords: list[ast.keyword], scope: Scope) -> tuple[Form, bool]:
 
 def super_called(node: ast.Call, scope: Scope) -> Form:
     """`super()`, which goes by the function whose body runs."""
+    first, around = scope.function.first, scope.around
     if not scope.is_method:
         refuse(node, "super() stands in a function of a class's body")
-    if scope.is_part or scope.is_closure:
-        refuse(node, "super() can't stand in a piece that runs as a function of its own: bind it to a name before")
-    return ["call", ["name", "super"], []]
+    if scope.is_closure and around is not None and around.new_class and first:
+        # (such a function is an object of another class: it names its own class and its first parameter)
+        around.new_class.is_kept = True
+        made = ["attr", scope.cells_of(around), around.new_class.cell]
+        return ["call", ["name", "super"], [made, scope.read(ast.copy_location(ast.Name(first, ast.Load()), node))]]
+    if not scope.is_part:
+        return ["call", ["name", "super"], []]
+    scope.function.hands_super_on = True
+    return ["attr", scope.own_cells(), SUPER]
 
 
 def runs(items: list[ast.expr], scope: Scope) -> list[tuple[str, list[Form]]]:

@@ -18,6 +18,9 @@ from .parameters import SELF, Parameters, names_of
 from .refusal import Refused, refuse
 from .scope import AROUND, CELLS, Form, Scope
 
+# What a class is kept in as it is made.
+MADE = "(made)"
+
 # What stands before the name of the body of a function that sees variables around it.
 INNER = "(inner) "
 
@@ -71,6 +74,8 @@ def function_of(node: Function, name: str, scope: Scope, kept: frozenset[str] = 
         forms = [*line, inside.ending.returned(expressions.form_of(node.body, inside))]
     else:
         forms = statements.body(body, inside)
+    if inside.function.hands_super_on:
+        prologue.append(["setattr", ["name", CELLS], calls.SUPER, ["call", ["name", "super"], []]])
     if inside.function.unsure - kept:
         del scope.shared.refused[refused:]
         return function_of(node, name, scope, kept | inside.function.unsure)
@@ -118,8 +123,11 @@ def new_class(node: ast.ClassDef, scope: Scope) -> Form:
     found = entries(node, inside)
     if scope.path and not scope.shared.library and not any(name == "__qualname__" for name, _ in found):
         found.insert(0, ["__qualname__", f"{scope.path}{node.name}"])
-    form = ["class", scope.shared.spelled(node.name), bases, found]
-    return decorated(decorators, [*form, keywords] if keywords else form)
+    form = ["class", scope.shared.spelled(node.name), bases, found, *([keywords] if keywords else [])]
+    if inside.new_class and inside.new_class.is_kept:
+        kept = ["setattr", scope.own_cells(), inside.new_class.cell, ["name", MADE]]
+        form = ["seq", ["bind", MADE, form], kept, ["name", MADE]]
+    return decorated(decorators, form)
 
 
 def entries(node: ast.ClassDef, scope: Scope) -> list[list[Form]]:

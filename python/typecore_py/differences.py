@@ -33,6 +33,7 @@ KNOWN: dict[str, str] = {
     "len-index": "__len__ has to give a number, and is not asked for its __index__",
     "length-hint": "list and tuple don't ask __len__ of what they collect",
     "slots-and-value": "a name of __slots__ may have a value in the class too",
+    "inner-functions": "a function that sees the variables around it is of a class of its own",
     "private-slots": "a class's __slots__ tells a private name as its attribute is spelled",
     "class-dict": "a class's __dict__ is a new dict each time, which can be set in",
     "foreign-receiver": "a method of a built-in class that is given another's object may be NotImplemented",

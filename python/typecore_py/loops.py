@@ -224,7 +224,8 @@ def generated(generators: list[ast.comprehension], item: ast.expr, made: Form, s
         refuse(first.target, "an async comprehension can't be said")
     piece = Piece(scope, scope.shared.number(), scope.ending, True, ASKING)
     before = [piece.put("iterator", ["op", "iter", expressions.form_of(first.iter, scope)]), piece.put("state", ASKING)]
-    inside = scope.inside_part(piece, {it.id for it in ast.walk(first.target) if isinstance(it, ast.Name)})
+    names = {it.id for it in ast.walk(first.target) if isinstance(it, ast.Name)}
+    inside = scope.inside_part(piece, names, is_comprehension=True)
     target = assignments.to_target(first.target, ["name", ITEM], inside)
     tests = expressions.forms_of(first.ifs, inside)
     if others:

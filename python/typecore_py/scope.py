@@ -75,10 +75,20 @@ class Ending:
 
 
 class OneFunction:
-    """What all scopes of one function share: which variables are read where they may have no value."""
+    """What all scopes of one function share."""
 
-    def __init__(self) -> None:
-        self.unsure: set[str] = set()
+    def __init__(self, first: str | None = None) -> None:
+        self.unsure: set[str] = set()  # the variables that are read where they may have no value
+        self.first = first  # its first parameter
+        self.hands_super_on = False  # whether a part of it calls super()
+
+
+@dataclass
+class OneClass:
+    """A class whose entries are read: the cell that keeps it, where a function of it wants that."""
+
+    cell: str
+    is_kept: bool = False
 
 
 class Scope:
@@ -97,6 +107,7 @@ class Scope:
         self.path: str = around.path if around else ""  # of the classes and functions around, for names of classes
         self.ending = Ending()
         self.in_class = False
+        self.new_class: OneClass | None = None  # the class whose entries stand here
         self.is_method = False
         self.is_closure = False
         self.is_part = False
@@ -125,20 +136,24 @@ class Scope:
         inside.class_name = name
         inside.path = f"{self.path}{name}."
         inside.in_class = True
+        inside.new_class = OneClass(f"(class {self.shared.number()})")
         return inside
 
     def inside_function(self, name: str, variables: set[str], parameters: Iterable[str]) -> Scope:
         """The scope of the body of a function that stands here."""
-        inside = Scope(self.shared, variables, self, parameters)
+        every = list(parameters)
+        inside = Scope(self.shared, variables, self, every)
+        inside.function = OneFunction(every[0] if every else None)
         inside.path = f"{self.path}{name}.<locals>."
         inside.is_method = self.in_class
         return inside
 
-    def inside_part(self, ending: Ending, own: Iterable[str] = ()) -> Scope:
+    def inside_part(self, ending: Ending, own: Iterable[str] = (), is_comprehension: bool = False) -> Scope:
         """The scope of a part of this function, or of the file. The part's own names hide the function's."""
         inside = self.copy()
         inside.ending = ending
         inside.is_part = True
+        inside.is_method = self.is_method and not is_comprehension
         inside.variables = self.variables | set(own)
         number = self.shared.number() if own else 0
         inside.cells = {**self.cells, **{name: f"{name} ({number})" for name in own}}
