@@ -39,6 +39,7 @@ SHOWN = [
     ("class D(dict):\n    def __missing__(self, k): return k\nD()['a']", "missing"),
     (f"class I:\n    def __index__(self): return 3\n{SIZED}return I()\nlen(L())", "len-index"),
     (f"{SIZED}return 1\n    def __getitem__(self, k): return [1][k]\nlist(L())", "length-hint"),
+    (f"{SIZED}return 1\n    def __getitem__(self, k): return [1][k] + 'a'\n[*L()]", "length-hint"),
     ("class S:\n    __slots__ = ('x',)\n    x = 1", "slots-and-value"),
     ("class A: pass\nA.__dict__['q'] = 1", "class-dict"),
     ("int.__add__('a', 6)", "foreign-receiver"),

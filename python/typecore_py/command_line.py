@@ -19,8 +19,8 @@ DONE, DIFFERS, USAGE, REFUSED, NOT_READ, NOT_WRITTEN, NOT_RUN = range(7)
 # (USAGE is the status with which argparse ends by itself)
 
 
-# How many commands it is said of that they are run, since that takes a while.
-MANY = 10_000
+# How many bytes it is said of that they are read, and how many commands that they are run, since that takes a while.
+LONG, MANY = 500_000, 10_000
 
 
 @dataclass(frozen=True)
@@ -122,6 +122,8 @@ def read(path: str, text: str | None) -> File:
         given = sys.stdin.buffer.read()
     else:
         given = Path(path).read_bytes()
+    if len(given) >= LONG:
+        say(f"{path}: reading {len(given):,} bytes")
     program = source.read(path, given)
     marked = [it for it in program.commands if it.mark is not None and it.mark not in KNOWN]
     if marked:

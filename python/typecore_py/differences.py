@@ -12,7 +12,7 @@ from dataclasses import dataclass
 
 from .analysis import inner_functions, names_bound
 from .machine import Reply
-from .recognising import Case, recognised
+from .recognising import Case, recognised, without_cause
 from .source import Command
 
 KNOWN: dict[str, str] = {
@@ -148,7 +148,7 @@ def names_changed(node: ast.AST) -> set[str]:
 def comparable(lines: list[str]) -> list[str]:
     """The lines without the cause of a fault, and with one name for the classes that are divided otherwise."""
     *bodies, end = (DIVIDED_OTHERWISE.sub(one_name, line) for line in lines)
-    return [*bodies, " ".join(end.split(" ")[:2]) if end.startswith("! ") else end]
+    return [*bodies, without_cause(end)]
 
 
 def one_name(found: re.Match[str]) -> str:

@@ -8,6 +8,7 @@ from collections.abc import Callable, Iterator
 from dataclasses import dataclass
 from functools import cached_property
 
+from .beside import ENDED, TIME
 from .machine import Reply
 from .parameters import may_be_left_out
 from .source import Command
@@ -59,6 +60,11 @@ def name_of_event(event: str) -> str:
     return event.partition(" ")[2].partition("(")[0]
 
 
+def without_cause(end: str) -> str:
+    """How a command ended, without the cause of a fault."""
+    return " ".join(end.split(" ")[:2]) if end.startswith("! ") else end
+
+
 def calls(case: Case, name: str, *counts: int) -> Iterator[ast.Call]:
     """The calls of the function of this name with so many arguments, or with any."""
     for node in case.nodes:
@@ -99,8 +105,10 @@ def all_alike(case: Case, change: Callable[[str], str]) -> bool:
 
 
 def is_units(case: Case) -> bool:
-    count = len(case.machine.events)
-    return case.end.startswith("? ") and list(case.machine.events) == case.python[: min(count, len(case.python) - 1)]
+    count = min(len(case.machine.events), len(case.python) - 1)
+    if not case.end.startswith("? "):
+        return False
+    return case.python_end in (TIME, ENDED) or list(case.machine.events) == case.python[:count]
 
 
 def is_floats(case: Case) -> bool:
@@ -189,7 +197,7 @@ def is_length_hint(case: Case) -> bool:
     if not (has_call(case, "list") or has_call(case, "tuple") or has_call(case, "sorted") or starred(case)):
         return False
     rest = [it for it in case.python if name_of_event(it) not in ("__len__", "__length_hint__")]
-    return len(rest) < len(case.python) and rest == case.machine.lines()
+    return len(rest) < len(case.python) and rest == [*case.machine.events, without_cause(case.end)]
 
 
 def is_slots_and_value(case: Case) -> bool:
@@ -254,7 +262,7 @@ def by_cause(*causes: str) -> Callable[[Case], bool]:
     """Whether the machine ended by one of these causes, and Python with another kind of fault or a value."""
 
     def holds(case: Case) -> bool:
-        return case.cause in causes and case.python_end != " ".join(case.end.split(" ")[:2])
+        return case.cause in causes and case.python_end != without_cause(case.end)
 
     return holds
 

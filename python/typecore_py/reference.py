@@ -53,7 +53,7 @@ class Reference:
         try:
             value = self.value(command.node)
         except TooMany:
-            return ["? Bodies"]
+            return [*self.events, "? Bodies"]
         except Exception as error:
             return [*self.events, f"! {kind_of(error)}"]
         finally:
