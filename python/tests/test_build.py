@@ -70,7 +70,9 @@ class Proofs(Repository):
 
     def prove(self) -> str:
         told = io.StringIO()
-        with mock.patch("os.cpu_count", lambda: 2), contextlib.redirect_stderr(told):
+        # (a log of a build that fails stays in the folder for such files)
+        here = mock.patch("tempfile.tempdir", str(self.top))
+        with mock.patch("os.cpu_count", lambda: 2), here, contextlib.redirect_stderr(told):
             proving.build(self.top, str(self.rt))
         return told.getvalue()
 

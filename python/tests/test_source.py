@@ -81,6 +81,9 @@ class Refused(unittest.TestCase):
             "id(5)": "id isn't built in",
             "def f(): super()": "super() stands in a function of a class's body",
             "9223372036854775808": "an integer in a source has 64 bits",
+            "def f(a, a): pass": "duplicate argument 'a' in function definition",
+            "def f(x):\n    global x": "name 'x' is parameter and global",
+            "def f():\n    nonlocal x": "no binding for nonlocal 'x' found",
             "lambda: (yield)": "yield can't be said",
         }
         for text, why in wrong.items():

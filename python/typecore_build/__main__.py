@@ -16,6 +16,7 @@ TOP = Path(__file__).resolve().parents[2]
 
 def stopped(number: int, _frame: object) -> None:
     """Ends the build, and what it started, where this is told to stop."""
+    say(f"the build was told to stop, by signal {number}")
     raise SystemExit(128 + number)
 
 

@@ -6,6 +6,7 @@ import ast
 import io
 import re
 import tokenize
+import warnings
 from dataclasses import dataclass
 
 from . import library
@@ -64,7 +65,20 @@ def read(path: str, source: bytes, is_traced: bool = False) -> Program:
         raise Refusals([Refused(1, 1, "the source is nested too deep")]) from None
     if not program.commands:
         raise Refusals([Refused(1, 1, "there is no command")])
+    refuse_what_python_does(path, source)
     return program
+
+
+def refuse_what_python_does(path: str, source: bytes) -> None:
+    """Refuses what Python reads and then doesn't compile, as a function with two parameters of one name."""
+    try:
+        with warnings.catch_warnings():
+            warnings.simplefilter("ignore")
+            compile(source, path, "exec", dont_inherit=True)
+    except SyntaxError as error:
+        raise Refusals([Refused(error.lineno or 1, error.offset or 1, error.msg)]) from None
+    except (RecursionError, MemoryError):
+        return
 
 
 def text_of(source: bytes) -> str:
