@@ -15,7 +15,7 @@ from .analysis import (
     values_of_entry,
 )
 from .parameters import SELF, Parameters, names_of
-from .refusal import Refused, refuse
+from .refusal import Refused, TooManyForks, refuse
 from .scope import AROUND, CELLS, Form, Scope
 
 # What a class is kept in as it is made.
@@ -53,10 +53,16 @@ def function(node: ast.FunctionDef, scope: Scope) -> Form:
     return decorated(decorators, function_of(node, node.name, scope))
 
 
-def function_of(node: Function, name: str, scope: Scope, kept: frozenset[str] = frozenset()) -> Form:
-    """A function or a lambda. What it reads where it may have no value is kept in cells, which tell that."""
+def function_of(
+    node: Function, name: str, scope: Scope, kept: frozenset[str] = frozenset(), is_once: bool = False
+) -> Form:
+    """A function or a lambda. What it reads where it may have no value is kept in cells, which tell that.
+
+    Where too many ifs leave its body in part, this becomes a loop of one round, which can be left anywhere.
+    """
     refused = len(scope.shared.refused)
     body = [node.body] if isinstance(node, ast.Lambda) else without_text(node.body)
+    body = statements.once(body) if is_once else body
     every = names_of(node.args, scope)
     inside = scope.inside_function(name, {scope.mangled(it) for it in names_bound(body)}, every)
     inside.is_closure = any(is_around(scope, scope.mangled(it)) for it in free_names(node))
@@ -73,12 +79,18 @@ def function_of(node: Function, name: str, scope: Scope, kept: frozenset[str] = 
         line = tracing.at_line(inside, node.lineno)
         forms = [*line, inside.ending.returned(expressions.form_of(node.body, inside))]
     else:
-        forms = statements.body(body, inside)
+        try:
+            forms = statements.body(body, inside)
+        except TooManyForks:
+            del scope.shared.refused[refused:]
+            if is_once:
+                raise
+            return function_of(node, name, scope, kept, is_once=True)
     if inside.function.hands_super_on:
         prologue.append(["setattr", ["name", CELLS], calls.SUPER, ["call", ["name", "super"], []]])
     if inside.function.unsure - kept:
         del scope.shared.refused[refused:]
-        return function_of(node, name, scope, kept | inside.function.unsure)
+        return function_of(node, name, scope, kept | inside.function.unsure, is_once)
     form = made(word, scope.shared.spelled(name), taken, statements.sequence([*prologue, *forms]), inside, scope)
     return ["seq", *given.stored, form] if given.stored else form
 

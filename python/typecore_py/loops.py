@@ -30,7 +30,7 @@ class Piece(Ending):
         self.cells = scope.own_cells()
         self.number = number
         self.around = around
-        self.is_loop = is_loop
+        self.is_loop = self.leaves_anywhere = is_loop
         self.at_end = at_end  # the state of a body that came to its end
         self.states: set[int] = set()
 
@@ -143,7 +143,7 @@ def tried(node: ast.Try, scope: Scope) -> tuple[list[Form], list[ast.stmt]]:
     if node.finalbody:
         refuse(node.finalbody[0], "finally can't be said, since a fault of any kind can't be raised again")
     piece = Piece(scope, scope.shared.number(), scope.ending, False, ASKING)
-    body = statements.sequence(statements.body(node.body, scope.inside_part(piece)))
+    body = statements.sequence(statements.body_or_once(node.body, scope.inside_part(piece)))
     chain: list[tuple[int, ast.ExceptHandler]] = []
     passed: list[Form] = []
     for state, (kind, handler) in enumerate(layers(node.handlers), CAUGHT_FIRST):

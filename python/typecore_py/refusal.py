@@ -20,6 +20,10 @@ class Refused(Exception):
         return f"{path}:{self.line}:{self.column}: {self.why}"
 
 
+class TooManyForks(Refused):
+    """Too many ifs of a body leave it in part: what follows each of them would be said too often."""
+
+
 class Refusals(Exception):
     """All refusals of a file, in the order of their places."""
 

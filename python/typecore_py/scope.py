@@ -57,6 +57,9 @@ class Shared:
 class Ending:
     """How the statements of a body end: what returning, going on with a loop, and leaving it are said by."""
 
+    # Whether a return and a break may stand anywhere in a body, and need not be the last that it evaluates.
+    leaves_anywhere = False
+
     def returned(self, value: Form) -> Form:
         """The form of a `return` of this value."""
         return value

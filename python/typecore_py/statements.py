@@ -6,7 +6,7 @@ import ast
 from collections.abc import Iterable
 
 from . import assignments, definitions, expressions, loops, tracing
-from .refusal import Refused, refuse, refuse_kind
+from .refusal import Refused, TooManyForks, refuse, refuse_kind
 from .scope import Form, Scope
 from .words import KINDS
 
@@ -27,12 +27,33 @@ def body(statements: list[ast.stmt], scope: Scope) -> list[Form]:
         forms += tracing.at_line(scope, statement.lineno)
         try:
             ended = end_of_body(statement, rest, forms, scope)
+        except TooManyForks:
+            raise
         except Refused as refused:
             scope.refused(statement, refused)
             ended = False
         if ended:
             return forms
     return [*forms, scope.ending.fallen()]
+
+
+def body_or_once(statements: list[ast.stmt], scope: Scope) -> list[Form]:
+    """The forms of a body. Where too many ifs leave it in part it becomes a loop of one round, which any can leave."""
+    refused, before = len(scope.shared.refused), set(scope.bound)
+    try:
+        return body(statements, scope)
+    except TooManyForks:
+        del scope.shared.refused[refused:]
+        scope.bound.clear()
+        scope.bound.update(before)
+        return body(once(statements), scope)
+
+
+def once(statements: list[ast.stmt]) -> list[ast.stmt]:
+    """A loop of one round over statements."""
+    first = statements[0]
+    true, end = ast.copy_location(ast.Constant(True), first), ast.copy_location(ast.Break(), first)
+    return [ast.copy_location(ast.While(true, [*statements, end], []), first)]
 
 
 def end_of_body(statement: ast.stmt, rest: list[ast.stmt], forms: list[Form], scope: Scope) -> bool:
@@ -49,7 +70,7 @@ def end_of_body(statement: ast.stmt, rest: list[ast.stmt], forms: list[Form], sc
         case ast.Continue():
             forms.append(scope.ending.continued(statement))
             return True
-        case ast.If() if has_exit([statement]):
+        case ast.If() if has_exit([statement], scope.ending.leaves_anywhere):
             forms.append(fork(statement, rest, scope))
             return True
         case ast.For() | ast.While() | ast.Try():
@@ -71,20 +92,24 @@ def fork(statement: ast.If, rest: list[ast.stmt], scope: Scope) -> Form:
     elif rest:
         scope.doubled += 1
         if scope.doubled > MOST_DOUBLED:
-            refuse(statement, "too many ifs of this function return in part, and go on in part")
+            why = "too many ifs of this body leave it in part, and go on in part"
+            raise TooManyForks(statement.lineno, statement.col_offset + 1, why)
         here, other = [*here, *rest], [*other, *rest]
     test = expressions.form_of(statement.test, scope)
     return ["if", test, *scope.apart(lambda: sequence(body(here, scope)), lambda: sequence(body(other, scope)))]
 
 
-def has_exit(statements: Iterable[ast.AST], in_loop: bool = False) -> bool:
-    """Whether a return stands among the statements, or a break or a continue of a loop around them."""
+def has_exit(statements: Iterable[ast.AST], leaves_anywhere: bool, in_loop: bool = False) -> bool:
+    """Whether a body is left among the statements where it can't be left anywhere, or a round of its loop ends."""
     for node in statements:
-        if isinstance(node, ast.Return) or (not in_loop and isinstance(node, (ast.Break, ast.Continue))):
-            return True
         if isinstance(node, (ast.FunctionDef, ast.AsyncFunctionDef, ast.ClassDef, ast.expr)):
             continue
-        if has_exit(ast.iter_child_nodes(node), in_loop or isinstance(node, (ast.For, ast.While))):
+        if isinstance(node, ast.Return) and not leaves_anywhere:
+            return True
+        if not in_loop and (isinstance(node, ast.Continue) or (isinstance(node, ast.Break) and not leaves_anywhere)):
+            return True
+        inner = in_loop or isinstance(node, (ast.For, ast.While))
+        if has_exit(ast.iter_child_nodes(node), leaves_anywhere, inner):
             return True
     return False
 
@@ -119,6 +144,8 @@ def parts(statement: ast.stmt, scope: Scope) -> list[Form]:
             return [asserted(statement, scope)]
         case ast.If():
             return [condition(statement, scope)]
+        case ast.Return(value=value) if not scope.is_file():
+            return [scope.ending.returned(expressions.form_of(value, scope) if value else None)]
         case ast.Break():
             return [scope.ending.broken(statement)]
         case ast.Continue():
@@ -140,6 +167,8 @@ def many(statements: Iterable[ast.stmt], scope: Scope) -> Form:
         forms += tracing.at_line(scope, statement.lineno)
         try:
             forms += parts(statement, scope)
+        except TooManyForks:
+            raise
         except Refused as refused:
             scope.refused(statement, refused)
     return sequence(forms)
