@@ -105,10 +105,11 @@ def all_alike(case: Case, change: Callable[[str], str]) -> bool:
 
 
 def is_units(case: Case) -> bool:
-    count = min(len(case.machine.events), len(case.python) - 1)
     if not case.end.startswith("? "):
         return False
-    return case.python_end in (TIME, ENDED) or list(case.machine.events) == case.python[:count]
+    # (of the last body it may not have been told yet which values its parameters have)
+    mine = list(case.machine.events[:-1])
+    return case.python_end in (TIME, ENDED) or mine == case.python[: min(len(mine), len(case.python) - 1)]
 
 
 def is_floats(case: Case) -> bool:
