@@ -13,7 +13,7 @@ ghost use Rattle.class_table.specs.Keys.{numbers, number_of};
 ghost use Rattle.class_table.specs.Coherent.{IsCoherent};
 ghost use Rattle.class_table.specs.New.{IsBelow, IsBest, class_of_new};
 ghost use Rattle.class_table.specs.Made.{IsFresh, noted};
-ghost use Rattle.class_table.specs.Refused.{refusal, WithMemory, refused_order, AreThere};
+ghost use Rattle.class_table.specs.Refused.{refusal, WithMemory, refused_order, AreThere, NamesNoClass};
 ghost use Rattle.class_table.specs.Inherit.{Follows};
 
 use crate::count::count_along;
@@ -125,6 +125,7 @@ fn build(
     ensures fresh { IfOk result (λ k. IsFresh classes.now (class_of_new new) k) }
     ensures refused { WithMemory result (refusal result ≡
         refused_order (classes_of classes.now) (numbers new.bases.items)) }
+    ensures names { NamesNoClass result }
 {
     let rest = match rest_of_line(classes, alloc, &new.bases) {
         Ok(rest) => rest,
@@ -215,6 +216,7 @@ pub(crate) fn add(
     ensures refused { WithMemory result (refusal result ≡
         refused_order (classes_of classes.old.items) (numbers new.bases.items)) }
     ensures err { OnErr result (classes.new.items ≡ classes.old.items) }
+    ensures names { NamesNoClass result }
 {
     let at = classes.len();
     let number = new.number;

@@ -17,7 +17,7 @@ ghost use Rattle.class_model.specs.Change.{with_class, with_class_attr, without_
 ghost use Rattle.class_table.specs.Keys.{numbers, number_of, table_keys};
 ghost use Rattle.class_table.specs.Stored.{classes_of};
 ghost use Rattle.class_table.specs.New.{IsBelow, class_of_new};
-ghost use Rattle.class_table.specs.Refused.{refusal, cause_of, refused_layout, refused_bases, refused_attr, WithMemory, NeedsNoMemory, IsEarly, AreThere, heap_class};
+ghost use Rattle.class_table.specs.Refused.{refusal, cause_of, refused_layout, refused_bases, refused_attr, WithMemory, NeedsNoMemory, IsEarly, AreThere, heap_class, NamesNoClass};
 ghost use Rattle.class_table.specs.Rebase.{refused_rebase, told, IsToldFirst};
 ghost use Rattle.class_table.specs.Causes.{LacksBase, HasLayoutConflict, HasDuplicate, BreaksOrder, HasNoLine};
 ghost use Rattle.class_table.specs.Given.{AreGiven};
@@ -170,6 +170,7 @@ impl ClassTable {
         requires { AreThere self.now (numbers bases.now) }
         ensures early { IsEarly self.now (numbers bases.now) (refusal result) }
         ensures refused { WithMemory result (refusal result ≡ refused_bases self.now (numbers bases.now)) }
+        ensures names { NamesNoClass result }
     {
         let alloc = self.alloc;
         may_derive(&self.classes, alloc, bases)
@@ -204,6 +205,7 @@ impl ClassTable {
         ensures conflict { WithMemory result ((refusal result ≡ Some MroConflict) ↔
             HasNoLine self.old (numbers bases.items)) }
         ensures err { OnErr result (self.new ≡ self.old) }
+        ensures names { NamesNoClass result }
     {
         let alloc = self.alloc;
         add_heap(
@@ -229,6 +231,7 @@ impl ClassTable {
         ensures immutable { refusal result ≡ refused_attr self.old class.0 }
         ensures set { OnOk result (self.new ≡ with_class_attr is_same_name self.old class.0 name value) }
         ensures err { OnErr result (self.new ≡ self.old) }
+        ensures names { NamesNoClass result }
     {
         set_heap(&mut self.classes, class, name, value)
     }
@@ -248,6 +251,7 @@ impl ClassTable {
         ensures taken { OnOk result (self.new ≡ without_class_attr is_same_name self.old class.0 name) }
         ensures absent { result ≡ Ok false → self.new ≡ self.old }
         ensures err { OnErr result (self.new ≡ self.old) }
+        ensures names { NamesNoClass result }
     {
         take_heap(&mut self.classes, class, name)
     }

@@ -6,7 +6,7 @@ ghost use Rattle.py_node.specs.declared.built_in.BuiltIn.{BuiltIn};
 ghost use Rattle.py_node.specs.declared.built_in.BuiltIn.TheVariants.{TypeType};
 ghost use Rattle.class_model.specs.Layout.{built_ins, best_of};
 ghost use Rattle.class_table.specs.Keys.{numbers};
-ghost use Rattle.class_table.specs.Refused.{refusal, WithMemory, IsEarly, refused_attr, refused_layout, refused_bases};
+ghost use Rattle.class_table.specs.Refused.{refusal, WithMemory, IsEarly, refused_attr, refused_layout, refused_bases, NamesNoClass};
 ghost use Rattle.plain_machine.specs.Objects.{with_definer};
 ghost use Rattle.plain_machine.specs.World.{ref, datum_at, with_new_class, with_own_attr};
 ghost use Rattle.class_world.specs.NewHeap.{holds_text, qualified, refused_name, refused_heap, heap_class_of};
@@ -40,6 +40,7 @@ impl World {
         ensures err { OnErr result (self.new ≡ self.old) }
         ensures reads { (t : Reading) → Reads t self.new → Reads t self.old }
         ensures grows { Grows self.old self.new }
+        ensures names { NamesNoClass result }
     {
         self.classes.set_attr(class, name, value)
     }
@@ -95,6 +96,7 @@ impl World {
         ensures of { IfOk result (λ c. (d : ℕ) (b : BuiltIn) → best_of self.old.classes (numbers bases.items) ≡
             Some d → Holds self.old (IsOf d b) → Holds self.new (IsOf c.0 b)) }
         ensures node { IfOk result (λ c. Holds self.new (IsNode (ref c.0))) }
+        ensures names { NamesNoClass result }
     {
         match self.layout_refusal(&bases) {
             Some(cause) => return Err(ClassFault::Refused(cause)),
@@ -123,6 +125,7 @@ impl World {
         ensures why { WithMemory result (refusal result ≡
             option_or (refused_bases self.now.classes (numbers bases.now)) (Some cause)) }
         ensures err { IfOk result (λ c. ⊥) }
+        ensures names { NamesNoClass result }
     {
         match self.classes.may_derive(bases) {
             Ok(()) => Err(ClassFault::Refused(cause)),
@@ -194,6 +197,7 @@ impl World {
         ensures of { IfOk result (λ c. (d : ℕ) (b : BuiltIn) → best_of self.old.classes (numbers bases.items) ≡
             Some d → Holds self.old (IsOf d b) → Holds self.new (IsOf c.0 b)) }
         ensures node { IfOk result (λ c. Holds self.new (IsNode (ref c.0))) }
+        ensures names { NamesNoClass result }
     {
         match self.nodes.reserve(1) {
             Ok(()) => (),

@@ -4,7 +4,7 @@ ghost use Rattle.std.specs.Prelude.{◌≡◌, ◌∷◌, [], length, IfOk, OnOk
 ghost use Rattle.py_node.specs.declared.built_in.BuiltIn.{BuiltIn as Home};
 ghost use Rattle.py_node.specs.declared.built_in.BuiltIn.TheVariants.{TypeType};
 ghost use Rattle.class_model.specs.Class.{class_at};
-ghost use Rattle.class_table.specs.Refused.{refusal, refused_attr};
+ghost use Rattle.class_table.specs.Refused.{refusal, refused_attr, NamesNoClass};
 ghost use Rattle.class_table.specs.OneBase.{refused_single, single_class, flags_at, static_flags};
 ghost use Rattle.plain_machine.specs.Known.{the_type};
 ghost use Rattle.plain_machine.specs.World.{ref, with_new_class, with_own_attr};
@@ -45,6 +45,7 @@ impl World {
         ensures class { IfOk result (λ c. Holds self.new (IsClass c.0)) }
         ensures of { IfOk result (λ c. (b : Home) → Holds self.old (IsOf base.0 b) → Holds self.new (IsOf c.0 b)) }
         ensures node { IfOk result (λ c. Holds self.new (IsNode (ref c.0))) }
+        ensures names { NamesNoClass result }
     {
         if !self.classes.is_base(base) {
             return Err(ClassFault::Refused(Cause::NotBaseType));
@@ -84,6 +85,7 @@ impl World {
         ensures class { IfOk result (λ c. Holds self.new (IsClass c.0)) }
         ensures of { IfOk result (λ c. (b : Home) → Holds self.old (IsOf base.0 b) → Holds self.new (IsOf c.0 b)) }
         ensures node { IfOk result (λ c. Holds self.new (IsNode (ref c.0))) }
+        ensures names { NamesNoClass result }
     {
         let attrs = PyAttributes::new(self.alloc());
         let metaclass = self.class_of_classes();
@@ -126,6 +128,7 @@ impl World {
         ensures class { IfOk result (λ c. Holds self.new (IsClass c.0)) }
         ensures of { IfOk result (λ c. (b : Home) → Holds self.old (IsOf base.0 b) → Holds self.new (IsOf c.0 b)) }
         ensures node { IfOk result (λ c. Holds self.new (IsNode (ref c.0))) }
+        ensures names { NamesNoClass result }
     {
         let flags = flags_of_static(flags, self.class_flags(base));
         self.add_single(name, base, attrs, flags, metaclass)
@@ -155,6 +158,7 @@ impl World {
         ensures same { OnErr result ((t : Reading) → plain t self.new ≡ plain t self.old) }
         ensures reads { (t : Reading) → Reads t self.new → Reads t self.old }
         ensures grows { Grows self.old self.new }
+        ensures names { NamesNoClass result }
     {
         if !self.class_is_heap(class) {
             return Err(ClassFault::Refused(Cause::ImmutableType));

@@ -9,7 +9,7 @@ ghost use Rattle.class_model.specs.Layout.{best_of};
 ghost use Rattle.class_table.specs.Keys.{numbers};
 ghost use Rattle.class_table.specs.OneBase.{refused_single, single_class, flags_at, static_flags};
 ghost use Rattle.class_table.specs.Rebase.{refused_rebase, told, IsToldFirst};
-ghost use Rattle.class_table.specs.Refused.{refusal, WithMemory, NeedsNoMemory, IsEarly, refused_attr};
+ghost use Rattle.class_table.specs.Refused.{refusal, WithMemory, NeedsNoMemory, IsEarly, refused_attr, NamesNoClass};
 ghost use Rattle.plain_machine.specs.Change.{SetBases, apply, without_own_attr};
 ghost use Rattle.plain_machine.specs.Known.{the_type};
 ghost use Rattle.plain_machine.specs.World.{ref, is_text, with_new_class, with_own_attr};
@@ -56,6 +56,7 @@ impl VirtualMachine {
             Some d → Holds self.old.world (IsOf d b) → Holds self.new.world (IsOf c.0 b)) }
         ensures node { IfOk result (λ c. Holds self.new.world (IsNode (ref c.0))) }
         ensures mark { MarkedAs self.old self.new result }
+        ensures names { NamesNoClass result }
     {
         let class = self.world.new_heap(name, bases, attrs, members, metaclass);
         self.marked_as(class)
@@ -79,6 +80,7 @@ impl VirtualMachine {
         ensures reads { (t : Reading) → Reads t self.new.world → Reads t self.old.world }
         ensures grows { Grows self.old.world self.new.world }
         ensures mark { MarkedAs self.old self.new result }
+        ensures names { NamesNoClass result }
     {
         let set = self.world.set_attr(class, name, value);
         self.marked_as(set)
@@ -99,6 +101,7 @@ impl VirtualMachine {
         ensures of { IfOk result (λ c. (b : BuiltIn) → Holds self.old.world (IsOf base.0 b) → Holds self.new.world (IsOf c.0 b)) }
         ensures node { IfOk result (λ c. Holds self.new.world (IsNode (ref c.0))) }
         ensures mark { MarkedAs self.old self.new result }
+        ensures names { NamesNoClass result }
     {
         let class = self.world.new_simple_heap(name, base);
         self.marked_as(class)
@@ -131,6 +134,7 @@ impl VirtualMachine {
         ensures of { IfOk result (λ c. (b : BuiltIn) → Holds self.old.world (IsOf base.0 b) → Holds self.new.world (IsOf c.0 b)) }
         ensures node { IfOk result (λ c. Holds self.new.world (IsNode (ref c.0))) }
         ensures mark { MarkedAs self.old self.new result }
+        ensures names { NamesNoClass result }
     {
         let class = self.world.new_static(name, base, attrs, flags, metaclass);
         self.marked_as(class)
@@ -153,6 +157,7 @@ impl VirtualMachine {
         ensures reads { (t : Reading) → Reads t self.new.world → Reads t self.old.world }
         ensures grows { Grows self.old.world self.new.world }
         ensures mark { MarkedAs self.old self.new result }
+        ensures names { NamesNoClass result }
     {
         let set = self.world.set_str_attr(class, name, value);
         self.marked_as(set)
@@ -178,6 +183,7 @@ impl VirtualMachine {
         ensures reads { (t : Reading) → Reads t self.new.world → Reads t self.old.world }
         ensures grows { Grows self.old.world self.new.world }
         ensures mark { MarkedAs self.old self.new result }
+        ensures names { NamesNoClass result }
     {
         let there = self.world.del_attr_direct(class, name);
         self.marked_as(there)

@@ -4,7 +4,8 @@
 ghost use Rattle.std.specs.Prelude.{◌≡◌, fold, None, Some, IfOk, OnErr, OnOk};
 ghost use Rattle.py_node.specs.BuiltIns.{place_of};
 ghost use Rattle.py_node.specs.declared.built_in.BuiltIn.TheVariants as built_in;
-ghost use Rattle.class_table.specs.Refused.{refusal, refused_attr};
+ghost use Rattle.py_node.specs.declared.raised.Cause.{Cause as RefusalCause};
+ghost use Rattle.class_table.specs.Refused.{refusal, refused_attr, NamesNoClass};
 ghost use Rattle.plain_machine.specs.Plain.{AClassMethod, AStaticMethod, ABuiltinMethod};
 ghost use Rattle.plain_machine.specs.Sound.{read_offset, set_offset};
 ghost use Rattle.plain_machine.specs.World.{next_node, with_node};
@@ -222,6 +223,8 @@ impl VirtualMachine {
         ensures reads { (t : Reading) → Reads t self.new.world → Reads t self.old.world }
         ensures grows { Grows self.old.world self.new.world }
         ensures mark { MarkedAs self.old self.new result }
+        ensures names { NamesNoClass result }
+        ensures same { (cause : RefusalCause) → refusal result ≡ Some cause → self.new.world ≡ self.old.world }
     {
         let set = extend_methods(&mut self.world, class, methods);
         self.marked_as(set)
