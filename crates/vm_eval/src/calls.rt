@@ -1,8 +1,7 @@
 //! What a host does with a machine beside running commands: it looks at the classes and gives names and expressions.
 //! Want of memory sets the machine's mark, as in a run.
 
-ghost use Rattle.std.specs.Prelude.{◌≡◌, ◌∷◌, ◌++◌, [], true, IfOk, OnErr, OnOk};
-ghost use Rattle.py_node.specs.Texts.{Stands};
+ghost use Rattle.std.specs.Prelude.{◌≡◌, true, IfOk, OnErr};
 ghost use Rattle.py_node.specs.Tree.{tree_of};
 ghost use Rattle.class_world.specs.Reading.{Reading, Reads, plain};
 ghost use Rattle.class_world.specs.Sound.{Holds, Grows, IsName, IsExpression};
@@ -36,11 +35,8 @@ impl VirtualMachine {
         self.world.classes()
     }
 
-    /// The name of a text, which may be new: then the text gets the next number, and nothing else of the world changes.
+    /// The name of a text, which may be new.
     pub fn intern(&mut self, text: &str) -> Result<PyStrInterned, OutOfMemory>
-        ensures known { Stands self.old.world.names text.now → self.new.world ≡ self.old.world }
-        ensures added { OnOk result ((Stands self.old.world.names text.now → ⊥) →
-            self.new.world ≡ record self.old.world { names = self.old.world.names ++ text.now ∷ [] }) }
         ensures err { OnErr result (self.new.world ≡ self.old.world) }
         ensures spelled { IfOk result (λ x. (t : Reading) → Reads t self.new.world → t.text x.0 ≡ text.now) }
         ensures same { (t : Reading) → plain t self.new.world ≡ plain t self.old.world }
