@@ -1,17 +1,18 @@
 #!/usr/bin/env python3
 """Compares docs/PROVED.md with the contracts in the sources, and the kit's line of README.md with what rt says.
 
-A part of docs/PROVED.md is opened by a heading of three signs with the names of one or more crates in backquotes, and has
-tables of the rows `| call | clause | what it says |`. The first cell has calls, the second clauses, each in backquotes.
-What stands in braces is meant each by itself, and a star stands for all that fits, also for crates of a heading.
+A part of docs/PROVED.md is opened by a heading of three signs with the names of one or more crates in backquotes, and
+has tables of the rows `| call | clause | what it says |`. The first cell has calls, the second clauses, each in
+backquotes. Of several in braces each is meant by itself, and a star stands for all that fits, also for crates.
 
-A call is named as other crates name it: `begin` or `laws::resolve_mro` for a function, `World::slot` for a call of a type
-or of a trait, `World::is_*` for several, `*` for all calls of the crate. A clause is the name that follows `ensures`.
-`(result)` is a clause without a name, `(requires)` all that a call requires, and `requires NAME` one thing that it
-requires.
+A call is named as other crates name it: `begin` or `laws::resolve_mro` for a function, `World::slot` for a call of a
+type or of a trait, `World::is_*` for several, `*` for all calls of the crate. A clause is the name that follows
+`ensures`. `(result)` is a clause without a name, `(requires)` all that a call requires, and `requires NAME` one thing
+that it requires.
 
-Whatever is named stands in the source: each clause at each call of its row, in each crate of the heading; where the call
-has a star, at one of those that it stands for. And each clause of each public call of a library is in a row that fits.
+Whatever is named stands in the source: each clause at each call of its row, in each crate of the heading; where the
+call has a star, at one of those that it stands for. And each clause of each public call of a library is in a row that
+fits.
 """
 
 from __future__ import annotations
@@ -139,9 +140,9 @@ def rows(libraries: list[str]) -> Iterator[Row]:
         if line.startswith("#"):
             named = quoted(line) if line.startswith("### ") else ()
             crates = tuple(crate for name in named for crate in fitting(libraries, name) or [name])
-        elif crates and line.startswith("| `"):
-            calls, clauses = line.split("|")[1:3]
-            yield Row(number, crates, quoted(calls), quoted(clauses))
+        elif crates and line.startswith("|") and not line.startswith(("| call | clause |", "|---")):
+            cells = [quoted(cell) for cell in line.split("|")]
+            yield Row(number, crates, cells[1], cells[2] if len(cells) > 2 else ())
 
 
 def quoted(text: str) -> tuple[str, ...]:
@@ -158,16 +159,16 @@ def spread(cell: str) -> list[str]:
 
 def faults_of_rows(table: list[Row], calls: dict[str, list[Call]]) -> Iterator[str]:
     """What the rows name that is nowhere."""
+    for crate in sorted({crate for row in table for crate in row.crates} - calls.keys()):
+        yield f"docs/PROVED.md: there is no library {crate}"
     for row in table:
         place = f"docs/PROVED.md:{row.line}"
+        known = tuple(crate for crate in row.crates if crate in calls)
         if not (row.calls and row.clauses):
             yield f"{place}: a row names calls and clauses in backquotes"
-        for crate in row.crates:
-            if crate not in calls:
-                yield f"{place}: there is no library {crate}"
-        for pattern in row.calls:
-            for crates in [row.crates] if "*" in pattern else [(crate,) for crate in row.crates]:
-                meant = [call for crate in crates for call in calls.get(crate, []) if call.fits(pattern)]
+        for pattern in row.calls if known else ():
+            for crates in [known] if "*" in pattern else [(crate,) for crate in known]:
+                meant = [call for crate in crates for call in calls[crate] if call.fits(pattern)]
                 if not meant:
                     yield f"{place}: {' '.join(crates)} has no public call {pattern} with clauses"
                     continue
@@ -182,7 +183,7 @@ def untold(call: Call, table: Iterable[Row]) -> list[str]:
     told = {clause for row in table if any(call.fits(pattern) for pattern in row.calls) for clause in row.clauses}
     missing = sorted(call.ensures - told)
     if REQUIRES not in told:
-        missing += [f"requires {name}" if name else REQUIRES for name in call.requires if f"requires {name}" not in told]
+        missing += [f"requires {name}".rstrip() for name in call.requires if f"requires {name}" not in told]
     return missing
 
 
