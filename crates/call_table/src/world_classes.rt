@@ -3,8 +3,6 @@
 ghost use Rattle.std.specs.Prelude.{◌≡◌, ◌≤◌, IfOk};
 ghost use Rattle.class_world.specs.Sound.{Holds, IsClass};
 
-use crate::lists::{no_names, one_class};
-use crate::table::{NoValue, Table};
 use class_table::{ClassFault, Steps};
 use class_world::show::show;
 use class_world::{Fixed, World};
@@ -15,6 +13,8 @@ use py_node::{
 use script_text::write_classes;
 use std::marker::Brand;
 use std::sync::ledger::{Blank, Ledger};
+use table_lines::lists::{no_names, one_class};
+use table_lines::{NoValue, Table};
 
 pub fn put(table: &mut Table, world: &mut World) {
     table.put_text("World::new_heap", heap_class(world));

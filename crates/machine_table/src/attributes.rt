@@ -5,11 +5,11 @@ ghost use Rattle.class_world.specs.Claims.{of_method};
 ghost use Rattle.class_world.specs.Sound.{AllHold, Holds, IsName};
 
 use crate::asking::{UNITS, done, object, shown};
-use crate::table::{NoValue, Table};
 use class_world::args::alone;
 use class_world::show::show;
 use py_node::{Known, PyMethod, PyObjectRef, PyResult, PySetterValue, PyStrInterned};
 use std::alloc::Global;
+use table_lines::{NoValue, Table};
 use vm_calls::{
     call, call_set_attr, call_with_args, del_attr, generic_getattr, generic_getattr_opt,
     generic_setattr, get_attr, has_attr_obj, invoke, invoke_ref, method_get, set_attr_obj,

@@ -1,9 +1,9 @@
 //! What a machine is asked of objects: comparisons, truth, numbers, lengths, items, texts and classes.
 
 use crate::asking::{UNITS, done, object, of_one, of_two, shown, told_of_one, told_of_two};
-use crate::table::{NoValue, Table};
 use class_world::show::show;
 use py_node::{Answer, PyComparisonOp, PyResult};
+use table_lines::{NoValue, Table};
 use vm_calls::{
     _contains, bool_eq, bool_seq_gt, bool_seq_lt, del_item, dir, format, get_item, get_iter, hash,
     identical_or_equal, is_instance, is_subclass, is_true, length, length_hint, length_hint_opt,

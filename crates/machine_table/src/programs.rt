@@ -1,6 +1,5 @@
 //! What the program does: commands that are generated, and words and scripts that are served.
 
-use crate::table::{NoValue, Table};
 use generator::commands::{change_command, class_command};
 use generator::{Draws, Tally};
 use outside::{MemorySink, MemorySource};
@@ -8,6 +7,7 @@ use py_node::{Expr, OutOfMemory};
 use serve::Status;
 use serve::top::serve;
 use std::alloc::{AllocError, Global};
+use table_lines::{NoValue, Table};
 
 pub fn put(table: &mut Table, alloc: Global) {
     table.put("generator::class_command", class(alloc));

@@ -1,8 +1,8 @@
 //! What a machine gives for operators.
 
 use crate::asking::{UNITS, object, of_one, of_two, shown};
-use crate::table::{NoValue, Table};
 use py_node::PyNumberBinaryOp;
+use table_lines::{NoValue, Table};
 use vm_calls::{
     _abs, _add, _and, _divmod, _floordiv, _iadd, _iand, _ifloordiv, _ilshift, _imatmul, _imod,
     _imul, _invert, _ior, _ipow, _irshift, _isub, _itruediv, _ixor, _lshift, _matmul, _mod, _mul,

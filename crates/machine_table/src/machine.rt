@@ -4,8 +4,6 @@ ghost use Rattle.std.specs.Prelude.{IfOk};
 ghost use Rattle.class_world.specs.Sound.{Holds, IsClass};
 
 use crate::asking::{UNITS, bind_variables};
-use crate::lists::{no_names, one_class};
-use crate::table::{NoValue, Table};
 use class_table::ClassFault;
 use class_world::Fixed;
 use class_world::show::show;
@@ -14,6 +12,8 @@ use py_node::{
     PyResult, PyTypeRef, Task,
 };
 use std::alloc::Global;
+use table_lines::lists::{no_names, one_class};
+use table_lines::{NoValue, Table};
 use vm_eval::VirtualMachine;
 
 pub fn put(table: &mut Table, vm: &mut VirtualMachine, alloc: Global) {
