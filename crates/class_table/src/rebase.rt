@@ -1,6 +1,6 @@
 //! Other bases for a class: all or nothing.
 
-ghost use Rattle.std.specs.Prelude.{◌≡◌, true, None, Some, IfOk, OnOk, OnErr};
+ghost use Rattle.std.specs.Prelude.{◌≡◌, true, None, Some, IfOk, OnOk, OnErr, IsSome};
 ghost use Rattle.class_model.specs.Order.{is_distinct};
 ghost use Rattle.class_model.specs.Class.{is_class};
 ghost use Rattle.class_model.specs.Layout.{best_of};
@@ -188,6 +188,8 @@ pub(crate) fn rebase<L: Ledger>(
         with_bases (classes_of classes.old.items) class.0 (numbers bases.items)) }
     ensures err { OnErr result (classes.new.items ≡ classes.old.items) }
     ensures steps { NoneFalls steps.old steps.new }
+    ensures uncounted { IsSome (refused_change (classes_of classes.old.items) class.0 (numbers bases.items)) →
+        steps.new ≡ steps.old }
 {
     let best = match test_change(classes, class, &bases) {
         Ok(best) => best,
