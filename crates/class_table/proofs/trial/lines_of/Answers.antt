@@ -1,4 +1,4 @@
-use Rattle.std.proofs.Common.{◌≡◌, List, map, Some, sym, ap, ◌∙◌}
+use Rattle.std.proofs.Common.{List, map, Some, sym, ap, ◌∙◌}
 use Rattle.std.specs.Global.{Vec}
 use Rattle.py_node.specs.declared.refs.PyTypeRef.{PyTypeRef}
 use Rattle.mro_merge.specs.Lists.{rows}
