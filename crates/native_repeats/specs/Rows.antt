@@ -15,22 +15,27 @@ use Rattle.class_world.specs.declared.world.World.{World}
 use Rattle.class_world.specs.Reading.{Reading, bindings, task_of}
 use Rattle.class_world.specs.Rows as rows
 use Rattle.class_world.specs.Rows.{Group}
-use Rattle.class_world.specs.Sound.{Claim, Holding, IsNode}
+use Rattle.class_world.specs.Sound.{Claim, AreNodes, Holding, IsNode}
 use Rattle.native_repeats.specs.declared.RepeatKept.{RepeatKept}
 use Rattle.native_repeats.specs.Say.{entry_of, repeat_job_say}
 
 -- the row that goes on, at each answer, just as the row that the code keeps this for
 abbrev pub repeat_stands : Reading → RepeatKept → Pending PlainTask
-repeat_stands t k = record { task = ToNative (entry_of k.kind) [] []; told = ReadObjects (k.object ∷ []) ∷ [] }
+repeat_stands t k = record { task = ToNative (entry_of k.kind) [] []; told = ReadObjects (k.object ∷ k.items.items) ∷ [] }
 
 -- what a native changes in place is a list
 abbrev pub of_place : NativeEntry → PyObjectRef → List Claim
 of_place (OfList n) o = Holding o built_in.List ∷ []
 of_place n o = []
 
+-- the first argument of a native that changes its own in place
+abbrev pub of_first : NativeEntry → List PyObjectRef → List Claim
+of_first n [] = []
+of_first n (o ∷ args) = of_place n o
+
 -- what is said of what is kept
 abbrev pub of_repeat_kept : RepeatKept → List Claim
-of_repeat_kept k = IsNode k.object ∷ []
+of_repeat_kept k = IsNode k.object ∷ (AreNodes k.items.items ∷ of_place (entry_of k.kind) k.object)
 
 -- the group: its jobs, what they say, what goes on, and what is claimed of that
 abbrev pub repeat_group : Group Task PlainTask RepeatKept

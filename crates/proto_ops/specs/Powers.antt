@@ -8,7 +8,7 @@ use Rattle.py_node.specs.declared.entry.SlotEntry.{SlotEntry}
 use Rattle.py_node.specs.declared.entry.SlotEntry.TheVariants.{Native, Wrapper, Unhashable}
 use Rattle.py_node.specs.BuiltIns.{fixed_none}
 use Rattle.py_node.specs.Natives.{is_same_entry}
-use Rattle.py_node.specs.Slots.{is_slot}
+use Rattle.py_node.specs.Operators.{is_reflected}
 use Rattle.class_model.specs.Class.{is_sub}
 use Rattle.plain_machine.specs.Plain.{PlainWorld, DoEnter, DoEnterPower, DoPower, ToOperator, Ended, Said, Asks, Ends, Chose}
 use Rattle.plain_machine.specs.World.{class_at, slot_at, candidates_at, goes_first_at}
@@ -22,7 +22,7 @@ modulus c = cond (eqb c.0 fixed_none) [] (c ∷ [])
 
 abbrev pub enter_power_by : PlainWorld → SlotEntry → PyObjectRef → PyObjectRef → PyObjectRef → Said
 enter_power_by w (Native n) a b c = pass w (native_task n (a ∷ b ∷ c ∷ []) [])
-enter_power_by w (Wrapper s) a b c = enter_method w s (is_slot s RightPower) a b (modulus c)
+enter_power_by w (Wrapper s) a b c = enter_method w s (is_reflected s) a b (modulus c)
 enter_power_by w Unhashable a b c = Ends w elsewhere
 
 abbrev pub enter_power_say : PlainWorld → SlotEntry → PyObjectRef → PyObjectRef → PyObjectRef → Row

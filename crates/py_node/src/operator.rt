@@ -123,11 +123,11 @@ impl PyNumberBinaryOp {
 }
 
 impl SlotId {
-    /// Whether the slot is that of an operator for its right operand.
+    /// Whether the slot is that of an operator, or of a power, for its right operand.
     #[tactic(auto, unfolding(crate::specs::Operators::is_reflected))]
     pub fn is_reflected(self) -> bool
         ensures { result ≡ is_reflected self }
     {
-        operators().iter().any(|row| row.2 == self)
+        self == SlotId::RightPower || operators().iter().any(|row| row.2 == self)
     }
 }
