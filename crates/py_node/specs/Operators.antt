@@ -21,6 +21,10 @@ operators = OPERATORS
 unfoldable pub operator_row : PyNumberBinaryOp → OperatorRow
 operator_row o = slice_index_or operators (tag_of the_type o) (op.Add, slot.Add, slot.RightAdd, None)
 
--- whether a slot is that of an operator, or of a power, for its right operand
+-- whether a slot is that of an operator for its right operand
+unfoldable pub is_right : SlotId → Bool
+is_right s = list_any (λ r. is_slot r.2 s) operators
+
+-- the same, of powers too
 unfoldable pub is_reflected : SlotId → Bool
-is_reflected s = is_slot s slot.RightPower || list_any (λ r. is_slot r.2 s) operators
+is_reflected s = is_slot s slot.RightPower || is_right s
