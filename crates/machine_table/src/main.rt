@@ -5,7 +5,9 @@
 
 mod asking;
 mod attributes;
+mod changes;
 mod machine;
+mod makers;
 mod mappings;
 mod operators;
 mod programs;
@@ -33,6 +35,8 @@ fn put_machine(table: &mut Table, alloc: Global) {
     match VirtualMachine::new(alloc) {
         Ok(mut vm) => {
             machine::put(table, &mut vm, alloc);
+            changes::put(table, &mut vm);
+            makers::put(table, &mut vm, alloc);
             attributes::put(table, &mut vm, alloc);
             operators::put(table, &mut vm);
             questions::put(table, &mut vm);

@@ -8,11 +8,10 @@ use Rattle.plain_machine.specs.Plain.{Datum}
 use Rattle.plain_machine.specs.World.{with_node, next_node}
 use Rattle.class_world.specs.Held.{Held}
 use Rattle.class_world.specs.Reading.{Reading, Reads, plain}
-use Rattle.class_world.specs.Sound.{Holds, IsNode, Holding}
 
--- the plain world has one object more, of a built-in class and with what such objects hold; without memory it is as it was
+-- the plain world has one object more, of a built-in class and with this contents; without memory it is as it was
 abbrev pub Makes : Held → Held → BuiltIn → Datum → Result PyObjectRef OutOfMemory → Type 0
 Makes old new home datum (Ok r) =
     ((t : Reading) → Reads t new → plain t new ≡ with_node (plain t old) (place_of home) datum)
-    × (((t : Reading) → r ≡ next_node (plain t old) (place_of home)) × (Holds new (IsNode r) × Holds new (Holding r home)))
+    × ((t : Reading) → r ≡ next_node (plain t old) (place_of home))
 Makes old new home datum (Err e) = (t : Reading) → plain t new ≡ plain t old

@@ -25,7 +25,10 @@ use py_node::{OutOfMemory, PyObjectRef, PyTypeRef};
 impl VirtualMachine {
     /// A new native function of a definition, which isn't bound.
     pub fn build_function(&mut self, def: &PyMethodDef) -> Result<PyObjectRef, OutOfMemory>
-        ensures made { Makes self.old.world self.new.world built_in.BuiltinFunctionOrMethod (as_function (definition_of def.now) None) result }
+        ensures made { Makes self.old.world self.new.world built_in.BuiltinFunctionOrMethod
+            (as_function (definition_of def.now) None) result }
+        ensures node { IfOk result (λ r. Holds self.new.world (IsNode r)) }
+        ensures holding { IfOk result (λ r. Holds self.new.world (Holding r built_in.BuiltinFunctionOrMethod)) }
         ensures reads { (t : Reading) → Reads t self.new.world → Reads t self.old.world }
         ensures grows { Grows self.old.world self.new.world }
         ensures mark { MarkedBy self.old self.new result }
@@ -41,7 +44,10 @@ impl VirtualMachine {
         obj: PyObjectRef,
     ) -> Result<PyObjectRef, OutOfMemory>
         requires obj { Holds self.old.world (IsNode obj) }
-        ensures made { Makes self.old.world self.new.world built_in.BuiltinFunctionOrMethod (as_function (definition_of def.now) (Some obj)) result }
+        ensures made { Makes self.old.world self.new.world built_in.BuiltinFunctionOrMethod
+            (as_function (definition_of def.now) (Some obj)) result }
+        ensures node { IfOk result (λ r. Holds self.new.world (IsNode r)) }
+        ensures holding { IfOk result (λ r. Holds self.new.world (Holding r built_in.BuiltinFunctionOrMethod)) }
         ensures reads { (t : Reading) → Reads t self.new.world → Reads t self.old.world }
         ensures grows { Grows self.old.world self.new.world }
         ensures mark { MarkedBy self.old self.new result }
@@ -57,7 +63,10 @@ impl VirtualMachine {
         class: PyTypeRef,
     ) -> Result<PyObjectRef, OutOfMemory>
         requires class { Holds self.old.world (IsClass class.0) }
-        ensures made { Makes self.old.world self.new.world built_in.MethodDescriptor (as_method (definition_of def.now) class.0) result }
+        ensures made { Makes self.old.world self.new.world built_in.MethodDescriptor
+            (as_method (definition_of def.now) class.0) result }
+        ensures node { IfOk result (λ r. Holds self.new.world (IsNode r)) }
+        ensures holding { IfOk result (λ r. Holds self.new.world (Holding r built_in.MethodDescriptor)) }
         ensures reads { (t : Reading) → Reads t self.new.world → Reads t self.old.world }
         ensures grows { Grows self.old.world self.new.world }
         ensures mark { MarkedBy self.old self.new result }
@@ -75,7 +84,10 @@ impl VirtualMachine {
     ) -> Result<PyObjectRef, OutOfMemory>
         requires obj { Holds self.old.world (IsNode obj) }
         requires class { Holds self.old.world (IsClass class.0) }
-        ensures made { Makes self.old.world self.new.world built_in.BuiltinMethod (as_bound_method (definition_of def.now) obj class.0) result }
+        ensures made { Makes self.old.world self.new.world built_in.BuiltinMethod
+            (as_bound_method (definition_of def.now) obj class.0) result }
+        ensures node { IfOk result (λ r. Holds self.new.world (IsNode r)) }
+        ensures holding { IfOk result (λ r. Holds self.new.world (Holding r built_in.BuiltinMethod)) }
         ensures reads { (t : Reading) → Reads t self.new.world → Reads t self.old.world }
         ensures grows { Grows self.old.world self.new.world }
         ensures mark { MarkedBy self.old self.new result }
@@ -91,7 +103,10 @@ impl VirtualMachine {
         class: PyTypeRef,
     ) -> Result<PyObjectRef, OutOfMemory>
         requires class { Holds self.old.world (IsClass class.0) }
-        ensures made { Makes self.old.world self.new.world built_in.MethodDescriptor (as_method (definition_of def.now) class.0) result }
+        ensures made { Makes self.old.world self.new.world built_in.MethodDescriptor
+            (as_method (definition_of def.now) class.0) result }
+        ensures node { IfOk result (λ r. Holds self.new.world (IsNode r)) }
+        ensures holding { IfOk result (λ r. Holds self.new.world (Holding r built_in.MethodDescriptor)) }
         ensures reads { (t : Reading) → Reads t self.new.world → Reads t self.old.world }
         ensures grows { Grows self.old.world self.new.world }
         ensures mark { MarkedBy self.old self.new result }
@@ -106,7 +121,10 @@ impl VirtualMachine {
         def: &PyMethodDef,
         class: PyTypeRef,
     ) -> Result<PyObjectRef, OutOfMemory>
-        ensures made { Makes self.old.world self.new.world built_in.BuiltinFunctionOrMethod (as_function (definition_of def.now) None) result }
+        ensures made { Makes self.old.world self.new.world built_in.BuiltinFunctionOrMethod
+            (as_function (definition_of def.now) None) result }
+        ensures node { IfOk result (λ r. Holds self.new.world (IsNode r)) }
+        ensures holding { IfOk result (λ r. Holds self.new.world (Holding r built_in.BuiltinFunctionOrMethod)) }
         ensures reads { (t : Reading) → Reads t self.new.world → Reads t self.old.world }
         ensures grows { Grows self.old.world self.new.world }
         ensures mark { MarkedBy self.old self.new result }
@@ -124,7 +142,10 @@ impl VirtualMachine {
         requires class { Holds self.old.world (IsClass class.0) }
         requires read { Holds self.old.world (IsOffset class.0 (read_offset member.getter)) }
         requires set { Holds self.old.world (IsOffset class.0 (set_offset member.setter)) }
-        ensures made { Makes self.old.world self.new.world built_in.MemberDescriptor (as_member (member_of member) class.0) result }
+        ensures made { Makes self.old.world self.new.world built_in.MemberDescriptor
+            (as_member (member_of member) class.0) result }
+        ensures node { IfOk result (λ r. Holds self.new.world (IsNode r)) }
+        ensures holding { IfOk result (λ r. Holds self.new.world (Holding r built_in.MemberDescriptor)) }
         ensures reads { (t : Reading) → Reads t self.new.world → Reads t self.old.world }
         ensures grows { Grows self.old.world self.new.world }
         ensures mark { MarkedBy self.old self.new result }
@@ -136,7 +157,10 @@ impl VirtualMachine {
     /// A new object of `classmethod` for a callable.
     pub fn new_classmethod(&mut self, callable: PyObjectRef) -> Result<PyObjectRef, OutOfMemory>
         requires callable { Holds self.old.world (IsNode callable) }
-        ensures made { Makes self.old.world self.new.world built_in.ClassMethod (AClassMethod callable) result }
+        ensures made { Makes self.old.world self.new.world built_in.ClassMethod
+            (AClassMethod callable) result }
+        ensures node { IfOk result (λ r. Holds self.new.world (IsNode r)) }
+        ensures holding { IfOk result (λ r. Holds self.new.world (Holding r built_in.ClassMethod)) }
         ensures reads { (t : Reading) → Reads t self.new.world → Reads t self.old.world }
         ensures grows { Grows self.old.world self.new.world }
         ensures mark { MarkedBy self.old self.new result }
@@ -148,7 +172,10 @@ impl VirtualMachine {
     /// A new object of `staticmethod` for a callable.
     pub fn new_staticmethod(&mut self, callable: PyObjectRef) -> Result<PyObjectRef, OutOfMemory>
         requires callable { Holds self.old.world (IsNode callable) }
-        ensures made { Makes self.old.world self.new.world built_in.StaticMethod (AStaticMethod callable) result }
+        ensures made { Makes self.old.world self.new.world built_in.StaticMethod
+            (AStaticMethod callable) result }
+        ensures node { IfOk result (λ r. Holds self.new.world (IsNode r)) }
+        ensures holding { IfOk result (λ r. Holds self.new.world (Holding r built_in.StaticMethod)) }
         ensures reads { (t : Reading) → Reads t self.new.world → Reads t self.old.world }
         ensures grows { Grows self.old.world self.new.world }
         ensures mark { MarkedBy self.old self.new result }
