@@ -7,7 +7,7 @@ ghost use Rattle.class_world.specs.Sound.{AllHold, Holds, IsNode, of_node_ref};
 
 use crate::table::NoValue;
 use class_world::Fixed;
-use class_world::show::show;
+use world_text::show::show;
 use py_node::{PyObjectRef, PyResult};
 use script_text::read_script;
 use std::alloc::Global;

@@ -7,7 +7,7 @@ ghost use Rattle.class_world.specs.Sound.{AllHold, Holds, IsName};
 use crate::asking::{UNITS, done, object, shown};
 use crate::table::{NoValue, Table};
 use class_world::args::alone;
-use class_world::show::show;
+use world_text::show::show;
 use py_node::{Known, PyMethod, PyObjectRef, PyResult, PySetterValue, PyStrInterned};
 use std::alloc::Global;
 use vm_calls::{

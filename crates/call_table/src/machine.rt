@@ -8,7 +8,7 @@ use crate::lists::{no_names, one_class};
 use crate::table::{NoValue, Table};
 use class_table::ClassFault;
 use class_world::Fixed;
-use class_world::show::show;
+use world_text::show::show;
 use py_node::{
     Answer, BuiltIn, Constant, Expr, Known, OperatorTask, OutOfMemory, Payload, PyAttributes,
     PyResult, PyTypeRef, Task,

@@ -7,7 +7,7 @@ ghost use Rattle.class_world.specs.Sound.{Holds, IsClass, IsNode, IsOf};
 use crate::lists::{one_class, one_name};
 use crate::table::{NoValue, Table};
 use class_table::ClassFault;
-use class_world::show::show;
+use world_text::show::show;
 use class_world::{Fixed, World};
 use py_node::{BuiltIn, Known, Payload, PyAttributes, PyObjectRef, PySetterValue, PyTypeRef};
 

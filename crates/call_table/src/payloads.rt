@@ -5,7 +5,7 @@ ghost use Rattle.class_world.specs.Sound.{AllHold, Holds, IsClass, IsName, IsNod
 
 use crate::table::NoValue;
 use class_world::World;
-use class_world::show::show;
+use world_text::show::show;
 use py_node::{OutOfMemory, Payload, PyObjectRef, PyStrInterned, PyTypeRef};
 
 /// What a new node is that holds a native, or wraps an object.

@@ -2,7 +2,7 @@
 
 use crate::asking::{UNITS, done, object, of_one, of_two, shown, told_of_one, told_of_two};
 use crate::table::{NoValue, Table};
-use class_world::show::show;
+use world_text::show::show;
 use py_node::{Answer, PyComparisonOp, PyResult};
 use vm_calls::{
     _contains, bool_eq, bool_seq_gt, bool_seq_lt, del_item, dir, format, get_item, get_iter, hash,

@@ -6,7 +6,7 @@ ghost use Rattle.class_world.specs.Sound.{Holds, IsClass};
 use crate::lists::{no_names, one_class};
 use crate::table::{NoValue, Table};
 use class_table::{ClassFault, Steps};
-use class_world::show::show;
+use world_text::show::show;
 use class_world::{Fixed, World};
 use py_node::{
     BuiltIn, Known, NativeEntry, ObjectNative, PyAttributes, PyTypeFlags, PyTypeRef, SlotEntry,

@@ -5,8 +5,8 @@ ghost use Rattle.py_node.specs.declared.built_in.BuiltIn.TheVariants.{Dict};
 ghost use Rattle.class_world.specs.Sound.{Holds, Holding, IsNode};
 
 use crate::table::{NoValue, Table};
-use class_world::expressions::add_expr;
-use class_world::show::show;
+use world_text::expressions::add_expr;
+use world_text::show::show;
 use class_world::{Fixed, World};
 use py_node::{
     BuiltIn, Constant, Expr, Known, OutOfMemory, Payload, PyObjectRef, PyStrInterned, PyTypeRef,

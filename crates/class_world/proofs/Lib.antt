@@ -18,10 +18,8 @@ pub mod ClassChanges
 pub mod Look
 pub mod Built
 pub mod Stored
-pub mod Shown
 pub mod Defined
 pub mod StartSound
-pub mod ClassText
 pub mod SoundWorld
 pub mod NewNodes
 pub mod DictEntries

@@ -16,7 +16,7 @@ ghost use Rattle.vm_eval.specs.State.{MadeHeap, MarkedBy, MarkedAs};
 
 use crate::machine::VirtualMachine;
 use class_table::{ClassFault, ClassTable};
-use class_world::expressions;
+use world_text::expressions;
 use py_node::{Expr, OutOfMemory, PyAttributes, PyObjectRef, PyStrInterned, PyTypeRef};
 
 impl VirtualMachine {

@@ -11,8 +11,8 @@ ghost use Rattle.vm_eval.specs.Stack.{AsDeep, of_end, ending_of};
 ghost use Rattle.vm_eval.specs.Runs.{Replied, Runs};
 
 use crate::stack::{End, Kept, drive};
-use class_world::expressions::add_expr;
-use class_world::show::show;
+use world_text::expressions::add_expr;
+use world_text::show::show;
 use class_world::{Fixed, World};
 use py_node::{Answer, Command, EvalTask, OutOfMemory, PyObjectRef, Reply, ReplyAnswer, Task};
 
