@@ -36,3 +36,4 @@ pub mod SameLayout
 pub mod NewBases
 pub mod NodeMembers
 pub mod Reclassed
+pub mod MadeClass

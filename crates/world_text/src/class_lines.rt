@@ -13,8 +13,8 @@ ghost use Rattle.class_table.specs.Keys.{table_keys, numbers};
 ghost use Rattle.plain_machine.specs.ClassText.{slot_words, own_words, name_at, class_text, heap_text, classes_text};
 ghost use Rattle.class_world.specs.Reading.{Reading, Reads, plain};
 
-use class_world::World;
 use class_table::ClassTable;
+use class_world::World;
 use py_node::slots::slots;
 use py_node::{OutOfMemory, PyTypeRef, SlotEntry, SlotId, Sort};
 use reply_text::class::{push_class_head, push_class_member, push_end, push_slot, push_slots_head};

@@ -128,10 +128,7 @@ fn store_each(world: &mut World, exprs: &Vec<Expr>) -> Result<Vec<u64>, OutOfMem
 
 // The numbers of keys with those of their values, in order.
 #[cycle(store)]
-fn store_pairs(
-    world: &mut World,
-    pairs: &Vec<(Expr, Expr)>,
-) -> Result<Vec<(u64, u64)>, OutOfMemory>
+fn store_pairs(world: &mut World, pairs: &Vec<(Expr, Expr)>) -> Result<Vec<(u64, u64)>, OutOfMemory>
     ensures adds { Adds world.old world.new }
     ensures pairs { IfOk result (λ ps. HasPairs world.new ps.items (map pair_of pairs.now.items)) }
 {

@@ -8,8 +8,8 @@ ghost use Rattle.plain_machine.specs.Show.{show, class_name, plain_text, fixed_t
 ghost use Rattle.class_world.specs.Reading.{Reading, plain, datum};
 ghost use Rattle.class_world.specs.Sound.{IsNode, AreNodes, IsClass, Holds, AllHold, of_payload};
 
-use class_world::built_ins::{FALSE, NONE, NOT_IMPLEMENTED, TRUE};
 use class_world::World;
+use class_world::built_ins::{FALSE, NONE, NOT_IMPLEMENTED, TRUE};
 use py_node::{BuiltIn, OutOfMemory, Payload, PyObjectRef, PyTypeRef};
 use reply_text::escape::{escaped_string, quoted_string};
 use std::alloc::Global;
