@@ -118,3 +118,94 @@ pub form_of-returns-in_ok-items-in-Seq-clause-form : goal.form_of-returns-in_ok-
 form_of-returns-in_ok-items-in-Seq-clause-form t c =
     let k = c.in-Seq in
     seq-form k.items k.is c.in_ok-items-in-Seq.ensures.trees
+
+-- what each exit has added, step by step
+pub form_of-returns-in_err-value-in-Bind-clause-adds : goal.form_of-returns-in_err-value-in-Bind-clause-adds
+form_of-returns-in_err-value-in-Bind-clause-adds t c = adds-on c.name_of-in-Bind.ensures.adds c.store.ensures.adds
+
+pub form_of-returns-in_ok-value-in-Bind-clause-adds : goal.form_of-returns-in_ok-value-in-Bind-clause-adds
+form_of-returns-in_ok-value-in-Bind-clause-adds t c = adds-on c.name_of-in-Bind.ensures.adds c.store.ensures.adds
+
+pub form_of-returns-in_err-params-in-Func-clause-adds : goal.form_of-returns-in_err-params-in-Func-clause-adds
+form_of-returns-in_err-params-in-Func-clause-adds t c = adds-on c.name_of-in-Func.ensures.adds c.names_of.ensures.adds
+
+pub form_of-returns-in_err-body-in-Func-clause-adds : goal.form_of-returns-in_err-body-in-Func-clause-adds
+form_of-returns-in_err-body-in-Func-clause-adds t c = adds-on (adds-on c.name_of-in-Func.ensures.adds c.names_of.ensures.adds) c.store-in-Func.ensures.adds
+
+pub form_of-returns-in_ok-body-in-Func-clause-adds : goal.form_of-returns-in_ok-body-in-Func-clause-adds
+form_of-returns-in_ok-body-in-Func-clause-adds t c = adds-on (adds-on c.name_of-in-Func.ensures.adds c.names_of.ensures.adds) c.store-in-Func.ensures.adds
+
+pub form_of-returns-in_err-name-in-Attr-clause-adds : goal.form_of-returns-in_err-name-in-Attr-clause-adds
+form_of-returns-in_err-name-in-Attr-clause-adds t c = adds-on c.store-in-Attr.ensures.adds c.name_of-in-Attr.ensures.adds
+
+pub form_of-returns-in_ok-name-in-Attr-clause-adds : goal.form_of-returns-in_ok-name-in-Attr-clause-adds
+form_of-returns-in_ok-name-in-Attr-clause-adds t c = adds-on c.store-in-Attr.ensures.adds c.name_of-in-Attr.ensures.adds
+
+pub form_of-returns-in_err-name-in-SetAttr-clause-adds : goal.form_of-returns-in_err-name-in-SetAttr-clause-adds
+form_of-returns-in_err-name-in-SetAttr-clause-adds t c = adds-on c.store-in-SetAttr.ensures.adds c.name_of-in-SetAttr.ensures.adds
+
+pub form_of-returns-in_err-value-in-SetAttr-clause-adds : goal.form_of-returns-in_err-value-in-SetAttr-clause-adds
+form_of-returns-in_err-value-in-SetAttr-clause-adds t c = adds-on (adds-on c.store-in-SetAttr.ensures.adds c.name_of-in-SetAttr.ensures.adds) c.store-in-SetAttr-2.ensures.adds
+
+pub form_of-returns-in_ok-value-in-SetAttr-clause-adds : goal.form_of-returns-in_ok-value-in-SetAttr-clause-adds
+form_of-returns-in_ok-value-in-SetAttr-clause-adds t c = adds-on (adds-on c.store-in-SetAttr.ensures.adds c.name_of-in-SetAttr.ensures.adds) c.store-in-SetAttr-2.ensures.adds
+
+pub form_of-returns-in_err-name-in-DelAttr-clause-adds : goal.form_of-returns-in_err-name-in-DelAttr-clause-adds
+form_of-returns-in_err-name-in-DelAttr-clause-adds t c = adds-on c.store-in-DelAttr.ensures.adds c.name_of-in-DelAttr.ensures.adds
+
+pub form_of-returns-in_ok-name-in-DelAttr-clause-adds : goal.form_of-returns-in_ok-name-in-DelAttr-clause-adds
+form_of-returns-in_ok-name-in-DelAttr-clause-adds t c = adds-on c.store-in-DelAttr.ensures.adds c.name_of-in-DelAttr.ensures.adds
+
+pub form_of-returns-in_err-args-in-Call-clause-adds : goal.form_of-returns-in_err-args-in-Call-clause-adds
+form_of-returns-in_err-args-in-Call-clause-adds t c = adds-on c.store-in-Call.ensures.adds c.store_each-in-Call.ensures.adds
+
+pub form_of-returns-in_err-keywords-in-Call-clause-adds : goal.form_of-returns-in_err-keywords-in-Call-clause-adds
+form_of-returns-in_err-keywords-in-Call-clause-adds t c = adds-on (adds-on c.store-in-Call.ensures.adds c.store_each-in-Call.ensures.adds) c.store_entries.ensures.adds
+
+pub form_of-returns-in_ok-keywords-in-Call-clause-adds : goal.form_of-returns-in_ok-keywords-in-Call-clause-adds
+form_of-returns-in_ok-keywords-in-Call-clause-adds t c = adds-on (adds-on c.store-in-Call.ensures.adds c.store_each-in-Call.ensures.adds) c.store_entries.ensures.adds
+
+pub form_of-returns-in_err-then-in-If-clause-adds : goal.form_of-returns-in_err-then-in-If-clause-adds
+form_of-returns-in_err-then-in-If-clause-adds t c = adds-on c.store-in-If.ensures.adds c.store-in-If-2.ensures.adds
+
+pub form_of-returns-in_err-otherwise-in-If-clause-adds : goal.form_of-returns-in_err-otherwise-in-If-clause-adds
+form_of-returns-in_err-otherwise-in-If-clause-adds t c = adds-on (adds-on c.store-in-If.ensures.adds c.store-in-If-2.ensures.adds) c.store-in-If-3.ensures.adds
+
+pub form_of-returns-in_ok-otherwise-in-If-clause-adds : goal.form_of-returns-in_ok-otherwise-in-If-clause-adds
+form_of-returns-in_ok-otherwise-in-If-clause-adds t c = adds-on (adds-on c.store-in-If.ensures.adds c.store-in-If-2.ensures.adds) c.store-in-If-3.ensures.adds
+
+pub form_of-returns-in_err-bases-in-Class-clause-adds : goal.form_of-returns-in_err-bases-in-Class-clause-adds
+form_of-returns-in_err-bases-in-Class-clause-adds t c = adds-on c.name_of-in-Class.ensures.adds c.store_each-in-Class.ensures.adds
+
+pub form_of-returns-in_err-keywords-in-Class-clause-adds : goal.form_of-returns-in_err-keywords-in-Class-clause-adds
+form_of-returns-in_err-keywords-in-Class-clause-adds t c = adds-on (adds-on c.name_of-in-Class.ensures.adds c.store_each-in-Class.ensures.adds) c.store_entries-in-Class.ensures.adds
+
+pub form_of-returns-in_err-entries-in-Class-clause-adds : goal.form_of-returns-in_err-entries-in-Class-clause-adds
+form_of-returns-in_err-entries-in-Class-clause-adds t c = adds-on (adds-on (adds-on c.name_of-in-Class.ensures.adds c.store_each-in-Class.ensures.adds) c.store_entries-in-Class.ensures.adds) c.store_entries-in-Class-2.ensures.adds
+
+pub form_of-returns-in_ok-entries-in-Class-clause-adds : goal.form_of-returns-in_ok-entries-in-Class-clause-adds
+form_of-returns-in_ok-entries-in-Class-clause-adds t c = adds-on (adds-on (adds-on c.name_of-in-Class.ensures.adds c.store_each-in-Class.ensures.adds) c.store_entries-in-Class.ensures.adds) c.store_entries-in-Class-2.ensures.adds
+
+pub store_each-returns-in_err-store-clause-adds : goal.store_each-returns-in_err-store-clause-adds
+store_each-returns-in_err-store-clause-adds t c = adds-on c.loop-expr.invariant.adds c.store.ensures.adds
+
+pub store_each-returns-in_err-push-clause-adds : goal.store_each-returns-in_err-push-clause-adds
+store_each-returns-in_err-push-clause-adds t c = adds-on c.loop-expr.invariant.adds c.store.ensures.adds
+
+pub store_pairs-returns-in_err-key-clause-adds : goal.store_pairs-returns-in_err-key-clause-adds
+store_pairs-returns-in_err-key-clause-adds t c = adds-on c.loop-key.invariant.adds c.store.ensures.adds
+
+pub store_pairs-returns-in_err-value-clause-adds : goal.store_pairs-returns-in_err-value-clause-adds
+store_pairs-returns-in_err-value-clause-adds t c = adds-on c.loop-key.invariant.adds (adds-on c.store.ensures.adds c.store-in-loop-key.ensures.adds)
+
+pub store_pairs-returns-in_err-push-clause-adds : goal.store_pairs-returns-in_err-push-clause-adds
+store_pairs-returns-in_err-push-clause-adds t c = adds-on c.loop-key.invariant.adds (adds-on c.store.ensures.adds c.store-in-loop-key.ensures.adds)
+
+pub store_entries-returns-in_err-name-clause-adds : goal.store_entries-returns-in_err-name-clause-adds
+store_entries-returns-in_err-name-clause-adds t c = adds-on c.loop-name.invariant.adds c.name_of.ensures.adds
+
+pub store_entries-returns-in_err-number-clause-adds : goal.store_entries-returns-in_err-number-clause-adds
+store_entries-returns-in_err-number-clause-adds t c = adds-on c.loop-name.invariant.adds (adds-on c.name_of.ensures.adds c.store.ensures.adds)
+
+pub store_entries-returns-in_err-push-clause-adds : goal.store_entries-returns-in_err-push-clause-adds
+store_entries-returns-in_err-push-clause-adds t c = adds-on c.loop-name.invariant.adds (adds-on c.name_of.ensures.adds c.store.ensures.adds)
