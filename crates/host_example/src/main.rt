@@ -8,7 +8,7 @@ ghost use Rattle.vm_eval.specs.Asks.{of_done};
 
 use class_table::ClassFault;
 use class_world::Fixed;
-use class_world::show::show;
+use world_text::show::show;
 use py_node::{
     BuiltIn, Command, Constant, Expr, OutOfMemory, PyAttributes, PyNumberBinaryOp, PyObjectRef,
     PyResult, PyStrInterned, PyTypeRef, Reply, ReplyAnswer, Word,

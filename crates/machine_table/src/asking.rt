@@ -6,12 +6,12 @@ ghost use Rattle.vm_eval.specs.Asks.{of_done};
 ghost use Rattle.class_world.specs.Sound.{AllHold, Holds, IsNode, of_node_ref};
 
 use class_world::Fixed;
-use class_world::show::show;
 use py_node::{PyObjectRef, PyResult};
 use script_text::read_script;
 use std::alloc::Global;
 use table_lines::NoValue;
 use vm_eval::{RunFault, VirtualMachine};
+use world_text::show::show;
 
 /// How many units each question may spend.
 pub const UNITS: u64 = 1000;

@@ -6,7 +6,6 @@ ghost use Rattle.class_world.specs.Sound.{AllHold, Holds, IsName};
 
 use crate::asking::{UNITS, done, object, shown};
 use class_world::args::alone;
-use class_world::show::show;
 use py_node::{Known, PyMethod, PyObjectRef, PyResult, PySetterValue, PyStrInterned};
 use std::alloc::Global;
 use table_lines::{NoValue, Table};
@@ -15,6 +14,7 @@ use vm_calls::{
     generic_setattr, get_attr, has_attr_obj, invoke, invoke_ref, method_get, set_attr_obj,
 };
 use vm_eval::VirtualMachine;
+use world_text::show::show;
 
 pub fn put(table: &mut Table, vm: &mut VirtualMachine, alloc: Global) {
     table.put_text("vm_calls::get_attr", got(vm));

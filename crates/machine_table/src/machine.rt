@@ -6,7 +6,6 @@ ghost use Rattle.class_world.specs.Sound.{Holds, IsClass};
 use crate::asking::{UNITS, bind_variables};
 use class_table::ClassFault;
 use class_world::Fixed;
-use class_world::show::show;
 use py_node::{
     Answer, BuiltIn, Constant, Expr, Known, OperatorTask, OutOfMemory, Payload, PyAttributes,
     PyResult, PyTypeRef, Task,
@@ -15,6 +14,7 @@ use std::alloc::Global;
 use table_lines::lists::{no_names, one_class};
 use table_lines::{NoValue, Table};
 use vm_eval::VirtualMachine;
+use world_text::show::show;
 
 pub fn put(table: &mut Table, vm: &mut VirtualMachine, alloc: Global) {
     table.tell("VirtualMachine::new", &vm.has_failed());

@@ -1,7 +1,6 @@
 //! What a machine is asked of objects: comparisons, truth, numbers, lengths, items, texts and classes.
 
 use crate::asking::{UNITS, done, object, of_one, of_two, shown, told_of_one, told_of_two};
-use class_world::show::show;
 use py_node::{Answer, PyComparisonOp, PyResult};
 use table_lines::{NoValue, Table};
 use vm_calls::{
@@ -11,6 +10,7 @@ use vm_calls::{
     try_index_opt, try_int,
 };
 use vm_eval::VirtualMachine;
+use world_text::show::show;
 
 pub fn put(table: &mut Table, vm: &mut VirtualMachine) {
     put_comparisons(table, vm);

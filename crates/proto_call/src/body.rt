@@ -20,7 +20,7 @@ use crate::CallKept;
 use crate::parameters::{all_filled, left_over, single, with_keywords};
 use class_world::World;
 use class_world::args::{copy_args, filled};
-use class_world::show::show;
+use world_text::show::show;
 use py_node::task::{Args, Keywords};
 use py_node::{
     BodyCall, BuiltIn, Cause, EvalTask, Function, OutOfMemory, Payload, PyAttributes, PyObjectRef,

@@ -5,7 +5,7 @@ ghost use Rattle.plain_machine.specs.ClassText.{classes_text};
 ghost use Rattle.class_world.specs.Reading.{Reading, Reads, plain};
 
 use class_world::World;
-use class_world::class_lines::push_classes;
+use world_text::class_lines::push_classes;
 use py_node::OutOfMemory;
 pub use reply_text::write::write_replies;
 use std::alloc::Global;

@@ -9,8 +9,8 @@ ghost use Rattle.vm_eval.specs.State.{MarkedBy};
 
 use crate::machine::VirtualMachine;
 use class_table::ClassTable;
-use class_world::expressions::add_expr;
 use py_node::{Expr, OutOfMemory, PyStrInterned};
+use world_text::expressions::add_expr;
 
 impl VirtualMachine {
     /// Whether the machine has failed: some call found no memory, or a layer above said so.
