@@ -26,7 +26,7 @@ pub fn put(table: &mut Table, world: &mut World) {
     table.put_text("World::bind", bound(world));
     table.put_text("World::make_node", made_number(world));
     table.put_text("World::set_value_in", value_in_dict(world));
-    table.put_text("class_world::show", shown_dict(world));
+    table.put_text("world_text::show", shown_dict(world));
     table.put(
         "class_world::add_expr",
         add_expr(world, &Expr::Const(Constant::Int(33))),

@@ -5,7 +5,6 @@ ghost use Rattle.class_world.specs.Sound.{Holds, IsClass};
 
 use class_table::{ClassFault, Steps};
 use class_world::Fixed;
-use class_world::show::show;
 use native_defs::PyMethodDef;
 use py_node::{
     BuiltIn, Known, NativeEntry, PyAttributes, PyMethodFlags, PyTypeFlags, PyTypeRef, StrNative,
@@ -15,6 +14,7 @@ use std::sync::ledger::{Blank, Ledger};
 use table_lines::lists::one_class;
 use table_lines::{NoValue, Table};
 use vm_eval::VirtualMachine;
+use world_text::show::show;
 
 pub fn put(table: &mut Table, vm: &mut VirtualMachine) {
     table.put_text("VirtualMachine::new_simple_heap", simple_class(vm));

@@ -4,7 +4,6 @@ ghost use Rattle.std.specs.Prelude.{IfOk};
 ghost use Rattle.class_world.specs.Sound.{Holds, IsNode};
 
 use class_world::Fixed;
-use class_world::show::show;
 use native_defs::{PyMemberDef, PyMethodDef};
 use py_node::{
     BuiltIn, MemberGetter, MemberKind, MemberSetter, NativeEntry, OutOfMemory, PyMethodFlags,
@@ -13,6 +12,7 @@ use py_node::{
 use std::alloc::Global;
 use table_lines::{NoValue, Table};
 use vm_eval::VirtualMachine;
+use world_text::show::show;
 
 const UPPER: NativeEntry = NativeEntry::OfStr(StrNative::Upper);
 
