@@ -28,7 +28,7 @@ pub fn put(table: &mut Table, world: &mut World) {
     table.put_text("World::set_value_in", value_in_dict(world));
     table.put_text("world_text::show", shown_dict(world));
     table.put(
-        "class_world::add_expr",
+        "world_text::add_expr",
         add_expr(world, &Expr::Const(Constant::Int(33))),
     );
 }
