@@ -28,14 +28,9 @@ abbrev pub of_place : NativeEntry → PyObjectRef → List Claim
 of_place (OfList n) o = Holding o built_in.List ∷ []
 of_place n o = []
 
--- the first argument of a native that changes its own in place
-abbrev pub of_first : NativeEntry → List PyObjectRef → List Claim
-of_first n [] = []
-of_first n (o ∷ args) = of_place n o
-
 -- what is said of what is kept
 abbrev pub of_repeat_kept : RepeatKept → List Claim
-of_repeat_kept k = IsNode k.object ∷ (AreNodes k.items.items ∷ of_place (entry_of k.kind) k.object)
+of_repeat_kept k = IsNode k.object ∷ (AreNodes k.items.items ∷ [])
 
 -- the group: its jobs, what they say, what goes on, and what is claimed of that
 abbrev pub repeat_group : Group Task PlainTask RepeatKept

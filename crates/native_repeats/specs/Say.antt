@@ -58,8 +58,12 @@ repeat_by_name w n [] kw = Ends w (fault ArgCount)
 repeat_by_name w n (o ∷ args) kw = repeat_of w (sequence_for n (datum_at w o)) (o ∷ args) kw
 
 -- an object is repeated, a list with the items that it had
+abbrev pub list_stood : PlainWorld → NativeEntry → PyObjectRef → List PyObjectRef → ℤ → Option Datum → Said
+list_stood w n o rs z (Some (AList now)) = with_times w z rs (list_repeated w n o)
+list_stood w n o rs z _ = Ends w (fault SelfType)
+
 abbrev pub repeat_stood : PlainWorld → NativeEntry → PyObjectRef → List PyObjectRef → ℤ → Said
-repeat_stood w (OfList n) o rs z = with_times w z rs (list_repeated w (OfList n) o)
+repeat_stood w (OfList n) o rs z = list_stood w (OfList n) o rs z (datum_at w o)
 repeat_stood w n o rs z = native_repeat w n o z
 
 abbrev pub repeat_rest : PlainWorld → NativeEntry → List PyObjectRef → Ended → Row

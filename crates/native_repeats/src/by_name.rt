@@ -1,9 +1,7 @@
 //! Repetition by name.
 
-ghost use Rattle.std.specs.Prelude.{◌≡◌, ◌×◌, [], ◌∷◌, Err, IfErr, IfOk, None, Ok, Some, option_map};
+ghost use Rattle.std.specs.Prelude.{◌≡◌, [], ◌∷◌, Err, IfErr, IfOk, IfSome, Ok, option_map};
 ghost use Rattle.py_node.specs.declared.task.Answer.TheVariants as answer;
-ghost use Rattle.py_node.specs.declared.raised.Cause.TheVariants.{SelfType};
-ghost use Rattle.plain_machine.specs.Row.{raised};
 ghost use Rattle.plain_machine.specs.Plain.{Asks, Bindings, DoIndex, Ends, ReadObjects, ToProtocol};
 ghost use Rattle.plain_machine.specs.Takes.{with_two};
 ghost use Rattle.plain_machine.specs.World.{datum_at};
@@ -11,7 +9,7 @@ ghost use Rattle.class_world.specs.Claims.{Leaves};
 ghost use Rattle.class_world.specs.Reading.{Reading, plain};
 ghost use Rattle.class_world.specs.Sound.{AllHold, AreNodes, Holds, IsNode};
 ghost use Rattle.native_base.specs.Repeats.{sequence_for};
-ghost use Rattle.native_repeats.specs.Rows.{Resumes, of_first, of_place, of_repeat_kept};
+ghost use Rattle.native_repeats.specs.Rows.{Resumes, of_repeat_kept};
 ghost use Rattle.native_repeats.specs.Say.{entry_of, repeat_by_name, stood};
 
 use crate::RepeatKept;
@@ -40,38 +38,36 @@ pub(crate) fn standing(
     ensures refused { IfOk result (λ r. IfErr r (λ x. (t : Reading) (kw : Bindings) →
         repeat_by_name (plain t world.now) (entry_of kind) args.now kw ≡ Ends (plain t world.now) (Err x))) }
     ensures items { IfOk result (λ r. IfOk r (λ rs. Holds world.now (AreNodes rs.items))) }
-    ensures place { IfOk result (λ r. IfOk r (λ rs. AllHold world.now (of_first (entry_of kind) args.now))) }
 {
     match args {
         [] => Ok(Err(Raised::new(Cause::ArgCount))),
-        [object, ..] => standing_of(world, kind, *object),
+        [object, ..] => match items_of(world, kind, *object)? {
+            None => Ok(Err(Raised::new(Cause::SelfType))),
+            Some(items) => Ok(Ok(items)),
+        },
     }
 }
 
-// The same of an object.
-fn standing_of(
-    world: &World,
-    kind: Repeated,
-    object: PyObjectRef,
-) -> Result<Result<Args, Raised>, OutOfMemory>
+// The same of an object, if a native repeats it.
+fn items_of(world: &World, kind: Repeated, object: PyObjectRef) -> Result<Option<Args>, OutOfMemory>
     requires { Holds world.now (IsNode object) }
-    ensures given { IfOk result (λ r. IfOk r (λ rs. (t : Reading) →
-        option_map stood (sequence_for (entry_of kind) (datum_at (plain t world.now) object)) ≡ Some rs.items)) }
-    ensures refused { IfOk result (λ r. IfErr r (λ x. (x ≡ raised SelfType) × ((t : Reading) →
-        sequence_for (entry_of kind) (datum_at (plain t world.now) object) ≡ None))) }
-    ensures items { IfOk result (λ r. IfOk r (λ rs. Holds world.now (AreNodes rs.items))) }
-    ensures place { IfOk result (λ r. IfOk r (λ rs. AllHold world.now (of_place (entry_of kind) object))) }
+    ensures stood { IfOk result (λ o. (t : Reading) →
+        option_map stood (sequence_for (entry_of kind) (datum_at (plain t world.now) object)) ≡
+        option_map (λ rs. rs.items) o) }
+    ensures items { IfOk result (λ o. IfSome o (λ rs. Holds world.now (AreNodes rs.items))) }
 {
     match (kind, world.payload(object)) {
-        (Repeated::Text | Repeated::RightText, Payload::Text(_)) => Ok(Ok(Vec::new(world.alloc()))),
+        (Repeated::Text | Repeated::RightText, Payload::Text(_)) => {
+            Ok(Some(Vec::new(world.alloc())))
+        }
         (Repeated::Tuple | Repeated::RightTuple, Payload::Tuple(_)) => {
-            Ok(Ok(Vec::new(world.alloc())))
+            Ok(Some(Vec::new(world.alloc())))
         }
         (Repeated::List | Repeated::RightList | Repeated::ListInPlace, Payload::List(items)) => {
             let items = Vec::from_slice(world.alloc(), items)?;
-            Ok(Ok(items))
+            Ok(Some(items))
         }
-        _ => Ok(Err(Raised::new(Cause::SelfType))),
+        _ => Ok(None),
     }
 }
 

@@ -66,15 +66,17 @@ pub(crate) fn repeat_stood(
 ) -> Result<Result<Answer, Raised>, OutOfMemory>
     requires object { Holds world.old (IsNode object) }
     requires items { Holds world.old (AreNodes items.now) }
-    requires place { AllHold world.old (of_place entry object) }
     ensures ends { IfOk result (λ r. EndsAs (λ t u. repeat_stood u entry object items.now n) world.old world.new r) }
     ensures safe { LeavesEnd world.old world.new result }
 {
     match entry {
-        NativeEntry::OfList(_) => {
-            let all = repeat_items(world.alloc(), items, n)?;
-            end_with(world, entry, object, all)
-        }
+        NativeEntry::OfList(_) => match world.payload(object) {
+            Payload::List(_) => {
+                let all = repeat_items(world.alloc(), items, n)?;
+                end_with(world, entry, object, all)
+            }
+            _ => Ok(Err(Raised::new(Cause::SelfType))),
+        },
         _ => native_repeat(world, entry, object, n),
     }
 }

@@ -1,5 +1,5 @@
 -- What makes an object in the world of a machine.
-use Rattle.std.specs.Prelude.{◌≡◌, ◌×◌, ℕ, Result, Ok, Err}
+use Rattle.std.specs.Prelude.{◌≡◌, ℕ, Result, Ok, Err}
 use Rattle.py_node.specs.BuiltIns.{place_of}
 use Rattle.py_node.specs.declared.built_in.BuiltIn.{BuiltIn}
 use Rattle.py_node.specs.declared.memory.OutOfMemory.{OutOfMemory}
