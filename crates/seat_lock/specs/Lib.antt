@@ -1,0 +1,6 @@
+pub mod Known
+pub mod History
+pub mod Rule
+pub mod Places
+pub mod Seats
+pub mod Ending
