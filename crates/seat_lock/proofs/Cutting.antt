@@ -8,6 +8,7 @@ use lib.ListN.{get_elem?}
 use Rattle.atomic_table.specs.Table.{Splits, Joins}
 use Rattle.atomic_table.proofs.Lists.{set_else, set_again, at_longer}
 use Rattle.seat_lock.specs.declared.history.Turn.{Turn}
+use Rattle.seat_lock.specs.declared.seat.TheConstants.{MOST_TURNS}
 use Rattle.seat_lock.specs.declared.board.Account.{Account}
 use Rattle.seat_lock.specs.declared.board.View.{View}
 use Rattle.seat_lock.specs.declared.board.Stage.TheVariants.{Idle, Holds}
@@ -60,7 +61,7 @@ module _ {T E : Type 0} (stands : T → List (Turn E) → Type 0) (seats : ℕ) 
       let s0 = total_snoc seats_of s.views w in
       let same : total tickets s.views ≡ total tickets (s.views ++ w ∷ []) = omega arith in
       let fits : (j : ℕ) → Fits k.log n k.owner k.drawer j w =
-      λ j. record { seen = mine.seen; told = prefix_nil k.log; owned = All-nil (λ (a : Account E). (k.owner a.number ≡ j) × Agrees k.log a); few = (let z : 0 + 0 ≤ 4294967295 * 0 = omega arith in z); stage = tt } in
+      λ j. record { seen = mine.seen; told = prefix_nil k.log; owned = All-nil (λ (a : Account E). (k.owner a.number ≡ j) × Agrees k.log a); few = (let z : 0 + 0 ≤ MOST_TURNS * 0 = omega arith in z); stage = tt } in
       let each' : (j : ℕ) (u : View E) → get_elem? (s.views ++ w ∷ []) j ≡ some u → Fits k.log n k.owner k.drawer j u =
       λ j u e. elim (at_end s.views w u j e) [ inl g ↦ k.each j u g.1 | inr g ↦ subst (λ (y : View E). Fits k.log n k.owner k.drawer j y) g.1 (fits j) ] in
       let kept : HasOneHistory stands seats (record { words = s.words; homes = s.homes; views = s.views ++ w ∷ [] }) =
@@ -121,7 +122,7 @@ module _ {T E : Type 0} (stands : T → List (Turn E) → Type 0) (seats : ℕ) 
         seen = mine.seen;
         told = mine.told;
         owned = subst (All (λ (a : Account E). (owner' a.number ≡ id) × Agrees k.log a)) (sym left_is) kept_rows;
-        few = (let f = mine.few in let z : turns_made left + tickets v ≤ 4294967295 * seats_of left = omega arith in z);
+        few = (let f = mine.few in let z : turns_made left + tickets v ≤ MOST_TURNS * seats_of left = omega arith in z);
         stage = mine.stage;
       } in
       let fits_r : Fits k.log count owner' k.drawer new right =
@@ -130,7 +131,7 @@ module _ {T E : Type 0} (stands : T → List (Turn E) → Type 0) (seats : ℕ) 
         told = prefix_nil k.log;
         owned = subst (All (λ (a : Account E). (owner' a.number ≡ new) × Agrees k.log a)) (sym right_is)
             (All-cons (λ (a : Account E). (owner' a.number ≡ new) × Agrees k.log a) (account number []) [] (changed_here k.owner number new number refl, head.1) (All-nil (λ (a : Account E). (owner' a.number ≡ new) × Agrees k.log a)));
-        few = (let z : turns_made right + 0 ≤ 4294967295 * seats_of right = omega arith in z);
+        few = (let z : turns_made right + 0 ≤ MOST_TURNS * seats_of right = omega arith in z);
         stage = tt;
       } in
       let others : (j : ℕ) (u : View E) → j ≢ id → get_elem? s.views j ≡ some u → Fits k.log count owner' k.drawer j u =
@@ -195,7 +196,7 @@ module _ {T E : Type 0} (stands : T → List (Turn E) → Type 0) (seats : ℕ) 
         seen = mine.seen;
         told = theirs.seen;
         owned = All-append (λ (a : Account E). (owner' a.number ≡ id) × Agrees k.log a) w.accounts v.accounts theirs_in mine_in;
-        few = (let f = mine.few in let f' = theirs.few in let z : turns_made both + tickets v ≤ 4294967295 * seats_of both = omega arith in z);
+        few = (let f = mine.few in let f' = theirs.few in let z : turns_made both + tickets v ≤ MOST_TURNS * seats_of both = omega arith in z);
         stage = mine.stage;
       } in
       let fits_s : Fits k.log count owner' k.drawer other spent =
@@ -203,7 +204,7 @@ module _ {T E : Type 0} (stands : T → List (Turn E) → Type 0) (seats : ℕ) 
         seen = prefix_nil k.log;
         told = prefix_nil k.log;
         owned = All-nil (λ (a : Account E). (owner' a.number ≡ other) × Agrees k.log a);
-        few = (let z : 0 + 0 ≤ 4294967295 * 0 = omega arith in z);
+        few = (let z : 0 + 0 ≤ MOST_TURNS * 0 = omega arith in z);
         stage = tt;
       } in
       let others : (j : ℕ) (u : View E) → j ≢ id → get_elem? s.views j ≡ some u → j ≢ other → Fits k.log count owner' k.drawer j u =

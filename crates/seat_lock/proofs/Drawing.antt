@@ -5,6 +5,7 @@ use mathlib.Core.Option.{some, none}
 use lib.ListN.{get_elem?}
 use Rattle.atomic_table.specs.Table.{State, step, keeps, Allows}
 use Rattle.seat_lock.specs.declared.history.Turn.{Turn}
+use Rattle.seat_lock.specs.declared.seat.TheConstants.{MOST_TURNS}
 use Rattle.seat_lock.specs.declared.board.View.{View}
 use Rattle.seat_lock.specs.declared.board.Stage.{Stage}
 use Rattle.seat_lock.specs.declared.board.Stage.TheVariants.{Idle, Waits, Holds}
@@ -17,8 +18,8 @@ module _ {T E : Type 0} (stands : T → List (Turn E) → Type 0) (seats : ℕ) 
   -- the words stay below their end
   pub roomy : (s : State (Option T) (View E)) → (k : HasOneHistory stands seats s) → length k.log + total tickets s.views ≤ 18446744065119617025
   roomy s k =
-      let each : (j : ℕ) (u : View E) → get_elem? s.views j ≡ some u → turns_made u + tickets u ≤ 4294967295 * seats_of u = λ j u e. (k.each j u e).few in
-      let b = total_bound turns_made tickets seats_of 4294967295 s.views each in
+      let each : (j : ℕ) (u : View E) → get_elem? s.views j ≡ some u → turns_made u + tickets u ≤ MOST_TURNS * seats_of u = λ j u e. (k.each j u e).few in
+      let b = total_bound turns_made tickets seats_of MOST_TURNS s.views each in
       let few = k.few in let same = k.seats_are in let made = k.made in omega arith
 
   -- what the others know does not change
@@ -30,7 +31,7 @@ module _ {T E : Type 0} (stands : T → List (Turn E) → Type 0) (seats : ℕ) 
       waits (Waits t) h = (changed_else drawer ticket id t (λ same. (let lt = h.2 in omega arith)) ∙ h.0, h.1, (let lt = h.2 in omega arith))
       waits (Holds t) h = (changed_else drawer ticket id t (λ same. (let lt = h.2 in omega arith)) ∙ h.0, h.1, (let lt = h.2 in omega arith), h.3)
 
-  pub draws : (slots id : ℕ) (me : Hand T E) → me.0.stage ≡ Idle → turns_made me.0 + 1 ≤ 4294967295 * seats_of me.0
+  pub draws : (slots id : ℕ) (me : Hand T E) → me.0.stage ≡ Idle → turns_made me.0 + 1 ≤ MOST_TURNS * seats_of me.0
       → Allows (HasOneHistory stands seats) slots id me 0 (λ n. (n + 1) % 2 ^ 64) (drawn (step slots 0 1 0 none) me)
   draws slots id me idle few s k _ at _ =
       let n : ℕ = length k.log + total tickets s.views in

@@ -9,6 +9,7 @@ use native.Mathlib.Decide.{ℕ_discrete}
 use lib.ListN.{get_elem?}
 use Rattle.atomic_table.specs.Table.{opening, Final, Seen}
 use Rattle.seat_lock.specs.declared.history.Turn.{Turn}
+use Rattle.seat_lock.specs.declared.seat.TheConstants.{MOST_TURNS}
 use Rattle.seat_lock.specs.declared.board.Account.{Account}
 use Rattle.seat_lock.specs.declared.board.View.{View}
 use Rattle.seat_lock.specs.declared.board.Stage.TheVariants.{Idle, Holds}
@@ -46,7 +47,7 @@ module _ {T E : Type 0} (stands : T → List (Turn E) → Type 0) (seats : ℕ) 
       }
     where
       first : Fits {E = E} [] 0 (λ _. 0) (λ _. 0) 0 (founder seats)
-      first = record { seen = prefix_nil []; told = prefix_nil []; owned = blanks_true E 0 seats; few = (let m = blanks_made E 0 seats in let z : turns_made (founder {E = E} seats) + 0 ≤ 4294967295 * seats_of (founder {E = E} seats) = omega arith in z); stage = tt }
+      first = record { seen = prefix_nil []; told = prefix_nil []; owned = blanks_true E 0 seats; few = (let m = blanks_made E 0 seats in let z : turns_made (founder {E = E} seats) + 0 ≤ MOST_TURNS * seats_of (founder {E = E} seats) = omega arith in z); stage = tt }
 
       one : (j : ℕ) (u : View E) → get_elem? (founder {E = E} seats ∷ []) j ≡ some u → Fits {E = E} [] 0 (λ _. 0) (λ _. 0) j u
       one zero u e = subst (Fits {E = E} [] 0 (λ _. 0) (λ _. 0) 0) (some-injective _ _ e) first

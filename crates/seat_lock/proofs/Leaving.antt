@@ -7,6 +7,7 @@ use mathlib.Core.Option.{some, none}
 use lib.ListN.{get_elem?}
 use Rattle.atomic_table.specs.Table.{State, step, gives, put_back, rest, Allows}
 use Rattle.seat_lock.specs.declared.history.Turn.{Turn}
+use Rattle.seat_lock.specs.declared.seat.TheConstants.{MOST_TURNS}
 use Rattle.seat_lock.specs.declared.board.Account.{Account}
 use Rattle.seat_lock.specs.declared.board.View.{View}
 use Rattle.seat_lock.specs.declared.board.Stage.{Stage}
@@ -65,7 +66,7 @@ module _ {T E : Type 0} (stands : T → List (Turn E) → Type 0) (seats : ℕ) 
       let own = All-head (λ (a : Account E). (k.owner a.number ≡ id) × Agrees k.log a) (account number made) [] (subst (All (λ (a : Account E). (k.owner a.number ≡ id) × Agrees k.log a)) is mine.owned) in
       let seen_all : v.seen ++ turn ∷ [] ≡ log' = ap (λ (l : List (Turn E)). l ++ turn ∷ []) held.3 in
       let same : n ≡ length log' + total tickets (set s.views id w) = omega arith in
-      let few : turns_made w + 0 ≤ 4294967295 * seats_of w = (let f = mine.few in omega arith) in
+      let few : turns_made w + 0 ≤ MOST_TURNS * seats_of w = (let f = mine.few in omega arith) in
       let fits : Fits log' n k.owner k.drawer id w =
       record {
         seen = ([], append-nil (v.seen ++ turn ∷ []) ∙ seen_all);

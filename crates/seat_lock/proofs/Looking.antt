@@ -9,6 +9,7 @@ use lib.ListN.{get_elem?}
 use Rattle.atomic_table.specs.Table.{State, Act, step, keeps, takes, stepped, Allows, Valid, carried_after}
 use Rattle.atomic_table.proofs.Lists.{set_again, set_here}
 use Rattle.seat_lock.specs.declared.history.Turn.{Turn}
+use Rattle.seat_lock.specs.declared.seat.TheConstants.{MOST_TURNS}
 use Rattle.seat_lock.specs.declared.board.Account.{Account}
 use Rattle.seat_lock.specs.declared.board.View.{View}
 use Rattle.seat_lock.specs.declared.board.Stage.{Stage}
@@ -68,7 +69,7 @@ module _ {T E : Type 0} (stands : T → List (Turn E) → Type 0) (seats : ℕ) 
       let mine = k.each id v at in
       let queued : InStage k.log n k.drawer id v.seen (Waits t) = subst (InStage k.log n k.drawer id v.seen) waits mine.stage in
       let less : r < n = (let lt = queued.2 in omega arith) in
-      let few : turns_made v + 1 ≤ 4294967295 * seats_of v = (let f = mine.few in omega arith) in
+      let few : turns_made v + 1 ≤ MOST_TURNS * seats_of v = (let f = mine.few in omega arith) in
       let fits : Fits k.log n k.owner k.drawer id w =
       record {
         seen = prefix_self k.log;

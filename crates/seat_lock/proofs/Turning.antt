@@ -5,6 +5,7 @@ use Rattle.std.proofs.lemmas.List.Elements.{All-head}
 use mathlib.Core.List.{IsPrefix}
 use Rattle.atomic_table.specs.Table.{rest}
 use Rattle.seat_lock.specs.declared.history.Turn.{Turn}
+use Rattle.seat_lock.specs.declared.seat.TheConstants.{MOST_TURNS}
 use Rattle.seat_lock.specs.declared.board.Account.{Account}
 use Rattle.seat_lock.specs.declared.board.Stage.{Stage}
 use Rattle.seat_lock.specs.declared.board.Stage.TheVariants.{Idle, Waits, Holds}
@@ -39,14 +40,14 @@ module _ {T E : Type 0} where
       cases (Holds t) e is held = ((t, e), held)
 
   -- a seat with fewer turns than the most may draw
-  pub may_draw : (s : Inside T E) → IsOwn s → length (made_of s.place.me.0.accounts) < 4294967295 → MayDraw s.place
+  pub may_draw : (s : Inside T E) → IsOwn s → length (made_of s.place.me.0.accounts) < MOST_TURNS → MayDraw s.place
   may_draw s own few =
       let long : seats_of s.place.me.0 ≡ 1 = ap length own.account_is in
       let made : turns_made s.place.me.0 ≡ length (made_of s.place.me.0.accounts) + 0 = ap (total (λ (a : Account E). length a.made)) own.account_is in
       omega arith
 
   -- the turn was taken
-  pub took : (stands : T → List (Turn E) → Type 0) (s : Inside T E) (q : Place T E) (x : T) → IsOwn s → s.made < 4294967295 → Taken stands s.place q x → IsOwn (record { number = s.number; made = s.made; place = q })
+  pub took : (stands : T → List (Turn E) → Type 0) (s : Inside T E) (q : Place T E) (x : T) → IsOwn s → s.made < MOST_TURNS → Taken stands s.place q x → IsOwn (record { number = s.number; made = s.made; place = q })
   took stands s q x own few taken =
       let is = taken.holds.1 in
       let rows : q.me.0.accounts ≡ s.place.me.0.accounts = ap (λ (m : Hand T E). m.0.accounts) is in
@@ -54,7 +55,7 @@ module _ {T E : Type 0} where
       let one : ticket_count q.me.0.stage ≡ 1 = ap ticket_count stage in
       let made : made_of q.me.0.accounts ≡ made_of s.place.me.0.accounts = ap made_of rows in
       let agrees = All-head (Agrees q.me.0.seen) (account s.number (made_of s.place.me.0.accounts)) [] (subst (All (Agrees q.me.0.seen)) own.account_is taken.own) in
-      let room : s.made + ticket_count q.me.0.stage ≤ 4294967295 = omega arith in
+      let room : s.made + ticket_count q.me.0.stage ≤ MOST_TURNS = omega arith in
       record {
         account_is = rows ∙ (own.account_is ∙ ap (λ (m : List (Turn E)). account s.number m ∷ []) (sym made));
         counted = own.counted ∙ ap length (sym made);
@@ -77,7 +78,7 @@ module _ {T E : Type 0} where
       let seen : q.me.0.seen ≡ s.place.me.0.seen ++ turn ∷ [] = ap (λ (m : Hand T E). m.0.seen) is in
       let long : length (made ++ turn ∷ []) ≡ length made + 1 = length-append made (turn ∷ []) in
       let counted : s.made + 1 ≡ length (made ++ turn ∷ []) = (let was = own.counted in omega arith) in
-      let room : (s.made + 1) + ticket_count q.me.0.stage ≤ 4294967295 = (let had = own.room in omega arith) in
+      let room : (s.made + 1) + ticket_count q.me.0.stage ≤ MOST_TURNS = (let had = own.room in omega arith) in
       record {
         account_is = rows ∙ ap (λ (m : List (Turn E)). account s.number m ∷ []) (sym made');
         counted = counted ∙ ap length (sym made');
@@ -95,7 +96,7 @@ module _ {T E : Type 0} where
       let seen : q.me.0.seen ≡ s.place.me.0.seen ++ turn ∷ [] = ap (λ (m : Hand T E). m.0.seen) is in
       (λ i. record { lock = left.at i; number = s.number; made = made' i; seen = seen i; in_turn = stage i }) ∙ ap (λ (k : Known E). with_turn k turn) same
 
-  pub room_left : (s : Inside T E) (v : Known E) → IsOwn s → known s ≡ v → length v.made < 4294967295 → s.made < 4294967295
+  pub room_left : (s : Inside T E) (v : Known E) → IsOwn s → known s ≡ v → length v.made < MOST_TURNS → s.made < MOST_TURNS
   room_left s v own same few = let long = ap (λ (k : Known E). length k.made) same in let made = own.counted in omega arith
 
   pub took_seen : (stands : T → List (Turn E) → Type 0) (s : Inside T E) (q : Place T E) (x : T) (v : Known E) → known s ≡ v → Taken stands s.place q x → IsPrefix v.seen q.me.0.seen
@@ -112,7 +113,7 @@ module _ {T E : Type 0} where
       let stage : q.me.0.stage ≡ s.place.me.0.stage = ap (λ (m : Hand T E). m.0.stage) is in
       let same : ticket_count q.me.0.stage ≡ ticket_count s.place.me.0.stage = ap ticket_count stage in
       let agrees = All-head (Agrees q.me.0.seen) (account s.number made) [] (subst (All (Agrees q.me.0.seen)) all learnt.own) in
-      let room : s.made + ticket_count q.me.0.stage ≤ 4294967295 = (let had = own.room in omega arith) in
+      let room : s.made + ticket_count q.me.0.stage ≤ MOST_TURNS = (let had = own.room in omega arith) in
       record {
         account_is = rows ∙ ap (λ (m : List (Turn E)). account s.number m ∷ []) (sym made');
         counted = own.counted ∙ ap length (sym made');
@@ -126,7 +127,7 @@ module _ {T E : Type 0} where
   fresh_own number p is =
       let made : made_of p.me.0.accounts ≡ [] = ap (λ (m : Hand T E). made_of m.0.accounts) is in
       let rests : ticket_count p.me.0.stage ≡ 0 = ap (λ (m : Hand T E). ticket_count m.0.stage) is in
-      let room : 0 + ticket_count p.me.0.stage ≤ 4294967295 = omega arith in
+      let room : 0 + ticket_count p.me.0.stage ≤ MOST_TURNS = omega arith in
       record {
         account_is = ap (λ (m : Hand T E). m.0.accounts) is ∙ ap (λ (m : List (Turn E)). account number m ∷ []) (sym made);
         counted = ap length (sym made);

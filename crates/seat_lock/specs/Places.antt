@@ -5,6 +5,7 @@ use mathlib.Core.List.{IsPrefix}
 use Rattle.atomic_table.specs.Seated.{TableId}
 use Rattle.atomic_table.specs.declared.shared.Seat.{Seat}
 use Rattle.seat_lock.specs.declared.history.Turn.{Turn}
+use Rattle.seat_lock.specs.declared.seat.TheConstants.{MOST_TURNS}
 use Rattle.seat_lock.specs.declared.board.Account.{Account}
 use Rattle.seat_lock.specs.declared.board.View.{View}
 use Rattle.seat_lock.specs.declared.board.Stage.{Stage}
@@ -45,7 +46,7 @@ module _ {T E : Type 0} where
 
   -- it may draw one ticket more
   abbrev pub MayDraw : Place T E → Type 0
-  MayDraw p = turns_made p.me.0 + 1 ≤ 4294967295 * seats_of p.me.0
+  MayDraw p = turns_made p.me.0 + 1 ≤ MOST_TURNS * seats_of p.me.0
 
   -- it has one account, of the number by
   abbrev pub IsSingle : ℕ → Place T E → Type 0

@@ -10,6 +10,7 @@ use Rattle.seat_lock.specs.declared.board.Account.{Account}
 use Rattle.seat_lock.specs.declared.board.View.{View}
 use Rattle.seat_lock.specs.declared.board.Stage.{Stage}
 use Rattle.seat_lock.specs.declared.board.Stage.TheVariants.{Idle, Waits, Holds}
+use Rattle.seat_lock.specs.declared.seat.TheConstants.{MOST_TURNS}
 use Rattle.seat_lock.specs.History.{turns_by}
 
 abbrev pub total : {V : Type 0} → (V → ℕ) → List V → ℕ
@@ -72,7 +73,7 @@ pub record Fits {E : Type 0} (log : List (Turn E)) (ticket : ℕ) (owner drawer 
   pub seen : IsPrefix v.seen log
   pub told : IsPrefix v.told log
   pub owned : All (λ a. (owner a.number ≡ id) × Agrees log a) v.accounts
-  pub few : turns_made v + tickets v ≤ 4294967295 * seats_of v
+  pub few : turns_made v + tickets v ≤ MOST_TURNS * seats_of v
   pub stage : InStage log ticket drawer id v.seen v.stage
 
 module _ {T E : Type 0} (stands : T → List (Turn E) → Type 0) where

@@ -3,6 +3,7 @@ use Rattle.std.specs.Prelude.{◌≡◌, ◌+◌, ◌<◌, ◌≤◌, [], ◌∷
 use Rattle.seat_lock.specs.declared.lock.SeatLock.TheInside as lock
 use Rattle.seat_lock.specs.declared.seat.LockSeat.TheInside as seat
 use Rattle.seat_lock.specs.History.{turns_by}
+use Rattle.seat_lock.specs.declared.seat.TheConstants.{MOST_TURNS}
 use Rattle.seat_lock.specs.Rule.{account, ticket_count}
 use Rattle.seat_lock.specs.Places.{made_of, is_held, Held}
 use Rattle.seat_lock.specs.Known.{Lock, Known}
@@ -21,6 +22,6 @@ module _ {T E : Type 0} where
 pub record IsOwn {T E : Type 0} (s : seat.Inside T E) : Type 0 where
   pub account_is : s.place.me.0.accounts ≡ account s.number (made_of s.place.me.0.accounts) ∷ []
   pub counted : s.made ≡ length (made_of s.place.me.0.accounts)
-  pub room : s.made + ticket_count s.place.me.0.stage ≤ 4294967295
+  pub room : s.made + ticket_count s.place.me.0.stage ≤ MOST_TURNS
   pub own : turns_by s.number s.place.me.0.seen ≡ made_of s.place.me.0.accounts
   pub held : Held s.place.me.1 s.place.me.0.stage

@@ -20,4 +20,4 @@ mod steps;
 
 pub use history::{Turn, Turns};
 pub use lock::SeatLock;
-pub use seat::LockSeat;
+pub use seat::{LockSeat, MOST_TURNS};

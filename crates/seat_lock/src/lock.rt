@@ -1,5 +1,5 @@
 //! The lock.
-ghost use Rattle.std.specs.Prelude.{◌≡◌, ℕ, ◌-◌, ◌^◌, ◌<◌, ◌++◌, List, [], ◌∷◌, length, vec_len, true, false, Some, slice_get, IsOk, IfOk, IfErr};
+ghost use Rattle.std.specs.Prelude.{◌≡◌, ℕ, ◌<◌, ◌++◌, List, [], ◌∷◌, length, vec_len, true, false, Some, slice_get, IsOk, IfOk, IfErr};
 ghost use Rattle.std.specs.List.{All};
 ghost use mathlib.Core.List.{IsPrefix};
 ghost use Rattle.seat_lock.specs.declared.history.Turn.{Turn};
@@ -11,7 +11,7 @@ use crate::dealing::{deal, only_value};
 use crate::ending::gather;
 use crate::history::Turns;
 use crate::plays::Copied;
-use crate::seat::LockSeat;
+use crate::seat::{LockSeat, MOST_TURNS};
 use crate::steps::{learn_from, leave_turn, take_turn};
 use atomic_table::{Refused, Table};
 use py_node::OutOfMemory;
@@ -70,10 +70,10 @@ impl<T: Turns> SeatLock<T> {
     }
 
     /// Waits for the seat's turn, and takes the value. The seat has then seen the history of all turns so far, which
-    /// the value stands for. Only a seat of this lock may that is in no turn and has made fewer than 2^32 - 1 turns.
+    /// the value stands for. Only a seat of this lock may that is in no turn and has made fewer than `MOST_TURNS`.
     pub fn take<R: Wait>(&self, rt: &R, seat: &mut LockSeat<T>) -> T
         requires seat { IsFree self.now.id seat.old }
-        requires room { length seat.old.made < 2 ^ 32 - 1 }
+        requires room { length seat.old.made < MOST_TURNS }
         ensures value { T.stands result seat.new.seen }
         ensures in_turn { seat.new.in_turn ≡ true }
         ensures same { IsSameSeat seat.old seat.new }
@@ -93,7 +93,8 @@ impl<T: Turns> SeatLock<T> {
         requires in_turn { seat.old.in_turn ≡ true }
         requires by { turn.by ≡ seat.old.number }
         requires value { T.stands value (seat.old.seen ++ turn ∷ []) }
-        ensures { seat.new ≡ with_turn seat.old turn }
+        ensures made { seat.new ≡ with_turn seat.old turn }
+        ensures own { turns_by seat.new.number seat.new.seen ≡ seat.new.made }
     {
         leave_turn::<T, Brand>(&self.table.shared, &mut seat.place, value);
         seat.made += 1;
@@ -101,11 +102,7 @@ impl<T: Turns> SeatLock<T> {
 
     /// Lets the first seat see all that the second has seen; neither may be in a turn. The turns that either made stay
     /// what they are. It takes no memory, so it is always Ok.
-    pub fn meet(
-        &self,
-        seat: &mut LockSeat<T>,
-        other: &mut LockSeat<T>,
-    ) -> Result<(), OutOfMemory>
+    pub fn meet(&self, seat: &mut LockSeat<T>, other: &mut LockSeat<T>) -> Result<(), OutOfMemory>
         requires seat { IsFree self.now.id seat.old }
         requires other { IsFree self.now.id other.old }
         ensures ok { IsOk result }

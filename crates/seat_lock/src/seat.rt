@@ -1,9 +1,12 @@
 //! A caller's seat.
-ghost use Rattle.std.specs.Prelude.{◌≡◌, ◌^◌, ◌<◌, length};
+ghost use Rattle.std.specs.Prelude.{◌≡◌, ◌≤◌, length};
 
 use crate::board::Place;
 use crate::history::Turns;
 use std::marker::Model;
+
+/// How many turns a seat may make.
+pub const MOST_TURNS: u64 = 4_294_967_295;
 
 /// A seat of a lock: what one caller takes turns with. It has a number, counts its turns, and knows, in contracts,
 /// what it has seen of the history. There are as many of a lock as it was made with, and no other comes to be.
@@ -37,10 +40,10 @@ impl<T: Turns> LockSeat<T> {
         self.number
     }
 
-    /// How many turns it made, at most 2^32 - 1. A turn counts once the value is given back.
+    /// How many turns it made, at most `MOST_TURNS`. A turn counts once the value is given back.
     pub fn made(&self) -> u64
         ensures made { result ≡ length self.now.made }
-        ensures most { result < 2 ^ 32 }
+        ensures most { result ≤ MOST_TURNS }
     {
         self.made
     }
