@@ -1,6 +1,4 @@
-use Rattle.std.proofs.Common.{sym, ap, ◌∙◌, ◌≡◌, Some, subst}
-use Rattle.std.specs.List.{All}
-use Rattle.seat_lock.specs.Rule.{ByBelow}
+use Rattle.std.proofs.Common.{sym, ap, ◌∙◌, ◌≡◌, Some}
 use mathlib.Core.Option.{some-injective}
 use Rattle.seat_lock.proofs.Rows.{ends, whole, some_of}
 use Rattle.seat_lock.proofs.lock.SeatLock.close.Goals as goal
