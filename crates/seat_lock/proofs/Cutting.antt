@@ -12,7 +12,8 @@ use Rattle.seat_lock.specs.declared.seat.TheConstants.{MOST_TURNS}
 use Rattle.seat_lock.specs.declared.board.Account.{Account}
 use Rattle.seat_lock.specs.declared.board.View.{View}
 use Rattle.seat_lock.specs.declared.board.Stage.TheVariants.{Idle, Holds}
-use Rattle.seat_lock.specs.Rule.{IsBelow, total, account, blank_from, tickets, ticket_count, turns_made, seats_of, Agrees, Fits, IsPlaced, HasOneHistory, first_of, others_of, with_first, without_first, copied, joined, spent}
+use Rattle.seat_lock.specs.Rule.{IsBelow, total, account, blank_from, tickets, ticket_count, turns_made, seats_of, Agrees, Fits, IsPlaced, HasOneHistory}
+use Rattle.seat_lock.specs.Plays.{first_of, others_of, with_first, without_first, copied, joined, spent}
 use Rattle.seat_lock.proofs.Totals.{total_set, total_append, total_snoc, each_set, at_end}
 use Rattle.seat_lock.proofs.Placing.{placed_set, placed_same}
 use Rattle.seat_lock.proofs.Histories.{prefix_nil}

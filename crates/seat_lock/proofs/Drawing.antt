@@ -9,7 +9,8 @@ use Rattle.seat_lock.specs.declared.seat.TheConstants.{MOST_TURNS}
 use Rattle.seat_lock.specs.declared.board.View.{View}
 use Rattle.seat_lock.specs.declared.board.Stage.{Stage}
 use Rattle.seat_lock.specs.declared.board.Stage.TheVariants.{Idle, Waits, Holds}
-use Rattle.seat_lock.specs.Rule.{IsBelow, total, tickets, ticket_count, turns_made, seats_of, InStage, Fits, HasOneHistory, Hand, drawn}
+use Rattle.seat_lock.specs.Rule.{IsBelow, total, tickets, ticket_count, turns_made, seats_of, InStage, Fits, HasOneHistory}
+use Rattle.seat_lock.specs.Plays.{Hand, drawn}
 use Rattle.seat_lock.proofs.Totals.{total_set, total_bound, each_set}
 use Rattle.seat_lock.proofs.Placing.{placed_set}
 use Rattle.seat_lock.proofs.Functions.{changed, changed_here, changed_else}

@@ -12,7 +12,8 @@ use Rattle.seat_lock.specs.declared.board.Account.{Account}
 use Rattle.seat_lock.specs.declared.board.View.{View}
 use Rattle.seat_lock.specs.declared.board.Stage.{Stage}
 use Rattle.seat_lock.specs.declared.board.Stage.TheVariants.{Idle, Waits, Holds}
-use Rattle.seat_lock.specs.Rule.{IsBelow, ByBelow, total, account, tickets, ticket_count, turns_made, seats_of, InStage, Agrees, Fits, HasOneHistory, Hand, account_with, left_turn}
+use Rattle.seat_lock.specs.Rule.{IsBelow, ByBelow, total, account, tickets, ticket_count, turns_made, seats_of, InStage, Agrees, Fits, HasOneHistory}
+use Rattle.seat_lock.specs.Plays.{Hand, account_with, left_turn}
 use Rattle.seat_lock.proofs.Totals.{total_set, each_set}
 use Rattle.seat_lock.proofs.Histories.{prefix_longer, own_turn, other_turn}
 use Rattle.seat_lock.proofs.Drawing.{roomy}

@@ -14,7 +14,8 @@ use Rattle.seat_lock.specs.declared.board.Account.{Account}
 use Rattle.seat_lock.specs.declared.board.View.{View}
 use Rattle.seat_lock.specs.declared.board.Stage.{Stage}
 use Rattle.seat_lock.specs.declared.board.Stage.TheVariants.{Idle, Waits, Holds}
-use Rattle.seat_lock.specs.Rule.{IsBelow, total, tickets, ticket_count, ticket_of, turns_made, seats_of, InStage, Agrees, Fits, HasOneHistory, Hand, looked, Served, learnt}
+use Rattle.seat_lock.specs.Rule.{IsBelow, total, tickets, ticket_count, turns_made, seats_of, InStage, Agrees, Fits, HasOneHistory}
+use Rattle.seat_lock.specs.Plays.{ticket_of, Hand, looked, Served, learnt}
 use Rattle.seat_lock.proofs.Totals.{total_set, each_set, one_view, below}
 use Rattle.seat_lock.proofs.Placing.{placed_same}
 use Rattle.seat_lock.proofs.Histories.{prefix_self, prefix_nil}
@@ -96,7 +97,7 @@ module _ {T E : Type 0} (stands : T → List (Turn E) → Type 0) (seats : ℕ) 
           each = each';
           placed = inr (ap (λ hs. set hs 0 none) home.1, (id, w, set_here s.views id w (below s.views id v at), ap Holds found));
         },
-        (home.0, home.2, mine.seen, all_true k.log n k.owner k.drawer id v mine, ap (λ (c : List (ℕ × Option T)). (w, (0, Some home.0) ∷ c)) empty),
+        record { value = home.0; stands_for = home.2; seen = mine.seen; own = all_true k.log n k.owner k.drawer id v mine; holds = ap (λ (c : List (ℕ × Option T)). (w, (0, Some home.0) ∷ c)) empty },
       )
 
   pub looks : (slots id : ℕ) (me : Hand T E) (t : ℕ) → me.0.stage ≡ Waits t → me.1 ≡ [] → Allows (HasOneHistory stands seats) slots id me 1 (λ n. n) (looked stands (step slots 1 0 0 none) me)
@@ -139,7 +140,7 @@ module _ {T E : Type 0} (stands : T → List (Turn E) → Type 0) (seats : ℕ) 
           each = each';
           placed = placed_same stands k.log s.homes s.views id v w at refl k.placed;
         },
-        (mine.seen, mine.told, all_true k.log n k.owner k.drawer id v mine, refl),
+        record { seen = mine.seen; told = mine.told; own = all_true k.log n k.owner k.drawer id v mine; else_same = refl },
       )
     where
       all_seen : (log : List (Turn E)) (n : ℕ) (drawer : ℕ → ℕ) (id : ℕ) (seen : List (Turn E)) (g : Stage) → InStage log n drawer id seen g → InStage log n drawer id log g

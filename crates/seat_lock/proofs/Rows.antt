@@ -12,7 +12,8 @@ use Rattle.atomic_table.specs.Seated.{TableId}
 use Rattle.atomic_table.specs.Table.{Final, Seen}
 use Rattle.seat_lock.specs.declared.history.Turn.{Turn}
 use Rattle.seat_lock.specs.declared.board.Account.{Account}
-use Rattle.seat_lock.specs.Rule.{ByBelow, total, account, Agrees, Hand, HasOneHistory}
+use Rattle.seat_lock.specs.Rule.{ByBelow, total, account, Agrees, HasOneHistory}
+use Rattle.seat_lock.specs.Plays.{Hand}
 use Rattle.seat_lock.specs.Places.{Place, IsIdle, Learnt}
 use Rattle.seat_lock.specs.Known.{Known, IsFree, fresh_seat}
 use Rattle.seat_lock.specs.History.{turns_by, IsWhole}

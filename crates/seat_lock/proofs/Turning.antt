@@ -11,7 +11,8 @@ use Rattle.seat_lock.specs.declared.board.Stage.{Stage}
 use Rattle.seat_lock.specs.declared.board.Stage.TheVariants.{Idle, Waits, Holds}
 use Rattle.seat_lock.specs.declared.seat.LockSeat.TheInside.{Inside}
 use Rattle.seat_lock.specs.History.{turns_by}
-use Rattle.seat_lock.specs.Rule.{total, account, ticket_count, turns_made, seats_of, Agrees, account_with, with_first, without_first, blank_view, Hand}
+use Rattle.seat_lock.specs.Rule.{total, account, ticket_count, turns_made, seats_of, Agrees, blank_view}
+use Rattle.seat_lock.specs.Plays.{account_with, with_first, without_first, Hand}
 use Rattle.seat_lock.specs.Places.{made_of, is_held, Held, Place, IsIdle, MayDraw, Taken, Left, Learnt}
 use Rattle.seat_lock.specs.Known.{Known, IsFree, fresh_seat, with_turn}
 use Rattle.atomic_table.specs.Seated.{TableId}

@@ -10,7 +10,8 @@ use Rattle.seat_lock.specs.declared.board.Account.{Account}
 use Rattle.seat_lock.specs.declared.board.View.{View}
 use Rattle.seat_lock.specs.declared.board.Stage.{Stage}
 use Rattle.seat_lock.specs.declared.board.Stage.TheVariants.{Idle, Waits, Holds}
-use Rattle.seat_lock.specs.Rule.{account, turns_made, seats_of, Agrees, account_with}
+use Rattle.seat_lock.specs.Rule.{account, turns_made, seats_of, Agrees}
+use Rattle.seat_lock.specs.Plays.{account_with}
 
 -- a seat at the table
 abbrev pub Place : Type 0 → Type 0 → Type 0

@@ -1,10 +1,10 @@
--- The rule of the table under the lock, and what each step tells.
+-- The rule of the table under the lock: a ticket lock, whose turns form one history.
 use Rattle.std.specs.Prelude.{◌≡◌, ℕ, zero, suc, ◌+◌, ◌*◌, ◌<◌, ◌≤◌, ◌⊎◌, List, [], ◌∷◌, ◌++◌, length, Option, Some}
 use Rattle.std.specs.List.{All}
 use mathlib.Core.Option.{some, none}
 use mathlib.Core.List.{IsPrefix}
 use lib.ListN.{get_elem?}
-use Rattle.atomic_table.specs.Table.{State, Me, Step, rest}
+use Rattle.atomic_table.specs.Table.{State}
 use Rattle.seat_lock.specs.declared.history.Turn.{Turn}
 use Rattle.seat_lock.specs.declared.board.Account.{Account}
 use Rattle.seat_lock.specs.declared.board.View.{View}
@@ -13,6 +13,7 @@ use Rattle.seat_lock.specs.declared.board.Stage.TheVariants.{Idle, Waits, Holds}
 use Rattle.seat_lock.specs.declared.seat.TheConstants.{MOST_TURNS}
 use Rattle.seat_lock.specs.History.{turns_by}
 
+-- the sum of f over the views
 abbrev pub total : {V : Type 0} → (V → ℕ) → List V → ℕ
 total f [] = 0
 total f (v ∷ vs) = f v + total f vs
@@ -70,9 +71,12 @@ ByBelow n t = t.by < n
 
 -- what the rule says of one view
 pub record Fits {E : Type 0} (log : List (Turn E)) (ticket : ℕ) (owner drawer : ℕ → ℕ) (id : ℕ) (v : View E) : Type 0 where
+  -- what it has seen, and what it was told, begins the history
   pub seen : IsPrefix v.seen log
   pub told : IsPrefix v.told log
+  -- its numbers are its own, and the turns under each are those that it made
   pub owned : All (λ a. (owner a.number ≡ id) × Agrees log a) v.accounts
+  -- its turns, with the one for which it has a ticket, are no more than its seats may make
   pub few : turns_made v + tickets v ≤ MOST_TURNS * seats_of v
   pub stage : InStage log ticket drawer id v.seen v.stage
 
@@ -88,74 +92,14 @@ pub record HasOneHistory {T E : Type 0} (stands : T → List (Turn E) → Type 0
   pub log : List (Turn E)
   pub owner : ℕ → ℕ
   pub drawer : ℕ → ℕ
+  -- the ticket that is served is the number of turns, and with the number of seats that have a ticket it is the next ticket
   pub words_are : s.words ≡ (length log + total tickets s.views) ∷ length log ∷ []
+  -- each turn was made by one seat
   pub made : total turns_made s.views ≡ length log
+  -- there are as many numbers as seats
   pub seats_are : total seats_of s.views ≡ seats
   pub few : seats < 4294967296
   pub numbers : (j : ℕ) (v : View E) → get_elem? s.views j ≡ some v → All (IsBelow seats) v.accounts
   pub by_seats : All (ByBelow seats) log
   pub each : (j : ℕ) (v : View E) → get_elem? s.views j ≡ some v → Fits log (length log + total tickets s.views) owner drawer j v
   pub placed : IsPlaced stands log s.homes s.views
-
-abbrev pub ticket_of : Stage → ℕ
-ticket_of Idle = 0
-ticket_of (Waits t) = t
-ticket_of (Holds t) = t
-
-module _ {E : Type 0} where
-  -- the turn goes behind those of the one account
-  abbrev pub account_with : Turn E → List (Account E) → List (Account E)
-  account_with t [] = []
-  account_with t (a ∷ rows) = account a.number (a.made ++ t ∷ []) ∷ rows
-
-abbrev pub Hand : Type 0 → Type 0 → Type 0
-Hand T E = Me (Option T) (View E)
-
-module _ {T E : Type 0} where
-  -- it has the ticket that was found
-  abbrev pub drawn : Step (Option T) → Hand T E → ℕ → Hand T E → Type 0
-  drawn s m r n = n ≡ (record m.0 { stage = Waits r }, m.1)
-
-  -- the history so far was seen, and the value that stands for it taken
-  abbrev pub Served : (T → List (Turn E) → Type 0) → Hand T E → ℕ → Hand T E → Type 0
-  Served stands m r n = (x : T) × stands x n.0.seen × IsPrefix m.0.seen n.0.seen × All (Agrees n.0.seen) m.0.accounts
-      × (n ≡ (record m.0 { stage = Holds r; seen = n.0.seen }, (0, Some x) ∷ []))
-
-  abbrev pub looked : (T → List (Turn E) → Type 0) → Step (Option T) → Hand T E → ℕ → Hand T E → Type 0
-  looked stands s m r n = (r ≡ ticket_of m.0.stage → Served stands m r n) × (¬ (r ≡ ticket_of m.0.stage) → n ≡ m)
-
-  -- the turn was made, and the value given back
-  abbrev pub left_turn : Turn E → Step (Option T) → Hand T E → ℕ → Hand T E → Type 0
-  left_turn t s m r n = n ≡ (record m.0 { stage = Idle; seen = m.0.seen ++ t ∷ []; accounts = account_with t m.0.accounts }, rest m.1)
-
-  -- the history so far was seen, which begins with what was seen and with what was told
-  abbrev pub learnt : Step (Option T) → Hand T E → ℕ → Hand T E → Type 0
-  learnt s m r n = IsPrefix m.0.seen n.0.seen × IsPrefix m.0.told n.0.seen × All (Agrees n.0.seen) m.0.accounts
-      × (n ≡ (record m.0 { seen = n.0.seen; told = [] }, m.1))
-
-module _ {E : Type 0} where
-  abbrev pub first_of : List (Account E) → List (Account E)
-  first_of [] = []
-  first_of (a ∷ rows) = a ∷ []
-
-  abbrev pub others_of : List (Account E) → List (Account E)
-  others_of [] = []
-  others_of (a ∷ rows) = rows
-
-  -- a new seat with the first of these accounts, and what is left
-  abbrev pub with_first : View E → View E
-  with_first v = record { stage = Idle; seen = v.seen; told = []; accounts = first_of v.accounts }
-
-  abbrev pub without_first : View E → View E
-  without_first v = record v { accounts = others_of v.accounts }
-
-  -- a copy that makes no turn
-  abbrev pub copied : View E → View E
-  copied v = record { stage = Idle; seen = v.seen; told = []; accounts = [] }
-
-  -- both, where the second is idle: its accounts go in front
-  abbrev pub joined : View E → View E → View E
-  joined v w = record { stage = v.stage; seen = v.seen; told = w.seen; accounts = w.accounts ++ v.accounts }
-
-  abbrev pub spent : View E
-  spent = record { stage = Idle; seen = []; told = []; accounts = [] }

@@ -19,7 +19,7 @@ use std::alloc::Global;
 use std::marker::{Brand, Model};
 use std::sync::Wait;
 
-/// A value that seats take in turns. It is shared by reference, and ends with `close`.
+/// A value that seats take in turns. Callers share it by reference. It ends with `close`, or is dropped with its value.
 #[derive(Drop)]
 pub struct SeatLock<T: Turns> {
     table: Table<Option<T>, View<T::Entry>, u64, TicketRule, Global>,
