@@ -6,7 +6,7 @@
 //! | step | on | which view changes |
 //! |---|---|---|
 //! | draw a ticket (`Draw`) | the word of tickets | its own: it waits with that ticket |
-//! | look which ticket is served (`Look`, `Learn`) | the word that is served | its own: it has seen the history so far |
+//! | look which ticket is served (`Look`, `Learn`) | the word that is served | its own: it has seen all turns so far |
 //! | exchange out | the slot | none |
 //! | exchange in | the slot | none |
 //! | leave the turn (`Leave`) | the word that is served | its own: no ticket, a turn more is seen and made |
