@@ -86,7 +86,8 @@ impl<T: Turns> SeatLock<T> {
     }
 
     /// Gives the value back, which stands for one turn more, and ends the turn. Only the seat that took it may. The
-    /// turn has the seat's number; what it left, and whether it is lost, is the caller's to say (`turn`).
+    /// turn has the seat's number; what it left, and whether it is lost, is the caller's to say (`turn`), who calls this
+    /// in a function of its own without type parameters: from others the toolchain doesn't take the turn that is said.
     pub fn give(&self, seat: &mut LockSeat<T>, value: T)
         ghost turn: { Turn T.Entry }
         requires lock { seat.old.lock ≡ self.now.id }
