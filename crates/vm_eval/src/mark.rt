@@ -15,10 +15,13 @@ impl VirtualMachine {
         ensures frames { self.new.frames ≡ self.old.frames }
         ensures mark { MarkedBy self.old self.new answer }
     {
-        if answer.is_err() {
-            self.failed = true;
+        match answer {
+            Ok(value) => Ok(value),
+            Err(error) => {
+                self.failed = true;
+                Err(error)
+            }
         }
-        answer
     }
 
     // What the world answered, where a rule may refuse too.
@@ -28,9 +31,12 @@ impl VirtualMachine {
         ensures frames { self.new.frames ≡ self.old.frames }
         ensures mark { MarkedAs self.old self.new answer }
     {
-        if let Err(ClassFault::OutOfMemory) = &answer {
-            self.failed = true;
+        match answer {
+            Err(ClassFault::OutOfMemory) => {
+                self.failed = true;
+                Err(ClassFault::OutOfMemory)
+            }
+            other => other,
         }
-        answer
     }
 }
