@@ -7,9 +7,9 @@ use Rattle.py_node.specs.declared.expr.Word.{Word}
 use Rattle.py_node.specs.declared.payload.Form.TheVariants as form
 use Rattle.py_node.specs.declared.expr.Expr.{Expr, the_lemmas}
 use Rattle.py_node.specs.declared.expr.Expr.TheViews as expr
-use Rattle.py_node.specs.Tree.{Text, Tree, TBind, TTuple, TList, TDict, TFunc, TAttr, TSetAttr, TDelAttr, TCall, TOp, TIf, TSeq, TClass, Entries, entry, entries_of, trees_of, keyed_of, texts_of, tree_of, part_of, pair_of}
+use Rattle.py_node.specs.Tree.{TBind, TTuple, TList, TDict, TFunc, TAttr, TSetAttr, TDelAttr, TCall, TOp, TIf, TSeq, TClass, entry, entries_of, trees_of, keyed_of, texts_of, tree_of, part_of, pair_of}
 use Rattle.class_world.specs.Held.{Held}
-use Rattle.class_world.specs.Reading.{Reading, Reads, entry_list, form_tree}
+use Rattle.class_world.specs.Reading.{entry_list}
 use Rattle.world_text.specs.Store.{HasName, HasNames, HasTree, HasTrees, HasPairs, HasEntries, HasForm}
 
 -- entries, by their texts and trees

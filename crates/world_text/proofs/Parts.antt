@@ -1,13 +1,7 @@
 -- Lists of expressions, keys and entries that grow by one.
-use Rattle.std.proofs.Common.{◌≡◌, ℕ, ◌<◌, List, [], ◌∷◌, ◌++◌, length, map, String, string_bytes, refl, sym, ap, ◌∙◌, subst, arith, rules}
-use Rattle.std.specs.Global.{Box, Vec}
-use Rattle.std.specs.declared.alloc.Global.{Global}
+use Rattle.std.proofs.Common.{ℕ, ◌<◌, List, [], ◌∷◌, ◌++◌, length, map, sym, subst, arith}
 use Rattle.py_node.specs.declared.refs.PyStrInterned.{PyStrInterned}
-use Rattle.py_node.specs.declared.expr.Expr.{Expr, the_lemmas}
-use Rattle.py_node.specs.declared.expr.Expr.TheViews.{Call, Class}
-use Rattle.py_node.specs.Tree.{Text, Tree, TCall, TClass, entry, entries_of, trees_of, tree_of, part_of}
 use Rattle.class_world.specs.Held.{Held}
-use Rattle.class_world.specs.Reading.{entry_list}
 use Rattle.class_world.specs.Sound.{IsExpression, AreExpressions, IsName, AreNames, Holds}
 use Rattle.class_world.proofs.Stored.{all-push, map-push, names-push}
 

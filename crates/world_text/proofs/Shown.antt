@@ -1,19 +1,17 @@
 -- The texts of containers.
 use Rattle.std.proofs.Common.{◌≡◌, ℕ, zero, suc, ◌<◌, ◌≤◌, List, [], ◌∷◌, ◌++◌, length, Some, refl, sym, ap, ◌∙◌, subst, arith, get_or, take, take_all, drop, map, String, string_bytes}
-use Rattle.std.specs.Prelude.{option_map}
+use Rattle.std.specs.Prelude.{Bool, true, cond, ◌==◌, Option}
 use Rattle.std.specs.List.{flat_map, join_by}
 use Rattle.std.specs.declared.alloc.Global.{Global}
 use Rattle.py_node.specs.declared.refs.PyObjectRef.{PyObjectRef}
-use Rattle.py_node.specs.declared.refs.PyStrInterned.{PyStrInterned}
 use Rattle.py_node.specs.Tree.{Text}
 use Rattle.plain_machine.specs.Lines.{joined}
-use Rattle.class_model.specs.Class.{Class, class_at}
-use Rattle.class_model.proofs.Renamed.{at-renamed}
-use Rattle.plain_machine.specs.Show.{dots, rest_text, item_texts, entry_text, tuple_text, list_text, dict_text, containers, text_within}
+use Rattle.plain_machine.specs.Show.{dots, plain_text, datum_text, rest_text, item_texts, entry_text, tuple_text, list_text, dict_text, containers, text_within}
 use Rattle.class_world.specs.Held.{Held}
-use Rattle.class_world.specs.Reading.{Reading, spelled, plain}
 use Rattle.class_world.specs.Sound.{IsNode, AreNodes, Holds}
+use Rattle.plain_machine.specs.Plain.{ATuple, AList, ADict, PlainWorld}
 use Rattle.class_world.proofs.Stored.{map-push}
+use Rattle.world_text.specs.Inside.{inside, or_dots}
 
 -- texts with a separator, by what they are the texts of
 pub join-read : (between : Text) (xs : List (String Global)) → join_by string_bytes between xs ≡ joined between (map string_bytes xs)
@@ -66,13 +64,33 @@ item-there w rs shown i d e l h = part-there w (λ r. r) rs shown i d e l (subst
     same [] = refl
     same (r ∷ rs) = ap (λ rs. r ∷ rs) (same rs)
 
--- a container whose items are shown one less deep
-module _ (now : Held) (n m : ℕ) (less : n ≡ suc m) (texts : List (String Global)) (s : String Global) (t : Reading) where
-  pub tuple-shown : (rs : List PyObjectRef) → map string_bytes texts ≡ item_texts (text_within m (plain t now)) rs → string_bytes s ≡ tuple_text (map string_bytes texts) → string_bytes s ≡ (containers n (plain t now)).tuple rs
-  tuple-shown rs h e = e ∙ ap tuple_text h ∙ sym (ap (λ n. (containers n (plain t now)).tuple rs) less)
+-- a container is shown by the texts of its items, one less deep, or by dots
+module _ (w : PlainWorld) where
+  pub tuple-shown : (n : ℕ) (rs : List PyObjectRef) → or_dots tuple_text (inside n (λ m. item_texts (text_within m w) rs)) ≡ (containers n w).tuple rs
+  tuple-shown zero rs = refl
+  tuple-shown (suc n) rs = refl
 
-  pub list-shown : (rs : List PyObjectRef) → map string_bytes texts ≡ item_texts (text_within m (plain t now)) rs → string_bytes s ≡ list_text (map string_bytes texts) → string_bytes s ≡ (containers n (plain t now)).list rs
-  list-shown rs h e = e ∙ ap list_text h ∙ sym (ap (λ n. (containers n (plain t now)).list rs) less)
+  pub list-shown : (n : ℕ) (rs : List PyObjectRef) → or_dots list_text (inside n (λ m. item_texts (text_within m w) rs)) ≡ (containers n w).list rs
+  list-shown zero rs = refl
+  list-shown (suc n) rs = refl
 
-  pub dict-shown : (es : List (PyObjectRef × PyObjectRef)) → map string_bytes texts ≡ item_texts (entry_text (text_within m (plain t now))) es → string_bytes s ≡ dict_text (map string_bytes texts) → string_bytes s ≡ (containers n (plain t now)).dict es
-  dict-shown es h e = e ∙ ap dict_text h ∙ sym (ap (λ n. (containers n (plain t now)).dict es) less)
+  pub dict-shown : (n : ℕ) (es : List (PyObjectRef × PyObjectRef)) → or_dots dict_text (inside n (λ m. item_texts (entry_text (text_within m w)) es)) ≡ (containers n w).dict es
+  dict-shown zero es = refl
+  dict-shown (suc n) es = refl
+
+pub inside-less : {A : Type 0} (n m : ℕ) (f : ℕ → A) (x : A) → n ≡ suc m → x ≡ f m → Some x ≡ inside n f
+inside-less n m f x e h = ap (λ y. Some y) h ∙ sym (ap (λ k. inside k f) e)
+
+-- the texts of tuples, lists and dicts
+module _ (w : PlainWorld) (n c : ℕ) (s : Text) (o : Option (List Text)) where
+  pub tuple-text : (rs : List PyObjectRef) → (c == 7) ≡ true → s ≡ or_dots tuple_text o → o ≡ inside n (λ m. item_texts (text_within m w) rs) → s ≡ datum_text (containers n w) w c (ATuple rs)
+  tuple-text rs test e h =
+      e ∙ ap (or_dots tuple_text) h ∙ tuple-shown w n rs ∙ sym (ap (λ (b : Bool). cond b ((containers n w).tuple rs) (plain_text w c)) test)
+
+  pub list-text : (rs : List PyObjectRef) → (c == 8) ≡ true → s ≡ or_dots list_text o → o ≡ inside n (λ m. item_texts (text_within m w) rs) → s ≡ datum_text (containers n w) w c (AList rs)
+  list-text rs test e h =
+      e ∙ ap (or_dots list_text) h ∙ list-shown w n rs ∙ sym (ap (λ (b : Bool). cond b ((containers n w).list rs) (plain_text w c)) test)
+
+  pub dict-text : (es : List (PyObjectRef × PyObjectRef)) → (c == 9) ≡ true → s ≡ or_dots dict_text o → o ≡ inside n (λ m. item_texts (entry_text (text_within m w)) es) → s ≡ datum_text (containers n w) w c (ADict es)
+  dict-text es test e h =
+      e ∙ ap (or_dots dict_text) h ∙ dict-shown w n es ∙ sym (ap (λ (b : Bool). cond b ((containers n w).dict es) (plain_text w c)) test)

@@ -4,9 +4,10 @@ ghost use Rattle.std.specs.Prelude.{◌≡◌, ◌==◌, ◌++◌, IfOk, OnOk, c
 ghost use Rattle.py_node.specs.BuiltIns.{place_of};
 ghost use Rattle.plain_machine.specs.Escapes.{escaped};
 ghost use Rattle.plain_machine.specs.Lines.{joined};
-ghost use Rattle.plain_machine.specs.Show.{show, class_name, plain_text, fixed_text, datum_text, rest_text, item_texts, entry_text, tuple_end, tuple_text, list_text, dict_text, containers, text_within};
+ghost use Rattle.plain_machine.specs.Show.{show, class_name, plain_text, fixed_text, datum_text, dots, rest_text, item_texts, entry_text, tuple_end, tuple_text, list_text, dict_text, containers, text_within};
 ghost use Rattle.class_world.specs.Reading.{Reading, plain, datum};
 ghost use Rattle.class_world.specs.Sound.{IsNode, AreNodes, IsClass, Holds, AllHold, of_payload};
+ghost use Rattle.world_text.specs.Inside.{texts_of, inside, or_dots};
 
 use class_world::World;
 use class_world::built_ins::{FALSE, NONE, NOT_IMPLEMENTED, TRUE};
@@ -79,96 +80,69 @@ fn show_payload(
     match payload {
         Payload::Number(z) if is(class, BuiltIn::Int) => Ok(format!(in alloc; "{z}")?),
         Payload::Text(text) if is(class, BuiltIn::Str) => quoted_string(alloc, text.as_str()),
-        Payload::Tuple(items) if is(class, BuiltIn::Tuple) => show_tuple(world, depth, items),
-        Payload::List(items) if is(class, BuiltIn::List) => show_list(world, depth, items),
-        Payload::Dict(entries) if is(class, BuiltIn::Dict) => show_dict(world, depth, entries),
+        Payload::Tuple(items) if is(class, BuiltIn::Tuple) => {
+            tuple_of(alloc, item_texts(world, depth, items)?)
+        }
+        Payload::List(items) if is(class, BuiltIn::List) => {
+            list_of(alloc, item_texts(world, depth, items)?)
+        }
+        Payload::Dict(entries) if is(class, BuiltIn::Dict) => {
+            dict_of(alloc, entry_texts(world, depth, entries)?)
+        }
         Payload::Class(named) => show_class(world, *named),
         _ => show_plain(world, class),
     }
 }
 
-// The text of a tuple of these items.
+// The texts of items, the first twenty, unless no container inside this one is shown.
 #[cycle(show)]
-fn show_tuple(world: &World, depth: u8, items: &Vec<PyObjectRef>) -> Result<String, OutOfMemory>
-    requires { Holds world.now (AreNodes items.now.items) }
-    ensures { IfOk result (λ s. (t : Reading) → string_bytes s ≡
-        (containers depth (plain t world.now)).tuple items.now.items) }
-{
-    let alloc = world.alloc();
-    match depth.checked_sub(1) {
-        Some(depth) => tuple_of(alloc, &item_texts(world, depth, items)?),
-        None => Ok(String::from_str(alloc, "...")?),
-    }
-}
-
-// The text of a list of these items.
-#[cycle(show)]
-fn show_list(world: &World, depth: u8, items: &Vec<PyObjectRef>) -> Result<String, OutOfMemory>
-    requires { Holds world.now (AreNodes items.now.items) }
-    ensures { IfOk result (λ s. (t : Reading) → string_bytes s ≡
-        (containers depth (plain t world.now)).list items.now.items) }
-{
-    let alloc = world.alloc();
-    match depth.checked_sub(1) {
-        Some(depth) => list_of(alloc, &item_texts(world, depth, items)?),
-        None => Ok(String::from_str(alloc, "...")?),
-    }
-}
-
-// The text of a dict of these keys and values.
-#[cycle(show)]
-fn show_dict(
+fn item_texts(
     world: &World,
     depth: u8,
-    entries: &Vec<(PyObjectRef, PyObjectRef)>,
-) -> Result<String, OutOfMemory>
-    requires keys { Holds world.now (AreNodes (map (λ e. e.0) entries.now.items)) }
-    requires values { Holds world.now (AreNodes (map (λ e. e.1) entries.now.items)) }
-    ensures { IfOk result (λ s. (t : Reading) → string_bytes s ≡
-        (containers depth (plain t world.now)).dict entries.now.items) }
+    items: &[PyObjectRef],
+) -> Result<Option<Vec<String>>, OutOfMemory>
+    requires { Holds world.now (AreNodes items.now) }
+    ensures { IfOk result (λ o. (t : Reading) → texts_of o ≡
+        inside depth (λ n. item_texts (text_within n (plain t world.now)) items.now)) }
 {
     let alloc = world.alloc();
     match depth.checked_sub(1) {
-        Some(depth) => dict_of(alloc, &entry_texts(world, depth, entries)?),
-        None => Ok(String::from_str(alloc, "...")?),
+        None => Ok(None),
+        Some(less) => {
+            let mut texts = Vec::new(alloc);
+            for item in first_items(items) {
+                texts.push(text_within(world, less, *item)?)?;
+            }
+            push_rest(alloc, &mut texts, items)?;
+            Ok(Some(texts))
+        }
     }
 }
 
-// The texts of items, the first twenty.
-#[cycle(show)]
-fn item_texts(world: &World, depth: u8, items: &[PyObjectRef]) -> Result<Vec<String>, OutOfMemory>
-    requires { Holds world.now (AreNodes items.now) }
-    ensures { IfOk result (λ xs. (t : Reading) → map string_bytes xs.items ≡
-        item_texts (text_within depth (plain t world.now)) items.now) }
-{
-    let alloc = world.alloc();
-    let mut texts = Vec::new(alloc);
-    for item in first_items(items) {
-        texts.push(text_within(world, depth, *item)?)?;
-    }
-    push_rest(alloc, &mut texts, items)?;
-    Ok(texts)
-}
-
-// The texts of keys with their values, the first twenty.
+// The texts of keys with their values, the first twenty, unless no container inside this one is shown.
 #[cycle(show)]
 fn entry_texts(
     world: &World,
     depth: u8,
     entries: &[(PyObjectRef, PyObjectRef)],
-) -> Result<Vec<String>, OutOfMemory>
+) -> Result<Option<Vec<String>>, OutOfMemory>
     requires keys { Holds world.now (AreNodes (map (λ e. e.0) entries.now)) }
     requires values { Holds world.now (AreNodes (map (λ e. e.1) entries.now)) }
-    ensures { IfOk result (λ xs. (t : Reading) → map string_bytes xs.items ≡
-        item_texts (entry_text (text_within depth (plain t world.now))) entries.now) }
+    ensures { IfOk result (λ o. (t : Reading) → texts_of o ≡
+        inside depth (λ n. item_texts (entry_text (text_within n (plain t world.now))) entries.now)) }
 {
     let alloc = world.alloc();
-    let mut texts = Vec::new(alloc);
-    for entry in first_items(entries) {
-        texts.push(show_entry(world, depth, *entry)?)?;
+    match depth.checked_sub(1) {
+        None => Ok(None),
+        Some(less) => {
+            let mut texts = Vec::new(alloc);
+            for entry in first_items(entries) {
+                texts.push(show_entry(world, less, *entry)?)?;
+            }
+            push_rest(alloc, &mut texts, entries)?;
+            Ok(Some(texts))
+        }
     }
-    push_rest(alloc, &mut texts, entries)?;
-    Ok(texts)
 }
 
 // A key with its value.
@@ -212,11 +186,16 @@ fn push_rest<T>(alloc: Global, texts: &mut Vec<String>, items: &[T]) -> Result<(
 }
 
 // A tuple whose items have these texts.
-fn tuple_of(alloc: Global, texts: &[String]) -> Result<String, OutOfMemory>
-    ensures { IfOk result (λ s. string_bytes s ≡ tuple_text (map string_bytes texts.now)) }
+fn tuple_of(alloc: Global, texts: Option<Vec<String>>) -> Result<String, OutOfMemory>
+    ensures { IfOk result (λ s. string_bytes s ≡ or_dots tuple_text (texts_of texts)) }
 {
-    let inside = with_commas(alloc, texts)?;
-    between(alloc, "(", inside.as_str(), tuple_end(texts))
+    match texts {
+        None => dots(alloc),
+        Some(texts) => {
+            let inside = with_commas(alloc, &texts)?;
+            between(alloc, "(", inside.as_str(), tuple_end(&texts))
+        }
+    }
 }
 
 // The end of a tuple.
@@ -230,19 +209,36 @@ fn tuple_end(texts: &[String]) -> &'static str
 }
 
 // A list whose items have these texts.
-fn list_of(alloc: Global, texts: &[String]) -> Result<String, OutOfMemory>
-    ensures { IfOk result (λ s. string_bytes s ≡ list_text (map string_bytes texts.now)) }
+fn list_of(alloc: Global, texts: Option<Vec<String>>) -> Result<String, OutOfMemory>
+    ensures { IfOk result (λ s. string_bytes s ≡ or_dots list_text (texts_of texts)) }
 {
-    let inside = with_commas(alloc, texts)?;
-    between(alloc, "[", inside.as_str(), "]")
+    match texts {
+        None => dots(alloc),
+        Some(texts) => {
+            let inside = with_commas(alloc, &texts)?;
+            between(alloc, "[", inside.as_str(), "]")
+        }
+    }
 }
 
 // A dict whose keys with their values have these texts.
-fn dict_of(alloc: Global, texts: &[String]) -> Result<String, OutOfMemory>
-    ensures { IfOk result (λ s. string_bytes s ≡ dict_text (map string_bytes texts.now)) }
+fn dict_of(alloc: Global, texts: Option<Vec<String>>) -> Result<String, OutOfMemory>
+    ensures { IfOk result (λ s. string_bytes s ≡ or_dots dict_text (texts_of texts)) }
 {
-    let inside = with_commas(alloc, texts)?;
-    between(alloc, "{", inside.as_str(), "}")
+    match texts {
+        None => dots(alloc),
+        Some(texts) => {
+            let inside = with_commas(alloc, &texts)?;
+            between(alloc, "{", inside.as_str(), "}")
+        }
+    }
+}
+
+// What stands for a container that is not shown.
+fn dots(alloc: Global) -> Result<String, OutOfMemory>
+    ensures { IfOk result (λ s. string_bytes s ≡ dots) }
+{
+    Ok(String::from_str(alloc, "...")?)
 }
 
 // Texts with commas between them.

@@ -4,34 +4,25 @@ use Rattle.class_world.specs.Reading.{Reading, plain}
 use Rattle.world_text.proofs.show.+show.Given as goal
 
 -- items are shown one less deep, and each function comes before those that it calls
-abbrev pub decreases-entry_texts : goal.decreases-entry_texts
-decreases-entry_texts l = 5 * l.depth + 4
-
-abbrev pub decreases-item_texts : goal.decreases-item_texts
-decreases-item_texts l = 5 * l.depth + 3
-
-abbrev pub decreases-show_entry : goal.decreases-show_entry
-decreases-show_entry l = 5 * l.depth + 3
-
 abbrev pub decreases-text_within : goal.decreases-text_within
-decreases-text_within l = 5 * l.depth + 2
+decreases-text_within l = 4 * l.depth + 3
 
 abbrev pub decreases-show_payload : goal.decreases-show_payload
-decreases-show_payload l = 5 * l.depth + 1
+decreases-show_payload l = 4 * l.depth + 2
 
-abbrev pub decreases-show_tuple : goal.decreases-show_tuple
-decreases-show_tuple l = 5 * l.depth
+abbrev pub decreases-item_texts : goal.decreases-item_texts
+decreases-item_texts l = 4 * l.depth + 1
 
-abbrev pub decreases-show_list : goal.decreases-show_list
-decreases-show_list l = 5 * l.depth
+abbrev pub decreases-entry_texts : goal.decreases-entry_texts
+decreases-entry_texts l = 4 * l.depth + 1
 
-abbrev pub decreases-show_dict : goal.decreases-show_dict
-decreases-show_dict l = 5 * l.depth
+abbrev pub decreases-show_entry : goal.decreases-show_entry
+decreases-show_entry l = 4 * l.depth + 4
 
 abbrev pub invariant-item_texts-loop-item : goal.invariant-item_texts-loop-item
 invariant-item_texts-loop-item l =
-    (t : Reading) → map string_bytes l.texts.items ≡ map (text_within l.depth (plain t l.world)) (take l.item-index l.item-items)
+    (t : Reading) → map string_bytes l.texts.items ≡ map (text_within l.less (plain t l.world)) (take l.item-index l.item-items)
 
 abbrev pub invariant-entry_texts-loop-entry : goal.invariant-entry_texts-loop-entry
 invariant-entry_texts-loop-entry l =
-    (t : Reading) → map string_bytes l.texts.items ≡ map (entry_text (text_within l.depth (plain t l.world))) (take l.entry-index l.entry-items)
+    (t : Reading) → map string_bytes l.texts.items ≡ map (entry_text (text_within l.less (plain t l.world))) (take l.entry-index l.entry-items)

@@ -1,4 +1,4 @@
-use Rattle.std.proofs.Common.{◌≡◌, ℕ, Some, IfOk, [], ◌∷◌, refl, subst, arith, length}
+use Rattle.std.proofs.Common.{◌≡◌, Some, IfOk, [], ◌∷◌, refl, subst, arith, length}
 use Rattle.class_model.specs.Layout.{best_of}
 use Rattle.py_node.specs.declared.built_in.BuiltIn.{BuiltIn}
 use Rattle.py_node.specs.declared.built_in.BuiltIn.TheVariants.{TypeType}
