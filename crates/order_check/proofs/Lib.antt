@@ -1,0 +1,16 @@
+pub mod Merged
+pub mod Ordered
+pub mod Stuck
+pub mod Walked
+pub mod Turned
+pub mod Fact
+pub mod Mapped
+pub mod Decided
+pub mod Stepped
+pub mod ClassFact
+pub mod Led
+pub mod Seen
+pub mod Placed
+pub mod Places
+pub mod Knowing
+pub mod Tables

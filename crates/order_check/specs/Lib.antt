@@ -1,0 +1,7 @@
+pub mod Lists
+pub mod Cycle
+pub mod Found
+pub mod Orders
+pub mod Line
+pub mod Hierarchy
+pub mod Known
