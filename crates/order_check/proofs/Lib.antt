@@ -14,3 +14,6 @@ pub mod Placed
 pub mod Places
 pub mod Knowing
 pub mod Tables
+pub mod Gathered
+pub mod Paired
+pub mod Telling

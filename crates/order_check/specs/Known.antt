@@ -3,7 +3,11 @@ use Rattle.std.specs.Prelude.{◌≡◌, ℕ, suc, ◌<◌, cond, eqb, List, [],
 use Rattle.class_model.specs.Order.{least_order, all_some, Includes}
 use Rattle.class_model.specs.Class.{bases_of}
 use Rattle.order_check.specs.declared.hierarchy.Entry.{Entry}
+use Rattle.order_check.specs.declared.known.Lines.{Lines}
+use Rattle.order_check.specs.declared.known.Lines.TheVariants.{All, Without}
+use Rattle.order_check.specs.Lists.{rows}
 use Rattle.order_check.specs.Hierarchy.{classes, keys_of, order_in}
+use Rattle.order_check.specs.Report.{first_without}
 
 -- what the place of a key is
 abbrev pub IsPlaceOf : List Entry → ℕ → Option ℕ → Type 0
@@ -47,3 +51,8 @@ abbrev pub AllNone : List (Option (List ℕ)) → Type 0
 AllNone [] = Unit {0}
 AllNone (None ∷ os) = AllNone os
 AllNone (Some xs ∷ os) = ⊥
+
+-- the orders of a class's bases, or the first base that has none
+abbrev pub AreLinesFor : (ℕ → Option (List ℕ)) → List ℕ → Lines → Type 0
+AreLinesFor f bs (All lines) = all_some (map f bs) ≡ Some (rows lines.items)
+AreLinesFor f bs (Without b) = first_without f bs ≡ Some b

@@ -4,4 +4,5 @@ pub mod Found
 pub mod Orders
 pub mod Line
 pub mod Hierarchy
+pub mod Report
 pub mod Known

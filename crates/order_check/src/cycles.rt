@@ -67,7 +67,7 @@ pub fn cycle_of(alloc: Global, lists: &[Vec<u64>]) -> Result<Option<Vec<u64>>, O
     found_in(alloc, &left)
 }
 
-fn is_before(list: &[u64], first: u64, second: u64) -> bool
+pub(crate) fn is_before(list: &[u64], first: u64, second: u64) -> bool
     ensures { result ≡ is_before first second list.now }
 {
     for place in 0..list.len() {

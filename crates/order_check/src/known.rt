@@ -1,10 +1,8 @@
 //! What is known of the orders of a hierarchy's classes.
 
-ghost use Rattle.std.specs.Prelude.{◌≡◌, Some, None, length, map, IfOk, IfSome, IfNone, option_map};
-ghost use Rattle.class_model.specs.Order.{all_some};
-ghost use Rattle.order_check.specs.Lists.{rows};
+ghost use Rattle.std.specs.Prelude.{◌≡◌, Some, None, length, IfOk, IfSome, IfNone};
 ghost use Rattle.order_check.specs.Hierarchy.{AreKeyed, orders};
-ghost use Rattle.order_check.specs.Known.{known_in};
+ghost use Rattle.order_check.specs.Known.{known_in, AreLinesFor};
 
 use crate::hierarchy::Entry;
 use crate::place::place_of;
@@ -31,24 +29,31 @@ pub(crate) fn known_order<'a>(
     }
 }
 
-// Copies of the orders of some bases, where each is known.
+/// The orders of some bases.
+#[derive(Drop)]
+pub(crate) enum Lines {
+    All(Vec<Vec<u64>>),
+    // This is the first base that has none.
+    Without(u64),
+}
+
+// Copies of the orders of some bases, or the first base of whose order nothing is known.
 pub(crate) fn known_lines(
     alloc: Global,
     entries: &[Entry],
     known: &[Option<Vec<u64>>],
     bases: &[u64],
-) -> Result<Option<Vec<Vec<u64>>>, OutOfMemory>
+) -> Result<Lines, OutOfMemory>
     requires keyed { AreKeyed entries.now }
     requires count { length known.now ≡ length entries.now }
-    ensures { IfOk result (λ r. option_map (λ v. rows v.items) r ≡
-        all_some (map (known_in entries.now (orders known.now)) bases.now)) }
+    ensures { IfOk result (AreLinesFor (known_in entries.now (orders known.now)) bases.now) }
 {
     let mut lines = Vec::new(alloc);
     for base in bases {
         match known_order(entries, known, *base) {
-            None => return Ok(None),
+            None => return Ok(Lines::Without(*base)),
             Some(order) => lines.push(Vec::from_slice(alloc, order)?)?,
         }
     }
-    Ok(Some(lines))
+    Ok(Lines::All(lines))
 }

@@ -6,7 +6,7 @@ ghost use Rattle.order_check.specs.Hierarchy.{AreKeyed, classes, keys_of, orders
 ghost use Rattle.order_check.specs.Known.{known_in, over, AreKnown, IsClosedAt, IsClosedTo, AllNone, unknown};
 
 use crate::hierarchy::{Entry, Hierarchy};
-use crate::known::known_lines;
+use crate::known::{Lines, known_lines};
 use crate::least::least_order;
 use py_node::OutOfMemory;
 use std::alloc::Global;
@@ -26,8 +26,8 @@ fn order_over(
         over (known_in entries.now (orders known.now)) entry.now.key entry.now.bases.items) }
 {
     match known_lines(alloc, entries, known, &entry.bases)? {
-        None => Ok(None),
-        Some(lines) => least_order(alloc, entry.key, &entry.bases, &lines),
+        Lines::Without(_) => Ok(None),
+        Lines::All(lines) => least_order(alloc, entry.key, &entry.bases, &lines),
     }
 }
 
