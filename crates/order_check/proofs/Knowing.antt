@@ -122,4 +122,4 @@ same-at (e ∷ h) g (o ∷ os) n f =
     cc (first, rest)
 
 pub found-all : (h : List Entry) (os : List (Option (List ℕ))) → AreKeyed h → length os ≡ length h → AreKnown h os → IsClosedTo h os (length h) → os ≡ all_orders h
-found-all h os d n k c = same-at h h os n (λ i l. sym (known-at h os i d n l) ∙ all-known h os k d n c (get_or (keys_of h) i 0))
+found-all h os d n k c = same-at h h os n (λ i l. sym (known-at h os i d l) ∙ all-known h os k d n c (get_or (keys_of h) i 0))

@@ -8,9 +8,8 @@ pub mod Mapped
 pub mod Decided
 pub mod Stepped
 pub mod ClassFact
-pub mod Led
+pub mod LineMerged
 pub mod Seen
-pub mod Placed
 pub mod Places
 pub mod Knowing
 pub mod Tables

@@ -47,14 +47,15 @@ bases-held (x ∷ h) c bs e = go (eqb x.key c) refl e (bases-held h c bs)
     go true t e more = inl (eqb-true x.key c t)
     go false t e more = inr (more e)
 
-pub known-at : (h : List Entry) (os : List (Option (List ℕ))) (i : ℕ) → AreKeyed h → length os ≡ length h → i < length h → known_in h os (get_or (keys_of h) i 0) ≡ get_or os i None
-known-at [] os i d n l = absurd (omega arith)
-known-at (e ∷ h) [] i d n l = absurd (omega arith)
-known-at (e ∷ h) (o ∷ os) zero d n l = ap (λ b. cond b o (known_in h os e.key)) (eq-eqb e.key e.key refl)
-known-at (e ∷ h) (o ∷ os) (suc i) d n l =
+pub known-at : (h : List Entry) (os : List (Option (List ℕ))) (i : ℕ) → AreKeyed h → i < length h → known_in h os (get_or (keys_of h) i 0) ≡ get_or os i None
+known-at [] os i d l = absurd (omega arith)
+known-at (e ∷ h) [] zero d l = refl
+known-at (e ∷ h) [] (suc i) d l = refl
+known-at (e ∷ h) (o ∷ os) zero d l = ap (λ b. cond b o (known_in h os e.key)) (eq-eqb e.key e.key refl)
+known-at (e ∷ h) (o ∷ os) (suc i) d l =
     let within : i < length h = omega arith in
     ap (λ b. cond b o (known_in h os (get_or (keys_of h) i 0))) (ne_eqb e.key (get_or (keys_of h) i 0) (other-key e h (get_or (keys_of h) i 0) d (key-held h i within)))
-    ∙ known-at h os i d.1 (omega arith) within
+    ∙ known-at h os i d.1 within
 
 pub known-none : (h : List Entry) (os : List (Option (List ℕ))) (c : ℕ) → (Includes (keys_of h) c → ⊥) → known_in h os c ≡ None
 known-none [] os c n = refl

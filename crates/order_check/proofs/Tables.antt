@@ -22,7 +22,7 @@ orders-at vs i o l is = get_or-map items_of vs i o None l ∙ ap items_of (sym i
 
 pub orders-known : (h : List Entry) (vs : List (Option (Vec ℕ))) (i c : ℕ) (o : Option (Vec ℕ)) → AreKeyed h → length vs ≡ length h → i < length h → get_or (keys_of h) i 0 ≡ c → o ≡ get_or vs i o → known_in h (orders vs) c ≡ items_of o
 orders-known h vs i c o d n l k is =
-    ap (known_in h (orders vs)) (sym k) ∙ known-at h (orders vs) i d (orders-length vs (length h) n) l ∙ orders-at vs i o (omega arith) is
+    ap (known_in h (orders vs)) (sym k) ∙ known-at h (orders vs) i d l ∙ orders-at vs i o (omega arith) is
 
 pub orders-set : (vs : List (Option (Vec ℕ))) (i : ℕ) (v : Vec ℕ) → orders (set vs i (Some v)) ≡ set (orders vs) i (Some v.items)
 orders-set vs i v = map-set items_of vs i (Some v)

@@ -82,11 +82,8 @@ module _ (h : List Entry) (e : Entry) (class : bases_of (classes h) e.key ≡ So
       go None is a = absurd (cyclic apart none a)
       go (Some cycle) is a = record {
         lines = lines;
-        cycle = cycle;
         of_bases = all_some-map (map (order_in h) e.bases.items) lines all;
-        is_cycle = a.0;
-        least = a.1;
-        told = is;
+        tells = record { cycle = cycle; is_cycle = a.0; least = a.1; told = is };
       }
 
 pub all-known : (h : List Entry) (os : List (Option (List ℕ))) → os ≡ all_orders h → AreKnown h os

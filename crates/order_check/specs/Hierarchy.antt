@@ -1,7 +1,7 @@
 -- The classes of a hierarchy, and their linearisations.
-use Rattle.std.specs.Prelude.{ℕ, List, [], map, Option, option_map}
+use Rattle.std.specs.Prelude.{◌≡◌, ℕ, List, [], map, take, Option, Some, option_map, slice_get}
 use Rattle.std.specs.Global.{Vec}
-use Rattle.class_model.specs.Order.{Distinct}
+use Rattle.class_model.specs.Order.{Includes, Distinct}
 use Rattle.class_model.specs.Class.{Class, Classes, lin}
 use Rattle.order_check.specs.declared.hierarchy.Entry.{Entry}
 
@@ -29,3 +29,8 @@ orders os = map (option_map (λ v. v.items)) os
 
 abbrev pub all_orders : List Entry → List (Option (List ℕ))
 all_orders h = map (λ e. order_in h e.key) h
+
+-- no two entries have one key, and each base is that of an earlier entry (so the first has no base)
+pub record IsInOrder (h : List Entry) : Type 0 where
+  pub keyed : AreKeyed h
+  pub earlier : (k : ℕ) (e : Entry) (b : ℕ) → slice_get h k ≡ Some e → Includes e.bases.items b → Includes (take k (keys_of h)) b

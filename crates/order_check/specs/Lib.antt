@@ -6,3 +6,4 @@ pub mod Line
 pub mod Hierarchy
 pub mod Report
 pub mod Known
+pub mod Told

@@ -32,14 +32,18 @@ pairs_to bases ls last (x ∷ xs) = pair_in bases ls x (first_or last xs) ∷ pa
 abbrev pub pairs_of : List ℕ → List (List ℕ) → List ℕ → List Pair
 pairs_of bases ls cycle = pairs_to bases ls (first_or 0 cycle) cycle
 
--- all bases have an order, and the class has none, for this cycle of its lists
+-- the pairs of a cycle of some lists, from its least class on
+pub record TellsCycle (bases : List ℕ) (ls : List (List ℕ)) (pairs : List Pair) : Type 0 where
+  pub cycle : List ℕ
+  pub is_cycle : IsCycle ls cycle
+  pub least : BeginsWithLeast cycle
+  pub told : pairs ≡ pairs_of bases ls cycle
+
+-- all bases of the class have an order, and this is a cycle of its lists (so it has none)
 pub record IsCycleLine (h : List Entry) (e : Entry) (pairs : List Pair) : Type 0 where
   pub lines : List (List ℕ)
-  pub cycle : List ℕ
   pub of_bases : map (order_in h) e.bases.items ≡ map Some lines
-  pub is_cycle : IsCycle (lists_of e.bases.items lines) cycle
-  pub least : BeginsWithLeast cycle
-  pub told : pairs ≡ pairs_of e.bases.items (lists_of e.bases.items lines) cycle
+  pub tells : TellsCycle e.bases.items (lists_of e.bases.items lines) pairs
 
 -- what a line tells of a class is so
 abbrev pub IsLine : List Entry → Entry → Line → Type 0

@@ -1,9 +1,8 @@
 //! The cycle that lists have where they have no merge.
 
-ghost use Rattle.std.specs.Prelude.{◌≡◌, ◌↔◌, true, IfOk, option_map};
-ghost use Rattle.class_model.specs.Order.{has, is_distinct};
+ghost use Rattle.std.specs.Prelude.{◌≡◌, IfOk, option_map};
 ghost use Rattle.order_check.specs.Lists.{rows};
-ghost use Rattle.order_check.specs.Cycle.{is_before, is_before_in, are_chained, IsCycle, IsAnswer, IsMergedOrCyclic, IsPlace, place_from};
+ghost use Rattle.order_check.specs.Cycle.{is_before, IsAnswer, IsMergedOrCyclic};
 ghost use Rattle.order_check.specs.Orders.{IsOrderedOrCyclic};
 ghost use Rattle.order_check.specs.Found.{cycle_of, found_in, least_from, turned};
 
@@ -76,70 +75,4 @@ pub(crate) fn is_before(list: &[u64], first: u64, second: u64) -> bool
         }
     }
     false
-}
-
-fn is_before_in(lists: &[Vec<u64>], first: u64, second: u64) -> bool
-    ensures { result ≡ is_before_in first second (rows lists.now) }
-{
-    for list in lists {
-        if is_before(list, first, second) {
-            return true;
-        }
-    }
-    false
-}
-
-fn are_different(list: &[u64]) -> bool
-    ensures { result ≡ is_distinct list.now }
-{
-    for place in 0..list.len() {
-        if has(&list[place + 1..], list[place]) {
-            return false;
-        }
-    }
-    true
-}
-
-fn are_chained(lists: &[Vec<u64>], line: &[u64], last: u64) -> bool
-    ensures { result ≡ are_chained (rows lists.now) line.now last }
-{
-    for place in 0..line.len() {
-        let next = if place + 1 < line.len() {
-            line[place + 1]
-        } else {
-            last
-        };
-        if !is_before_in(lists, line[place], next) {
-            return false;
-        }
-    }
-    true
-}
-
-/// Whether a list is a cycle of the lists' constraints. It takes no memory.
-pub fn accept_cycle(lists: &[Vec<u64>], cycle: &[u64]) -> bool
-    ensures { (result ≡ true) ↔ IsCycle (rows lists.now) cycle.now }
-{
-    if cycle.is_empty() {
-        return false;
-    }
-    are_different(cycle) && are_chained(lists, cycle, cycle[0])
-}
-
-/// The place of the first list that has one key before the other. It takes no memory.
-pub fn list_with(lists: &[Vec<u64>], first: u64, second: u64) -> Option<usize>
-    ensures { IsPlace first second (rows lists.now) result }
-{
-    first_with(lists, first, second)
-}
-
-fn first_with(lists: &[Vec<u64>], first: u64, second: u64) -> Option<usize>
-    ensures { result ≡ place_from 0 first second (rows lists.now) }
-{
-    for (place, list) in lists.iter().enumerate() {
-        if is_before(list, first, second) {
-            return Some(place);
-        }
-    }
-    None
 }
