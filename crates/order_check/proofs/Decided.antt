@@ -12,23 +12,12 @@ pub Decides-before : (l : List ℕ) (x y : ℕ) → Decides (is_before x y l) (B
 Decides-before [] x y = (λ e. absurd (false≢true e), λ h. absurd h)
 Decides-before (z ∷ l) x y = Decides-or (eqb z x && has l y) (is_before x y l) (Decides-and (eqb z x) (has l y) (Decides-eqb z x) (Decides-has l y)) (Decides-before l x y)
 
-Decides-before_in : (ls : List (List ℕ)) (x y : ℕ) → Decides (is_before_in x y ls) (BeforeIn ls x y)
+pub Decides-before_in : (ls : List (List ℕ)) (x y : ℕ) → Decides (is_before_in x y ls) (BeforeIn ls x y)
 Decides-before_in [] x y = (λ e. absurd (false≢true e), λ h. absurd h)
 Decides-before_in (l ∷ ls) x y = Decides-or (is_before x y l) (is_before_in x y ls) (Decides-before l x y) (Decides-before_in ls x y)
 
-Decides-chained : (ls : List (List ℕ)) (x : ℕ) (xs : List ℕ) (last : ℕ) → Decides (are_chained ls (x ∷ xs) last) (IsChain ls x xs last)
+pub Decides-chained : (ls : List (List ℕ)) (x : ℕ) (xs : List ℕ) (last : ℕ) → Decides (are_chained ls (x ∷ xs) last) (IsChain ls x xs last)
 Decides-chained ls x [] last =
     let d = Decides-before_in ls x last in
     (λ e. d.0 (and_parts (is_before_in x last ls) true e).0, λ h. ap (λ b. b && true) (d.1 h))
 Decides-chained ls x (y ∷ ys) last = Decides-and (is_before_in x y ls) (are_chained ls (y ∷ ys) last) (Decides-before_in ls x y) (Decides-chained ls y ys last)
-
-pub chained-cycle : (ls : List (List ℕ)) (c : List ℕ) (b : Bool) → (length c ≡ 0 → ⊥) → is_distinct c ≡ true → b ≡ are_chained ls c (get_or c 0 0) → (b ≡ true) ↔ IsCycle ls c
-chained-cycle ls [] b n d e = absurd (n refl)
-chained-cycle ls (x ∷ xs) b n d e =
-    let k = Decides-chained ls x xs x in
-    (λ t. ((Decides-distinct (x ∷ xs)).0 d, k.0 (sym e ∙ t)), λ c. e ∙ k.1 c.1)
-
-pub alike-no_cycle : (ls : List (List ℕ)) (c : List ℕ) (b : Bool) → is_distinct c ≡ false → b ≡ false → (b ≡ true) ↔ IsCycle ls c
-alike-no_cycle ls [] b d e = absurd (false≢true (sym d))
-alike-no_cycle ls (x ∷ xs) b d e =
-    (λ t. absurd (false≢true (sym e ∙ t)), λ c. absurd (false≢true (sym d ∙ (Decides-distinct (x ∷ xs)).1 c.0)))

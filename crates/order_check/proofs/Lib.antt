@@ -16,3 +16,6 @@ pub mod Tables
 pub mod Gathered
 pub mod Paired
 pub mod Telling
+pub mod Deciding
+pub mod Accepted
+pub mod Someness

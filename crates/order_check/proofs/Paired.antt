@@ -6,7 +6,7 @@ use Rattle.order_check.specs.declared.hierarchy.Entry.{Entry}
 use Rattle.order_check.specs.declared.report.Line.{Line}
 use Rattle.order_check.specs.Report.{OnBoth}
 
-get-before : {A : Type 0} (xs : List A) (x : A) (k : ℕ) → k < length xs → slice_get (xs ++ x ∷ []) k ≡ slice_get xs k
+pub get-before : {A : Type 0} (xs : List A) (x : A) (k : ℕ) → k < length xs → slice_get (xs ++ x ∷ []) k ≡ slice_get xs k
 get-before [] x k l = absurd (omega arith)
 get-before (y ∷ xs) x zero l = refl
 get-before (y ∷ xs) x (suc k) l = get-before xs x k (omega arith)

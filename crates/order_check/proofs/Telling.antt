@@ -34,7 +34,7 @@ known-here (e ∷ h) g c = go (eqb e.key c) refl (known-here h g c)
     go false t (inl p) = inl p
     go false t (inr p) = inr (λ k. elim k [ inl i ↦ eqb-false e.key c t i | inr j ↦ p.0 j ], p.1)
 
-none-there : (h : List Entry) (c : ℕ) → (Includes (keys_of h) c → ⊥) → order_in h c ≡ None
+pub none-there : (h : List Entry) (c : ℕ) → (Includes (keys_of h) c → ⊥) → order_in h c ≡ None
 none-there h c n = go (order_in h c) refl
   where
     go : (o : Option (List ℕ)) → order_in h c ≡ o → o ≡ None
@@ -61,10 +61,10 @@ all_some-length os xs e = sym (ap length (all_some-map os xs e) ∙ length-map x
 
 -- a class that has no order, while its bases have these
 module _ (h : List Entry) (e : Entry) (class : bases_of (classes h) e.key ≡ Some e.bases.items) (lines : List (List ℕ)) (all : all_some (map (order_in h) e.bases.items) ≡ Some lines) where
-  based : AreIn e.bases.items lines
+  pub based : AreIn e.bases.items lines
   based b k = let r = all_some-has (order_in h) e.bases.items lines b all k in (r.0, r.1, lin-held (classes h) b r.0 r.2)
 
-  order-rule : order_in h e.key ≡ least_order e.key e.bases.items lines
+  pub order-rule : order_in h e.key ≡ least_order e.key e.bases.items lines
   order-rule =
       lin-rule (classes h) e.key
       ∙ ap (option_and_then (λ bs. option_and_then (least_order e.key bs) (all_some (map (order_in h) bs)))) class

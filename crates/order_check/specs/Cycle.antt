@@ -60,18 +60,3 @@ first_or x (y ∷ ys) = y
 abbrev pub are_chained : List (List ℕ) → List ℕ → ℕ → Bool
 are_chained ls [] last = true
 are_chained ls (x ∷ xs) last = is_before_in x (first_or last xs) ls && are_chained ls xs last
-
--- the place of the first list that has x before y, counting from n
-abbrev pub place_from : ℕ → ℕ → ℕ → List (List ℕ) → Option ℕ
-place_from n x y [] = None
-place_from n x y (l ∷ ls) = cond (is_before x y l) (Some n) (place_from (n + 1) x y ls)
-
--- said of the place of a list: it has x before y, and none before it has
-pub record IsFirstWith (x y : ℕ) (ls : List (List ℕ)) (place : ℕ) : Type 0 where
-  pub here : Before (get_or ls place []) x y
-  pub first : (k : ℕ) → k < place → Before (get_or ls k []) x y → ⊥
-
--- an answer of which list has a pair: none where none has
-abbrev pub IsPlace : ℕ → ℕ → List (List ℕ) → Option ℕ → Type 0
-IsPlace x y ls None = BeforeIn ls x y → ⊥
-IsPlace x y ls (Some place) = IsFirstWith x y ls place

@@ -1,6 +1,7 @@
 //! Orders of classes, and the cycles that stand against them.
 #![tactic(auto)]
 
+pub mod accepting;
 pub mod checking;
 pub mod cycles;
 pub mod hierarchy;
@@ -16,6 +17,7 @@ pub mod report;
 mod told;
 mod walk;
 
+pub use accepting::accept;
 pub use checking::check;
 pub use cycles::cycle_of;
 pub use hierarchy::{Entry, Hierarchy};
