@@ -19,3 +19,4 @@ pub mod Telling
 pub mod Deciding
 pub mod Accepted
 pub mod Someness
+pub mod Keyed

@@ -6,7 +6,7 @@ use Rattle.order_check.specs.declared.hierarchy.Entry.{Entry}
 use Rattle.order_check.specs.declared.report.Line.{Line}
 use Rattle.order_check.specs.Report.{OnBoth}
 
-pub get-before : {A : Type 0} (xs : List A) (x : A) (k : ℕ) → k < length xs → slice_get (xs ++ x ∷ []) k ≡ slice_get xs k
+get-before : {A : Type 0} (xs : List A) (x : A) (k : ℕ) → k < length xs → slice_get (xs ++ x ∷ []) k ≡ slice_get xs k
 get-before [] x k l = absurd (omega arith)
 get-before (y ∷ xs) x zero l = refl
 get-before (y ∷ xs) x (suc k) l = get-before xs x k (omega arith)
@@ -17,7 +17,7 @@ get-last [] x (suc k) e = absurd (omega (arith, e))
 get-last (y ∷ xs) x zero e = absurd (omega (arith, e))
 get-last (y ∷ xs) x (suc k) e = get-last xs x k (omega (arith, e))
 
-before-or-at : (k n : ℕ) → k < suc n → (k < n) ⊎ (k ≡ n)
+pub before-or-at : (k n : ℕ) → k < suc n → (k < n) ⊎ (k ≡ n)
 before-or-at zero zero l = inr refl
 before-or-at zero (suc n) l = inl (omega arith)
 before-or-at (suc k) zero l = absurd (omega arith)

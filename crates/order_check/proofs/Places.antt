@@ -47,7 +47,7 @@ bases-held (x ∷ h) c bs e = go (eqb x.key c) refl e (bases-held h c bs)
     go true t e more = inl (eqb-true x.key c t)
     go false t e more = inr (more e)
 
-pub known-at : (h : List Entry) (os : List (Option (List ℕ))) (i : ℕ) → AreKeyed h → i < length h → known_in h os (get_or (keys_of h) i 0) ≡ get_or os i None
+pub known-at : {A : Type 0} (h : List Entry) (os : List (Option A)) (i : ℕ) → AreKeyed h → i < length h → known_in h os (get_or (keys_of h) i 0) ≡ get_or os i None
 known-at [] os i d l = absurd (omega arith)
 known-at (e ∷ h) [] zero d l = refl
 known-at (e ∷ h) [] (suc i) d l = refl
@@ -57,13 +57,13 @@ known-at (e ∷ h) (o ∷ os) (suc i) d l =
     ap (λ b. cond b o (known_in h os (get_or (keys_of h) i 0))) (ne_eqb e.key (get_or (keys_of h) i 0) (other-key e h (get_or (keys_of h) i 0) d (key-held h i within)))
     ∙ known-at h os i d.1 within
 
-pub known-none : (h : List Entry) (os : List (Option (List ℕ))) (c : ℕ) → (Includes (keys_of h) c → ⊥) → known_in h os c ≡ None
+pub known-none : {A : Type 0} (h : List Entry) (os : List (Option A)) (c : ℕ) → (Includes (keys_of h) c → ⊥) → known_in h os c ≡ None
 known-none [] os c n = refl
 known-none (e ∷ h) [] c n = refl
 known-none (e ∷ h) (o ∷ os) c n =
     ap (λ b. cond b o (known_in h os c)) (ne_eqb e.key c (λ i. n (inl i))) ∙ known-none h os c (λ k. n (inr k))
 
-pub known-set : (h : List Entry) (os : List (Option (List ℕ))) (i : ℕ) (o : Option (List ℕ)) (c : ℕ) → AreKeyed h → length os ≡ length h → i < length h → known_in h (set os i o) c ≡ cond (eqb (get_or (keys_of h) i 0) c) o (known_in h os c)
+pub known-set : {A : Type 0} (h : List Entry) (os : List (Option A)) (i : ℕ) (o : Option A) (c : ℕ) → AreKeyed h → length os ≡ length h → i < length h → known_in h (set os i o) c ≡ cond (eqb (get_or (keys_of h) i 0) c) o (known_in h os c)
 known-set [] os i o c d n l = absurd (omega arith)
 known-set (e ∷ h) [] i o c d n l = absurd (omega arith)
 known-set (e ∷ h) (p ∷ os) zero o c d n l = go (eqb e.key c)
@@ -82,9 +82,9 @@ known-set (e ∷ h) (p ∷ os) (suc i) o c d n l = ap (λ r. cond (eqb e.key c) 
     go false s true t = refl
     go false s false t = refl
 
-pub unknown-set : (os : List (Option (List ℕ))) (i : ℕ) (xs : List ℕ) → i < length os → get_or os i None ≡ None → unknown (set os i (Some xs)) < unknown os
-unknown-set [] i xs l e = absurd (omega arith)
-unknown-set (None ∷ os) zero xs l e = omega arith
-unknown-set (Some ys ∷ os) zero xs l e = cc
-unknown-set (None ∷ os) (suc i) xs l e = let r = unknown-set os i xs (omega arith) e in omega arith
-unknown-set (Some ys ∷ os) (suc i) xs l e = unknown-set os i xs (omega arith) e
+pub unknown-set : {A : Type 0} (os : List (Option A)) (i : ℕ) (x : A) → i < length os → get_or os i None ≡ None → unknown (set os i (Some x)) < unknown os
+unknown-set [] i x l e = absurd (omega arith)
+unknown-set (None ∷ os) zero x l e = omega arith
+unknown-set (Some y ∷ os) zero x l e = cc
+unknown-set (None ∷ os) (suc i) x l e = let r = unknown-set os i x (omega arith) e in omega arith
+unknown-set (Some y ∷ os) (suc i) x l e = unknown-set os i x (omega arith) e

@@ -15,7 +15,7 @@ IsPlaceOf h c None = Includes (keys_of h) c → ⊥
 IsPlaceOf h c (Some place) = (place < length h) × (get_or (keys_of h) place 0 ≡ c)
 
 -- what is known of the class with a key
-abbrev pub known_in : List Entry → List (Option (List ℕ)) → ℕ → Option (List ℕ)
+abbrev pub known_in : {A : Type 0} → List Entry → List (Option A) → ℕ → Option A
 known_in [] os c = None
 known_in (e ∷ h) [] c = None
 known_in (e ∷ h) (o ∷ os) c = cond (eqb e.key c) o (known_in h os c)
@@ -41,7 +41,7 @@ unfoldable pub IsClosedTo : List Entry → List (Option (List ℕ)) → ℕ → 
 IsClosedTo h os n = (k : ℕ) → k < n → IsClosedAt h os (get_or (keys_of h) k 0)
 
 -- of how many classes nothing is known
-abbrev pub unknown : List (Option (List ℕ)) → ℕ
+abbrev pub unknown : {A : Type 0} → List (Option A) → ℕ
 unknown [] = 0
 unknown (None ∷ os) = suc (unknown os)
 unknown (Some xs ∷ os) = unknown os

@@ -4,6 +4,7 @@ pub mod Found
 pub mod Orders
 pub mod Line
 pub mod Hierarchy
+pub mod Forms
 pub mod Report
 pub mod Known
 pub mod Told

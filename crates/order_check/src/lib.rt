@@ -4,6 +4,7 @@
 pub mod accepting;
 pub mod checking;
 pub mod cycles;
+mod forms;
 pub mod hierarchy;
 mod known;
 mod least;
@@ -20,6 +21,10 @@ mod walk;
 pub use accepting::accept;
 pub use checking::check;
 pub use cycles::cycle_of;
+pub use forms::is_in_order;
 pub use hierarchy::{Entry, Hierarchy};
 pub use orders::all_orders;
 pub use report::{Line, Pair, Report, Wrong};
+
+#[cfg(test)]
+mod tests;

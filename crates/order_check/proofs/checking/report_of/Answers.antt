@@ -20,8 +20,8 @@ loop-place-preserved c =
     let F : List Line → Type 0 = λ ls. (k : ℕ) → k < length ls → OnBoth (IsFoundLine h) (slice_get h (suc k)) (slice_get ls k) in
     record {
       count = rw c.in_ok-push.ensures.items (simp length-append (omega (arith, c.loop-place.invariant.count)));
-      right = subst R (sym c.in_ok-push.ensures.items) (one-more (IsLine h) h lines e x c.loop-place.place c.loop-place.invariant.count c.loop-place-test.true c.index-entries-place.is c.in_ok-line_of.ensures.line c.loop-place.invariant.right);
-      found = subst F (sym c.in_ok-push.ensures.items) (one-more (IsFoundLine h) h lines e x c.loop-place.place c.loop-place.invariant.count c.loop-place-test.true c.index-entries-place.is c.in_ok-line_of.ensures.found c.loop-place.invariant.found);
+      right = subst R (sym {A = List Line} c.in_ok-push.ensures.items) (one-more (IsLine h) h lines e x c.loop-place.place c.loop-place.invariant.count c.loop-place-test.true c.index-entries-place.is c.in_ok-line_of.ensures.line c.loop-place.invariant.right);
+      found = subst F (sym {A = List Line} c.in_ok-push.ensures.items) (one-more (IsFoundLine h) h lines e x c.loop-place.place c.loop-place.invariant.count c.loop-place-test.true c.index-entries-place.is c.in_ok-line_of.ensures.found c.loop-place.invariant.found);
     }
 
 pub returns-clause-report : goal.returns-clause-report
