@@ -20,3 +20,5 @@ pub mod Deciding
 pub mod Accepted
 pub mod Someness
 pub mod Keyed
+pub mod Ranking
+pub mod WellFounded

@@ -7,4 +7,5 @@ pub mod Hierarchy
 pub mod Forms
 pub mod Report
 pub mod Known
+pub mod WellFormed
 pub mod Told

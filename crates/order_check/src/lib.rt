@@ -14,9 +14,11 @@ mod line;
 pub mod orders;
 mod pairs;
 mod place;
+mod ranks;
 pub mod report;
 mod told;
 mod walk;
+pub mod wellformed;
 
 pub use accepting::accept;
 pub use checking::check;
@@ -24,6 +26,7 @@ pub use cycles::cycle_of;
 pub use forms::is_in_order;
 pub use hierarchy::{Entry, Hierarchy};
 pub use orders::all_orders;
+pub use wellformed::well_formed;
 pub use report::{Line, Pair, Report, Wrong};
 
 #[cfg(test)]
