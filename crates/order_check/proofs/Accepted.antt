@@ -1,7 +1,6 @@
 -- What a report's earlier lines tell, and which line is the first wrong one.
-use Rattle.std.proofs.Common.{◌≡◌, ℕ, zero, suc, ◌+◌, ◌<◌, ◌≤◌, Bool, true, List, [], ◌∷◌, length, get_or, take, map, Option, Some, None, ◌⊎◌, inl, inr, refl, sym, ap, subst, ◌∙◌, arith, below_more}
+use Rattle.std.proofs.Common.{◌≡◌, ℕ, zero, suc, ◌+◌, ◌<◌, Bool, true, List, [], ◌∷◌, length, get_or, take, map, Option, Some, None, inl, inr, refl, sym, ap, subst, ◌∙◌, arith, below_more}
 use Rattle.std.specs.Prelude.{◌↔◌, option_map, option_and_then, slice_get}
-use Rattle.std.proofs.lemmas.Option.{slice_get_past}
 use Rattle.class_model.specs.Order.{least_order, all_some, Includes}
 use Rattle.class_model.specs.Class.{bases_of}
 use Rattle.class_model.proofs.Rule.{lin-rule}
@@ -11,7 +10,7 @@ use Rattle.order_check.specs.declared.report.Line.{Line}
 use Rattle.order_check.specs.declared.report.Line.TheVariants.{Order, Cycle, Without}
 use Rattle.order_check.specs.Hierarchy.{classes, keys_of, order_in, IsInOrder}
 use Rattle.order_check.specs.Known.{known_in}
-use Rattle.order_check.specs.Report.{OnBoth, IsLine, IsRightAt, IsReport, IsFirstWrong}
+use Rattle.order_check.specs.Report.{OnBoth, IsLine, IsRightAt}
 use Rattle.order_check.specs.Told.{order_told, orders_told, AreToldTo}
 use Rattle.order_check.proofs.Places.{key-at, bases-at, known-at}
 use Rattle.order_check.proofs.Telling.{none-there}

@@ -1,12 +1,11 @@
 -- What the tests of cycles decide.
-use Rattle.std.proofs.Common.{◌≡◌, ℕ, Bool, true, false, ◌&&◌, eqb, List, [], ◌∷◌, length, get_or, refl, sym, ap, ◌∙◌}
-use Rattle.std.specs.Prelude.{◌↔◌}
+use Rattle.std.proofs.Common.{ℕ, true, ◌&&◌, eqb, List, [], ◌∷◌, ap}
 use Rattle.std.specs.Bool.{Decides}
 use Rattle.std.proofs.lemmas.Bool.{false≢true, and_parts}
 use Rattle.std.proofs.lemmas.Bool.Decides.{Decides-eqb, Decides-and, Decides-or}
-use Rattle.class_model.specs.Order.{has, is_distinct}
-use Rattle.order_check.specs.Cycle.{Before, BeforeIn, IsChain, IsCycle, is_before, is_before_in, are_chained}
-use Rattle.class_model.proofs.Tests.{Decides-has, Decides-distinct}
+use Rattle.class_model.specs.Order.{has}
+use Rattle.order_check.specs.Cycle.{Before, BeforeIn, IsChain, is_before, is_before_in, are_chained}
+use Rattle.class_model.proofs.Tests.{Decides-has}
 
 pub Decides-before : (l : List ℕ) (x y : ℕ) → Decides (is_before x y l) (Before l x y)
 Decides-before [] x y = (λ e. absurd (false≢true e), λ h. absurd h)

@@ -1,8 +1,8 @@
 -- What the tests of a line decide.
-use Rattle.std.proofs.Common.{◌≡◌, ℕ, ◌≤◌, Bool, true, false, cond, ◌&&◌, eqb, leb, List, [], ◌∷◌, map, length, Option, Some, None, inl, inr, refl, sym, ap, subst, ◌∙◌, arith}
+use Rattle.std.proofs.Common.{◌≡◌, ℕ, ◌≤◌, Bool, true, cond, ◌&&◌, eqb, leb, List, [], ◌∷◌, map, length, Option, Some, None, inl, inr, refl, sym, ap, subst, ◌∙◌, arith}
 use Rattle.std.specs.Prelude.{◌↔◌, is_none, option_map, option_and_then}
 use Rattle.std.proofs.lemmas.Bool.{eqb-true, eq-eqb, leb-true, le-leb, and_parts, false≢true}
-use Rattle.class_model.specs.Order.{is_distinct, least_order, all_some, Includes, Distinct, IsOrder}
+use Rattle.class_model.specs.Order.{is_distinct, least_order, all_some, Includes}
 use Rattle.class_model.specs.Class.{bases_of}
 use Rattle.class_model.proofs.Arranged.{least_order-order}
 use Rattle.class_model.proofs.Linear.{all_some-holds}
@@ -10,7 +10,6 @@ use Rattle.class_model.proofs.Lines.{all_some-some}
 use Rattle.class_model.proofs.Rule.{all_some-map, lin-rule}
 use Rattle.class_model.proofs.Tests.{Decides-distinct}
 use Rattle.mro_merge.specs.Merge.{IsApart}
-use Rattle.mro_merge.specs.Steps.{merged}
 use Rattle.mro_merge.proofs.Steps.{least_order-merged}
 use Rattle.order_check.specs.declared.hierarchy.Entry.{Entry}
 use Rattle.order_check.specs.declared.report.Pair.{Pair}
@@ -53,8 +52,7 @@ told-parts bases ls last [] e = (refl, refl)
 told-parts bases ls last (p ∷ ps) e =
     let parts = and_parts (is_told bases ls p (first_or last (firsts ps))) (are_told bases ls last ps) e in
     let here = pair-told bases ls p (first_or last (firsts ps)) parts.0 in
-    let more = told-parts bases ls last ps parts.1 in
-    (
+    let more = told-parts bases ls last ps parts.1 in (
       ap (λ w. w ∷ ps) here.0 ∙ ap (λ w. pair_in bases ls p.first (first_or last (firsts ps)) ∷ w) more.0,
       both_true (is_before_in p.first (first_or last (firsts ps)) ls) (are_chained ls (firsts ps) last) here.1 more.1,
     )
@@ -65,7 +63,7 @@ told-from bases ls last (x ∷ xs) e =
     let parts = and_parts (is_before_in x (first_or last xs) ls) (are_chained ls xs last) e in
     let y = first_or last xs in
     let at_y : is_told bases ls (pair_in bases ls x y) y ≡ true =
-        both_true (eqb y y) (is_before_in x y ls && is_same_list (list_with x y bases ls) (list_with x y bases ls)) (eq-eqb y y refl) (both_true (is_before_in x y ls) (is_same_list (list_with x y bases ls) (list_with x y bases ls)) parts.0 (same-itself (list_with x y bases ls))) in
+    both_true (eqb y y) (is_before_in x y ls && is_same_list (list_with x y bases ls) (list_with x y bases ls)) (eq-eqb y y refl) (both_true (is_before_in x y ls) (is_same_list (list_with x y bases ls) (list_with x y bases ls)) parts.0 (same-itself (list_with x y bases ls))) in
     both_true (is_told bases ls (pair_in bases ls x y) (first_or last (firsts (pairs_to bases ls last xs)))) (are_told bases ls last (pairs_to bases ls last xs)) (ap (λ w. is_told bases ls (pair_in bases ls x y) (first_or last w)) (firsts-pairs bases ls last xs) ∙ at_y) (told-from bases ls last xs parts.1)
 
 least-below : (x : ℕ) (ys : List ℕ) → is_least x ys ≡ true → (y : ℕ) → Includes ys y → x ≤ y

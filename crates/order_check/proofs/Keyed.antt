@@ -1,10 +1,10 @@
 -- Keys that differ, and bases that come earlier.
-use Rattle.std.proofs.Common.{◌≡◌, ℕ, zero, suc, ◌+◌, ◌-◌, ◌<◌, ◌≤◌, List, [], ◌∷◌, ◌++◌, length, get_or, take, Some, ◌⊎◌, inl, inr, refl, sym, ap, subst, ◌∙◌, arith}
+use Rattle.std.proofs.Common.{◌≡◌, ℕ, zero, suc, ◌+◌, ◌-◌, ◌<◌, ◌≤◌, List, [], ◌∷◌, length, get_or, take, Some, inl, inr, refl, sym, ap, subst, ◌∙◌, arith}
 use Rattle.std.specs.Prelude.{slice_get}
 use Rattle.std.proofs.lemmas.List.{take_more}
 use Rattle.std.proofs.lemmas.Option.{slice_get_within}
 use Rattle.class_model.specs.Order.{Includes, Distinct}
-use Rattle.class_model.proofs.Held.{Includes-left, Includes-right, Includes-sides}
+use Rattle.class_model.proofs.Held.{Includes-sides}
 use Rattle.order_check.specs.declared.hierarchy.Entry.{Entry}
 use Rattle.order_check.specs.Hierarchy.{keys_of, AreKeyed, IsInOrder}
 use Rattle.order_check.specs.Forms.{AreAscending, AreBefore, AreEarlierTo}

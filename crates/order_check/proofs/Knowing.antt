@@ -1,9 +1,9 @@
 -- What is known of the linearisations, and what follows when nothing more is found.
-use Rattle.std.proofs.Common.{◌≡◌, ℕ, zero, suc, ◌<◌, ◌≤◌, Bool, true, false, cond, eqb, List, [], ◌∷◌, length, get_or, set, map, Option, Some, None, inl, inr, refl, sym, ap, subst, ◌∙◌, arith}
+use Rattle.std.proofs.Common.{◌≡◌, ℕ, zero, suc, ◌<◌, Bool, true, false, cond, eqb, List, [], ◌∷◌, length, get_or, set, map, Option, Some, None, refl, sym, ap, subst, ◌∙◌, arith}
 use Rattle.std.specs.Prelude.{option_map, option_and_then}
 use Rattle.std.proofs.lemmas.Bool.{eqb-true}
 use Rattle.class_model.specs.Order.{least_order, all_some, linear, Includes, Distinct, BeginsWith}
-use Rattle.class_model.specs.Class.{bases_of, lin}
+use Rattle.class_model.specs.Class.{bases_of}
 use Rattle.mro_merge.specs.Merge.{AreLinesOf, IsApart}
 use Rattle.order_check.specs.declared.hierarchy.Entry.{Entry}
 use Rattle.order_check.specs.Hierarchy.{classes, keys_of, order_in, AreKeyed, all_orders}
@@ -11,7 +11,7 @@ use Rattle.order_check.specs.Known.{known_in, over, step, AreKnown, IsClosedAt, 
 use Rattle.class_model.proofs.Linear.{linear-made, linear-zero, linear-grows, all_some-at, all_some-holds, all_some-has}
 use Rattle.class_model.proofs.Depth.{linear-member}
 use Rattle.class_model.proofs.Rule.{lin-begins, lin-distinct, lin-from, lin-rule}
-use Rattle.order_check.proofs.Places.{key-at, held-at, bases-held, known-at, known-none, known-set}
+use Rattle.order_check.proofs.Places.{held-at, bases-held, known-at, known-set}
 
 -- no base of a class has the class along its linearisation
 pub never-below : (bases : ℕ → Option (List ℕ)) (n b c : ℕ) (l bs : List ℕ) → linear bases n b ≡ Some l → Includes l c → bases c ≡ Some bs → Includes bs b → ⊥

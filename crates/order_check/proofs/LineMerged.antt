@@ -1,10 +1,9 @@
 -- A line passes the test a member at a time exactly where it is the merge.
-use Rattle.std.proofs.Common.{◌≡◌, ℕ, zero, suc, ◌<◌, ◌≤◌, Bool, true, false, cond, not, ◌&&◌, eqb, List, [], ◌∷◌, ◌++◌, length, Option, Some, None, inl, inr, refl, sym, ap, ◌∙◌, arith}
+use Rattle.std.proofs.Common.{◌≡◌, ℕ, Bool, true, false, cond, not, ◌&&◌, eqb, List, [], ◌∷◌, ◌++◌, Option, Some, None, inl, inr, refl, sym, ap, ◌∙◌}
 use Rattle.std.specs.Prelude.{option_map, ◌↔◌}
 use Rattle.std.proofs.lemmas.Bool.{eq-eqb, ne_eqb, eqb-true, cases_eq, and_parts, false≢true}
 use Rattle.class_model.specs.Order.{has, without, Includes}
-use Rattle.mro_merge.specs.Merge.{members}
-use Rattle.mro_merge.specs.Steps.{first_free, are_empty, struck, after, merge, merged, past}
+use Rattle.mro_merge.specs.Steps.{first_free, are_empty, struck, merged, past}
 use Rattle.order_check.specs.Line.{rest, is_same, is_led}
 use Rattle.class_model.proofs.Held.{Includes-left, Includes-right, Includes-sides}
 use Rattle.class_model.proofs.Tests.{Decides-has}

@@ -2,7 +2,6 @@
 use Rattle.std.proofs.Common.{◌≡◌, ℕ, zero, suc, ◌+◌, ◌<◌, ◌≤◌, Bool, true, false, ◌&&◌, cond, eqb, List, [], ◌∷◌, ◌++◌, length, get_or, set, Option, Some, None, inl, inr, refl, sym, ap, subst, ◌∙◌, arith, below_more}
 use Rattle.std.specs.Prelude.{◌↔◌, is_some}
 use Rattle.std.proofs.lemmas.Bool.{eqb-true, and_parts, false≢true, both_ways}
-use Rattle.std.proofs.lemmas.List.{length-map}
 use Rattle.class_model.specs.Order.{has, Includes, Distinct}
 use Rattle.class_model.specs.Class.{bases_of}
 use Rattle.class_model.proofs.Held.{distinct-fewer, Includes-equal}

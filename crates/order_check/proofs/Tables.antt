@@ -6,8 +6,8 @@ use Rattle.std.proofs.lemmas.Bool.{false≢true}
 use Rattle.std.proofs.lemmas.List.{get_or-map, map-set, length-map}
 use Rattle.class_model.specs.Class.{bases_of}
 use Rattle.order_check.specs.declared.hierarchy.Entry.{Entry}
-use Rattle.order_check.specs.Hierarchy.{classes, keys_of, orders, order_in, AreKeyed}
-use Rattle.order_check.specs.Known.{known_in, over, step, AreKnown, IsClosedAt, IsClosedTo, AllNone, unknown}
+use Rattle.order_check.specs.Hierarchy.{classes, keys_of, orders, AreKeyed}
+use Rattle.order_check.specs.Known.{known_in, over, AreKnown, IsClosedAt, IsClosedTo, AllNone, unknown}
 use Rattle.order_check.proofs.Places.{key-at, bases-at, known-at, unknown-set}
 use Rattle.order_check.proofs.Knowing.{known-more}
 

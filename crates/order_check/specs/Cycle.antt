@@ -1,5 +1,5 @@
 -- Cycles of the constraints that lists put on their members' order.
-use Rattle.std.specs.Prelude.{◌≡◌, ◌↔◌, ℕ, ◌+◌, ◌≤◌, ◌<◌, Bool, true, false, cond, ◌&&◌, ◌||◌, ◌⊎◌, eqb, List, [], ◌∷◌, Option, Some, None, get_or}
+use Rattle.std.specs.Prelude.{◌≡◌, ◌↔◌, ℕ, ◌≤◌, Bool, true, false, ◌&&◌, ◌||◌, ◌⊎◌, eqb, List, [], ◌∷◌, Option, Some, None}
 use Rattle.class_model.specs.Order.{has, Includes, Distinct}
 use Rattle.mro_merge.specs.Merge.{IsMerge}
 

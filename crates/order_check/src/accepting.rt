@@ -108,7 +108,11 @@ fn first_wrong(told: Told<'_>) -> Option<usize>
 fn first_key(entries: &[Entry]) -> u64
     ensures { result ≡ get_or (keys_of entries.now) 0 0 }
 {
-    if entries.is_empty() { 0 } else { entries[0].key }
+    if entries.is_empty() {
+        0
+    } else {
+        entries[0].key
+    }
 }
 
 /// Whether a report is right: it tells of each class but the first its linearisation, or the first of its bases that

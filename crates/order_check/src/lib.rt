@@ -26,8 +26,8 @@ pub use cycles::cycle_of;
 pub use forms::is_in_order;
 pub use hierarchy::{Entry, Hierarchy};
 pub use orders::all_orders;
-pub use wellformed::well_formed;
 pub use report::{Line, Pair, Report, Wrong};
+pub use wellformed::well_formed;
 
 #[cfg(test)]
 mod tests;

@@ -1,5 +1,4 @@
-use Rattle.std.proofs.Common.{◌≡◌, ◌+◌, ◌<◌, List, length, get_or, Some, refl, ap, arith}
-use Rattle.std.specs.Prelude.{slice_get}
+use Rattle.std.proofs.Common.{◌+◌, length, get_or, refl, ap}
 use Rattle.std.proofs.lemmas.Option.{slice_get_read}
 use Rattle.order_check.specs.Told.{orders_told}
 use Rattle.order_check.proofs.Places.{bases-at}
@@ -24,6 +23,6 @@ returns c =
     let e = get_or h (c.args.place + 1) c.index-told-place.result in
     let x = get_or lines c.args.place c.index-told-place-2.result in
     right-at h lines c.args.place e x c.is_line.result
-      (slice_get_read h (length h) (c.args.place + 1) e refl c.requires.inside (ap (get_or h (c.args.place + 1)) c.index-told-place.is))
-      (slice_get_read lines (length lines) c.args.place x refl c.if-place-told.false (ap (get_or lines c.args.place) c.index-told-place-2.is))
-      c.is_line.ensures
+    (slice_get_read h (length h) (c.args.place + 1) e refl c.requires.inside (ap (get_or h (c.args.place + 1)) c.index-told-place.is))
+    (slice_get_read lines (length lines) c.args.place x refl c.if-place-told.false (ap (get_or lines c.args.place) c.index-told-place-2.is))
+    c.is_line.ensures

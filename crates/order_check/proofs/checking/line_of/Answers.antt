@@ -1,15 +1,14 @@
-use Rattle.std.proofs.Common.{◌≡◌, ℕ, List, length, map, Some, None, refl, sym, ap, subst, ◌∙◌}
+use Rattle.std.proofs.Common.{◌≡◌, ℕ, length, map, Some, sym, ap, ◌∙◌}
 use Rattle.std.specs.Global.{Vec}
 use Rattle.std.proofs.lemmas.List.{length-map}
 use Rattle.class_model.specs.Order.{all_some}
 use Rattle.class_model.proofs.Linear.{all_some-at}
 use Rattle.class_model.proofs.Lines.{all_some-some}
-use Rattle.order_check.specs.declared.hierarchy.Entry.{Entry}
 use Rattle.order_check.specs.Lists.{rows}
 use Rattle.order_check.specs.Found.{cycle_of}
 use Rattle.order_check.specs.Orders.{lists_of}
 use Rattle.order_check.specs.Hierarchy.{orders, order_in}
-use Rattle.order_check.specs.Known.{known_in, AreKnown}
+use Rattle.order_check.specs.Known.{known_in}
 use Rattle.order_check.specs.Report.{found_pairs}
 use Rattle.order_check.proofs.Gathered.{read-all, read-without}
 use Rattle.order_check.proofs.Knowing.{known-apart}

@@ -1,4 +1,4 @@
-use Rattle.std.proofs.Common.{◌≡◌, ◌+◌, ℕ, suc, ◌<◌, List, ◌∷◌, ◌++◌, [], length, sym, subst, ◌∙◌, arith, length-append}
+use Rattle.std.proofs.Common.{ℕ, suc, ◌<◌, List, length, sym, subst, arith, length-append}
 use Rattle.std.specs.Prelude.{slice_get}
 use Rattle.order_check.specs.declared.report.Line.{Line}
 use Rattle.order_check.specs.Report.{OnBoth, IsLine, IsFoundLine}

@@ -1,5 +1,5 @@
 use Rattle.std.proofs.Common.{refl, sym, ◌∙◌}
-use Rattle.std.specs.Prelude.{length, map}
+use Rattle.std.specs.Prelude.{length}
 use Rattle.std.proofs.lemmas.List.{length-map}
 use Rattle.class_model.proofs.Tests.{Decides-distinct}
 use Rattle.order_check.specs.declared.hierarchy.Entry.{Entry}

@@ -1,4 +1,4 @@
-use Rattle.std.proofs.Common.{◌-◌, ◌<◌, ◌≤◌, length, get_or, ap, arith}
+use Rattle.std.proofs.Common.{◌-◌, ◌<◌, length, get_or, ap, arith}
 use Rattle.order_check.specs.Hierarchy.{keys_of}
 use Rattle.order_check.proofs.Keyed.{ascend-none, ascend-more, ascend-less}
 use Rattle.order_check.proofs.Places.{key-at}

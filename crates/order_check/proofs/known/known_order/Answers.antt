@@ -1,4 +1,4 @@
-use Rattle.std.proofs.Common.{Some, None, sym, ap, ◌∙◌}
+use Rattle.std.proofs.Common.{Some, sym, ap, ◌∙◌}
 use Rattle.order_check.specs.Hierarchy.{orders}
 use Rattle.order_check.proofs.Places.{known-none}
 use Rattle.order_check.proofs.Tables.{items_of, orders-known}

@@ -1,5 +1,4 @@
-use Rattle.std.proofs.Common.{◌≡◌, length, false, List, Option, arith, sym, subst, ◌∙◌}
-use Rattle.std.specs.Global.{Vec}
+use Rattle.std.proofs.Common.{◌≡◌, length, List, arith, sym, subst}
 use Rattle.order_check.specs.declared.hierarchy.Entry.{Entry}
 use Rattle.order_check.specs.Hierarchy.{AreKeyed, orders, all_orders}
 use Rattle.order_check.proofs.Knowing.{found-all}

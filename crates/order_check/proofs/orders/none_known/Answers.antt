@@ -1,4 +1,4 @@
-use Rattle.std.proofs.Common.{arith, sym, subst, List, Option, ◌++◌, ◌∷◌, [], None, length-append}
+use Rattle.std.proofs.Common.{arith, sym, subst, List, Option, length-append}
 use Rattle.std.specs.Global.{Vec}
 use Rattle.order_check.specs.Hierarchy.{orders}
 use Rattle.order_check.specs.Known.{AllNone}

@@ -1,7 +1,7 @@
-use Rattle.std.proofs.Common.{◌≡◌, ◌+◌, ◌<◌, List, Option, true, false, get_or, sym, ap, subst, ◌∙◌, arith}
+use Rattle.std.proofs.Common.{◌+◌, ◌<◌, List, Option, sym, ap, subst, ◌∙◌, arith}
 use Rattle.std.specs.Global.{Vec}
-use Rattle.order_check.specs.Hierarchy.{keys_of, orders}
-use Rattle.order_check.specs.Known.{IsClosedAt, IsClosedTo, unknown}
+use Rattle.order_check.specs.Hierarchy.{orders}
+use Rattle.order_check.specs.Known.{IsClosedTo, unknown}
 use Rattle.order_check.proofs.Tables.{closed-none, closed-more}
 use Rattle.order_check.proofs.orders.try_all.Goals as goal
 use Rattle.order_check.proofs.orders.try_all.Goals.{then-branch, else-branch}

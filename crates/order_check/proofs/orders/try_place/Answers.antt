@@ -1,5 +1,4 @@
-use Rattle.std.proofs.Common.{◌≡◌, ℕ, List, Option, Some, None, ◌<◌, length, sym, ap, ◌∙◌, arith}
-use Rattle.std.specs.Global.{Vec}
+use Rattle.std.proofs.Common.{◌<◌, length, sym, ap, ◌∙◌, arith}
 use Rattle.order_check.specs.Hierarchy.{orders}
 use Rattle.order_check.specs.Known.{known_in, over}
 use Rattle.order_check.proofs.Places.{bases-at}

@@ -1,4 +1,4 @@
-use Rattle.std.proofs.Common.{◌≡◌, sym, ap, ◌∙◌, arith}
+use Rattle.std.proofs.Common.{sym, ap, ◌∙◌, arith}
 use Rattle.order_check.specs.WellFormed.{have_ranks}
 use Rattle.order_check.proofs.Ranking.{ranks-decide, ranking-none}
 use Rattle.order_check.proofs.ranks.are_apart.Goals as goal

@@ -1,4 +1,4 @@
-use Rattle.std.proofs.Common.{◌≡◌, ◌+◌, ◌<◌, ℕ, List, Option, sym, ap, subst, ◌∙◌, arith}
+use Rattle.std.proofs.Common.{◌+◌, ℕ, List, Option, sym, ap, subst, ◌∙◌, arith}
 use Rattle.order_check.specs.Known.{unknown}
 use Rattle.order_check.specs.WellFormed.{IsRanking, IsStuckTo}
 use Rattle.order_check.proofs.Ranking.{stuck-none, stuck-more}

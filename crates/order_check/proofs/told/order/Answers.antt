@@ -1,7 +1,6 @@
 use Rattle.std.proofs.Common.{◌≡◌, ◌-◌, ◌<◌, ℕ, zero, suc, List, ◌∷◌, length, get_or, Option, Some, None, sym, ap, subst, ◌∙◌, arith}
 use Rattle.std.specs.Prelude.{map, IfSome, IfNone}
 use Rattle.order_check.specs.declared.hierarchy.Entry.{Entry}
-use Rattle.order_check.specs.declared.report.Line.{Line}
 use Rattle.order_check.specs.Hierarchy.{keys_of, AreKeyed}
 use Rattle.order_check.specs.Known.{known_in}
 use Rattle.order_check.specs.Told.{order_told, orders_told}

@@ -1,9 +1,5 @@
-use Rattle.std.proofs.Common.{◌≡◌, Bool, true, false, sym, refl}
-use Rattle.std.proofs.lemmas.List.{length-map}
-use Rattle.class_model.specs.Order.{has, Includes}
-use Rattle.class_model.proofs.Tests.{Decides-has}
+use Rattle.std.proofs.Common.{sym}
 use Rattle.order_check.specs.Hierarchy.{keys_of}
-use Rattle.order_check.proofs.Places.{key-held}
 use Rattle.order_check.proofs.WellFounded.{not-has, is-held}
 use Rattle.order_check.proofs.wellformed.is_key.Goals as goal
 
