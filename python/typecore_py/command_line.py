@@ -1,140 +1,213 @@
-"""The words of the program, and how it ends."""
+"""What the words of the program ask for is done here, and the program's end."""
 
 from __future__ import annotations
 
 import argparse
 import os
+import shutil
 import sys
 from dataclasses import dataclass
+from pathlib import Path
 
-from . import machine, source
-from .differences import KNOWN, LAST, Difference, difference
-from .reference import Reference
-from .refusal import Refused
-from .source import Command
-from .telling import Teller
+from . import beside, graph, json_telling, machine, options, page, prompt, source, stopping, watching
+from .differences import KNOWN, LAST, Comparison, Difference
+from .refusal import Refusals, Refused
+from .source import Program
+from .telling import NotWritten, Teller
 
 DONE, DIFFERS, USAGE, REFUSED, NOT_READ, NOT_WRITTEN, NOT_RUN = range(7)
 # (USAGE is the status with which argparse ends by itself)
 
-MOST_UNITS = 1_000_000_000
 
-ABOUT = """Runs Python source on the machine: each statement is one command, and is answered beside its line. What
-the machine's language can't say is refused by name, and nothing is run."""
-
-ENDS = """exit status: 0 all was told; 1 an answer differs from Python's, and is not known to; 2 these words; 3 the
-source is refused; 4 it can't be read; 5 the answers can't be written; 6 the machine can't be run, or failed.
-Known differences from Python are listed in docs/DIFFERENCES.md; a comment '# differs: NAME' marks one."""
+# How many commands it is said of that they are run, since that takes a while.
+MANY = 10_000
 
 
 @dataclass(frozen=True)
 class File:
-    """A file that was read: its path as it was given, and its commands."""
+    """A file that was read: its path as it was given, its text, and what it says."""
 
     path: str
-    commands: list[Command]
+    text: str
+    program: Program
 
 
-def units(word: str) -> int:
-    """The number of units that a word spells."""
-    if not (word.isascii() and word.isdigit() and 1 <= int(word) <= MOST_UNITS) or word.startswith("0"):
-        raise argparse.ArgumentTypeError(f"a number from 1 to {MOST_UNITS} is wanted, and not {word!r}")
-    return int(word)
-
-
-def words(given: list[str] | None) -> argparse.Namespace:
-    """What the words of the program ask for. Ends the program where they are wrong."""
-    parser = argparse.ArgumentParser(prog="typecore-py", description=ABOUT, epilog=ENDS)
-    parser.add_argument("files", nargs="+", metavar="FILE.py", help="a Python source, or - for standard input")
-    parser.add_argument("--units", type=units, default=10_000, metavar="N", help="what each command may spend (10000)")
-    how = parser.add_mutually_exclusive_group()
-    how.add_argument("--script", action="store_true", help="print the script that the source becomes, and run nothing")
-    how.add_argument("--against-python", action="store_true", help="tell where Python itself answers otherwise")
-    parser.add_argument("--now", action="store_true", help="run ./typecore --now: at once, and without any proof")
-    parser.add_argument("--machine", metavar="PROGRAM", help="run this built program in place of ./typecore")
-    asked = parser.parse_args(given)
-    if asked.script and len(asked.files) > 1:
-        parser.error("--script takes one file")
-    if asked.now and asked.machine:
-        parser.error("--now is of ./typecore, and not of another program")
-    return asked
+def say(text: str) -> None:
+    """Tells something on standard error, where there is one."""
+    if sys.stderr is not None:
+        try:
+            print(f"typecore-py: {text}" if text else "", file=sys.stderr)
+        except OSError:
+            pass
 
 
 def main(given: list[str] | None = None) -> int:
     """Runs the program, and gives its exit status."""
-    asked = words(given)
+    stopping.listen()
+    for stream in (sys.stdout, sys.stderr):
+        if stream is not None:
+            stream.reconfigure(errors="backslashreplace")  # type: ignore[union-attr]
     try:
-        return asked_for(asked)
-    except BrokenPipeError:
-        # (so that nothing is written to it any more as Python ends)
-        os.dup2(os.open(os.devnull, os.O_WRONLY), sys.stdout.fileno())
+        status = asked_for(options.words(given))
+        if sys.stdout is not None:
+            Teller(sys.stdout).flush()
+        return status
+    except NotWritten as error:
+        if str(error):
+            say(f"the answers can't be written: {error}")
+        leave_output()
         return NOT_WRITTEN
     except machine.MachineFailed as error:
-        print(f"typecore-py: {error}", file=sys.stderr)
+        say(str(error))
         return NOT_RUN
+    except stopping.Stopped as stopped:
+        leave_output()
+        return 128 + stopped.args[0]
+
+
+def leave_output() -> None:
+    """Sees that nothing more is written to standard output as Python ends."""
+    if sys.stdout is not None:
+        os.dup2(os.open(os.devnull, os.O_WRONLY), sys.stdout.fileno())
 
 
 def asked_for(asked: argparse.Namespace) -> int:
     """Reads all files before any is run, and does with each what was asked for."""
-    files: list[File] = []
-    status = DONE
-    for path in asked.files:
-        try:
-            files.append(read(path))
-        except Refused as refused:
-            print(refused.told(path), file=sys.stderr)
-            status = status or REFUSED
-        except OSError as error:
-            print(f"typecore-py: {path}: {error.strerror}", file=sys.stderr)
-            status = status or NOT_READ
+    if asked.watch:
+        return watching.watch(asked.files[0], lambda: all_files(asked))
+    if asked.prompt:
+        return at_prompt(asked)
+    return all_files(asked)
+
+
+def all_files(asked: argparse.Namespace) -> int:
+    """Reads all files, and if none is refused does with each what was asked for."""
+    files, status = read_all(asked)
     if status != DONE:
         return status
     return max(one_file(file, asked) for file in files)
 
 
-def read(path: str) -> File:
-    """Reads a file. Raises `Refused` for what can't be said, and for a mark that names no known difference."""
-    if path == "-":
-        text = sys.stdin.buffer.read()
+def read_all(asked: argparse.Namespace) -> tuple[list[File], int]:
+    """The files that can be read, and the status of the first that can't."""
+    files: list[File] = []
+    status = DONE
+    for path in asked.files or ["-c"]:
+        try:
+            files.append(read(path, asked.text))
+        except Refusals as refusals:
+            for refused in refusals.every:
+                print_error(refused.told(path))
+            status = status or REFUSED
+        except OSError as error:
+            say(f"{path}: {error.strerror}")
+            status = status or NOT_READ
+    return files, status
+
+
+def print_error(line: str) -> None:
+    """Writes a line to standard error, where there is one."""
+    if sys.stderr is not None:
+        print(line, file=sys.stderr)
+
+
+def read(path: str, text: str | None) -> File:
+    """Reads a file. Raises `Refusals` for what can't be said, and for a mark that names no known difference."""
+    if text is not None:
+        given = text.encode(errors="surrogateescape")
+    elif path == "-":
+        if sys.stdin is None:
+            raise OSError(0, "standard input is closed")
+        given = sys.stdin.buffer.read()
     else:
-        with open(path, "rb") as it:
-            text = it.read()
-    commands = source.read(path, text)
-    for command in commands:
-        if command.mark is not None and command.mark not in KNOWN:
-            raise Refused(command.line, 1, f"no known difference has the name {command.mark}")
-    if len(machine.script_of(commands).encode()) > source.LONGEST:
-        raise Refused(1, 1, "the script has more than 16,777,216 bytes")
-    return File(path, commands)
+        given = Path(path).read_bytes()
+    program = source.read(path, given)
+    marked = [it for it in program.commands if it.mark is not None and it.mark not in KNOWN]
+    if marked:
+        raise Refusals([Refused(it.line, 1, f"no known difference has the name {it.mark}") for it in marked])
+    if len(machine.script_of(program.commands, program.helpers).encode()) > source.LONGEST:
+        raise Refusals([Refused(1, 1, "the script has more than 16,777,216 bytes")])
+    return File(path, source.text_of(given), program)
 
 
 def one_file(file: File, asked: argparse.Namespace) -> int:
     """Does with one file what was asked for."""
-    script, teller = machine.script_of(file.commands), Teller()
+    commands, helpers = file.program.commands, file.program.helpers
+    teller = Teller(sys.stdout, asked.bodies)
     if asked.script:
-        print(script, end="")
+        teller.text(machine.script_of(commands, helpers))
         return DONE
-    answers = machine.run(script, program(asked))
-    if asked.against_python:
-        return against_python(file, answers, teller)
-    if len(asked.files) > 1:
-        teller.line(f"{file.path}:")
-    teller.answers(file.commands, answers)
+    words = machine_words(asked)
+    if asked.html:
+        return write_page(file, asked, words)
+    if len(commands) >= MANY:
+        say(f"{file.path}: running {len(commands):,} commands")
+    answers = machine.run(commands, helpers, words)
+    if asked.json:
+        teller.text(json_telling.told(file.path, commands, answers))
+    elif asked.graph:
+        teller.text(graph.of_classes(answers.classes))
+    elif asked.against_python:
+        return against_python(file, answers, teller, asked.seconds)
+    elif asked.quiet:
+        teller.values(answers)
+    else:
+        if len(asked.files) > 1:
+            teller.line(f"{file.path}:")
+        teller.answers(commands, answers, asked.units)
+    teller.flush()
     return DONE
 
 
-def program(asked: argparse.Namespace) -> list[str]:
+def write_page(file: File, asked: argparse.Namespace, words: list[str]) -> int:
+    """Writes the page of a file."""
+    states = machine.run_prefixes(file.program.commands, file.program.helpers, words)
+    text = page.of_file(file.path, file.text, file.program.commands, states)
+    try:
+        Path(asked.html).write_text(text, encoding="utf-8")
+    except OSError as error:
+        raise NotWritten(f"{asked.html}: {error.strerror}") from None
+    return DONE
+
+
+def at_prompt(asked: argparse.Namespace) -> int:
+    """Asks for statements, after those of a file if one is named."""
+    before = ""
+    if asked.files or asked.text is not None:
+        files, status = read_all(asked)
+        if status != DONE:
+            return status
+        before = files[0].text
+    teller = Teller(sys.stdout, asked.bodies)
+    prompt.Session(machine_words(asked), teller, asked.units, asked.quiet).run(before)
+    return DONE
+
+
+def machine_words(asked: argparse.Namespace) -> list[str]:
     """The words that run the machine."""
-    first = [asked.machine] if asked.machine else [str(machine.TOP / "typecore"), *(["--now"] if asked.now else [])]
-    return [*first, "run", str(asked.units)]
+    return [*machine_program(asked), "run", str(asked.units)]
 
 
-def against_python(file: File, answers: machine.Answers, teller: Teller) -> int:
+def machine_program(asked: argparse.Namespace) -> list[str]:
+    """The program that is the machine: a named one, that of the repository, or one on the path."""
+    if asked.machine:
+        return [asked.machine]
+    here = machine.TOP / "typecore"
+    if here.is_file():
+        return [str(here), *(["--now"] if asked.now else [])]
+    found = os.environ.get("TYPECORE_MACHINE") or shutil.which("typecore")
+    if not found:
+        raise machine.MachineFailed("no machine is here: name its program by --machine, or in TYPECORE_MACHINE")
+    return [found]
+
+
+def against_python(file: File, answers: machine.Answers, teller: Teller, seconds: float) -> int:
     """Compares the answers with Python's, up to the first after which nothing can be compared."""
-    reference, found, compared = Reference(), list[Difference](), 0
-    for command, reply in zip(file.commands, answers.replies):
+    commands = file.program.commands
+    comparison, found, compared = Comparison(commands), list[Difference](), 0
+    for command, reply, python in zip(commands, answers.replies, beside.answers(commands, seconds)):
         compared += 1
-        differs = difference(command, reply, reference.answer(command))
+        differs = comparison.difference(command, reply, python)
         if differs:
             found.append(differs)
             if differs.known in LAST:
@@ -142,5 +215,6 @@ def against_python(file: File, answers: machine.Answers, teller: Teller) -> int:
         elif command.mark:
             teller.line(f"{file.path}:{command.line}: marked as {command.mark}, and alike")
     teller.differences(file.path, found)
-    teller.summary(file.path, compared, len(file.commands), found)
-    return DIFFERS if any(it.known is None for it in found) else DONE
+    teller.summary(file.path, compared, len(commands), found)
+    teller.flush()
+    return DONE if all(it.is_explained() for it in found) else DIFFERS

@@ -1,7 +1,7 @@
-"""Where the machine is known to answer otherwise than Python, and how such an answer is recognised.
+"""Where the machine is known to answer otherwise than Python.
 
-docs/DIFFERENCES.md has the same list, with the reasons. What can't be recognised is marked in the source by a comment
-`# differs: NAME` on a line of its statement.
+docs/DIFFERENCES.md has the same list, with the reasons. What can't be recognised (`recognising`) is marked in the
+source by a comment `# differs: NAME` on a line of its statement.
 """
 
 from __future__ import annotations
@@ -10,7 +10,9 @@ import ast
 import re
 from dataclasses import dataclass
 
+from .analysis import inner_functions, names_bound
 from .machine import Reply
+from .recognising import Case, recognised
 from .source import Command
 
 KNOWN: dict[str, str] = {
@@ -19,10 +21,23 @@ KNOWN: dict[str, str] = {
     "keys": "a key of a dict is a text or a number",
     "floats": "there are no floats",
     "modulus": "integers have no power with a modulus",
+    "specs": "objects know the empty specification of a format alone",
+    "percent": "texts have no %",
+    "texts-of-ints": "a whole number is read of digits with a sign alone, to the base of ten",
     "hashes": "a text's hash has a fixed key, and an object's is its number",
     "addresses": "an object's repr tells its number in place of its address",
     "quotes": "a text's repr stands between single quotes",
-    "names": "dir lists names as they are found, and a metaclass's too",
+    "names": "dir lists names as they are found, and not sorted",
+    "profile": "built-in classes have fewer methods and attributes",
+    "missing": "a dict doesn't ask __missing__",
+    "len-index": "__len__ has to give a number, and is not asked for its __index__",
+    "length-hint": "list and tuple don't ask __len__ of what they collect",
+    "slots-and-value": "a name of __slots__ may have a value in the class too",
+    "private-slots": "a class's __slots__ tells a private name as its attribute is spelled",
+    "class-dict": "a class's __dict__ is a new dict each time, which can be set in",
+    "foreign-receiver": "a method of a built-in class that is given another's object may be NotImplemented",
+    "doc-of-property": "a property has no text of its getter",
+    "reflected-first": "the right operand of a class below goes first though it overrides nothing",
     "mro-entries": "a base that is no class is refused",
     "super-kind": "super() in a function that no class made is a TypeError",
     "super-class": "super takes no object that only its __class__ makes one of the class",
@@ -40,19 +55,10 @@ KNOWN: dict[str, str] = {
     "bound-methods": "two bound methods are never equal",
     "iterators": "an iterator ends after any raise",
     "bounds-of-slices": "the bounds of a slice are numbers of 64 bits",
-    "hasattr": "hasattr says False of an attribute that is None, and raises what an empty member raises",
-}
-
-# Causes that show a known difference by themselves.
-CAUSES = {
-    "IntRange": "bounds",
-    "TooLong": "bounds",
-    "RepeatTooLong": "bounds",
-    "IndexRange": "bounds",
-    "DepthLimit": "bounds",
-    "KeyType": "keys",
-    "MroEntries": "mro-entries",
-    "SuperNoClass": "super-kind",
+    "keywords": "a keyword of a class can't be a parameter that may be left out",
+    "starred": "a call takes twelve arguments from a tuple at most",
+    "unpacking": "what is unpacked is collected first, to its end",
+    "depth-of-pieces": "a loop, a try and an inner function are calls of their own, and count for the depth",
 }
 
 # After these the two are in different states, and nothing more can be compared.
@@ -61,12 +67,17 @@ LAST = frozenset({"units", "bounds"})
 
 @dataclass(frozen=True)
 class Difference:
-    """A command that the two answer differently, and the known difference that this is, if any."""
+    """A command that the two answer differently, and why: a known difference, or an earlier one whose line is told."""
 
     command: Command
     machine: Reply
     python: list[str]
     known: str | None
+    follows: int | None = None
+
+    def is_explained(self) -> bool:
+        """Whether it is known why the answers differ."""
+        return self.known is not None or self.follows is not None
 
 
 # Built-in classes that are divided otherwise: all natives count as one class, and so do all iterators.
@@ -76,12 +87,61 @@ DIVIDED_OTHERWISE = re.compile(
 )
 
 
-def difference(command: Command, machine: Reply, python: list[str]) -> Difference | None:
-    """How the two answers differ, if they do."""
-    if comparable(machine.lines()) == comparable(python):
-        return None
-    known = command.mark or recognised(command, machine, python)
-    return Difference(command, machine, python, known)
+class Comparison:
+    """Compares the answers to the commands of a file in turn, and knows what earlier differences lead to."""
+
+    def __init__(self, commands: list[Command]) -> None:
+        nodes = [command.node for command in commands]
+        self.file = ast.Module(nodes, [])
+        self.reads: dict[str, set[str]] = {}  # the names that what a name stands for may read
+        for node in nodes:
+            if isinstance(node, (ast.FunctionDef, ast.ClassDef)):
+                self.reads.setdefault(node.name, set()).update(names_read([node]))
+        self.doubtful: dict[str, int] = {}  # names whose value may differ, with the line that this began at
+
+    def difference(self, command: Command, machine: Reply, python: list[str]) -> Difference | None:
+        """How the two answers differ, if they do."""
+        if comparable(machine.lines()) == comparable(python):
+            for name in names_bound([command.node]):
+                self.doubtful.pop(name, None)
+            return None
+        case = Case(command, machine, python, self.file)
+        known = command.mark or recognised(case)
+        first = None if known else self.follows(command)
+        for name in names_changed(command.node):
+            self.doubtful.setdefault(name, first or command.line)
+        return Difference(command, machine, python, known, first)
+
+    def follows(self, command: Command) -> int | None:
+        """The line of an earlier difference that changed what this command reads."""
+        found, left = set[str](), names_read([command.node])
+        while left:
+            name = left.pop()
+            if name not in found:
+                found.add(name)
+                left |= self.reads.get(name, set())
+        lines = [self.doubtful[name] for name in found if name in self.doubtful]
+        return min(lines, default=None)
+
+
+def names_read(nodes: list[ast.AST]) -> set[str]:
+    """All names that stand below the nodes."""
+    names = (it for node in nodes for it in ast.walk(node) if isinstance(it, ast.Name))
+    return {it.id for it in names if isinstance(it.ctx, ast.Load)}
+
+
+def names_changed(node: ast.AST) -> set[str]:
+    """The names that a statement binds, and those of the objects whose attributes or items it sets."""
+    found = names_bound([node])
+    held_by_functions = {id(it) for function in inner_functions([node]) for it in ast.walk(function)}
+    for it in ast.walk(node):
+        if isinstance(it, (ast.Attribute, ast.Subscript)) and not isinstance(it.ctx, ast.Load):
+            held: ast.expr = it
+            while isinstance(held, (ast.Attribute, ast.Subscript)):
+                held = held.value
+            if isinstance(held, ast.Name) and id(it) not in held_by_functions:
+                found.add(held.id)
+    return found
 
 
 def comparable(lines: list[str]) -> list[str]:
@@ -92,43 +152,3 @@ def comparable(lines: list[str]) -> list[str]:
 
 def one_name(found: re.Match[str]) -> str:
     return "iterator" if found[0].endswith("iterator") else "native"
-
-
-def recognised(command: Command, machine: Reply, python: list[str]) -> str | None:
-    """The known difference that the answers or the command show by themselves."""
-    if machine.end.startswith("? "):
-        return "units"
-    if "<float object>" in python[-1]:
-        return "floats"
-    if calls(command, "pow", 3):
-        return "modulus"
-    if machine.end.startswith("! "):
-        return CAUSES.get(machine.end.split(" ")[-1])
-    if calls(command, "dir", 1):
-        return "names"
-    if calls(command, "hash", 1) and masked(machine.end) == masked(python[-1]):
-        return "hashes"
-    if calls(command, "repr", 1) and masked(machine.end) == masked(python[-1]):
-        return "addresses"
-    return "quotes" if calls(command, "repr", 1) and unquoted(machine.end) == unquoted(python[-1]) else None
-
-
-def masked(line: str) -> str:
-    """The line with one mark for each number and each address."""
-    return re.sub(r"0x[0-9a-f]+|-?\d+", "#", line)
-
-
-def unquoted(line: str) -> str:
-    """The line without quotes and backslashes."""
-    return re.sub(r"[\\'\"]", "", line)
-
-
-def calls(command: Command, name: str, count: int) -> bool:
-    """Whether the command itself calls the function of this name with so many arguments."""
-    return any(
-        isinstance(node, ast.Call)
-        and isinstance(node.func, ast.Name)
-        and node.func.id == name
-        and len(node.args) == count
-        for node in ast.walk(command.node)
-    )

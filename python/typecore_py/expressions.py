@@ -5,14 +5,25 @@ from __future__ import annotations
 import ast
 from typing import Callable
 
+from . import calls, definitions, loops
 from .refusal import refuse, refuse_kind
-from .scope import Form, Scope, names_bound
-from .words import BINARY, COMPARISONS, DENIED, FUNCTIONS, SPECIAL_FUNCTIONS, UNARY
+from .scope import Form, Scope
+from .words import BINARY, COMPARISONS, DENIED, UNARY
 
 LOWEST, HIGHEST = -(2**63), 2**63 - 1
 
 # Variables that no source can name: they hold what is evaluated once and used twice.
 KEPT, MIDDLE = "(kept)", "(middle)"
+
+CONVERSIONS = {ord("s"): "str", ord("r"): "repr"}
+
+
+class Given(ast.expr):
+    """An expression whose form is given."""
+
+    def __init__(self, form: Form) -> None:
+        super().__init__()
+        self.form = form
 
 
 def form_of(node: ast.expr, scope: Scope) -> Form:
@@ -115,13 +126,33 @@ def place(node: ast.Subscript, scope: Scope) -> list[Form]:
     index = node.slice
     if not isinstance(index, ast.Slice):
         return [form_of(node.value, scope), form_of(index, scope)]
-    if index.lower is None or index.upper is None or index.step is not None:
-        refuse(node, "a slice has both bounds and no step")
-    return [form_of(node.value, scope), form_of(index.lower, scope), form_of(index.upper, scope)]
+    return [form_of(node.value, scope), *bounds(index, scope)]
+
+
+def bounds(index: ast.Slice, scope: Scope) -> list[Form]:
+    """The two bounds of a slice. One that is left out leads no further than the end."""
+    if index.step is not None and not (isinstance(index.step, ast.Constant) and index.step.value in (1, None)):
+        refuse(index.step, "a slice has no step: a for loop over the items serves instead")
+    lower = 0 if is_left_out(index.lower) else form_of(index.lower, scope)
+    return [lower, HIGHEST if is_left_out(index.upper) else form_of(index.upper, scope)]
+
+
+def is_left_out(bound: ast.expr | None) -> bool:
+    """Whether a bound of a slice is left out, or None."""
+    return bound is None or isinstance(bound, ast.Constant) and bound.value is None
 
 
 def sequence_of(word: str) -> Callable[[ast.Tuple | ast.List, Scope], Form]:
-    return lambda node, scope: [word, *forms_of(node.elts, scope)]
+    return lambda node, scope: displayed(word, node.elts, scope)
+
+
+def displayed(word: str, items: list[ast.expr], scope: Scope) -> Form:
+    """A tuple or a list of items, some of which may be starred."""
+    runs = calls.runs(items, scope)
+    if all(word == "tuple" for word, _ in runs):
+        return [word, *(form for _, forms in runs for form in forms)]
+    joined = calls.joined(runs)
+    return joined if word == "tuple" else ["op", "tolist", joined]
 
 
 def dictionary(node: ast.Dict, scope: Scope) -> Form:
@@ -135,71 +166,37 @@ def dictionary(node: ast.Dict, scope: Scope) -> Form:
 
 def anonymous(node: ast.Lambda, scope: Scope) -> Form:
     """A lambda."""
-    word, names = parameters(node.args, scope)
-    inside = scope.inside_function({scope.mangled(it) for it in names_bound([node.body])}, names)
-    return [word, "<lambda>", names, form_of(node.body, inside)]
+    return definitions.function_of(node, "<lambda>", scope)
 
 
-def parameters(given: ast.arguments, scope: Scope) -> tuple[str, list[str]]:
-    """The word of a function with these parameters, and their names."""
-    for node in [*given.defaults, *(it for it in given.kw_defaults if it)]:
-        refuse(node, "a parameter with a default value can't be said")
-    for node in [*given.posonlyargs, *given.kwonlyargs]:
-        refuse(node, f"the parameter {node.arg} has to be one by place and by name")
-    if given.kwarg:
-        refuse(given.kwarg, "a parameter that takes the rest of the keywords can't be said")
-    every = [*given.args, *([given.vararg] if given.vararg else [])]
-    for node in every:
-        if node.annotation:
-            refuse(node.annotation, "an annotation can't be said")
-    return ("func*" if given.vararg else "func"), [scope.mangled(node.arg) for node in every]
+def formatted(node: ast.JoinedStr, scope: Scope) -> Form:
+    """A formatted string: its parts are evaluated, made texts and joined in order."""
+    parts = [text_of_part(it, scope) for it in node.values]
+    form = parts[0] if parts else ""
+    for part in parts[1:]:
+        form = ["op", "concat", form, part]
+    return form
 
 
-def called(node: ast.Call, scope: Scope) -> Form:
-    if isinstance(node.func, ast.Name) and not scope.is_variable(node.func.id):
-        if node.func.id in FUNCTIONS:
-            return word_called(node, scope)
-        if node.func.id in SPECIAL_FUNCTIONS:
-            return special_called(node, scope)
-        if node.func.id == "super" and not node.args and not node.keywords and not scope.is_method:
-            refuse(node, "super() stands in a function of a class's body")
-    function = form_of(node.func, scope)
-    arguments = forms_of(node.args, scope)
-    keywords = keywords_of(node.keywords, scope)
-    return ["call", function, arguments, keywords] if keywords else ["call", function, arguments]
+def text_of_part(part: ast.expr, scope: Scope) -> Form:
+    """A part of a formatted string as a text."""
+    if not isinstance(part, ast.FormattedValue):
+        return form_of(part, scope)
+    value = form_of(part.value, scope)
+    if part.conversion == ord("a"):
+        refuse(part, "the conversion !a can't be said: !r serves instead")
+    if part.conversion in CONVERSIONS:
+        value = ["op", CONVERSIONS[part.conversion], value]
+    spec = part.format_spec
+    return ["op", "format", value, "" if spec is None else form_of(spec, scope)]
 
 
-def keywords_of(keywords: list[ast.keyword], scope: Scope) -> list[list[Form]]:
-    """The keywords of a call or of a class, each with its value."""
-    for keyword in keywords:
-        if keyword.arg is None:
-            refuse(keyword.value, "keywords from a dict can't be said")
-    return [[scope.mangled(keyword.arg or ""), form_of(keyword.value, scope)] for keyword in keywords]
-
-
-def word_called(node: ast.Call, scope: Scope) -> Form:
-    """A function of Python that is a word of operations here."""
-    function = node.func.id
-    word, counts = FUNCTIONS[function]
-    if node.keywords or len(node.args) not in counts:
-        refuse(node, f"{function} takes {' or '.join(map(str, counts))} arguments here, and no keyword")
-    return ["op", word, *forms_of(node.args, scope)]
-
-
-def special_called(node: ast.Call, scope: Scope) -> Form:
-    """`format`, and the functions that read, set or delete an attribute whose name stands in the source."""
-    function, count = node.func.id, len(node.args)
-    if function == "format":
-        if node.keywords or count not in (1, 2):
-            refuse(node, "format takes 1 or 2 arguments here, and no keyword")
-        return ["op", "format", *forms_of(node.args, scope), *([""] if count == 1 else [])]
-    if node.keywords or count != (3 if function == "setattr" else 2):
-        refuse(node, f"{function} takes {3 if function == 'setattr' else 2} arguments here, and no keyword")
-    target, spelled = node.args[:2]
-    if not isinstance(spelled, ast.Constant) or not isinstance(spelled.value, str):
-        refuse(spelled, f"the name that {function} takes has to stand in the source")
-    word = {"getattr": "attr"}.get(function, function)
-    return [word, form_of(target, scope), spelled.value, *forms_of(node.args[2:], scope)]
+def kept_once(node: ast.expr, scope: Scope) -> tuple[Form, Form]:
+    """The form that evaluates an expression, and the one that gives its value again at once after that."""
+    form = form_of(node, scope)
+    if isinstance(node, ast.Constant) or (isinstance(form, list) and form[0] == "name"):
+        return form, form
+    return ["bind", KEPT, form], ["name", KEPT]
 
 
 def is_plain(node: ast.expr) -> bool:
@@ -213,13 +210,16 @@ MAKERS: dict[type[ast.expr], Callable[..., Form]] = {
     ast.Attribute: attribute,
     ast.BinOp: binary,
     ast.BoolOp: connected,
-    ast.Call: called,
+    ast.Call: lambda node, scope: calls.called(node, scope),
     ast.Compare: compared,
     ast.Constant: constant,
     ast.Dict: dictionary,
     ast.IfExp: chosen,
+    ast.JoinedStr: formatted,
     ast.Lambda: anonymous,
     ast.List: sequence_of("list"),
+    ast.ListComp: lambda node, scope: loops.comprehension(node, scope),
+    Given: lambda node, _scope: node.form,
     ast.Name: name,
     ast.NamedExpr: named,
     ast.Subscript: item,

@@ -1,6 +1,6 @@
 """Runs the commands of a file on the Python that runs this, and tells their answers as the machine does.
 
-Nothing but what the machine's language can say comes here: no import, no input and no output.
+Nothing but what the machine's language can say comes here: no import and no input.
 """
 
 from __future__ import annotations
@@ -18,12 +18,18 @@ from .words import KINDS
 OWN = "<the file>"
 
 OPTIMISED = 1  # of a function's code, and not of a class's body
-REST = 4  # of the code of a function whose last parameter takes the rest of the arguments
+REST = 4  # of the code of a function that takes the rest of the arguments
+NAMED = 8  # and of the keywords
+
+# Bodies that Python starts for what is no function in the source.
+NO_FUNCTIONS = frozenset({"<listcomp>", "<dictcomp>", "<setcomp>", "<genexpr>"})
 
 MOST_BODIES = 100_000
 
 # The keys that Python itself puts into the namespace of a class.
-OF_NAMESPACES = frozenset({"__module__", "__qualname__", "__classcell__"})
+OF_NAMESPACES = frozenset(
+    "__module__ __qualname__ __classcell__ __classdictcell__ __firstlineno__ __static_attributes__".split()
+)
 
 ESCAPES = {"\\": "\\\\", '"': '\\"', "\t": "\\t", "\n": "\\n", "\r": "\\r"}
 
@@ -36,24 +42,24 @@ class Reference:
     """A fresh namespace of Python, in which commands are run one after another."""
 
     def __init__(self) -> None:
-        self.space: dict[str, Any] = {"__name__": "builtins", "__builtins__": builtins}
-        self.bodies: list[str] = []
+        self.space: dict[str, Any] = {"__name__": "builtins", "__builtins__": builtins, "print": self.printed}
+        self.events: list[str] = []
         self.values: list[Any] = []
 
     def answer(self, command: Command) -> list[str]:
         """The lines of the command's answer. A fault is told without a cause."""
-        self.bodies = []
+        self.events = []
         sys.setprofile(self.note)
         try:
             value = self.value(command.node)
         except TooMany:
             return ["? Bodies"]
         except Exception as error:
-            return [*self.bodies, f"! {kind_of(error)}"]
+            return [*self.events, f"! {kind_of(error)}"]
         finally:
             sys.setprofile(None)
         self.values.append(value)  # (so that no object is gone before the machine's would be)
-        return [*self.bodies, f"= {show(value)}"]
+        return [*self.events, f"= {show(value)}"]
 
     def value(self, statement: ast.stmt) -> Any:
         """Runs a statement, and gives what the machine has for its value."""
@@ -70,17 +76,22 @@ class Reference:
         return None if name is None else self.space[name]
 
     def evaluated(self, expression: ast.expr) -> Any:
+        """The value of an expression."""
         return eval(compiled(ast.Expression(expression), "eval"), self.space)
+
+    def printed(self, *values: Any, sep: str = " ") -> None:
+        """Notes a line that is printed."""
+        self.events.append(f"print {escaped(sep.join(map(str, values)))}")
 
     def note(self, frame: FrameType, event: str, _argument: Any) -> None:
         """Notes the start of one of the file's own bodies."""
         code = frame.f_code
-        if event != "call" or code.co_filename != OWN or not code.co_flags & OPTIMISED:
+        if event != "call" or code.co_filename != OWN or not code.co_flags & OPTIMISED or code.co_name in NO_FUNCTIONS:
             return
-        if len(self.bodies) >= MOST_BODIES:
+        if len(self.events) >= MOST_BODIES:
             raise TooMany
         values = [show(frame.f_locals[name]) for name in parameters_of(code)]
-        self.bodies.append(f"call {code.co_name}({', '.join(values)})")
+        self.events.append(f"call {code.co_name}({', '.join(values)})")
 
 
 def truth(value: bool) -> ast.Constant:
@@ -88,7 +99,7 @@ def truth(value: bool) -> ast.Constant:
 
 
 def compiled(tree: ast.Module | ast.Expression, mode: str) -> CodeType:
-    return compile(ast.fix_missing_locations(tree), OWN, mode, dont_inherit=True)
+    return compile(ast.fix_missing_locations(tree), OWN, mode, dont_inherit=True, optimize=0)
 
 
 def bound_by(statement: ast.stmt) -> str | None:
@@ -96,14 +107,15 @@ def bound_by(statement: ast.stmt) -> str | None:
     match statement:
         case ast.Assign(targets=[ast.Name(id=name), *_]) | ast.AugAssign(target=ast.Name(id=name)):
             return name
-        case ast.FunctionDef(name=name) | ast.ClassDef(name=name):
+        case ast.FunctionDef(name=name) | ast.ClassDef(name=name) | ast.AnnAssign(target=ast.Name(id=name)):
             return name
     return None
 
 
 def parameters_of(code: CodeType) -> tuple[str, ...]:
-    """The names of a function's parameters, with the one that takes the rest."""
-    count = code.co_argcount + (1 if code.co_flags & REST else 0)
+    """The names of a function's parameters, with those that take the rest."""
+    rest = bool(code.co_flags & REST) + bool(code.co_flags & NAMED)
+    count = code.co_argcount + code.co_kwonlyargcount + rest
     return code.co_varnames[:count]
 
 
@@ -115,6 +127,8 @@ def kind_of(error: Exception) -> str:
 def show(value: Any, inside: int = 0) -> str:
     """A value as the machine writes it. No code of the value's own runs."""
     kind = type(value)
+    if kind is int and abs(value) >= 2**256:
+        return f"<a number of {value.bit_length()} bits>"
     if value is None or value is NotImplemented or kind in (bool, int):
         return repr(value)
     if type in mro_of(kind):

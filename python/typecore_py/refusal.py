@@ -20,47 +20,58 @@ class Refused(Exception):
         return f"{path}:{self.line}:{self.column}: {self.why}"
 
 
+class Refusals(Exception):
+    """All refusals of a file, in the order of their places."""
+
+    def __init__(self, every: list[Refused]) -> None:
+        super().__init__()
+        self.every = sorted(every, key=lambda it: (it.line, it.column))
+
+
 def refuse(node: ast.AST, why: str) -> NoReturn:
-    """Refuses the source at this node."""
+    """Refuses the source at this node. (Its column counts characters: `source` has seen to that.)"""
     raise Refused(getattr(node, "lineno", 1), getattr(node, "col_offset", 0) + 1, why)
 
 
 # What Python has and the machine's language has not, by the name of its node.
 KINDS_OF_NODES = {
-    "AnnAssign": "an assignment with an annotation",
-    "Assert": "assert",
     "AsyncFor": "async for",
     "AsyncFunctionDef": "async def",
     "AsyncWith": "async with",
     "Await": "await",
-    "Break": "break",
-    "Continue": "continue",
     "DictComp": "a dict comprehension",
-    "For": "a for loop",
-    "FormattedValue": "a formatted string",
     "GeneratorExp": "a generator expression",
-    "Global": "global",
     "Import": "import",
     "ImportFrom": "import",
-    "JoinedStr": "a formatted string",
-    "ListComp": "a list comprehension",
     "Match": "match",
-    "Nonlocal": "nonlocal",
     "Return": "return outside a function",
     "Set": "a set",
     "SetComp": "a set comprehension",
     "Slice": "a slice within a tuple",
-    "Starred": "a starred expression",
-    "Try": "try",
-    "TryStar": "try",
-    "While": "a while loop",
+    "Starred": "a starred expression here",
+    "TryStar": "except*",
     "With": "with",
     "Yield": "yield",
     "YieldFrom": "yield from",
+}
+
+# What serves instead.
+HINTS = {
+    "DictComp": "a for loop that sets items serves instead",
+    "GeneratorExp": "a list comprehension serves instead",
+    "Import": "what a file needs stands in it",
+    "ImportFrom": "what a file needs stands in it",
+    "Match": "an if with comparisons serves instead",
+    "Set": "a dict whose values are True serves instead",
+    "SetComp": "a for loop that sets items of a dict serves instead",
+    "Yield": "a class with __iter__ and __next__ serves instead",
+    "YieldFrom": "a class with __iter__ and __next__ serves instead",
+    "With": "calls of __enter__ and __exit__ by name serve instead",
 }
 
 
 def refuse_kind(node: ast.AST) -> NoReturn:
     """Refuses a node of a kind that the language has not."""
     kind = type(node).__name__
-    refuse(node, f"{KINDS_OF_NODES.get(kind, kind)} can't be said")
+    hint = f": {HINTS[kind]}" if kind in HINTS else ""
+    refuse(node, f"{KINDS_OF_NODES.get(kind, kind)} can't be said{hint}")

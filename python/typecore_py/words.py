@@ -9,19 +9,19 @@ BUILT_IN = frozenset(
     "object type int bool str tuple list dict property classmethod staticmethod super NotImplemented".split()
 )
 
-# The kinds of faults that a script may raise.
+# The kinds of faults that a script may raise, and those of them that it may catch; `Exception` is any.
 KINDS = tuple(
     "TypeError AttributeError OverflowError ZeroDivisionError ValueError KeyError IndexError StopIteration "
     "NotImplementedError NameError RuntimeError RecursionError".split()
 )
 
+CAUGHT = ("AttributeError", "StopIteration", "IndexError", "TypeError", "Exception")
+
 # Functions of Python that are words of operations here: the word, and how many arguments may stand.
 FUNCTIONS: dict[str, tuple[str, tuple[int, ...]]] = {
     "abs": ("abs", (1,)),
     "callable": ("callable", (1,)),
-    "dir": ("dir", (1,)),
     "divmod": ("divmod", (2,)),
-    "hasattr": ("hasattr", (2,)),
     "hash": ("hash", (1,)),
     "isinstance": ("isinstance", (2,)),
     "issubclass": ("issubclass", (2,)),
@@ -33,10 +33,13 @@ FUNCTIONS: dict[str, tuple[str, tuple[int, ...]]] = {
 }
 
 # Functions of Python that are forms or words here and want a look at their arguments.
-SPECIAL_FUNCTIONS = frozenset("format getattr setattr delattr".split())
+SPECIAL_FUNCTIONS = frozenset("delattr dir format getattr hasattr print setattr".split())
+
+# Functions that may stand as values too.
+VALUES = frozenset(FUNCTIONS)
 
 # Names that a file may not bind, since what they mean here doesn't depend on variables.
-FIXED = frozenset(FUNCTIONS) | SPECIAL_FUNCTIONS | frozenset(KINDS)
+FIXED = frozenset(FUNCTIONS) | SPECIAL_FUNCTIONS | frozenset(KINDS) | {"Exception", "AssertionError"}
 
 BINARY: dict[type[ast.operator], str] = {
     ast.Add: "+",

@@ -1,0 +1,1 @@
+"""Builds the program for ./typecore: proved, its crates side by side, or unproved, in a minute or two."""
