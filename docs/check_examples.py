@@ -19,7 +19,7 @@ from pathlib import Path
 
 TOP = Path(__file__).resolve().parent.parent
 WORKED = TOP / "crates" / "worked"
-READER = TOP / "crates" / "script_text" / "src"
+CRATES = TOP / "crates"
 PROGRAM = TOP / "crates" / "typecore"
 SCRIPTS = TOP / "docs" / "SCRIPTS.md"
 UNITS = "run 1000"
@@ -94,17 +94,20 @@ def shell_runs(lines: list[str]) -> Iterator[Run]:
 
 
 def known_to_the_reader() -> dict[str, set[str]]:
-    """The forms, the words and the kinds that scripts may have, as the reader of scripts names them."""
-    forms, words = ((READER / name).read_text() for name in ("forms.rt", "words.rt"))
-    table = re.search(r"WORDS: \[.*?; (\d+)\] = \[(.*?)\n\];", words, re.DOTALL)
-    assert table, "the table of words is not where it was"
-    known = {
-        "form": set(re.findall(r'\bword == "([^"]+)"', forms)),
-        "word": set(re.findall(r'\(\s*"([^"]+)",\s*Word::', table[2])),
-        "kind": set(re.findall(r'\btext == "([^"]+)"', words)),
+    """The forms, the words and the kinds that scripts may have, from the tables of the reader of scripts."""
+    return {
+        "form": table("script_text/src/form_words.rt", "FORMS", r'\(\s*"([^"]+)",\s*FormWord::'),
+        "word": table("script_text/src/words.rt", "WORDS", r'\(\s*"([^"]+)",\s*Word::'),
+        "kind": table("py_node/src/raised.rt", "KINDS", r'\(\s*Kind::\w+,\s*"([^"]+)"'),
     }
-    assert len(known["word"]) == int(table[1]) and known["form"] and known["kind"], "the reader is written otherwise"
-    return known
+
+
+def table(file: str, name: str, row: str) -> set[str]:
+    """The words of a constant table, of which each row has one."""
+    found = re.search(rf"{name}: \[.*?; (\d+)\] = \[(.*?)\n\];", (CRATES / file).read_text(), re.DOTALL)
+    words = set(re.findall(row, found[2])) if found else set()
+    assert found and len(words) == int(found[1]), f"the table {name} of {file} is written otherwise"
+    return words
 
 
 def used(part: object, found: dict[str, set[str]]) -> None:

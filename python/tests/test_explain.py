@@ -74,7 +74,7 @@ class Explained(unittest.TestCase):
         rows = re.findall(row, (reader / "words.rt").read_text())
         counts = {"One": (1,), "Two": (2,), "TwoOrThree": (2, 3), "Three": (3,), "Four": (4,)}
         self.assertEqual({word: counts[arity] for word, arity in rows}, explain.WORDS)
-        forms = re.findall(r'\bword == "([^"]+)"', (reader / "forms.rt").read_text())
+        forms = re.findall(r'\(\s*"([^"]+)",\s*FormWord::', (reader / "form_words.rt").read_text())
         self.assertEqual(set(forms), set(explain.FORMS))
 
     @needs_machine

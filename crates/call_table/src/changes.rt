@@ -3,13 +3,13 @@
 ghost use Rattle.std.specs.Prelude.{◌≡◌, ◌≤◌};
 
 use crate::classes::{CHILD, FIRST, OBJECT, SINGLE, STATIC, VALUE, there};
-use crate::lists::one_class;
-use crate::table::{NoValue, Table};
 use class_table::{ClassTable, Steps};
 use py_node::{Known, PyObjectRef, PyStrInterned, PyTypeRef, SlotEntry, SlotId};
 use std::alloc::Global;
 use std::marker::Brand;
 use std::sync::ledger::{Blank, Ledger};
+use table_lines::lists::one_class;
+use table_lines::{NoValue, Table};
 
 const OTHER: PyStrInterned = PyStrInterned(9);
 

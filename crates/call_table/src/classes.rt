@@ -4,14 +4,14 @@ ghost use Rattle.std.specs.Prelude.{◌≡◌, ◌≤◌, true, IfOk};
 ghost use Rattle.class_model.specs.Class.{is_class};
 ghost use Rattle.class_model.specs.Numbers.{limit};
 
-use crate::lists::one_class;
-use crate::table::{NoValue, Table};
 use class_table::ClassTable;
 use class_table::start::known_names;
 use py_node::{
     Known, OutOfMemory, PyAttributes, PyObjectRef, PyStrInterned, PyTypeFlags, PyTypeRef,
 };
 use std::alloc::Global;
+use table_lines::lists::one_class;
+use table_lines::{NoValue, Table};
 
 /// The built-in class of all objects.
 pub const OBJECT: PyTypeRef = PyTypeRef(0);

@@ -1,11 +1,11 @@
 //! Definitions of native methods, and the objects that are made of them.
 
 use crate::payloads::{told_node, told_payload};
-use crate::table::{NoValue, Table};
 use class_world::{Fixed, World};
 use native_defs::{PyMethodDef, extend_methods};
 use py_node::{BuiltIn, NativeEntry, OutOfMemory, PyMethodFlags, StrNative};
 use std::alloc::Global;
+use table_lines::{NoValue, Table};
 
 const UPPER: NativeEntry = NativeEntry::OfStr(StrNative::Upper);
 

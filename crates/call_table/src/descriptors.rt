@@ -2,7 +2,6 @@
 
 use crate::definitions::upper;
 use crate::payloads::{told_node, told_payload};
-use crate::table::{NoValue, Table};
 use accessors::{PyClassMethod, PyMethodDescriptor, PyStaticMethod};
 use class_world::{Fixed, World};
 use native_defs::{PyMemberDef, new_member};
@@ -10,6 +9,7 @@ use py_node::{
     BuiltIn, MemberGetter, MemberKind, MemberSetter, NativeEntry, OutOfMemory, StrNative,
 };
 use std::alloc::Global;
+use table_lines::{NoValue, Table};
 
 const UPPER: MemberGetter = MemberGetter::Getter(NativeEntry::OfStr(StrNative::Upper));
 

@@ -1,25 +1,16 @@
-//! A table of calls with their values: each public call that can find no memory, and that no script reaches by itself,
-//! is called once with ample memory. A line tells its name and its value; the table ends early at a call that has none.
+//! A table of calls with their values, of the world and what stands below it: each public call that can find no memory,
+//! and that no script reaches by itself, is called once with ample memory. A line tells its name and its value; the table
+//! ends early at a call that has none.
 #![tactic(auto)]
 
-mod asking;
-mod attributes;
 mod changes;
 mod classes;
 mod definitions;
 mod descriptors;
-mod lists;
-mod machine;
-mod mappings;
 mod members;
 mod merges;
 mod nodes;
-mod operators;
 mod payloads;
-mod programs;
-mod questions;
-mod sequences;
-mod table;
 mod texts;
 mod world_classes;
 mod worlds;
@@ -29,8 +20,7 @@ use class_world::World;
 use std::alloc::Global;
 use std::io;
 use std::process::ExitCode;
-use table::Table;
-use vm_eval::VirtualMachine;
+use table_lines::Table;
 
 fn main(rt: HostRuntime) -> io::Result<ExitCode> {
     let mut table = Table::new(rt.alloc());
@@ -39,8 +29,6 @@ fn main(rt: HostRuntime) -> io::Result<ExitCode> {
     texts::put(&mut table, rt.alloc());
     put_classes(&mut table, rt.alloc());
     put_world(&mut table, rt.alloc());
-    put_machine(&mut table, rt.alloc());
-    programs::put(&mut table, rt.alloc());
     let text = table.text();
     print!(rt; "{text}")?;
     let status = if table.is_ended() { 1 } else { 0 };
@@ -67,21 +55,6 @@ fn put_world(table: &mut Table, alloc: Global) {
             members::put(table, &mut world);
             definitions::put(table, &mut world, alloc);
             descriptors::put(table, &mut world, alloc);
-        }
-        Err(_) => table.end(),
-    }
-}
-
-// The calls of a machine, and what hosts ask it by name.
-fn put_machine(table: &mut Table, alloc: Global) {
-    match VirtualMachine::new(alloc) {
-        Ok(mut vm) => {
-            machine::put(table, &mut vm, alloc);
-            attributes::put(table, &mut vm, alloc);
-            operators::put(table, &mut vm);
-            questions::put(table, &mut vm);
-            sequences::put(table, &mut vm);
-            mappings::put(table, &mut vm, alloc);
         }
         Err(_) => table.end(),
     }

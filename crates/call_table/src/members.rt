@@ -4,12 +4,12 @@ ghost use Rattle.std.specs.Prelude.{◌≡◌, true, IfOk};
 ghost use Rattle.py_node.specs.declared.built_in.BuiltIn.TheVariants.{Object};
 ghost use Rattle.class_world.specs.Sound.{Holds, IsClass, IsNode, IsOf};
 
-use crate::lists::{one_class, one_name};
-use crate::table::{NoValue, Table};
 use class_table::ClassFault;
-use class_world::show::show;
 use class_world::{Fixed, World};
 use py_node::{BuiltIn, Known, Payload, PyAttributes, PyObjectRef, PySetterValue, PyTypeRef};
+use table_lines::lists::{one_class, one_name};
+use table_lines::{NoValue, Table};
+use world_text::show::show;
 
 pub fn put(table: &mut Table, world: &mut World) {
     table.put_text("World::set_member_value", member_set(world));

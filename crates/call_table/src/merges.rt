@@ -1,10 +1,10 @@
 //! The order of classes over their bases.
 
-use crate::table::Table;
 use mro_merge::MroFault;
 use mro_merge::laws::{linearise_mro, resolve_mro};
 use py_node::PyTypeRef;
 use std::alloc::Global;
+use table_lines::Table;
 
 const OBJECT: PyTypeRef = PyTypeRef(0);
 

@@ -1,12 +1,12 @@
 //! Names, attributes and members, and copies of what scripts and replies consist of.
 
-use crate::table::Table;
 use py_node::{
     BodyCall, Cause, Command, Constant, Expr, Kind, MemberPlace, Names, OutOfMemory, PyAttributes,
     PyMembers, PyNumberBinaryOp, PyObjectRef, PyStrInterned, PyTypeFlags, PyTypeRef, Raised, Reply,
     ReplyAnswer, Word,
 };
 use std::alloc::{AllocError, Global};
+use table_lines::Table;
 
 const NAME: PyStrInterned = PyStrInterned(5);
 

@@ -3,10 +3,10 @@
 ghost use Rattle.std.specs.Prelude.{IfOk};
 ghost use Rattle.class_world.specs.Sound.{AllHold, Holds, IsClass, IsName, IsNode, of_payload};
 
-use crate::table::NoValue;
 use class_world::World;
-use class_world::show::show;
 use py_node::{OutOfMemory, Payload, PyObjectRef, PyStrInterned, PyTypeRef};
+use table_lines::NoValue;
+use world_text::show::show;
 
 /// What a new node is that holds a native, or wraps an object.
 pub fn told_node(world: &World, made: Result<PyObjectRef, OutOfMemory>) -> Result<String, NoValue>

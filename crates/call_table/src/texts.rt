@@ -1,7 +1,6 @@
 //! Scripts as they are read, replies and classes as they are written, and bytes that come in and go out.
 
 use crate::nodes::sum_in;
-use crate::table::{NoValue, Table};
 use outside::read_all::read_all;
 use outside::write_all::write_all;
 use outside::{MemorySink, MemorySource, QuietSink, StdSink, StdSource};
@@ -11,6 +10,7 @@ use reply_text::escape::{escaped_string, quoted_string};
 use script_text::{read_script, write_replies};
 use std::alloc::Global;
 use std::io::sink;
+use table_lines::{NoValue, Table};
 
 const HELLO: &[u8] = b"hello";
 

@@ -4,13 +4,13 @@ ghost use Rattle.std.specs.Prelude.{IfOk};
 ghost use Rattle.py_node.specs.declared.built_in.BuiltIn.TheVariants.{Dict};
 ghost use Rattle.class_world.specs.Sound.{Holds, Holding, IsNode};
 
-use crate::table::{NoValue, Table};
-use class_world::expressions::add_expr;
-use class_world::show::show;
 use class_world::{Fixed, World};
 use py_node::{
     BuiltIn, Constant, Expr, Known, OutOfMemory, Payload, PyObjectRef, PyStrInterned, PyTypeRef,
 };
+use table_lines::{NoValue, Table};
+use world_text::expressions::add_expr;
+use world_text::show::show;
 
 pub fn put(table: &mut Table, world: &mut World) {
     table.put_text(
@@ -26,9 +26,9 @@ pub fn put(table: &mut Table, world: &mut World) {
     table.put_text("World::bind", bound(world));
     table.put_text("World::make_node", made_number(world));
     table.put_text("World::set_value_in", value_in_dict(world));
-    table.put_text("class_world::show", shown_dict(world));
+    table.put_text("world_text::show", shown_dict(world));
     table.put(
-        "class_world::add_expr",
+        "world_text::add_expr",
         add_expr(world, &Expr::Const(Constant::Int(33))),
     );
 }

@@ -12,7 +12,7 @@ use Rattle.class_model.specs.Order.{has, linear}
 use Rattle.class_model.specs.Class.{Class, Classes, class_at, bases_of, lin, is_along, is_sub, own_of, along, found_by, found, past_first, found_past, subclasses, rekeyed, renamed}
 use Rattle.class_model.specs.Numbers.{numbers_of}
 use Rattle.class_model.specs.Layout.{best_of, built_ins, is_empty, has_members, is_solid, solid_within, solid, base, layout_along, layout, member_count, is_place}
-use Rattle.class_model.specs.Slot.{Keys, Natives, is_one_of, is_name_of, is_heap_at, entry, entries, read_along, slot, without_same, in_turn, candidates_of}
+use Rattle.class_model.specs.Slot.{Keys, Natives, is_one_of, is_name_of, is_heap_at, entry, entries, read_along, slot, is_other_node, is_overridden, goes_first, without_same, in_turn, candidates_of}
 use Rattle.class_model.proofs.Linear.{linear-same}
 use Rattle.class_model.proofs.Agreed.{bind-agrees, first_along-agrees, entry-agrees}
 use Rattle.class_model.proofs.Solid.{first_best-agrees, solid_within-same, base-agrees}
@@ -94,11 +94,23 @@ module _ {K L : Type 0} (f : K → L) where
         let e : ◌≡◌ {A = ℕ → SlotId → Option SlotEntry} (entry others natives (renamed f t)) (entry keys natives t) = λ i c s. entry-renamed natives t c s i in
         ap (option_and_then (λ line. read_along (entry others natives (renamed f t)) (sort_of s) c line s)) (lin-renamed t c) ∙ ap (λ own. option_and_then (λ line. read_along own (sort_of s) c line s) (lin t c)) e
 
+    is_overridden-renamed : (t : Classes K) (ns : List Known) (c d : ℕ) → is_overridden others (renamed f t) ns c d ≡ is_overridden keys t ns c d
+    is_overridden-renamed t [] c d = refl
+    is_overridden-renamed t (n ∷ ns) c d =
+        ap (λ x. is_other_node (found others.same (renamed f t) c x) (found others.same (renamed f t) d x)) (special n)
+        ∙ ap (λ r. is_other_node r (found others.same (renamed f t) d (f (keys.special n)))) (found-renamed keys.same others.same agree t c (keys.special n))
+        ∙ ap (is_other_node (found keys.same t c (keys.special n))) (found-renamed keys.same others.same agree t d (keys.special n))
+
+    pub goes_first-renamed : (t : Classes K) (right : SlotId) (c d : ℕ) → goes_first others (renamed f t) right c d ≡ goes_first keys t right c d
+    goes_first-renamed t right c d =
+        ap (λ b. b && is_overridden others (renamed f t) (names_of right) c d) (is_sub-renamed t d c)
+        ∙ ap (λ b. is_sub t d c && b) (is_overridden-renamed t (names_of right) c d)
+
     pub candidates_of-renamed : (natives : Natives) (t : Classes K) (left right : SlotId) (c d : ℕ) → candidates_of others natives (renamed f t) left right c d ≡ candidates_of keys natives t left right c d
     candidates_of-renamed natives t left right c d =
-        ap (λ b. in_turn b (slot others natives (renamed f t) c left) (cond (eqb c d) None (without_same (slot others natives (renamed f t) c left) (slot others natives (renamed f t) d right)))) (is_sub-renamed t d c)
-        ∙ ap (λ l. in_turn (is_sub t d c) l (cond (eqb c d) None (without_same l (slot others natives (renamed f t) d right)))) (slot-renamed natives t c left)
-        ∙ ap (λ r. in_turn (is_sub t d c) (slot keys natives t c left) (cond (eqb c d) None (without_same (slot keys natives t c left) r))) (slot-renamed natives t d right)
+        ap (λ b. in_turn b (slot others natives (renamed f t) c left) (cond (eqb c d) None (without_same (slot others natives (renamed f t) c left) (slot others natives (renamed f t) d right)))) (goes_first-renamed t right c d)
+        ∙ ap (λ l. in_turn (goes_first keys t right c d) l (cond (eqb c d) None (without_same l (slot others natives (renamed f t) d right)))) (slot-renamed natives t c left)
+        ∙ ap (λ r. in_turn (goes_first keys t right c d) (slot keys natives t c left) (cond (eqb c d) None (without_same (slot keys natives t c left) r))) (slot-renamed natives t d right)
 
   is_empty-map : (ns : List K) → is_empty (map f ns) ≡ is_empty ns
   is_empty-map [] = refl

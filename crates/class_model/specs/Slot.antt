@@ -1,5 +1,5 @@
 -- What a class has in a slot, and what is read there.
-use Rattle.std.specs.Prelude.{ℕ, Bool, false, cond, not, ◌&&◌, ◌||◌, eqb, List, [], ◌∷◌, map, Option, Some, None, option_and_then, is_some}
+use Rattle.std.specs.Prelude.{ℕ, Bool, true, false, cond, not, ◌&&◌, ◌||◌, eqb, List, [], ◌∷◌, map, Option, Some, None, option_and_then, is_some}
 use Rattle.py_node.specs.declared.refs.PyObjectRef.{PyObjectRef}
 use Rattle.py_node.specs.declared.entry.SlotId.{SlotId}
 use Rattle.py_node.specs.declared.entry.SlotId.TheVariants.{Hash, New}
@@ -13,7 +13,7 @@ use Rattle.py_node.specs.declared.slots.Sort.TheVariants.{ByItself, BySequence, 
 use Rattle.py_node.specs.BuiltIns.{fixed_none}
 use Rattle.py_node.specs.Slots.{is_slot, names_of, all_slots, sort_of}
 use Rattle.py_node.specs.Natives.{is_same_entry}
-use Rattle.class_model.specs.Class.{Class, Classes, class_at, is_heap, lin, is_sub, own_of, first_along, along}
+use Rattle.class_model.specs.Class.{Class, Classes, class_at, is_heap, lin, is_sub, found, own_of, first_along, along}
 
 -- how classes name their attributes: whether two keys are one, and the key of each name that every world knows
 pub record Keys (K : Type 0) : Type 0 where
@@ -94,18 +94,32 @@ read_along own Nearest c line s = first_along (λ d. own d s) line
 abbrev pub slot : {K : Type 0} → Keys K → Natives → Classes K → ℕ → SlotId → Option SlotEntry
 slot keys natives t c s = option_and_then (λ line. read_along (entry keys natives t) (sort_of s) c line s) (lin t c)
 
--- the candidates of an operator, from the left slot of the first operand's class and the right slot of the second's: the right one is left out where the classes or the entries are the same, and comes first where the second class derives from the first
+-- whether a class's own reflected method goes before the left operand's: what it finds is another node than what the left operand's class finds. A name that this one lacks counts as another
+abbrev pub is_other_node : Option PyObjectRef → Option PyObjectRef → Bool
+is_other_node None r = true
+is_other_node (Some l) None = true
+is_other_node (Some l) (Some r) = not (eqb l.0 r.0)
+
+abbrev pub is_overridden : {K : Type 0} → Keys K → Classes K → List Known → ℕ → ℕ → Bool
+is_overridden keys t [] c d = false
+is_overridden keys t (n ∷ ns) c d = is_other_node (found keys.same t c (keys.special n)) (found keys.same t d (keys.special n))
+
+-- whether the right slot of the second operand's class is tried first: the class derives from that of the first operand, and has another method for it
+abbrev pub goes_first : {K : Type 0} → Keys K → Classes K → SlotId → ℕ → ℕ → Bool
+goes_first keys t right c d = is_sub t d c && is_overridden keys t (names_of right) c d
+
+-- the candidates of an operator, from the left slot of the first operand's class and the right slot of the second's: the right one is left out where the classes or the entries are the same
 abbrev pub without_same : Option SlotEntry → Option SlotEntry → Option SlotEntry
 without_same (Some l) (Some r) = cond (is_same_entry l r) None (Some r)
 without_same l r = r
 
 abbrev pub in_turn : Bool → Option SlotEntry → Option SlotEntry → List SlotEntry
-in_turn derived None None = []
-in_turn derived (Some l) None = l ∷ []
-in_turn derived None (Some r) = r ∷ []
-in_turn derived (Some l) (Some r) = cond derived (r ∷ l ∷ []) (l ∷ r ∷ [])
+in_turn first None None = []
+in_turn first (Some l) None = l ∷ []
+in_turn first None (Some r) = r ∷ []
+in_turn first (Some l) (Some r) = cond first (r ∷ l ∷ []) (l ∷ r ∷ [])
 
 abbrev pub candidates_of : {K : Type 0} → Keys K → Natives → Classes K → SlotId → SlotId → ℕ → ℕ → List SlotEntry
 candidates_of keys natives t left right c d =
     let l = slot keys natives t c left in
-    in_turn (is_sub t d c) l (cond (eqb c d) None (without_same l (slot keys natives t d right)))
+    in_turn (goes_first keys t right c d) l (cond (eqb c d) None (without_same l (slot keys natives t d right)))

@@ -1,14 +1,16 @@
 -- What the classes along a line have, put together one by one.
-use Rattle.std.proofs.Common.{◌≡◌, ℕ, ◌+◌, ◌<◌, Bool, List, [], ◌∷◌, ◌++◌, length, get_or, take, drop, Some, refl, sym, ap, subst, ◌∙◌}
+use Rattle.std.proofs.Common.{◌≡◌, ℕ, ◌+◌, ◌<◌, Bool, List, [], ◌∷◌, ◌++◌, map, length, get_or, take, drop, Option, Some, refl, sym, ap, subst, ◌∙◌}
 use Rattle.std.specs.Prelude.{slice_get}
 use Rattle.std.specs.List.{AllZip}
 use Rattle.std.proofs.lemmas.List.{drop_more, map_more, map-append}
 use Rattle.std.proofs.lemmas.Option.{slice_get_within, get_or_from_slice_get}
+use Rattle.std.specs.Global.{Vec}
 use Rattle.py_node.specs.declared.refs.PyObjectRef.{PyObjectRef}
 use Rattle.py_node.specs.declared.refs.PyTypeRef.{PyTypeRef}
 use Rattle.py_node.specs.Attributes.{with_value}
 use Rattle.class_model.specs.Class.{Classes, class_at}
 use Rattle.class_model.specs.Collect.{with_values, attrs_of, attributes_along}
+use Rattle.mro_merge.specs.Lists.{rows}
 use Rattle.class_table.specs.Keys.{numbers}
 use Rattle.class_table.specs.Given.{AreGiven}
 
@@ -52,3 +54,12 @@ module _ {K : Type 0} (same : K → K → Bool) (t : Classes K) where
       ∙ sym (from-last found (numbers rest) c.0)
       ∙ ap (along_from found) (sym (map-append (λ (k : PyTypeRef). k.0) rest (c ∷ [])))
       ∙ ap (λ r. along_from found (numbers r)) (sym h)
+
+-- one more linearisation
+pub lines-more : (f : ℕ → Option (List ℕ)) (bases : List PyTypeRef) (lines : List (Vec PyTypeRef)) (line : Vec PyTypeRef) (i : ℕ) (d : PyTypeRef) → i < length bases → map Some (rows lines) ≡ map f (numbers (take i bases)) → Some (numbers line.items) ≡ f (get_or bases i d).0 → map Some (rows (lines ++ line ∷ [])) ≡ map f (numbers (take (i + 1) bases))
+lines-more f bases lines line i d l h e =
+    ap (map Some) (map-append (λ (v : Vec PyTypeRef). numbers v.items) lines (line ∷ []))
+    ∙ map-append Some (rows lines) (numbers line.items ∷ [])
+    ∙ ap (λ (zs : List (Option (List ℕ))). zs ++ Some (numbers line.items) ∷ []) h
+    ∙ ap (λ z. map f (numbers (take i bases)) ++ z ∷ []) e
+    ∙ sym (ap (map f) (map_more (λ (r : PyTypeRef). r.0) bases i d l) ∙ map-append f (numbers (take i bases)) ((get_or bases i d).0 ∷ []))

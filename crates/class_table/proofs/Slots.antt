@@ -1,8 +1,10 @@
 -- Facts about each slot, by cases.
 use Rattle.std.proofs.Common.{◌≡◌, ℕ, zero, suc, ◌+◌, ◌≤◌, Bool, true, false, ◌&&◌, ◌||◌, map, eqb, ltb, List, [], ◌∷◌, length, Some, refl, ap, ◌∙◌, sym, arith}
-use Rattle.std.specs.Prelude.{slice_get}
+use Rattle.std.specs.Prelude.{slice_get, slice_index_or}
+use denote.Enum.Bare.{same_true}
+use Rattle.py_node.specs.contracts.entry.SlotId.{the_type}
 use Rattle.py_node.specs.declared.entry.SlotId.{SlotId}
-use Rattle.py_node.specs.declared.entry.SlotId.TheVariants.{Add, Hash}
+use Rattle.py_node.specs.declared.entry.SlotId.TheVariants.{Hash}
 use Rattle.py_node.specs.declared.known.Known.{Known}
 use Rattle.py_node.specs.declared.known.Known.TheVariants as known
 use Rattle.py_node.specs.Known.{number_of}
@@ -13,20 +15,38 @@ use Rattle.py_node.specs.declared.refs.PyStrInterned.{PyStrInterned}
 use Rattle.py_node.specs.Attributes.{is_same_name}
 use Rattle.class_table.specs.Keys.{table_keys}
 
+both : (a b : Bool) → (a && b) ≡ true → (a ≡ true) × (b ≡ true)
+both true b e = (refl, e)
+both false b e = cc
+
 -- the hash has one name
-pub names-hash : (s : SlotId) → is_slot s Hash ≡ true → names_of s ≡ known.Hash ∷ []
+hash-names : names_of Hash ≡ known.Hash ∷ []
 unfolding slot_names place_of names_of
-names-hash Hash e = refl
-names-hash _ e = cc
+hash-names = refl
+
+pub names-hash : (s : SlotId) → is_slot s Hash ≡ true → names_of s ≡ known.Hash ∷ []
+names-hash s e = ap names_of (same_true the_type tt s Hash e) ∙ hash-names
 
 abbrev pub below_all : ℕ → List Known → Bool
 below_all n [] = true
 below_all n (k ∷ ks) = ltb (number_of k) n && below_all n ks
 
+abbrev rows_below : List (List Known) → Bool
+rows_below [] = true
+rows_below (r ∷ rows) = below_all 70 r && rows_below rows
+
+all-rows : rows_below slot_names ≡ true
+unfolding slot_names number_of
+all-rows = refl
+
+row-below : (rows : List (List Known)) (i : ℕ) → rows_below rows ≡ true → below_all 70 (slice_index_or rows i []) ≡ true
+row-below [] i h = refl
+row-below (r ∷ rows) zero h = (both (below_all 70 r) (rows_below rows) h).0
+row-below (r ∷ rows) (suc i) h = row-below rows i (both (below_all 70 r) (rows_below rows) h).1
+
 pub names-below : (s : SlotId) → below_all 70 (names_of s) ≡ true
-unfolding slot_names place_of names_of number_of
-names-below Add = refl
-names-below _ = refl
+unfolding names_of
+names-below s = row-below slot_names (place_of s) all-rows
 
 abbrev counted : ℕ → List SlotId → Bool
 counted n [] = true
@@ -35,10 +55,6 @@ counted n (s ∷ ss) = eqb (place_of s) n && counted (suc n) ss
 counted-all : counted 0 all_slots ≡ true
 unfolding place_of all_slots
 counted-all = refl
-
-both : (a b : Bool) → (a && b) ≡ true → (a ≡ true) × (b ≡ true)
-both true b e = (refl, e)
-both false b e = cc
 
 place-from : (n : ℕ) (ss : List SlotId) (i : ℕ) (s : SlotId) → counted n ss ≡ true → slice_get ss i ≡ Some s → place_of s ≡ n + i
 place-from n [] i s h e = cc

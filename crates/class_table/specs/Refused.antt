@@ -23,6 +23,13 @@ refusal (Err (Refused cause)) = Some cause
 refusal (Err (RefusedAt cause c)) = Some cause
 refusal (Err OutOfMemory) = None
 
+-- a refusal names no class: only where other bases leave a class without an order is that class told
+abbrev pub NamesNoClass : {T : Type 0} → Result T ClassFault → Type 0
+NamesNoClass (Ok x) = Unit {0}
+NamesNoClass (Err (Refused cause)) = Unit {0}
+NamesNoClass (Err (RefusedAt cause c)) = ⊥
+NamesNoClass (Err OutOfMemory) = Unit {0}
+
 -- said of every answer but want of memory
 abbrev pub WithMemory : {T : Type 0} → Result T ClassFault → Type 0 → Type 0
 WithMemory (Ok x) P = P

@@ -1,6 +1,6 @@
 //! A class that is made.
 
-ghost use Rattle.std.specs.Prelude.{◌≡◌, ◌≤◌, ◌||◌, ◌++◌, ◌∷◌, [], ℕ, List, cond, not, nat_lt, length, Some, OnOk, OnErr, IfOk, true};
+ghost use Rattle.std.specs.Prelude.{◌≡◌, ◌<◌, ◌≤◌, ◌||◌, ◌++◌, ◌∷◌, [], ℕ, List, cond, not, nat_lt, length, Some, OnOk, OnErr, IfOk, true, vec_len, vec_capacity};
 ghost use Rattle.py_node.specs.Attributes.{AreNamesDistinct};
 ghost use Rattle.py_node.specs.Slots.{slot_count};
 ghost use Rattle.class_model.specs.Order.{Distinct};
@@ -13,7 +13,7 @@ ghost use Rattle.class_table.specs.Keys.{numbers, number_of};
 ghost use Rattle.class_table.specs.Coherent.{IsCoherent};
 ghost use Rattle.class_table.specs.New.{IsBelow, IsBest, class_of_new};
 ghost use Rattle.class_table.specs.Made.{IsFresh, noted};
-ghost use Rattle.class_table.specs.Refused.{refusal, WithMemory, refused_order, AreThere};
+ghost use Rattle.class_table.specs.Refused.{refusal, WithMemory, refused_order, AreThere, NamesNoClass};
 ghost use Rattle.class_table.specs.Inherit.{Follows};
 
 use crate::count::count_along;
@@ -125,6 +125,7 @@ fn build(
     ensures fresh { IfOk result (λ k. IsFresh classes.now (class_of_new new) k) }
     ensures refused { WithMemory result (refusal result ≡
         refused_order (classes_of classes.now) (numbers new.bases.items)) }
+    ensures names { NamesNoClass result }
 {
     let rest = match rest_of_line(classes, alloc, &new.bases) {
         Ok(rest) => rest,
@@ -183,6 +184,20 @@ fn note(classes: &mut [Stored], bases: &[PyTypeRef], number: PyTypeRef) -> Resul
     }
 }
 
+// Makes room for a class at the end, and notes it in its bases.
+fn make_room(classes: &mut Vec<Stored>, stored: &Stored) -> Result<(), OutOfMemory>
+    requires ascending { is_ascending (classes_of classes.old.items) ≡ true }
+    requires there { AreThere (classes_of classes.old.items) stored.now.bases }
+    requires distinct { Distinct stored.now.bases }
+    ensures room { OnOk result (vec_len classes.new < vec_capacity classes.new) }
+    ensures ok { OnOk result (classes.new.items ≡ noted stored.now.bases stored.now.number classes.old.items) }
+    ensures err { OnErr result (classes.new.items ≡ classes.old.items) }
+{
+    classes.reserve(1)?;
+    note(classes, stored.bases(), stored.number())?;
+    Ok(())
+}
+
 // Puts a class at the end, and notes it in its bases.
 fn attach(classes: &mut Vec<Stored>, stored: Stored) -> Result<(), OutOfMemory>
     requires ascending { is_ascending (classes_of classes.old.items) ≡ true }
@@ -191,8 +206,7 @@ fn attach(classes: &mut Vec<Stored>, stored: Stored) -> Result<(), OutOfMemory>
     ensures ok { OnOk result (classes.new.items ≡ noted stored.bases stored.number classes.old.items ++ stored ∷ []) }
     ensures err { OnErr result (classes.new.items ≡ classes.old.items) }
 {
-    classes.reserve(1)?;
-    note(classes, stored.bases(), stored.number())?;
+    make_room(classes, &stored)?;
     classes.push(stored)?;
     Ok(())
 }
@@ -215,6 +229,7 @@ pub(crate) fn add(
     ensures refused { WithMemory result (refusal result ≡
         refused_order (classes_of classes.old.items) (numbers new.bases.items)) }
     ensures err { OnErr result (classes.new.items ≡ classes.old.items) }
+    ensures names { NamesNoClass result }
 {
     let at = classes.len();
     let number = new.number;

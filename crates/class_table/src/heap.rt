@@ -10,7 +10,7 @@ ghost use Rattle.class_table.specs.Keys.{numbers};
 ghost use Rattle.class_table.specs.New.{class_of_new};
 ghost use Rattle.class_table.specs.Stored.{classes_of};
 ghost use Rattle.class_table.specs.Coherent.{IsCoherent};
-ghost use Rattle.class_table.specs.Refused.{refusal, WithMemory, NeedsNoMemory, IsEarly, refused_bases, refused_attr, AreThere, heap_class};
+ghost use Rattle.class_table.specs.Refused.{refusal, WithMemory, NeedsNoMemory, IsEarly, refused_bases, refused_attr, AreThere, heap_class, NamesNoClass};
 
 use crate::add::add;
 use crate::fault::ClassFault;
@@ -80,6 +80,7 @@ pub(crate) fn add_heap(
     ensures refused { WithMemory result (refusal result ≡
         refused_bases (classes_of classes.old.items) (numbers bases.items)) }
     ensures err { OnErr result (classes.new.items ≡ classes.old.items) }
+    ensures names { NamesNoClass result }
 {
     let best = match best_base(classes, &bases) {
         Ok(best) => best,
@@ -106,6 +107,7 @@ pub(crate) fn set_heap(
     ensures set { OnOk result (classes_of classes.new.items ≡
         with_class_attr is_same_name (classes_of classes.old.items) class.0 name value) }
     ensures err { OnErr result (classes.new.items ≡ classes.old.items) }
+    ensures names { NamesNoClass result }
 {
     if !is_heap(classes, class) {
         return Err(ClassFault::Refused(Cause::ImmutableType));
@@ -133,6 +135,7 @@ pub(crate) fn take_heap(
         without_class_attr is_same_name (classes_of classes.old.items) class.0 name) }
     ensures absent { result ≡ Ok false → classes.new.items ≡ classes.old.items }
     ensures err { OnErr result (classes.new.items ≡ classes.old.items) }
+    ensures names { NamesNoClass result }
 {
     if !is_heap(classes, class) {
         return Err(ClassFault::Refused(Cause::ImmutableType));

@@ -9,7 +9,7 @@ ghost use Rattle.class_table.specs.Keys.{numbers, number_of};
 ghost use Rattle.class_table.specs.Stored.{classes_of};
 ghost use Rattle.class_table.specs.Coherent.{IsCoherent};
 ghost use Rattle.class_table.specs.New.{IsBest};
-ghost use Rattle.class_table.specs.Refused.{refusal, WithMemory, cause_of, is_base_at, refused_layout, refused_order, refused_bases, IsEarly, AreThere};
+ghost use Rattle.class_table.specs.Refused.{refusal, WithMemory, cause_of, is_base_at, refused_layout, refused_order, refused_bases, IsEarly, AreThere, NamesNoClass};
 ghost use Rattle.class_table.specs.Inherit.{is_under, better_of, next_best, best_along, number_found, number_best, Follows};
 
 use crate::fault::{ClassFault, merge_fault};
@@ -198,6 +198,7 @@ pub(crate) fn rest_of_line(
     requires there { AreThere (classes_of classes.now) (numbers bases.now) }
     ensures rest { IfOk result (λ v. Follows (classes_of classes.now) (numbers bases.now) (numbers v.items)) }
     ensures refused { WithMemory result (refusal result ≡ refused_order (classes_of classes.now) (numbers bases.now)) }
+    ensures names { NamesNoClass result }
 {
     let lines = match lines(classes, alloc, bases) {
         Ok(lines) => lines,
@@ -219,6 +220,7 @@ pub(crate) fn may_derive(
     requires there { AreThere (classes_of classes.now) (numbers bases.now) }
     ensures early { IsEarly (classes_of classes.now) (numbers bases.now) (refusal result) }
     ensures refused { WithMemory result (refusal result ≡ refused_bases (classes_of classes.now) (numbers bases.now)) }
+    ensures names { NamesNoClass result }
 {
     match best_base(classes, bases) {
         Ok(_) => {}

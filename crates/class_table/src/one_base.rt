@@ -5,7 +5,7 @@ ghost use Rattle.class_model.specs.Class.{class_at, is_class};
 ghost use Rattle.class_model.specs.Numbers.{limit};
 ghost use Rattle.class_model.specs.Change.{with_class};
 ghost use Rattle.class_table.specs.New.{class_of_new};
-ghost use Rattle.class_table.specs.Refused.{refusal, is_base_at, heap_class};
+ghost use Rattle.class_table.specs.Refused.{refusal, is_base_at, heap_class, NamesNoClass};
 ghost use Rattle.class_table.specs.OneBase.{refused_single, single_class, flags_at, static_flags};
 
 use crate::fault::ClassFault;
@@ -74,6 +74,7 @@ impl ClassTable {
             with_class self.old (single_class name.now number.0 base.0 attrs flags.0)) }
         ensures refused { refusal result ≡ refused_single self.old base.0 }
         ensures err { OnErr result (self.new ≡ self.old) }
+        ensures names { NamesNoClass result }
     {
         if !self.is_base(base) {
             return Err(ClassFault::Refused(Cause::NotBaseType));
@@ -102,6 +103,7 @@ impl ClassTable {
             with_class self.old (heap_class name.now number.0 (base.0 ∷ []) [] [])) }
         ensures refused { refusal result ≡ refused_single self.old base.0 }
         ensures err { OnErr result (self.new ≡ self.old) }
+        ensures names { NamesNoClass result }
     {
         let attrs = PyAttributes::new(self.alloc());
         self.new_single(number, name, base, attrs, PyTypeFlags::of_script_class())
@@ -125,6 +127,7 @@ impl ClassTable {
             (single_class name.now number.0 base.0 attrs (static_flags flags.0 (flags_at self.old base.0)))) }
         ensures refused { refusal result ≡ refused_single self.old base.0 }
         ensures err { OnErr result (self.new ≡ self.old) }
+        ensures names { NamesNoClass result }
     {
         let flags = flags_of_static(flags, self.flags(base));
         self.new_single(number, name, base, attrs, flags)

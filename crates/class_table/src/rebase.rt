@@ -1,6 +1,6 @@
 //! Other bases for a class: all or nothing.
 
-ghost use Rattle.std.specs.Prelude.{◌≡◌, true, None, Some, IfOk, OnOk, OnErr};
+ghost use Rattle.std.specs.Prelude.{◌≡◌, true, None, Some, IfOk, OnOk, OnErr, IsSome};
 ghost use Rattle.class_model.specs.Order.{is_distinct};
 ghost use Rattle.class_model.specs.Class.{is_class};
 ghost use Rattle.class_model.specs.Layout.{best_of};
@@ -169,6 +169,42 @@ fn change_bases<L: Ledger>(
     settle_all(classes, class, steps);
 }
 
+// What other bases of a class make of each class, or why the class may not have them: first the tests that need no order,
+// which count nothing, and then all that takes memory.
+fn prepare<L: Ledger>(
+    classes: &[Stored],
+    alloc: Global,
+    class: PyTypeRef,
+    bases: &[PyTypeRef],
+    steps: &mut Steps<L>,
+) -> Result<Vec<Renewed>, ClassFault>
+    requires coherent { IsCoherent classes.now }
+    requires own { is_class (classes_of classes.now) class.0 ≡ true }
+    requires there { AreThere (classes_of classes.now) (numbers bases.now) }
+    ensures renewed { IfOk result (λ v. AreRenewed classes.now class.0 (numbers bases.now) v.items) }
+    ensures early { IsToldFirst (classes_of classes.now) class.0 (numbers bases.now) (told result) }
+    ensures refused { WithMemory result (told result ≡
+        refused_rebase (classes_of classes.now) class.0 (numbers bases.now)) }
+    ensures steps { NoneFalls steps.old steps.new }
+    ensures uncounted { IsSome (refused_change (classes_of classes.now) class.0 (numbers bases.now)) →
+        steps.new ≡ steps.old }
+{
+    let best = match test_change(classes, class, bases) {
+        Ok(best) => best,
+        Err(cause) => return Err(ClassFault::Refused(cause)),
+    };
+    plan(
+        Change {
+            classes,
+            class,
+            bases,
+        },
+        alloc,
+        best,
+        steps,
+    )
+}
+
 // Gives a class other bases: first the tests, then all that takes memory, then the change.
 pub(crate) fn rebase<L: Ledger>(
     classes: &mut Vec<Stored>,
@@ -188,17 +224,10 @@ pub(crate) fn rebase<L: Ledger>(
         with_bases (classes_of classes.old.items) class.0 (numbers bases.items)) }
     ensures err { OnErr result (classes.new.items ≡ classes.old.items) }
     ensures steps { NoneFalls steps.old steps.new }
+    ensures uncounted { IsSome (refused_change (classes_of classes.old.items) class.0 (numbers bases.items)) →
+        steps.new ≡ steps.old }
 {
-    let best = match test_change(classes, class, &bases) {
-        Ok(best) => best,
-        Err(cause) => return Err(ClassFault::Refused(cause)),
-    };
-    let change = Change {
-        classes,
-        class,
-        bases: &bases,
-    };
-    let renewed = match plan(change, alloc, best, steps) {
+    let renewed = match prepare(classes, alloc, class, &bases, steps) {
         Ok(renewed) => renewed,
         Err(fault) => return Err(fault),
     };

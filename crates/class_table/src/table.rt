@@ -1,6 +1,6 @@
 //! The table of classes.
 
-ghost use Rattle.std.specs.Prelude.{◌≡◌, ◌<◌, ◌≤◌, [], true, false, length, Ok, OnOk, OnErr, IfOk, ◌↔◌, IsTrue, Some, is_some, leb, option_map, slice_get, None, IfSome};
+ghost use Rattle.std.specs.Prelude.{◌≡◌, ◌<◌, ◌≤◌, [], true, false, length, Ok, OnOk, OnErr, IfOk, ◌↔◌, IsTrue, Some, is_some, leb, option_map, slice_get, None, IfSome, IsSome};
 ghost use Rattle.std.specs.List.{All};
 ghost use Rattle.py_node.specs.declared.raised.Cause.TheVariants.{EmptyBases, NotBaseType, LayoutConflict, DuplicateBase, LocalPrecedence, MroConflict};
 ghost use Rattle.py_node.specs.Attributes.{is_same_name, AreNamesDistinct};
@@ -17,8 +17,8 @@ ghost use Rattle.class_model.specs.Change.{with_class, with_class_attr, without_
 ghost use Rattle.class_table.specs.Keys.{numbers, number_of, table_keys};
 ghost use Rattle.class_table.specs.Stored.{classes_of};
 ghost use Rattle.class_table.specs.New.{IsBelow, class_of_new};
-ghost use Rattle.class_table.specs.Refused.{refusal, cause_of, refused_layout, refused_bases, refused_attr, WithMemory, NeedsNoMemory, IsEarly, AreThere, heap_class};
-ghost use Rattle.class_table.specs.Rebase.{refused_rebase, told, IsToldFirst};
+ghost use Rattle.class_table.specs.Refused.{refusal, cause_of, refused_layout, refused_bases, refused_attr, WithMemory, NeedsNoMemory, IsEarly, AreThere, heap_class, NamesNoClass};
+ghost use Rattle.class_table.specs.Rebase.{refused_change, refused_rebase, told, IsToldFirst};
 ghost use Rattle.class_table.specs.Causes.{LacksBase, HasLayoutConflict, HasDuplicate, BreaksOrder, HasNoLine};
 ghost use Rattle.class_table.specs.Given.{AreGiven};
 
@@ -170,6 +170,7 @@ impl ClassTable {
         requires { AreThere self.now (numbers bases.now) }
         ensures early { IsEarly self.now (numbers bases.now) (refusal result) }
         ensures refused { WithMemory result (refusal result ≡ refused_bases self.now (numbers bases.now)) }
+        ensures names { NamesNoClass result }
     {
         let alloc = self.alloc;
         may_derive(&self.classes, alloc, bases)
@@ -204,6 +205,7 @@ impl ClassTable {
         ensures conflict { WithMemory result ((refusal result ≡ Some MroConflict) ↔
             HasNoLine self.old (numbers bases.items)) }
         ensures err { OnErr result (self.new ≡ self.old) }
+        ensures names { NamesNoClass result }
     {
         let alloc = self.alloc;
         add_heap(
@@ -229,6 +231,7 @@ impl ClassTable {
         ensures immutable { refusal result ≡ refused_attr self.old class.0 }
         ensures set { OnOk result (self.new ≡ with_class_attr is_same_name self.old class.0 name value) }
         ensures err { OnErr result (self.new ≡ self.old) }
+        ensures names { NamesNoClass result }
     {
         set_heap(&mut self.classes, class, name, value)
     }
@@ -248,6 +251,7 @@ impl ClassTable {
         ensures taken { OnOk result (self.new ≡ without_class_attr is_same_name self.old class.0 name) }
         ensures absent { result ≡ Ok false → self.new ≡ self.old }
         ensures err { OnErr result (self.new ≡ self.old) }
+        ensures names { NamesNoClass result }
     {
         take_heap(&mut self.classes, class, name)
     }
@@ -267,7 +271,7 @@ impl ClassTable {
     /// layout conflicts with those before it; the solid class of the best of them is not that of the best base of now;
     /// one stands twice; and then at the least-numbered class that they leave without an order while all its bases have
     /// one. Where they are refused or memory runs out, the table stays as it was. `steps` counts the merges and the
-    /// classes whose slots are found anew.
+    /// classes whose slots are found anew; where they are refused before any order is looked at, it counts nothing.
     pub fn set_bases<L: Ledger>(
         &mut self,
         class: PyTypeRef,
@@ -282,6 +286,7 @@ impl ClassTable {
         ensures err { OnErr result (self.new ≡ self.old) }
         ensures merges { steps.old.merges ≤ steps.new.merges }
         ensures probes { steps.old.probes ≤ steps.new.probes }
+        ensures uncounted { IsSome (refused_change self.old class.0 (numbers bases.items)) → steps.new ≡ steps.old }
     {
         let alloc = self.alloc;
         rebase(&mut self.classes, alloc, class, bases, steps)

@@ -118,7 +118,7 @@ bases-there w (b ∷ bs) h = (h.0, bases-there w bs h.1)
 
 -- a class with its node
 module _ (w : Held) (meta : PyTypeRef) (k : Class PyStrInterned) where
-  abbrev class_made : PyTypeRef → Held
+  abbrev pub class_made : PyTypeRef → Held
   class_made c = record w { nodes = w.nodes ++ record { class = meta; dict = None; members = []; payload = payload.Class c } ∷ []; classes = w.classes ++ k ∷ [] }
 
   pub made-grows : (c : PyTypeRef) → Grows w (class_made c)

@@ -18,10 +18,8 @@ pub mod ClassChanges
 pub mod Look
 pub mod Built
 pub mod Stored
-pub mod Shown
 pub mod Defined
 pub mod StartSound
-pub mod ClassText
 pub mod SoundWorld
 pub mod NewNodes
 pub mod DictEntries
@@ -38,3 +36,4 @@ pub mod SameLayout
 pub mod NewBases
 pub mod NodeMembers
 pub mod Reclassed
+pub mod MadeClass

@@ -13,9 +13,9 @@ use Rattle.py_node.specs.Known.{known_texts, known_text, number_of}
 use Rattle.py_node.proofs.KnownNames.{below, known-count}
 use Rattle.std.proofs.lemmas.Option.{slice_get-get_or, slice_get_within}
 use Rattle.class_model.specs.Class.{Class, class_at, has_flag, renamed}
-use Rattle.class_model.specs.Slot.{entry, slot, candidates_of}
+use Rattle.class_model.specs.Slot.{entry, slot, candidates_of, goes_first}
 use Rattle.class_model.specs.BuiltIn.{natives_of}
-use Rattle.class_model.proofs.Renamed.{at-renamed, entry-renamed, slot-renamed, candidates_of-renamed}
+use Rattle.class_model.proofs.Renamed.{at-renamed, entry-renamed, slot-renamed, candidates_of-renamed, goes_first-renamed}
 use Rattle.class_table.specs.Keys.{table_keys}
 use Rattle.plain_machine.specs.World.{node_at, has_dict, flag_in, text_keys}
 use Rattle.plain_machine.specs.Known.{the_dict}
@@ -105,6 +105,13 @@ slot-seen w now c s v sound t r =
     let reads = subst (λ w. Reads t w) (sym v) r in
     subst (λ u. slot text_keys natives_of (plain t u).classes c s ≡ slot table_keys natives_of w.classes c s) v
     (slot-renamed (spelled t) table_keys text_keys (λ a b. t.same a.0 b.0) (known-read w t sound.known reads) natives_of w.classes c s)
+
+pub goes-first-seen : (w now : Held) (right : SlotId) (c d : ℕ) → w ≡ now → Sound w → (t : Reading) → Reads t now → goes_first text_keys (plain t now).classes right c d ≡ goes_first table_keys w.classes right c d
+unfolding plain
+goes-first-seen w now right c d v sound t r =
+    let reads = subst (λ w. Reads t w) (sym v) r in
+    subst (λ u. goes_first text_keys (plain t u).classes right c d ≡ goes_first table_keys w.classes right c d) v
+    (goes_first-renamed (spelled t) table_keys text_keys (λ a b. t.same a.0 b.0) (known-read w t sound.known reads) w.classes right c d)
 
 pub candidates-seen : (w now : Held) (left right : SlotId) (c d : ℕ) → w ≡ now → Sound w → (t : Reading) → Reads t now → candidates_of text_keys natives_of (plain t now).classes left right c d ≡ candidates_of table_keys natives_of w.classes left right c d
 unfolding plain

@@ -1,12 +1,14 @@
 -- Classes that scripts make.
 use Rattle.std.specs.Option.{option_or}
-use Rattle.std.specs.Prelude.{ℕ, Bool, true, false, cond, List, map, Option, Some, None}
+use Rattle.std.specs.Prelude.{ℕ, Bool, true, false, cond, List, [], map, Option, Some, None}
 use Rattle.py_node.specs.declared.raised.Cause.{Cause}
 use Rattle.py_node.specs.declared.raised.Cause.TheVariants.{QualnameType}
 use Rattle.py_node.specs.declared.refs.PyObjectRef.{PyObjectRef}
 use Rattle.py_node.specs.declared.refs.PyStrInterned.{PyStrInterned}
 use Rattle.py_node.specs.declared.refs.PyTypeRef.{PyTypeRef}
 use Rattle.py_node.specs.Attributes.{value_of}
+use Rattle.py_node.specs.declared.payload.Node.{Node}
+use Rattle.py_node.specs.declared.payload.Payload.TheVariants as payload
 use Rattle.py_node.specs.BuiltIns.{heap_flags}
 use Rattle.py_node.specs.Tree.{Text}
 use Rattle.class_model.specs.Class.{Class}
@@ -46,3 +48,7 @@ heap_class_of t name number bases attrs members = record {
   members = map (spelled t) members;
   flags = heap_flags;
 }
+
+-- the node that stands for a class, by its metaclass and its number
+abbrev pub class_node : PyTypeRef → PyTypeRef → Node
+class_node meta c = record { class = meta; dict = None; members = []; payload = payload.Class c }

@@ -10,14 +10,17 @@ ghost use Rattle.class_world.specs.Sound.{IsNode, IsClass, IsOf, Holds};
 use crate::world::World;
 use py_node::{BuiltIn, PyObjectRef, PyTypeRef};
 
-// The numbers of the objects that every world has.
-pub(crate) const NONE: u64 = 23;
+/// The number of None.
+pub const NONE: u64 = 23;
 
-pub(crate) const NOT_IMPLEMENTED: u64 = 24;
+/// The number of NotImplemented.
+pub const NOT_IMPLEMENTED: u64 = 24;
 
-pub(crate) const FALSE: u64 = 25;
+/// The number of False.
+pub const FALSE: u64 = 25;
 
-pub(crate) const TRUE: u64 = 26;
+/// The number of True.
+pub const TRUE: u64 = 26;
 
 /// An object that every world has.
 #[derive(Clone, Copy, PartialEq, Eq, Debug)]

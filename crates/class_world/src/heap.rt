@@ -1,25 +1,28 @@
 //! Classes as scripts make and change them, and the functions that they define.
 
-ghost use Rattle.std.specs.Prelude.{◌≡◌, ℕ, ◌<◌, length, Some, IfOk, IfSome, OnOk, OnErr};
+ghost use Rattle.std.specs.Prelude.{◌≡◌, ℕ, ◌<◌, ◌≤◌, ◌∷◌, [], ◌++◌, length, vec_len, vec_capacity, Some, IfOk, IfSome, OnOk, OnErr};
 ghost use Rattle.std.specs.Option.{option_or};
 ghost use Rattle.py_node.specs.declared.built_in.BuiltIn.{BuiltIn};
 ghost use Rattle.py_node.specs.declared.built_in.BuiltIn.TheVariants.{TypeType};
+ghost use Rattle.class_model.specs.Change.{with_class};
 ghost use Rattle.class_model.specs.Layout.{built_ins, best_of};
+ghost use Rattle.class_model.specs.Numbers.{limit};
 ghost use Rattle.class_table.specs.Keys.{numbers};
-ghost use Rattle.class_table.specs.Refused.{refusal, WithMemory, IsEarly, refused_attr, refused_layout, refused_bases};
+ghost use Rattle.class_table.specs.Refused.{refusal, WithMemory, IsEarly, AreThere, heap_class, refused_attr, refused_layout, refused_bases, NamesNoClass};
 ghost use Rattle.plain_machine.specs.Objects.{with_definer};
 ghost use Rattle.plain_machine.specs.World.{ref, datum_at, with_new_class, with_own_attr};
-ghost use Rattle.class_world.specs.NewHeap.{holds_text, qualified, refused_name, refused_heap, heap_class_of};
+ghost use Rattle.class_world.specs.NewHeap.{class_node, holds_text, qualified, refused_name, refused_heap, heap_class_of};
 ghost use Rattle.class_world.specs.Reading.{Reading, Reads, bindings, plain};
 ghost use Rattle.class_world.specs.Sound.{IsNode, IsClass, IsOf, IsName, AreNames, Holds, AllHold, Grows, of_binding, of_class_ref, of_each};
 
 use crate::definer::define;
 use crate::world::World;
-use class_table::ClassFault;
+use class_table::{ClassFault, ClassTable};
 use py_node::{
     Cause, Known, Node, OutOfMemory, Payload, PyAttributes, PyMembers, PyObjectRef, PyStrInterned,
     PyTypeRef,
 };
+use std::alloc::Global;
 
 #[tactic(auto, unfolding(crate::specs::Reading::plain))]
 impl World {
@@ -40,6 +43,7 @@ impl World {
         ensures err { OnErr result (self.new ≡ self.old) }
         ensures reads { (t : Reading) → Reads t self.new → Reads t self.old }
         ensures grows { Grows self.old self.new }
+        ensures names { NamesNoClass result }
     {
         self.classes.set_attr(class, name, value)
     }
@@ -95,6 +99,7 @@ impl World {
         ensures of { IfOk result (λ c. (d : ℕ) (b : BuiltIn) → best_of self.old.classes (numbers bases.items) ≡
             Some d → Holds self.old (IsOf d b) → Holds self.new (IsOf c.0 b)) }
         ensures node { IfOk result (λ c. Holds self.new (IsNode (ref c.0))) }
+        ensures names { NamesNoClass result }
     {
         match self.layout_refusal(&bases) {
             Some(cause) => return Err(ClassFault::Refused(cause)),
@@ -123,6 +128,7 @@ impl World {
         ensures why { WithMemory result (refusal result ≡
             option_or (refused_bases self.now.classes (numbers bases.now)) (Some cause)) }
         ensures err { IfOk result (λ c. ⊥) }
+        ensures names { NamesNoClass result }
     {
         match self.classes.may_derive(bases) {
             Ok(()) => Err(ClassFault::Refused(cause)),
@@ -194,26 +200,22 @@ impl World {
         ensures of { IfOk result (λ c. (d : ℕ) (b : BuiltIn) → best_of self.old.classes (numbers bases.items) ≡
             Some d → Holds self.old (IsOf d b) → Holds self.new (IsOf c.0 b)) }
         ensures node { IfOk result (λ c. Holds self.new (IsNode (ref c.0))) }
+        ensures names { NamesNoClass result }
     {
-        match self.nodes.reserve(1) {
-            Ok(()) => (),
-            Err(_) => return Err(ClassFault::OutOfMemory),
-        }
-        let number = PyTypeRef(self.nodes.len() as u64);
         self.classes.sound();
-        match self.classes.new_heap(number, name, bases, attrs, members) {
-            Err(fault) => Err(fault),
-            Ok(class) => {
-                self.classes.sound();
-                self.nodes.push_reserved(Node {
-                    class: metaclass,
-                    dict: None,
-                    members: PyMembers::new(self.alloc),
-                    payload: Payload::Class(class),
-                });
-                Ok(class)
-            }
-        }
+        let alloc = self.alloc;
+        let made = heap_with_node(
+            &mut self.classes,
+            &mut self.nodes,
+            alloc,
+            name,
+            bases,
+            attrs,
+            members,
+            metaclass,
+        );
+        self.classes.sound();
+        made
     }
 
     /// A function that no class defines yet is defined by this one. What is no function stays.
@@ -226,4 +228,58 @@ impl World {
     {
         define(&mut self.nodes[func.0 as usize], class);
     }
+}
+
+// A class, and the node that stands for it. Where the bases are refused or memory runs out, there is neither.
+fn heap_with_node(
+    classes: &mut ClassTable,
+    nodes: &mut Vec<Node>,
+    alloc: Global,
+    name: &str,
+    bases: Vec<PyTypeRef>,
+    attrs: PyAttributes,
+    members: Vec<PyStrInterned>,
+    metaclass: PyTypeRef,
+) -> Result<PyTypeRef, ClassFault>
+    requires bases { AreThere classes.old (numbers bases.items) }
+    requires fresh { limit classes.old ≤ length nodes.old.items }
+    ensures added { OnOk result (classes.new ≡ with_class classes.old
+        (heap_class name.now (length nodes.old.items) (numbers bases.items) attrs members.items)) }
+    ensures node { IfOk result (λ c. nodes.new.items ≡ nodes.old.items ++ class_node metaclass c ∷ []) }
+    ensures number { IfOk result (λ c. c.0 ≡ length nodes.old.items) }
+    ensures refused { WithMemory result (refusal result ≡ refused_bases classes.old (numbers bases.items)) }
+    ensures err { OnErr result (classes.new ≡ classes.old) }
+    ensures no_node { OnErr result (nodes.new.items ≡ nodes.old.items) }
+    ensures names { NamesNoClass result }
+{
+    match nodes.reserve(1) {
+        Ok(()) => (),
+        Err(_) => return Err(ClassFault::OutOfMemory),
+    }
+    let number = PyTypeRef(nodes.len() as u64);
+    match classes.new_heap(number, name, bases, attrs, members) {
+        Err(fault) => Err(fault),
+        Ok(class) => {
+            push_class_node(nodes, alloc, class, metaclass);
+            Ok(class)
+        }
+    }
+}
+
+// Adds the node that stands for a class, for which a place is reserved.
+pub(crate) fn push_class_node(
+    nodes: &mut Vec<Node>,
+    alloc: Global,
+    class: PyTypeRef,
+    metaclass: PyTypeRef,
+)
+    requires { vec_len nodes.old < vec_capacity nodes.old }
+    ensures { nodes.new.items ≡ nodes.old.items ++ class_node metaclass class ∷ [] }
+{
+    nodes.push_reserved(Node {
+        class: metaclass,
+        dict: None,
+        members: PyMembers::new(alloc),
+        payload: Payload::Class(class),
+    });
 }

@@ -5,9 +5,9 @@ ghost use Rattle.class_model.specs.BuiltIn.{natives_of};
 ghost use Rattle.class_model.specs.Class.{class_at as class_numbered, found, found_past, own_of, is_sub, has_flag};
 ghost use Rattle.class_model.specs.Collect.{all_attributes};
 ghost use Rattle.class_model.specs.Layout.{place_count};
-ghost use Rattle.class_model.specs.Slot.{entry, slot as slot_read, candidates_of, is_heap_at};
+ghost use Rattle.class_model.specs.Slot.{entry, slot as slot_read, candidates_of, goes_first, is_heap_at};
 ghost use Rattle.class_table.specs.Turn.{list_of};
-ghost use Rattle.plain_machine.specs.World.{ref, class_at, text_keys, slot_at, candidates_at, is_text};
+ghost use Rattle.plain_machine.specs.World.{ref, class_at, text_keys, slot_at, candidates_at, goes_first_at, is_text};
 ghost use Rattle.class_world.specs.Reading.{Reading, Reads, bindings, plain};
 ghost use Rattle.class_world.specs.Sound.{IsNode, IsClass, IsOffset, Holds, AllHold, of_binding, of_each};
 
@@ -66,9 +66,12 @@ impl World {
     ) -> Candidates
         requires a { Holds self.now (IsNode a) }
         requires b { Holds self.now (IsNode b) }
-        ensures { (t : Reading) → Reads t self.now →
+        ensures list { (t : Reading) → Reads t self.now →
             candidates_at (plain t self.now) left right (class_at (plain t self.now) a)
             (class_at (plain t self.now) b) ≡ list_of result }
+        ensures first { (t : Reading) → Reads t self.now →
+            goes_first_at (plain t self.now) right (class_at (plain t self.now) a)
+            (class_at (plain t self.now) b) ≡ result.is_right_first }
     {
         let class_a = self.class_of(a);
         let class_b = self.class_of(b);
@@ -85,8 +88,10 @@ impl World {
     ) -> Candidates
         requires a { Holds self.now (IsClass a.0) }
         requires b { Holds self.now (IsClass b.0) }
-        ensures { (t : Reading) → Reads t self.now →
+        ensures list { (t : Reading) → Reads t self.now →
             candidates_of text_keys natives_of (plain t self.now).classes left right a.0 b.0 ≡ list_of result }
+        ensures first { (t : Reading) → Reads t self.now →
+            goes_first text_keys (plain t self.now).classes right a.0 b.0 ≡ result.is_right_first }
     {
         self.classes.candidates(left, right, a, b)
     }

@@ -1,23 +1,25 @@
 //! Classes with one base and no members: simple ones as scripts make them, and static ones, which scripts can't change.
 
-ghost use Rattle.std.specs.Prelude.{◌≡◌, ◌∷◌, [], length, IfOk, OnOk, OnErr, Some, option_map};
+ghost use Rattle.std.specs.Prelude.{◌≡◌, ◌≤◌, true, ◌∷◌, [], ◌++◌, length, IfOk, OnOk, OnErr, Some, option_map};
 ghost use Rattle.py_node.specs.declared.built_in.BuiltIn.{BuiltIn as Home};
 ghost use Rattle.py_node.specs.declared.built_in.BuiltIn.TheVariants.{TypeType};
-ghost use Rattle.class_model.specs.Class.{class_at};
-ghost use Rattle.class_table.specs.Refused.{refusal, refused_attr};
+ghost use Rattle.class_model.specs.Change.{with_class};
+ghost use Rattle.class_model.specs.Class.{class_at, is_class};
+ghost use Rattle.class_model.specs.Numbers.{limit};
+ghost use Rattle.class_table.specs.Refused.{refusal, refused_attr, NamesNoClass};
 ghost use Rattle.class_table.specs.OneBase.{refused_single, single_class, flags_at, static_flags};
 ghost use Rattle.plain_machine.specs.Known.{the_type};
 ghost use Rattle.plain_machine.specs.World.{ref, with_new_class, with_own_attr};
-ghost use Rattle.class_world.specs.NewHeap.{heap_class_of};
+ghost use Rattle.class_world.specs.NewHeap.{class_node, heap_class_of};
 ghost use Rattle.class_world.specs.Reading.{Reading, Reads, bindings, plain};
 ghost use Rattle.class_world.specs.Sound.{IsNode, IsClass, IsOf, Holds, AllHold, Grows, of_binding, of_each};
 
+use crate::heap::push_class_node;
 use crate::world::World;
-use class_table::ClassFault;
 use class_table::one_base::flags_of_static;
-use py_node::{
-    BuiltIn, Cause, Node, Payload, PyAttributes, PyMembers, PyObjectRef, PyTypeFlags, PyTypeRef,
-};
+use class_table::{ClassFault, ClassTable};
+use py_node::{BuiltIn, Cause, Node, PyAttributes, PyObjectRef, PyTypeFlags, PyTypeRef};
+use std::alloc::Global;
 
 #[tactic(auto, unfolding(crate::specs::Reading::plain))]
 impl World {
@@ -45,29 +47,22 @@ impl World {
         ensures class { IfOk result (λ c. Holds self.new (IsClass c.0)) }
         ensures of { IfOk result (λ c. (b : Home) → Holds self.old (IsOf base.0 b) → Holds self.new (IsOf c.0 b)) }
         ensures node { IfOk result (λ c. Holds self.new (IsNode (ref c.0))) }
+        ensures names { NamesNoClass result }
     {
-        if !self.classes.is_base(base) {
-            return Err(ClassFault::Refused(Cause::NotBaseType));
-        }
-        match self.nodes.reserve(1) {
-            Ok(()) => (),
-            Err(_) => return Err(ClassFault::OutOfMemory),
-        }
-        let number = PyTypeRef(self.nodes.len() as u64);
         self.classes.sound();
-        match self.classes.new_single(number, name, base, attrs, flags) {
-            Err(fault) => Err(fault),
-            Ok(class) => {
-                self.classes.sound();
-                self.nodes.push_reserved(Node {
-                    class: metaclass,
-                    dict: None,
-                    members: PyMembers::new(self.alloc),
-                    payload: Payload::Class(class),
-                });
-                Ok(class)
-            }
-        }
+        let alloc = self.alloc;
+        let made = single_with_node(
+            &mut self.classes,
+            &mut self.nodes,
+            alloc,
+            name,
+            base,
+            attrs,
+            flags,
+            metaclass,
+        );
+        self.classes.sound();
+        made
     }
 
     /// A class as a script makes it, with one base and no attributes, and the node that stands for it. It is
@@ -84,6 +79,7 @@ impl World {
         ensures class { IfOk result (λ c. Holds self.new (IsClass c.0)) }
         ensures of { IfOk result (λ c. (b : Home) → Holds self.old (IsOf base.0 b) → Holds self.new (IsOf c.0 b)) }
         ensures node { IfOk result (λ c. Holds self.new (IsNode (ref c.0))) }
+        ensures names { NamesNoClass result }
     {
         let attrs = PyAttributes::new(self.alloc());
         let metaclass = self.class_of_classes();
@@ -126,6 +122,7 @@ impl World {
         ensures class { IfOk result (λ c. Holds self.new (IsClass c.0)) }
         ensures of { IfOk result (λ c. (b : Home) → Holds self.old (IsOf base.0 b) → Holds self.new (IsOf c.0 b)) }
         ensures node { IfOk result (λ c. Holds self.new (IsNode (ref c.0))) }
+        ensures names { NamesNoClass result }
     {
         let flags = flags_of_static(flags, self.class_flags(base));
         self.add_single(name, base, attrs, flags, metaclass)
@@ -155,6 +152,7 @@ impl World {
         ensures same { OnErr result ((t : Reading) → plain t self.new ≡ plain t self.old) }
         ensures reads { (t : Reading) → Reads t self.new → Reads t self.old }
         ensures grows { Grows self.old self.new }
+        ensures names { NamesNoClass result }
     {
         if !self.class_is_heap(class) {
             return Err(ClassFault::Refused(Cause::ImmutableType));
@@ -162,6 +160,46 @@ impl World {
         match self.intern(name) {
             Err(_) => Err(ClassFault::OutOfMemory),
             Ok(name) => self.set_attr(class, name, value),
+        }
+    }
+}
+
+// A class with one base, and the node that stands for it. Where the base may have no subclasses or memory runs out,
+// there is neither.
+fn single_with_node(
+    classes: &mut ClassTable,
+    nodes: &mut Vec<Node>,
+    alloc: Global,
+    name: &str,
+    base: PyTypeRef,
+    attrs: PyAttributes,
+    flags: PyTypeFlags,
+    metaclass: PyTypeRef,
+) -> Result<PyTypeRef, ClassFault>
+    requires base { is_class classes.old base.0 ≡ true }
+    requires fresh { limit classes.old ≤ length nodes.old.items }
+    ensures added { OnOk result (classes.new ≡ with_class classes.old
+        (single_class name.now (length nodes.old.items) base.0 attrs flags.0)) }
+    ensures node { IfOk result (λ c. nodes.new.items ≡ nodes.old.items ++ class_node metaclass c ∷ []) }
+    ensures number { IfOk result (λ c. c.0 ≡ length nodes.old.items) }
+    ensures refused { refusal result ≡ refused_single classes.old base.0 }
+    ensures err { OnErr result (classes.new ≡ classes.old) }
+    ensures no_node { OnErr result (nodes.new.items ≡ nodes.old.items) }
+    ensures names { NamesNoClass result }
+{
+    if !classes.is_base(base) {
+        return Err(ClassFault::Refused(Cause::NotBaseType));
+    }
+    match nodes.reserve(1) {
+        Ok(()) => (),
+        Err(_) => return Err(ClassFault::OutOfMemory),
+    }
+    let number = PyTypeRef(nodes.len() as u64);
+    match classes.new_single(number, name, base, attrs, flags) {
+        Err(fault) => Err(fault),
+        Ok(class) => {
+            push_class_node(nodes, alloc, class, metaclass);
+            Ok(class)
         }
     }
 }

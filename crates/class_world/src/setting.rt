@@ -2,7 +2,7 @@
 
 ghost use Rattle.std.specs.Prelude.{◌≡◌, false, is_some, Ok, IfOk, OnOk, OnErr};
 ghost use Rattle.class_model.specs.Class.{class_at as class_numbered, own_of};
-ghost use Rattle.class_table.specs.Refused.{refusal, refused_attr, NeedsNoMemory};
+ghost use Rattle.class_table.specs.Refused.{refusal, refused_attr, NeedsNoMemory, NamesNoClass};
 ghost use Rattle.plain_machine.specs.Change.{without_own_attr};
 ghost use Rattle.plain_machine.specs.World.{is_text};
 ghost use Rattle.class_world.specs.Reading.{Reading, Reads, plain};
@@ -33,6 +33,7 @@ impl World {
         ensures err { OnErr result (self.new ≡ self.old) }
         ensures reads { (t : Reading) → Reads t self.new → Reads t self.old }
         ensures grows { Grows self.old self.new }
+        ensures names { NamesNoClass result }
     {
         self.classes.del_attr_direct(class, name)
     }

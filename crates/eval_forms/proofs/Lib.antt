@@ -7,3 +7,4 @@ pub mod Unrepeated
 pub mod Outcomes
 pub mod Counting
 pub mod Sequels
+pub mod Found

@@ -1,5 +1,6 @@
 -- What the rows of expressions say.
 use Rattle.std.specs.Prelude.{ℕ, Bool, cond, if◌then◌else◌, bytes_eq, codes, List, [], ◌∷◌, ◌++◌, Option, Some, None, option_map, Ok, Err, is_some, true, false, not, filter, length, take, drop, slice_get}
+use Rattle.std.specs.List.{find}
 use Rattle.py_node.specs.declared.refs.PyObjectRef.{PyObjectRef}
 use Rattle.py_node.specs.declared.built_in.BuiltIn.{BuiltIn}
 use Rattle.py_node.specs.declared.built_in.BuiltIn.TheVariants as built_in
@@ -28,28 +29,25 @@ const_say w LTrue = end w (value (truth true))
 const_say w (LInt z) = make w the_int (ANumber z)
 const_say w (LText x) = make w the_str (AText x)
 
--- the built-in classes that every body can name
+-- the built-in classes that every body can name, with their names
+unfoldable pub class_names : List (Text × BuiltIn)
+class_names =
+    (codes "object", built_in.Object) ∷ (codes "type", built_in.TypeType) ∷ (codes "int", built_in.Int)
+    ∷ (codes "bool", built_in.Bool) ∷ (codes "str", built_in.Str) ∷ (codes "tuple", built_in.Tuple)
+    ∷ (codes "list", built_in.List) ∷ (codes "dict", built_in.Dict) ∷ (codes "property", built_in.Property)
+    ∷ (codes "classmethod", built_in.ClassMethod) ∷ (codes "staticmethod", built_in.StaticMethod)
+    ∷ (codes "super", built_in.Super) ∷ []
+
 unfoldable pub class_named : Text → Option BuiltIn
-class_named x =
-    if bytes_eq x (codes "object") then Some built_in.Object
-    else (if bytes_eq x (codes "type") then Some built_in.TypeType
-    else (if bytes_eq x (codes "int") then Some built_in.Int
-    else (if bytes_eq x (codes "bool") then Some built_in.Bool
-    else (if bytes_eq x (codes "str") then Some built_in.Str
-    else (if bytes_eq x (codes "tuple") then Some built_in.Tuple
-    else (if bytes_eq x (codes "list") then Some built_in.List
-    else (if bytes_eq x (codes "dict") then Some built_in.Dict
-    else (if bytes_eq x (codes "property") then Some built_in.Property
-    else (if bytes_eq x (codes "classmethod") then Some built_in.ClassMethod
-    else (if bytes_eq x (codes "staticmethod") then Some built_in.StaticMethod
-    else (if bytes_eq x (codes "super") then Some built_in.Super
-    else None)))))))))))
+class_named x = option_map (λ row. row.1) (find (λ row. bytes_eq x row.0) class_names)
+
+-- the fixed object that every body can name
+unfoldable pub fixed_named : Text → Option PyObjectRef
+fixed_named x = if bytes_eq x (codes "NotImplemented") then Some not_implemented else None
 
 -- what every body can name: one of these classes, or NotImplemented
-abbrev pub built_in_named : Text → Option PyObjectRef
-built_in_named x =
-    or_else_var (option_map (λ b. ref (place_of b)) (class_named x))
-    (if bytes_eq x (codes "NotImplemented") then Some not_implemented else None)
+unfoldable pub built_in_named : Text → Option PyObjectRef
+built_in_named x = or_else_var (option_map (λ b. ref (place_of b)) (class_named x)) (fixed_named x)
 
 -- what a name names, or a fault where it names nothing
 abbrev pub named_say : PlainWorld → Option PyObjectRef → Row

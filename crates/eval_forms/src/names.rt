@@ -1,10 +1,11 @@
 //! What a name names: a variable, or a built-in object.
 
-ghost use Rattle.std.specs.Prelude.{◌≡◌, IfSome};
+ghost use Rattle.std.specs.Prelude.{◌≡◌, IfSome, bytes_eq, map, option_map};
+ghost use Rattle.std.specs.List.{find};
 ghost use Rattle.class_world.specs.Sound.{AllHold, Holds, IsName, IsNode};
 ghost use Rattle.class_world.specs.Claims.{of_step};
 ghost use Rattle.class_world.specs.Reading.{Reading, Reads};
-ghost use Rattle.eval_forms.specs.Say.{built_in_named, class_named, name_say};
+ghost use Rattle.eval_forms.specs.Say.{built_in_named, class_named, class_names, fixed_named, name_say};
 ghost use Rattle.eval_forms.specs.Rows.{EndsRow, of_eval_kept};
 
 use crate::EvalKept;
@@ -33,48 +34,59 @@ fn built_in_at(world: &World, name: PyStrInterned) -> Option<PyObjectRef>
     ensures node { IfSome result (λ r. Holds world.now (IsNode r)) }
 {
     let text = world.names().text(name);
-    match class_named(text) {
+    match find_class(text) {
         Some(class) => Some(world.built_in_node(class)),
-        None => {
-            if text == "NotImplemented" {
-                Some(world.fixed(Fixed::NotImplemented))
-            } else {
-                None
-            }
-        }
+        None => fixed_named(world, text),
     }
 }
 
-// The built-in class that a text names.
-#[tactic(auto, unfolding(crate::specs::Say::class_named))]
-fn class_named(text: &str) -> Option<BuiltIn>
-    ensures { result ≡ class_named text.now }
+// The fixed object that a text names.
+#[tactic(auto, unfolding(crate::specs::Say::fixed_named))]
+fn fixed_named(world: &World, text: &str) -> Option<PyObjectRef>
+    ensures named { result ≡ fixed_named text.now }
+    ensures node { IfSome result (λ r. Holds world.now (IsNode r)) }
 {
-    if text == "object" {
-        Some(BuiltIn::Object)
-    } else if text == "type" {
-        Some(BuiltIn::TypeType)
-    } else if text == "int" {
-        Some(BuiltIn::Int)
-    } else if text == "bool" {
-        Some(BuiltIn::Bool)
-    } else if text == "str" {
-        Some(BuiltIn::Str)
-    } else if text == "tuple" {
-        Some(BuiltIn::Tuple)
-    } else if text == "list" {
-        Some(BuiltIn::List)
-    } else if text == "dict" {
-        Some(BuiltIn::Dict)
-    } else if text == "property" {
-        Some(BuiltIn::Property)
-    } else if text == "classmethod" {
-        Some(BuiltIn::ClassMethod)
-    } else if text == "staticmethod" {
-        Some(BuiltIn::StaticMethod)
-    } else if text == "super" {
-        Some(BuiltIn::Super)
+    if text == "NotImplemented" {
+        Some(world.fixed(Fixed::NotImplemented))
     } else {
         None
     }
+}
+
+/// The built-in classes that every body can name, with their names.
+pub(crate) const CLASS_NAMES: [(&str, BuiltIn); 12] = [
+    ("object", BuiltIn::Object),
+    ("type", BuiltIn::TypeType),
+    ("int", BuiltIn::Int),
+    ("bool", BuiltIn::Bool),
+    ("str", BuiltIn::Str),
+    ("tuple", BuiltIn::Tuple),
+    ("list", BuiltIn::List),
+    ("dict", BuiltIn::Dict),
+    ("property", BuiltIn::Property),
+    ("classmethod", BuiltIn::ClassMethod),
+    ("staticmethod", BuiltIn::StaticMethod),
+    ("super", BuiltIn::Super),
+];
+
+// The names in order.
+#[tactic(auto, unfolding(crate::specs::Say::class_names))]
+fn all_class_names() -> &'static [(&'static str, BuiltIn)]
+    ensures { map (λ row. (row.0.now, row.1)) result.now ≡ class_names }
+{
+    &CLASS_NAMES
+}
+
+// The built-in class that a text names.
+fn find_class(text: &str) -> Option<BuiltIn>
+    ensures { result ≡ class_named text.now }
+{
+    class_in(all_class_names(), text)
+}
+
+// What stands for a text in the first row that has it.
+fn class_in(rows: &[(&str, BuiltIn)], text: &str) -> Option<BuiltIn>
+    ensures { result ≡ option_map (λ row. row.1) (find (λ row. bytes_eq text.now row.0.now) rows.now) }
+{
+    rows.iter().find(|row| text == row.0).map(|row| row.1)
 }

@@ -8,7 +8,6 @@ ghost use Rattle.vm_eval.specs.Asks.{of_done};
 
 use class_table::ClassFault;
 use class_world::Fixed;
-use class_world::show::show;
 use py_node::{
     BuiltIn, Command, Constant, Expr, OutOfMemory, PyAttributes, PyNumberBinaryOp, PyObjectRef,
     PyResult, PyStrInterned, PyTypeRef, Reply, ReplyAnswer, Word,
@@ -16,6 +15,7 @@ use py_node::{
 use std::alloc::Global;
 use std::io;
 use vm_eval::{RunFault, VirtualMachine};
+use world_text::show::show;
 
 fn main(rt: HostRuntime) -> io::Result<()> {
     let Ok(mut vm) = VirtualMachine::new(rt.alloc()) else {

@@ -3,19 +3,22 @@
 ghost use Rattle.std.specs.Prelude.{◌<◌};
 
 use outside::read_all::{LIMIT, read_all};
-use outside::words::units_of;
+use outside::words::{Job, job_of};
 use outside::write_all::write_all;
 use outside::{MemorySink, MemorySource, QuietSource, ReadEnd};
 use std::alloc::{AllocError, Global};
 use std::test::Fail;
 
-// What the words say, split at each space; an empty text has no word.
+// The units that the words ask for, split at each space; an empty text has no word.
 fn units_of_text(alloc: Global, text: &str) -> Result<Option<u64>, AllocError> {
     let mut words = Vec::new(alloc);
     for word in text.split_whitespace() {
         words.push(String::from_str(alloc, word)?)?;
     }
-    Ok(units_of(&words))
+    match job_of(&words) {
+        Some(Job::Run(units)) => Ok(Some(units)),
+        _ => Ok(None),
+    }
 }
 
 #[test]

@@ -1,8 +1,9 @@
 //! Own attributes of a class that are made of definitions.
 
-ghost use Rattle.std.specs.Prelude.{◌≡◌, fold, IfOk, OnOk, OnErr};
+ghost use Rattle.std.specs.Prelude.{◌≡◌, fold, IfOk, OnOk, OnErr, Some};
 ghost use Rattle.py_node.specs.BuiltIns.{place_of};
-ghost use Rattle.class_table.specs.Refused.{refusal, refused_attr};
+ghost use Rattle.py_node.specs.declared.raised.Cause.{Cause as RefusalCause};
+ghost use Rattle.class_table.specs.Refused.{refusal, refused_attr, NamesNoClass};
 ghost use Rattle.plain_machine.specs.World.{with_node, next_node};
 ghost use Rattle.class_world.specs.Reading.{Reading, Reads, plain};
 ghost use Rattle.class_world.specs.Sound.{IsNode, IsClass, Holds, Grows};
@@ -26,6 +27,8 @@ pub fn extend_methods(
         fold (with_method class.0) (plain t world.old) methods.now) }
     ensures reads { (t : Reading) → Reads t world.new → Reads t world.old }
     ensures grows { Grows world.old world.new }
+    ensures names { NamesNoClass result }
+    ensures same { (cause : RefusalCause) → refusal result ≡ Some cause → world.new ≡ world.old }
 {
     if !world.class_is_heap(class) {
         return Err(ClassFault::Refused(Cause::ImmutableType));

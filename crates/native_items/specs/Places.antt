@@ -19,9 +19,10 @@ abbrev pub bound_of : ℕ → ℤ → ℕ
 bound_of n (pos i) = min i n
 bound_of n (negsuc i) = n - suc i
 
-abbrev pub bound : ℕ → Option ℤ → ℕ
-bound n None = 0
-bound n (Some z) = bound_of n z
+-- one that isn't there leads to the end that it is for
+abbrev pub bound : ℕ → ℕ → Option ℤ → ℕ
+bound n absent None = absent
+bound n absent (Some z) = bound_of n z
 
 abbrev pub slice_in : Option Datum → Option PySlice
 slice_in (Some (ASlice s)) = Some s
@@ -30,16 +31,16 @@ slice_in _ = None
 abbrev pub slice_at : PlainWorld → PyObjectRef → Option PySlice
 slice_at w k = slice_in (datum_at w k)
 
-abbrev pub bound_at : PlainWorld → ℕ → Option PyObjectRef → ℕ
-bound_at w n r = bound n (option_and_then (λ r. number_of (datum_at w r)) r)
+abbrev pub bound_at : PlainWorld → ℕ → ℕ → Option PyObjectRef → ℕ
+bound_at w n absent r = bound n absent (option_and_then (λ r. number_of (datum_at w r)) r)
 
 -- the items between the bounds of a slice
 abbrev pub part : {A : Type 0} → PlainWorld → PySlice → List A → List A
-part w s xs = slice_range xs (bound_at w (length xs) s.start) (bound_at w (length xs) s.stop)
+part w s xs = slice_range xs (bound_at w (length xs) 0 s.start) (bound_at w (length xs) (length xs) s.stop)
 
 -- the items with others in the place of those between two bounds
 abbrev pub put_between : {A : Type 0} → ℕ → ℕ → List A → List A → List A
 put_between start stop xs ys = take start xs ++ (ys ++ drop (max start stop) xs)
 
 abbrev pub put_part : {A : Type 0} → PlainWorld → PySlice → List A → List A → List A
-put_part w s xs ys = put_between (bound_at w (length xs) s.start) (bound_at w (length xs) s.stop) xs ys
+put_part w s xs ys = put_between (bound_at w (length xs) 0 s.start) (bound_at w (length xs) (length xs) s.stop) xs ys

@@ -56,16 +56,17 @@ fn place_of(count: usize, number: i128) -> Option<usize>
     }
 }
 
-// Where a bound leads among so many items: no further than the ends.
-fn bound_at(world: &World, count: usize, bound: Option<PyObjectRef>) -> usize
-    requires { AllHold world.now (of_option of_node_ref bound) }
-    ensures reads { (t : Reading) → bound_at (plain t world.now) count bound ≡ result }
+// Where a bound leads among so many items: no further than the ends. One that isn't there leads where it is said.
+fn bound_at(world: &World, count: usize, absent: usize, bound: Option<PyObjectRef>) -> usize
+    requires bound { AllHold world.now (of_option of_node_ref bound) }
+    requires absent { absent ≤ count }
+    ensures reads { (t : Reading) → bound_at (plain t world.now) count absent bound ≡ result }
     ensures within { result ≤ count }
 {
     match bound {
-        None => 0,
+        None => absent,
         Some(object) => match world.number(object) {
-            None => 0,
+            None => absent,
             Some(number) => bound_of(count, number),
         },
     }
@@ -88,18 +89,18 @@ fn bound_of(count: usize, number: i128) -> usize
     }
 }
 
-/// The bounds of a slice among so many items.
+/// The bounds of a slice among so many items: the first and the last of all, where it has none.
 pub(crate) fn bounds(world: &World, slice: PySlice, count: usize) -> (usize, usize)
     requires start { AllHold world.now (of_option of_node_ref slice.start) }
     requires stop { AllHold world.now (of_option of_node_ref slice.stop) }
-    ensures start { (t : Reading) → bound_at (plain t world.now) count slice.start ≡ result.0 }
-    ensures stop { (t : Reading) → bound_at (plain t world.now) count slice.stop ≡ result.1 }
+    ensures start { (t : Reading) → bound_at (plain t world.now) count 0 slice.start ≡ result.0 }
+    ensures stop { (t : Reading) → bound_at (plain t world.now) count count slice.stop ≡ result.1 }
     ensures start_within { result.0 ≤ count }
     ensures stop_within { result.1 ≤ count }
 {
     (
-        bound_at(world, count, slice.start),
-        bound_at(world, count, slice.stop),
+        bound_at(world, count, 0, slice.start),
+        bound_at(world, count, count, slice.stop),
     )
 }
 

@@ -26,22 +26,24 @@ use Rattle.plain_machine.specs.Takes.{with_one, with_two, with_three}
 use Rattle.native_base.specs.Say.{int_made, number_told, text_made, numbers_of, with_lone_number, with_number_and, with_numbers}
 use Rattle.native_numbers.specs.Numbers.{is_zero, number_hash, negated, absolute, inverted, difference, product, quotient, remainder, power, right_shifted, left_shifted}
 
--- the natives of None and NotImplemented, which are for these two
+-- the natives of None and NotImplemented, each of which is for its own object alone
 
-abbrev pub is_fixed : PyObjectRef → Bool
-is_fixed o = eqb o.0 fixed_none || eqb o.0 fixed_not_implemented
+abbrev pub fixed_of : FixedNative → ℕ
+fixed_of fixed.NoneRepr = fixed_none
+fixed_of fixed.NoneBoolean = fixed_none
+fixed_of fixed.NotImplementedRepr = fixed_not_implemented
 
-abbrev pub fixed_first : PlainWorld → List PyObjectRef → Said → Said
-fixed_first w [] go = Ends w (fault ArgCount)
-fixed_first w (o ∷ args) go = cond (is_fixed o) go (Ends w (fault SelfType))
+abbrev pub fixed_first : PlainWorld → ℕ → List PyObjectRef → Said → Said
+fixed_first w own [] go = Ends w (fault ArgCount)
+fixed_first w own (o ∷ args) go = cond (eqb o.0 own) go (Ends w (fault SelfType))
 
-abbrev pub with_fixed : PlainWorld → List PyObjectRef → Bindings → Said → Said
-with_fixed w args kw go = fixed_first w args (with_one w args kw (λ o. go))
+abbrev pub with_fixed : PlainWorld → ℕ → List PyObjectRef → Bindings → Said → Said
+with_fixed w own args kw go = fixed_first w own args (with_one w args kw (λ o. go))
 
 abbrev pub fixed_say : PlainWorld → FixedNative → List PyObjectRef → Bindings → Said
-fixed_say w fixed.NoneRepr args kw = with_fixed w args kw (text_made w (Ok (codes "None")))
-fixed_say w fixed.NoneBoolean args kw = with_fixed w args kw (Ends w (value (truth false)))
-fixed_say w fixed.NotImplementedRepr args kw = with_fixed w args kw (text_made w (Ok (codes "NotImplemented")))
+fixed_say w fixed.NoneRepr args kw = with_fixed w fixed_none args kw (text_made w (Ok (codes "None")))
+fixed_say w fixed.NoneBoolean args kw = with_fixed w fixed_none args kw (Ends w (value (truth false)))
+fixed_say w fixed.NotImplementedRepr args kw = with_fixed w fixed_not_implemented args kw (text_made w (Ok (codes "NotImplemented")))
 
 -- natives of one number
 

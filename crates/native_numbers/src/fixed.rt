@@ -5,7 +5,7 @@ ghost use Rattle.plain_machine.specs.Plain.{PlainWorld, Said, Ends};
 ghost use Rattle.class_world.specs.Reading.{Reading, bindings};
 ghost use Rattle.class_world.specs.Sound.{AreNodes, Holds};
 ghost use Rattle.class_world.specs.Rows.{EndsAs, LeavesEnd};
-ghost use Rattle.native_numbers.specs.Say.{fixed_first, fixed_say, is_fixed, with_fixed};
+ghost use Rattle.native_numbers.specs.Say.{fixed_first, fixed_of, fixed_say, with_fixed};
 
 use class_world::takes::one;
 use class_world::{Fixed, World};
@@ -23,7 +23,7 @@ pub fn fixed_native(
         world.old world.new r) }
     ensures safe { LeavesEnd world.old world.new result }
 {
-    if let Some(raised) = refusal(args, kw) {
+    if let Some(raised) = refusal(native, args, kw) {
         return Ok(Err(raised));
     }
     match native {
@@ -33,14 +33,18 @@ pub fn fixed_native(
     }
 }
 
-// Why the arguments are refused: just one of the two objects is wanted.
-fn refusal(args: &[PyObjectRef], kw: &[(PyStrInterned, PyObjectRef)]) -> Option<Raised>
+// Why the arguments are refused: just the native's own object is wanted.
+fn refusal(
+    native: FixedNative,
+    args: &[PyObjectRef],
+    kw: &[(PyStrInterned, PyObjectRef)],
+) -> Option<Raised>
     ensures taken { IfNone result ((t : Reading) (w : PlainWorld) (go : Said) →
-        with_fixed w args.now (bindings t kw.now) go ≡ go) }
+        with_fixed w (fixed_of native) args.now (bindings t kw.now) go ≡ go) }
     ensures refused { IfSome result (λ x. (t : Reading) (w : PlainWorld) (go : Said) →
-        with_fixed w args.now (bindings t kw.now) go ≡ Ends w (Err x)) }
+        with_fixed w (fixed_of native) args.now (bindings t kw.now) go ≡ Ends w (Err x)) }
 {
-    if let Some(raised) = other_kind(args) {
+    if let Some(raised) = other_object(native, args) {
         return Some(raised);
     }
     match one(args, kw) {
@@ -49,16 +53,17 @@ fn refusal(args: &[PyObjectRef], kw: &[(PyStrInterned, PyObjectRef)]) -> Option<
     }
 }
 
-// Why the first argument is refused: it must be one of the two objects.
-fn other_kind(args: &[PyObjectRef]) -> Option<Raised>
-    ensures taken { IfNone result ((w : PlainWorld) (go : Said) → fixed_first w args.now go ≡ go) }
+// Why the first argument is refused: it must be the native's own object.
+fn other_object(native: FixedNative, args: &[PyObjectRef]) -> Option<Raised>
+    ensures taken { IfNone result ((w : PlainWorld) (go : Said) →
+        fixed_first w (fixed_of native) args.now go ≡ go) }
     ensures refused { IfSome result (λ x. (w : PlainWorld) (go : Said) →
-        fixed_first w args.now go ≡ Ends w (Err x)) }
+        fixed_first w (fixed_of native) args.now go ≡ Ends w (Err x)) }
 {
     match args {
         [] => Some(Raised::new(Cause::ArgCount)),
         [o, ..] => {
-            if is_fixed(*o) {
+            if o.0 == own_object(native).0 {
                 None
             } else {
                 Some(Raised::new(Cause::SelfType))
@@ -67,9 +72,12 @@ fn other_kind(args: &[PyObjectRef]) -> Option<Raised>
     }
 }
 
-// Whether an object is None or NotImplemented.
-fn is_fixed(object: PyObjectRef) -> bool
-    ensures { result ≡ is_fixed object }
+// The object that a native is for.
+fn own_object(native: FixedNative) -> PyObjectRef
+    ensures { result.0 ≡ fixed_of native }
 {
-    object.0 == Fixed::None.node().0 || object.0 == Fixed::NotImplemented.node().0
+    match native {
+        FixedNative::NoneRepr | FixedNative::NoneBoolean => Fixed::None.node(),
+        FixedNative::NotImplementedRepr => Fixed::NotImplemented.node(),
+    }
 }

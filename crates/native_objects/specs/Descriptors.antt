@@ -74,18 +74,8 @@ changed w o d = Ends (with_datum w o d) (value none)
 abbrev pub static_init : PlainWorld → List PyObjectRef → Bindings → Said
 static_init w args kw = with_own static_in w args (λ o f. with_two w args kw (λ a g. changed w o (AStaticMethod g)))
 
--- a static method gives the callable that it wraps, whatever it is bound to. A class may follow
-abbrev pub bound_by_name : PlainWorld → List PyObjectRef → Bindings → Said → Said
-bound_by_name w (m ∷ o ∷ []) kw go = without_keywords w kw go
-bound_by_name w (m ∷ o ∷ c ∷ []) kw go = without_keywords w kw go
-bound_by_name w _ kw go = Ends w (fault ArgCount)
-
-abbrev pub static_get : PlainWorld → List PyObjectRef → Bindings → Said
-static_get w args kw = with_own static_in w args (λ m f. bound_by_name w args kw (Ends w (value f)))
-
 abbrev pub wrapper_say : PlainWorld → WrapperNative → List PyObjectRef → Bindings → Said
 wrapper_say w wrapper.StaticInit args kw = static_init w args kw
-wrapper_say w wrapper.StaticGet args kw = static_get w args kw
 wrapper_say w _ args kw = Ends w elsewhere
 
 -- `property`

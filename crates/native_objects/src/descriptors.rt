@@ -6,11 +6,11 @@ ghost use Rattle.class_world.specs.Claims.{of_ended};
 ghost use Rattle.class_world.specs.Reading.{Reading, Reads, bindings, plain, spelled};
 ghost use Rattle.class_world.specs.Rows.{EndsAs, LeavesEnd};
 ghost use Rattle.class_world.specs.Sound.{AllHold, AreNodes, Grows, IsClass, IsName, Holds, of_option, of_start};
-ghost use Rattle.native_objects.specs.Descriptors.{callable_say, descriptor_native_say, super_say, wrapper_say, method_repr, member_repr, method_text, member_text, bound_text, super_repr, super_text, static_init, static_get, bound_by_name};
+ghost use Rattle.native_objects.specs.Descriptors.{callable_say, descriptor_native_say, super_say, wrapper_say, method_repr, member_repr, method_text, member_text, bound_text, super_repr, super_text, static_init};
 
 use crate::names::limited_text;
 use crate::take::{own_member, own_method, own_static, own_super};
-use class_world::takes::{one, three, two};
+use class_world::takes::{one, two};
 use class_world::{Fixed, World};
 use py_node::{
     Answer, CallableNative, Cause, DescriptorNative, OutOfMemory, Payload, PyObjectRef,
@@ -86,7 +86,6 @@ pub fn wrapper_native(
 {
     match native {
         WrapperNative::StaticInit => Ok(static_init(world, args, kw)),
-        WrapperNative::StaticGet => Ok(static_get(world, args, kw)),
         _ => Ok(Err(Raised::new(Cause::SelfType))),
     }
 }
@@ -220,39 +219,4 @@ fn static_init(
     let (_, callable) = two(args, kw)?;
     world.set_payload(object, Payload::StaticMethod(callable));
     Ok(Answer::Value(world.fixed(Fixed::None)))
-}
-
-// A static method gives the callable that it wraps, whatever it is bound to. A class may follow.
-fn static_get(
-    world: &World,
-    args: &[PyObjectRef],
-    kw: &[(PyStrInterned, PyObjectRef)],
-) -> Result<Answer, Raised>
-    requires { Holds world.now (AreNodes args.now) }
-    ensures ends { EndsAs (λ t u. static_get u args.now (bindings t kw.now)) world.now world.now result }
-    ensures holds { AllHold world.now (of_ended result) }
-{
-    let (_method, callable) = own_static(world, args)?;
-    bound_by_name(args, kw)?;
-    Ok(Answer::Value(callable))
-}
-
-// Whether a descriptor can be bound by name to these, after itself.
-fn bound_by_name(args: &[PyObjectRef], kw: &[(PyStrInterned, PyObjectRef)]) -> Result<(), Raised>
-    ensures given { IfOk result (λ n. (t : Reading) (u : PlainWorld) (go : Said) →
-        bound_by_name u args.now (bindings t kw.now) go ≡ go) }
-    ensures refused { IfErr result (λ x. (t : Reading) (u : PlainWorld) (go : Said) →
-        bound_by_name u args.now (bindings t kw.now) go ≡ Ends u (Err x)) }
-{
-    if args.len() == 3 {
-        match three(args, kw) {
-            Err(raised) => Err(raised),
-            Ok(_) => Ok(()),
-        }
-    } else {
-        match two(args, kw) {
-            Err(raised) => Err(raised),
-            Ok(_) => Ok(()),
-        }
-    }
 }

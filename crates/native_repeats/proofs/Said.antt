@@ -15,7 +15,7 @@ use Rattle.plain_machine.specs.Plain.{AList, AText, ATuple, PlainWorld, Said, En
 use Rattle.plain_machine.specs.World.{datum_at}
 use Rattle.native_base.specs.Repeats.{list_repeated, native_repeat, repeated, sequence_for, with_times}
 use Rattle.native_base.specs.Say.{object_made}
-use Rattle.native_repeats.specs.Say.{ended_with}
+use Rattle.native_repeats.specs.Say.{ended_with, list_stood, repeat_stood}
 
 -- a text is repeated
 pub text-says : (u : PlainWorld) (m : StrNative) (o : PyObjectRef) (z : ℤ) (x : Text) (s : Said) → datum_at u o ≡ Some (AText x) → with_times u z x (λ y. object_made u the_str (AText y)) ≡ s → native_repeat u (OfStr m) o z ≡ s
@@ -42,3 +42,10 @@ list-says u m n o z rs (Ok xs) is at given refused =
     ap (λ e. native_repeat u e o z) is ∙ ap (λ d. repeated u (OfList m) o z (sequence_for (OfList m) d)) at ∙ given u (list_repeated u (OfList m) o) ∙ sym (ap (λ e. ended_with u e o (Ok xs)) is)
 list-says u m n o z rs (Err x) is at given refused =
     ap (λ e. native_repeat u e o z) is ∙ ap (λ d. repeated u (OfList m) o z (sequence_for (OfList m) d)) at ∙ refused u (list_repeated u (OfList m) o)
+
+-- a list is repeated with the items that it had
+pub stood-says : (u : PlainWorld) (m : ListNative) (n : NativeEntry) (o : PyObjectRef) (z : ℤ) (rs now : List PyObjectRef) (all : Result (Vec PyObjectRef) Fault) → n ≡ OfList m → datum_at u o ≡ Some (AList now) → Given z rs all → Refused z rs all → repeat_stood u n o rs z ≡ ended_with u n o all
+stood-says u m n o z rs now (Ok xs) is at given refused =
+    ap (λ e. repeat_stood u e o rs z) is ∙ ap (list_stood u (OfList m) o rs z) at ∙ given u (list_repeated u (OfList m) o) ∙ sym (ap (λ e. ended_with u e o (Ok xs)) is)
+stood-says u m n o z rs now (Err x) is at given refused =
+    ap (λ e. repeat_stood u e o rs z) is ∙ ap (list_stood u (OfList m) o rs z) at ∙ refused u (list_repeated u (OfList m) o)

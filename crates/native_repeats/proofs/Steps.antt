@@ -1,5 +1,6 @@
 -- The steps of a repetition by name.
 use Rattle.std.proofs.Common.{◌≡◌, List, [], ◌∷◌, Option, Some, None, Ok, Err, refl, sym, ap, ◌∙◌, subst}
+use Rattle.std.specs.Global.{Vec}
 use Rattle.std.specs.Prelude.{ℤ, Result}
 use Rattle.py_node.specs.declared.entry.NativeEntry.{NativeEntry}
 use Rattle.py_node.specs.declared.protocol.ProtocolTask.TheVariants as protocol
@@ -17,13 +18,12 @@ use Rattle.plain_machine.specs.World.{datum_at, number_of}
 use Rattle.class_world.specs.declared.world.World.{World}
 use Rattle.class_world.specs.Reading.{Reading, bindings, plain}
 use Rattle.class_world.specs.Rows.{EndsAs, Steps}
-use Rattle.native_base.specs.Repeats.{native_repeat}
 use Rattle.native_containers.specs.Asking.{as_said, with_read}
 use Rattle.native_repeats.specs.declared.RepeatKept.{RepeatKept}
 use Rattle.native_repeats.specs.declared.kind.Repeated.{Repeated}
 use Rattle.native_repeats.specs.declared.kind.Repeated.TheVariants as repeated
 use Rattle.native_repeats.specs.Rows.{Enters, Resumes, repeat_stands}
-use Rattle.native_repeats.specs.Say.{entry_of, kind_of, repeat_by_kind, repeat_by_name, repeat_job_say, repeat_rest}
+use Rattle.native_repeats.specs.Say.{entry_of, kind_of, repeat_by_kind, repeat_by_name, repeat_job_say, repeat_rest, repeat_stood}
 
 -- the kind of a kind's native is that kind
 pub kind-of-entry : (k : Repeated) → kind_of (entry_of k) ≡ Some k
@@ -48,14 +48,14 @@ enters-refused n k args kw w x is says = λ t q. (
 )
 
 -- an index is asked
-pub enters-index : (n : NativeEntry) (k : Repeated) (args : List PyObjectRef) (kw : List (PyStrInterned × PyObjectRef)) (w : World) (o i : PyObjectRef) → kind_of n ≡ Some k → ((t : Reading) → repeat_by_name (plain t w) (entry_of k) args (bindings t kw) ≡ Asks (plain t w) (ReadObjects (o ∷ []) ∷ []) (ToProtocol (DoIndex i))) → Enters n args kw w (Ask (task.Protocol (protocol.Index i)) (record { kind = k; object = o }))
-enters-index n k args kw w o i is says = λ t q. (
+pub enters-index : (n : NativeEntry) (k : Repeated) (args : List PyObjectRef) (kw : List (PyStrInterned × PyObjectRef)) (w : World) (o i : PyObjectRef) (items : Vec PyObjectRef) → kind_of n ≡ Some k → ((t : Reading) → repeat_by_name (plain t w) (entry_of k) args (bindings t kw) ≡ Asks (plain t w) (ReadObjects (o ∷ items.items) ∷ []) (ToProtocol (DoIndex i))) → Enters n args kw w (Ask (task.Protocol (protocol.Index i)) (record { kind = k; object = o; items = items }))
+enters-index n k args kw w o i items is says = λ t q. (
   q,
-  subst (λ s. Steps repeat_job_say (repeat_stands t) t (ToNative n args (bindings t kw)) [] s (Ask (task.Protocol (protocol.Index i)) (record { kind = k; object = o })) w)
+  subst (λ s. Steps repeat_job_say (repeat_stands t) t (ToNative n args (bindings t kw)) [] s (Ask (task.Protocol (protocol.Index i)) (record { kind = k; object = o; items = items })) w)
       (sym (says-so (plain t w) n k args (bindings t kw) [] is ∙ ap (λ s. with_read s (repeat_rest (plain t w) (entry_of k)) []) (says t))) (
         refl,
         refl,
-        record { says = λ v r more. says-so v n k args (bindings t kw) (ReadObjects (o ∷ []) ∷ (Answered r ∷ more)) is ∙ sym (says-so v (entry_of k) k [] [] (ReadObjects (o ∷ []) ∷ (Answered r ∷ more)) (kind-of-entry k)) },
+        record { says = λ v r more. says-so v n k args (bindings t kw) (ReadObjects (o ∷ items.items) ∷ (Answered r ∷ more)) is ∙ sym (says-so v (entry_of k) k [] [] (ReadObjects (o ∷ items.items) ∷ (Answered r ∷ more)) (kind-of-entry k)) },
       ),
 )
 
@@ -72,22 +72,22 @@ begins-elsewhere n args kw w is = λ t q. (
 abbrev Counts : Option ℤ → ℤ → Type 0
 Counts m z = (u : PlainWorld) (go : ℤ → Row) (told : Told) → within_index u RepeatTooLong m go told ≡ go z told
 
-given-says : (u : PlainWorld) (k : RepeatKept) (i : PyObjectRef) → repeat_job_say u (ToNative (entry_of k.kind) [] []) (ReadObjects (k.object ∷ []) ∷ (Answered (value i) ∷ [])) ≡ within_index u RepeatTooLong (number_of (datum_at u i)) (λ z. as_said (native_repeat u (entry_of k.kind) k.object z)) []
-given-says u k i = says-so u (entry_of k.kind) k.kind [] [] (ReadObjects (k.object ∷ []) ∷ (Answered (value i) ∷ [])) (kind-of-entry k.kind)
+given-says : (u : PlainWorld) (k : RepeatKept) (i : PyObjectRef) → repeat_job_say u (ToNative (entry_of k.kind) [] []) (ReadObjects (k.object ∷ k.items.items) ∷ (Answered (value i) ∷ [])) ≡ within_index u RepeatTooLong (number_of (datum_at u i)) (λ z. as_said (repeat_stood u (entry_of k.kind) k.object k.items.items z)) []
+given-says u k i = says-so u (entry_of k.kind) k.kind [] [] (ReadObjects (k.object ∷ k.items.items) ∷ (Answered (value i) ∷ [])) (kind-of-entry k.kind)
 
 -- what was kept is repeated
-pub given-ends : (k : RepeatKept) (i : PyObjectRef) (old new : World) (m : Option ℤ) (z : ℤ) (r : Result Answer Fault) → ((t : Reading) → number_of (datum_at (plain t old) i) ≡ m) → Counts m z → EndsAs (λ t u. native_repeat u (entry_of k.kind) k.object z) old new r → Resumes k (Ok (Value i)) old new (End r)
+pub given-ends : (k : RepeatKept) (i : PyObjectRef) (old new : World) (m : Option ℤ) (z : ℤ) (r : Result Answer Fault) → ((t : Reading) → number_of (datum_at (plain t old) i) ≡ m) → Counts m z → EndsAs (λ t u. repeat_stood u (entry_of k.kind) k.object k.items.items z) old new r → Resumes k (Ok (Value i)) old new (End r)
 given-ends k i old new m z r number counts ends = λ t q.
     let h = ends t q in
     let u = plain t old in
-    let go = λ (n : ℤ). as_said (native_repeat u (entry_of k.kind) k.object n) in
+    let go = λ (n : ℤ). as_said (repeat_stood u (entry_of k.kind) k.object k.items.items n) in
     let said = given-says u k i ∙ ap (λ n. within_index u RepeatTooLong n go []) (number t) ∙ counts u go [] ∙ h.1 in
-    (h.0, subst (λ s. Steps repeat_job_say (repeat_stands t) t (ToNative (entry_of k.kind) [] []) (ReadObjects (k.object ∷ []) ∷ (Answered (value i) ∷ [])) s (End r) new) (sym said) (refl, refl))
+    (h.0, subst (λ s. Steps repeat_job_say (repeat_stands t) t (ToNative (entry_of k.kind) [] []) (ReadObjects (k.object ∷ k.items.items) ∷ (Answered (value i) ∷ [])) s (End r) new) (sym said) (refl, refl))
 
 -- or the number is refused
 pub given-refused : (k : RepeatKept) (i : PyObjectRef) (old : World) (m : Option ℤ) (x : Fault) → ((t : Reading) → number_of (datum_at (plain t old) i) ≡ m) → ((u : PlainWorld) (go : ℤ → Row) (told : Told) → within_index u RepeatTooLong m go told ≡ Ends u (Err x)) → Resumes k (Ok (Value i)) old old (End (Err x))
 given-refused k i old m x number refused = λ t q.
     let u = plain t old in
-    let go = λ (n : ℤ). as_said (native_repeat u (entry_of k.kind) k.object n) in
+    let go = λ (n : ℤ). as_said (repeat_stood u (entry_of k.kind) k.object k.items.items n) in
     let said = given-says u k i ∙ ap (λ n. within_index u RepeatTooLong n go []) (number t) ∙ refused u go [] in
-    (q, subst (λ s. Steps repeat_job_say (repeat_stands t) t (ToNative (entry_of k.kind) [] []) (ReadObjects (k.object ∷ []) ∷ (Answered (value i) ∷ [])) s (End (Err x)) old) (sym said) (refl, refl))
+    (q, subst (λ s. Steps repeat_job_say (repeat_stands t) t (ToNative (entry_of k.kind) [] []) (ReadObjects (k.object ∷ k.items.items) ∷ (Answered (value i) ∷ [])) s (End (Err x)) old) (sym said) (refl, refl))

@@ -15,13 +15,13 @@ use Rattle.class_world.specs.declared.world.World.{World}
 use Rattle.class_world.specs.Reading.{Reading, bindings, task_of}
 use Rattle.class_world.specs.Rows as rows
 use Rattle.class_world.specs.Rows.{Group}
-use Rattle.class_world.specs.Sound.{Claim, Holding, IsNode}
+use Rattle.class_world.specs.Sound.{Claim, AreNodes, Holding, IsNode}
 use Rattle.native_repeats.specs.declared.RepeatKept.{RepeatKept}
 use Rattle.native_repeats.specs.Say.{entry_of, repeat_job_say}
 
 -- the row that goes on, at each answer, just as the row that the code keeps this for
 abbrev pub repeat_stands : Reading → RepeatKept → Pending PlainTask
-repeat_stands t k = record { task = ToNative (entry_of k.kind) [] []; told = ReadObjects (k.object ∷ []) ∷ [] }
+repeat_stands t k = record { task = ToNative (entry_of k.kind) [] []; told = ReadObjects (k.object ∷ k.items.items) ∷ [] }
 
 -- what a native changes in place is a list
 abbrev pub of_place : NativeEntry → PyObjectRef → List Claim
@@ -30,7 +30,7 @@ of_place n o = []
 
 -- what is said of what is kept
 abbrev pub of_repeat_kept : RepeatKept → List Claim
-of_repeat_kept k = IsNode k.object ∷ []
+of_repeat_kept k = IsNode k.object ∷ (AreNodes k.items.items ∷ [])
 
 -- the group: its jobs, what they say, what goes on, and what is claimed of that
 abbrev pub repeat_group : Group Task PlainTask RepeatKept

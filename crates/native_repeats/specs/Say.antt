@@ -1,5 +1,5 @@
 -- What the natives say that repeat a text, a tuple or a list by name.
-use Rattle.std.specs.Prelude.{Bool, List, [], ◌∷◌, Option, Some, None, is_some, Result, Ok, Err}
+use Rattle.std.specs.Prelude.{ℤ, Bool, List, [], ◌∷◌, Option, Some, None, is_some, Result, Ok, Err}
 use Rattle.std.specs.Global.{Vec}
 use Rattle.py_node.specs.declared.refs.PyObjectRef.{PyObjectRef}
 use Rattle.py_node.specs.declared.entry.StrNative.TheVariants as str
@@ -9,11 +9,11 @@ use Rattle.py_node.specs.declared.entry.NativeEntry.{NativeEntry}
 use Rattle.py_node.specs.declared.entry.NativeEntry.TheVariants.{OfStr, OfTuple, OfList}
 use Rattle.py_node.specs.declared.raised.Raised.{Raised as Fault}
 use Rattle.py_node.specs.declared.raised.Cause.TheVariants.{ArgCount, SelfType}
-use Rattle.plain_machine.specs.Plain.{Datum, PlainWorld, Bindings, DoIndex, PlainTask, ToNative, ToProtocol, Ended, ReadObjects, Said, Asks, Ends}
+use Rattle.plain_machine.specs.Plain.{Datum, AList, PlainWorld, Bindings, DoIndex, PlainTask, ToNative, ToProtocol, Ended, ReadObjects, Said, Asks, Ends}
 use Rattle.plain_machine.specs.World.{datum_at}
 use Rattle.plain_machine.specs.Row.{Row, end, fault, elsewhere}
 use Rattle.plain_machine.specs.Takes.{with_two}
-use Rattle.native_base.specs.Repeats.{list_repeated, native_repeat, on_count, sequence_for}
+use Rattle.native_base.specs.Repeats.{list_repeated, native_repeat, on_count, sequence_for, with_times}
 use Rattle.native_containers.specs.Asking.{as_said, with_read}
 use Rattle.native_containers.specs.Say.{tuple_made}
 use Rattle.native_repeats.specs.declared.kind.Repeated.{Repeated}
@@ -43,19 +43,32 @@ kind_of _ = None
 abbrev pub repeats : NativeEntry → Bool
 repeats n = is_some (kind_of n)
 
+-- the items of a list, which may change meanwhile: they are read once. A text and a tuple stay as they are
+abbrev pub stood : Datum → List PyObjectRef
+stood (AList rs) = rs
+stood d = []
+
 -- an object of the native's kind, and the index that another one stands for is asked
 abbrev pub repeat_of : PlainWorld → Option Datum → List PyObjectRef → Bindings → Said
 repeat_of w None args kw = Ends w (fault SelfType)
-repeat_of w (Some d) args kw = with_two w args kw (λ o k. Asks w (ReadObjects (o ∷ []) ∷ []) (ToProtocol (DoIndex k)))
+repeat_of w (Some d) args kw = with_two w args kw (λ o k. Asks w (ReadObjects (o ∷ stood d) ∷ []) (ToProtocol (DoIndex k)))
 
 abbrev pub repeat_by_name : PlainWorld → NativeEntry → List PyObjectRef → Bindings → Said
 repeat_by_name w n [] kw = Ends w (fault ArgCount)
 repeat_by_name w n (o ∷ args) kw = repeat_of w (sequence_for n (datum_at w o)) (o ∷ args) kw
 
--- it is repeated as it stands then
+-- an object is repeated, a list with the items that it had
+abbrev pub list_stood : PlainWorld → NativeEntry → PyObjectRef → List PyObjectRef → ℤ → Option Datum → Said
+list_stood w n o rs z (Some (AList now)) = with_times w z rs (list_repeated w n o)
+list_stood w n o rs z _ = Ends w (fault SelfType)
+
+abbrev pub repeat_stood : PlainWorld → NativeEntry → PyObjectRef → List PyObjectRef → ℤ → Said
+repeat_stood w (OfList n) o rs z = list_stood w (OfList n) o rs z (datum_at w o)
+repeat_stood w n o rs z = native_repeat w n o z
+
 abbrev pub repeat_rest : PlainWorld → NativeEntry → List PyObjectRef → Ended → Row
 repeat_rest w n [] r = end w r
-repeat_rest w n (o ∷ rs) r = on_count w r (λ z. as_said (native_repeat w n o z))
+repeat_rest w n (o ∷ rs) r = on_count w r (λ z. as_said (repeat_stood w n o rs z))
 
 abbrev pub repeat_by_kind : PlainWorld → Option Repeated → List PyObjectRef → Bindings → Row
 repeat_by_kind w None args kw = end w elsewhere

@@ -14,7 +14,7 @@ mod count;
 pub mod kind;
 mod repeated;
 
-use crate::by_name::{check_sequence, given};
+use crate::by_name::{given, standing};
 use crate::kind::{Repeated, kind_of};
 use class_world::World;
 use class_world::takes::two;
@@ -25,11 +25,13 @@ use py_node::{Answer, NativeEntry, OutOfMemory, PyObjectRef, PyStrInterned, Rais
 pub use repeated::native_repeat;
 
 /// What a repetition by name keeps while it waits for the index that tells how often.
-#[derive(Clone, Copy, Drop)]
+#[derive(Drop)]
 pub struct RepeatKept {
     pub kind: Repeated,
     /// What is repeated.
     pub object: PyObjectRef,
+    /// The items that it had, where it is a list.
+    pub items: Args,
 }
 
 /// Whether a native is one of these.
@@ -52,7 +54,7 @@ pub fn begin(
 {
     match kind_of(entry) {
         None => Ok(Step::elsewhere()),
-        Some(kind) => Ok(begin_kind(world, entry, kind, &args, &kw)),
+        Some(kind) => begin_kind(world, entry, kind, &args, &kw),
     }
 }
 
@@ -63,20 +65,24 @@ fn begin_kind(
     kind: Repeated,
     args: &[PyObjectRef],
     kw: &[(PyStrInterned, PyObjectRef)],
-) -> Step<RepeatKept>
+) -> Result<Step<RepeatKept>, OutOfMemory>
     requires args { Holds world.now (AreNodes args.now) }
     requires kind { kind_of entry ≡ Some kind }
-    ensures goes { Enters entry args.now kw.now world.now result }
-    ensures safe { AllHold world.now (of_step of_repeat_kept result) }
+    ensures goes { IfOk result (λ step. Enters entry args.now kw.now world.now step) }
+    ensures safe { IfOk result (λ step. AllHold world.now (of_step of_repeat_kept step)) }
 {
-    match check_sequence(world, kind, args) {
-        Err(raised) => Step::End(Err(raised)),
-        Ok(()) => match two(args, kw) {
-            Err(raised) => Step::End(Err(raised)),
-            Ok((object, index)) => Step::Ask(
+    match standing(world, kind, args)? {
+        Err(raised) => Ok(Step::End(Err(raised))),
+        Ok(items) => match two(args, kw) {
+            Err(raised) => Ok(Step::End(Err(raised))),
+            Ok((object, index)) => Ok(Step::Ask(
                 Task::Protocol(ProtocolTask::Index(index)),
-                RepeatKept { kind, object },
-            ),
+                RepeatKept {
+                    kind,
+                    object,
+                    items,
+                },
+            )),
         },
     }
 }

@@ -12,7 +12,7 @@ ghost use Rattle.class_world.specs.Rows.{EndsAs, LeavesEnd};
 ghost use Rattle.class_world.specs.Sound.{AllHold, AreNodes, Holding, Holds, IsNode};
 ghost use Rattle.native_base.specs.Repeats.{list_repeated, native_repeat, with_times};
 ghost use Rattle.native_repeats.specs.Rows.{of_place};
-ghost use Rattle.native_repeats.specs.Say.{ended_with};
+ghost use Rattle.native_repeats.specs.Say.{ended_with, repeat_stood};
 
 use crate::count::times_within;
 use class_world::World;
@@ -53,6 +53,31 @@ pub fn native_repeat(
             _ => Ok(Err(Raised::new(Cause::SelfType))),
         },
         _ => Ok(Err(Raised::new(Cause::SelfType))),
+    }
+}
+
+/// The same, of a list with the items that it had.
+pub(crate) fn repeat_stood(
+    world: &mut World,
+    entry: NativeEntry,
+    object: PyObjectRef,
+    items: &[PyObjectRef],
+    n: i64,
+) -> Result<Result<Answer, Raised>, OutOfMemory>
+    requires object { Holds world.old (IsNode object) }
+    requires items { Holds world.old (AreNodes items.now) }
+    ensures ends { IfOk result (λ r. EndsAs (λ t u. repeat_stood u entry object items.now n) world.old world.new r) }
+    ensures safe { LeavesEnd world.old world.new result }
+{
+    match entry {
+        NativeEntry::OfList(_) => match world.payload(object) {
+            Payload::List(_) => {
+                let all = repeat_items(world.alloc(), items, n)?;
+                end_with(world, entry, object, all)
+            }
+            _ => Ok(Err(Raised::new(Cause::SelfType))),
+        },
+        _ => native_repeat(world, entry, object, n),
     }
 }
 

@@ -1,4 +1,4 @@
 pub mod Numerals
 pub mod Pieces
 pub mod SoFar
-pub mod Three
+pub mod NoJob

@@ -1,9 +1,11 @@
 -- The words that the program is called with.
-use Rattle.std.specs.Prelude.{◌==◌, ℕ, nat_le, Bool, false, not, ◌&&◌, ◌||◌, List, [], ◌∷◌, Option, None, Some, codes, bytes_eq, if◌then◌else◌}
+use Rattle.std.specs.Prelude.{◌==◌, ℕ, nat_le, Bool, false, not, ◌&&◌, ◌||◌, List, [], ◌∷◌, Option, None, Some, option_map, codes, bytes_eq, if◌then◌else◌}
 use Rattle.std.specs.Char.{is_ascii_digit}
 use Rattle.std.specs.List.{list_all}
 use Rattle.std.specs.Str.Parse.{digits_value}
 use Rattle.outside.specs.declared.words.Generation.{Generation}
+use Rattle.outside.specs.declared.words.Job.{Job}
+use Rattle.outside.specs.declared.words.Job.TheVariants.{Run, Generate}
 
 abbrev pub Text : Type 0
 Text = List ℕ
@@ -24,17 +26,21 @@ is_in_range low high n = nat_le low n && nat_le n high
 abbrev pub number_written : ℕ → ℕ → Text → Option ℕ
 number_written low high text = if is_numeral text && is_in_range low high (digits_value 10 text) then Some (digits_value 10 text) else None
 
--- the units N of the two words `run N`; no other words say any
-abbrev pub units_in : List Text → Option ℕ
-units_in (command ∷ number ∷ []) = if bytes_eq command (codes "run") then number_written 1 1000000000 number else None
-units_in words = None
+-- the units N of the words `run N`
+abbrev pub units_in : Text → Text → Option ℕ
+units_in command number = if bytes_eq command (codes "run") then number_written 1 1000000000 number else None
 
 -- both numbers, where there are both
 abbrev pub generation_by : Option ℕ → Option ℕ → Option Generation
 generation_by (Some seed) (Some count) = Some (record { seed = seed; count = count })
 generation_by seed count = None
 
--- the seed and the count of the three words `gen SEED COUNT`; no other words say any
-abbrev pub generation_in : List Text → Option Generation
-generation_in (command ∷ seed ∷ count ∷ []) = if bytes_eq command (codes "gen") then generation_by (number_written 0 18446744073709551615 seed) (number_written 0 100000 count) else None
-generation_in words = None
+-- the seed and the count of the words `gen SEED COUNT`
+abbrev pub generation_in : Text → Text → Text → Option Generation
+generation_in command seed count = if bytes_eq command (codes "gen") then generation_by (number_written 0 18446744073709551615 seed) (number_written 0 100000 count) else None
+
+-- what the words ask for, if the program knows them
+abbrev pub job_in : List Text → Option Job
+job_in (command ∷ number ∷ []) = option_map Run (units_in command number)
+job_in (command ∷ seed ∷ count ∷ []) = option_map Generate (generation_in command seed count)
+job_in words = None

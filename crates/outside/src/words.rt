@@ -1,9 +1,10 @@
-//! The words that the program is called with: `run N` runs N units, and `gen SEED COUNT` generates commands.
+//! The words that the program is called with, and what they ask for.
 
-ghost use Rattle.std.specs.Prelude.{◌≡◌, ◌≤◌, map, string_bytes, None, IfSome};
-ghost use Rattle.outside.specs.Words.{units_in, generation_in, number_written, is_numeral};
+ghost use Rattle.std.specs.Prelude.{◌≡◌, ◌≤◌, map, string_bytes, Some, IfSome};
+ghost use Rattle.outside.specs.Words.{units_in, generation_in, job_in, number_written, is_numeral};
 ghost use Rattle.std.specs.List.{list_all};
 ghost use Rattle.std.specs.Char.{is_ascii_digit};
+ghost use Rattle.outside.specs.declared.words.Generation.{Generation as Asked};
 
 /// What commands are generated from: a seed, and how many are wanted.
 #[derive(Clone, Copy, PartialEq, Eq, Debug)]
@@ -12,33 +13,56 @@ pub struct Generation {
     pub count: u64,
 }
 
-/// The units N of the words `run N`, a decimal numeral from 1 to 1_000_000_000; `None` for any other words.
-pub fn units_of(words: &[String]) -> Option<u64>
-    ensures units { result ≡ units_in (map string_bytes words.now) }
+/// What the program is asked for.
+#[derive(Clone, Copy, PartialEq, Eq, Debug)]
+pub enum Job {
+    /// `run N`: a script is read, and each of its commands has N units.
+    Run(u64),
+    /// `gen SEED COUNT`: commands are generated.
+    Generate(Generation),
+}
 
-    // Such words say no generation.
-    ensures alone { IfSome result (λ _. generation_in (map string_bytes words.now) ≡ None) }
+/// What the words ask for: `run N` with a decimal numeral from 1 to 1_000_000_000, or `gen SEED COUNT` with decimal
+/// numerals, the seed one of 64 bits, the count at most 100_000; `None` for any other words.
+pub fn job_of(words: &[String]) -> Option<Job>
+    ensures job { result ≡ job_in (map string_bytes words.now) }
+    ensures few { (g : Asked) → result ≡ Some (Job.Generate g) → g.count ≤ 100000 }
 {
-    if words.len() == 2 && words[0].as_str() == "run" {
-        number(words[1].as_str(), 1, 1_000_000_000)
+    match words {
+        [command, units] => {
+            let units = units_of(command.as_str(), units.as_str())?;
+            Some(Job::Run(units))
+        }
+        [command, seed, count] => {
+            let generation = generation_of(command.as_str(), seed.as_str(), count.as_str())?;
+            Some(Job::Generate(generation))
+        }
+        _ => None,
+    }
+}
+
+// The units of two words.
+fn units_of(command: &str, units: &str) -> Option<u64>
+    ensures { result ≡ units_in command.now units.now }
+{
+    if command == "run" {
+        number(units, 1, 1_000_000_000)
     } else {
         None
     }
 }
 
-/// The numbers of the words `gen SEED COUNT`, decimal numerals: the seed one of 64 bits, the count at most 100_000;
-/// `None` for any other words.
-pub fn generation_of(words: &[String]) -> Option<Generation>
-    ensures numbers { result ≡ generation_in (map string_bytes words.now) }
+// The numbers of three words.
+fn generation_of(command: &str, seed: &str, count: &str) -> Option<Generation>
+    ensures numbers { result ≡ generation_in command.now seed.now count.now }
     ensures few { IfSome result (λ g. g.count ≤ 100000) }
 {
-    match words {
-        [command, seed, count] if command.as_str() == "gen" => {
-            let seed = number(seed.as_str(), 0, u64::MAX)?;
-            let count = number(count.as_str(), 0, 100_000)?;
-            Some(Generation { seed, count })
-        }
-        _ => None,
+    if command == "gen" {
+        let seed = number(seed, 0, u64::MAX)?;
+        let count = number(count, 0, 100_000)?;
+        Some(Generation { seed, count })
+    } else {
+        None
     }
 }
 

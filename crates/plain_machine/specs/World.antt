@@ -11,7 +11,7 @@ use Rattle.py_node.specs.Tree.{Text}
 use Rattle.py_node.specs.Replies.{Started}
 use Rattle.class_model.specs.Class.{class_at as class_numbered, Class, has_flag}
 use Rattle.class_model.specs.Change.{with_class, with_class_attr}
-use Rattle.class_model.specs.Slot.{Keys, slot, candidates_of}
+use Rattle.class_model.specs.Slot.{Keys, slot, candidates_of, goes_first}
 use Rattle.class_model.specs.BuiltIn.{natives_of}
 use Rattle.plain_machine.specs.Known.{the_dict}
 use Rattle.plain_machine.specs.Plain.{Datum, AClass, ADict, ANumber, no_members, Node, Bindings, Scope, PlainWorld}
@@ -55,6 +55,12 @@ abbrev pub candidates_at : PlainWorld → SlotId → SlotId → Option ℕ → O
 candidates_at w left right None d = []
 candidates_at w left right (Some c) None = []
 candidates_at w left right (Some c) (Some d) = candidates_of text_keys natives_of w.classes left right c d
+
+-- whether the right one is tried first
+abbrev pub goes_first_at : PlainWorld → SlotId → Option ℕ → Option ℕ → Bool
+goes_first_at w right None d = false
+goes_first_at w right (Some c) None = false
+goes_first_at w right (Some c) (Some d) = goes_first text_keys w.classes right c d
 
 -- how it is changed
 

@@ -20,13 +20,13 @@ use crate::CallKept;
 use crate::parameters::{all_filled, left_over, single, with_keywords};
 use class_world::World;
 use class_world::args::{copy_args, filled};
-use class_world::show::show;
 use py_node::task::{Args, Keywords};
 use py_node::{
     BodyCall, BuiltIn, Cause, EvalTask, Function, OutOfMemory, Payload, PyAttributes, PyObjectRef,
     PyStrInterned, Step, Task,
 };
 use std::alloc::Global;
+use world_text::show::show;
 
 /// Runs the body of a function.
 pub(crate) fn begin_body(

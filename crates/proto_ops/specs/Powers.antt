@@ -8,10 +8,10 @@ use Rattle.py_node.specs.declared.entry.SlotEntry.{SlotEntry}
 use Rattle.py_node.specs.declared.entry.SlotEntry.TheVariants.{Native, Wrapper, Unhashable}
 use Rattle.py_node.specs.BuiltIns.{fixed_none}
 use Rattle.py_node.specs.Natives.{is_same_entry}
-use Rattle.py_node.specs.Slots.{is_slot}
+use Rattle.py_node.specs.Operators.{is_reflected}
 use Rattle.class_model.specs.Class.{is_sub}
 use Rattle.plain_machine.specs.Plain.{PlainWorld, DoEnter, DoEnterPower, DoPower, ToOperator, Ended, Said, Asks, Ends, Chose}
-use Rattle.plain_machine.specs.World.{class_at, slot_at, candidates_at}
+use Rattle.plain_machine.specs.World.{class_at, slot_at, candidates_at, goes_first_at}
 use Rattle.plain_machine.specs.Native.{native_task}
 use Rattle.plain_machine.specs.Row.{Row, start, fork, ask, pass, end, fault, elsewhere, or_else, choose, read_once}
 use Rattle.proto_ops.specs.Binary.{enter_method, unsupported}
@@ -22,21 +22,15 @@ modulus c = cond (eqb c.0 fixed_none) [] (c ∷ [])
 
 abbrev pub enter_power_by : PlainWorld → SlotEntry → PyObjectRef → PyObjectRef → PyObjectRef → Said
 enter_power_by w (Native n) a b c = pass w (native_task n (a ∷ b ∷ c ∷ []) [])
-enter_power_by w (Wrapper s) a b c = enter_method w s (is_slot s RightPower) a b (modulus c)
+enter_power_by w (Wrapper s) a b c = enter_method w s (is_reflected s) a b (modulus c)
 enter_power_by w Unhashable a b c = Ends w elsewhere
 
 abbrev pub enter_power_say : PlainWorld → SlotEntry → PyObjectRef → PyObjectRef → PyObjectRef → Row
 enter_power_say w s a b c = start (enter_power_by w s a b c) (end w)
 
--- whether the right operand's class derives from that of the left one, so that its slot goes first
-abbrev pub is_right_first : PlainWorld → Option ℕ → Option ℕ → Bool
-is_right_first w c None = false
-is_right_first w None (Some d) = false
-is_right_first w (Some c) (Some d) = is_sub w.classes d c
-
 -- a third slot may count where there are two others, of which the left one goes first
 abbrev pub thirds : PlainWorld → List SlotEntry → PyObjectRef → PyObjectRef → ℕ
-thirds w ss a b = cond (length ss == 2 && not (is_right_first w (class_at w a) (class_at w b))) 1 0
+thirds w ss a b = cond (length ss == 2 && not (goes_first_at w RightPower (class_at w a) (class_at w b))) 1 0
 
 -- the modulus's slot, if it counts and is none of those that were tried
 abbrev pub third_of : ℕ → List SlotEntry → Option SlotEntry → Option SlotEntry

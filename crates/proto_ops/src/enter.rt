@@ -69,7 +69,7 @@ pub(crate) fn begin_enter_power(
             Ok(Step::Ask(task, OperatorKept::Pass))
         }
         SlotEntry::Wrapper(slot) => {
-            let (object, other) = in_order(slot == SlotId::RightPower, a, b);
+            let (object, other) = in_order(slot.is_reflected(), a, b);
             let args = with_modulus(world, other, c)?;
             match method_of(world, slot, object, args) {
                 Some(task) => Ok(Step::Ask(task, OperatorKept::Pass)),

@@ -7,7 +7,7 @@ ghost use Rattle.class_world.specs.Reading.{Reading, Reads, plain};
 ghost use Rattle.class_world.specs.Sound.{AllHold, Holds, IsNode};
 ghost use Rattle.plain_machine.specs.World.{class_at, slot_at};
 ghost use Rattle.py_node.specs.declared.entry.SlotId.TheVariants as slot;
-ghost use Rattle.proto_ops.specs.Powers.{is_right_first, third_of};
+ghost use Rattle.proto_ops.specs.Powers.{third_of};
 ghost use Rattle.proto_ops.specs.Rows.{Begins, GoesOn, entries_of, of_operator_kept, way_of};
 
 use crate::{OperatorKept, Otherwise};
@@ -36,22 +36,12 @@ pub(crate) fn begin_power(
     let candidates = world.candidates(SlotId::Power, SlotId::RightPower, a, b);
     match (candidates.first, candidates.second) {
         (Some(first), second) => {
-            let third = second.is_some() && !is_right_first(world, a, b);
+            let third = second.is_some() && !candidates.is_right_first;
             power_first(first, second, third, a, b, c)
         }
         (None, Some(first)) => power_first(first, None, false, a, b, c),
         (None, None) => Step::raise(Cause::UnsupportedOperand),
     }
-}
-
-// Whether the right operand's class derives from that of the left one, so that its slot goes first.
-fn is_right_first(world: &World, a: PyObjectRef, b: PyObjectRef) -> bool
-    requires a { Holds world.now (IsNode a) }
-    requires b { Holds world.now (IsNode b) }
-    ensures { (t : Reading) → is_right_first (plain t world.now) (class_at (plain t world.now) a)
-        (class_at (plain t world.now) b) ≡ result }
-{
-    world.is_sub(world.class_of(b), world.class_of(a))
 }
 
 // The first candidate is entered. What is kept is all of them, and the operands.

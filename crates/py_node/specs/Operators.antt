@@ -1,5 +1,5 @@
 -- The slots of the binary operators.
-use Rattle.std.specs.Prelude.{Bool, List, Option, None, slice_index_or}
+use Rattle.std.specs.Prelude.{Bool, ◌||◌, List, Option, None, slice_index_or}
 use Rattle.std.specs.List.{list_any}
 use denote.Enum.Declared.{tag_of}
 use Rattle.py_node.specs.contracts.task.PyNumberBinaryOp.{the_type}
@@ -22,5 +22,9 @@ unfoldable pub operator_row : PyNumberBinaryOp → OperatorRow
 operator_row o = slice_index_or operators (tag_of the_type o) (op.Add, slot.Add, slot.RightAdd, None)
 
 -- whether a slot is that of an operator for its right operand
+unfoldable pub is_right : SlotId → Bool
+is_right s = list_any (λ r. is_slot r.2 s) operators
+
+-- the same, of powers too
 unfoldable pub is_reflected : SlotId → Bool
-is_reflected s = list_any (λ r. is_slot r.2 s) operators
+is_reflected s = is_slot s slot.RightPower || is_right s

@@ -1,7 +1,7 @@
 //! The binary operators and their slots.
 
 ghost use Rattle.std.specs.Prelude.{◌≡◌, ◌<◌, length};
-ghost use Rattle.py_node.specs.Operators.{operators as the_operators, operator_row, is_reflected};
+ghost use Rattle.py_node.specs.Operators.{operators as the_operators, operator_row, is_reflected, is_right};
 
 use crate::entry::SlotId;
 use crate::task::PyNumberBinaryOp;
@@ -123,11 +123,19 @@ impl PyNumberBinaryOp {
 }
 
 impl SlotId {
-    /// Whether the slot is that of an operator for its right operand.
+    // Whether the slot is that of an operator for its right operand.
+    #[tactic(auto, unfolding(crate::specs::Operators::is_right))]
+    fn is_right(self) -> bool
+        ensures { result ≡ is_right self }
+    {
+        operators().iter().any(|row| row.2 == self)
+    }
+
+    /// Whether the slot is that of an operator, or of a power, for its right operand.
     #[tactic(auto, unfolding(crate::specs::Operators::is_reflected))]
     pub fn is_reflected(self) -> bool
         ensures { result ≡ is_reflected self }
     {
-        operators().iter().any(|row| row.2 == self)
+        self == SlotId::RightPower || self.is_right()
     }
 }

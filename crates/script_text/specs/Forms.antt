@@ -1,5 +1,5 @@
 -- Which expression a JSON value spells.
-use Rattle.std.specs.Prelude.{◌&&◌, List, [], ◌∷◌, length, codes, bytes_eq, Bool, true, false, not, if◌then◌else◌, Option, Some, None, option_map, option_and_then, String, string_bytes}
+use Rattle.std.specs.Prelude.{◌&&◌, List, [], ◌∷◌, length, map, codes, bytes_eq, Bool, true, false, not, if◌then◌else◌, Option, Some, None, option_map, option_and_then, String, string_bytes}
 use Rattle.std.specs.List.{find, list_any}
 use Rattle.serde_json.specs.Data.{Data, null, boolean, number, string, array, object, Items, no_items, item}
 use Rattle.serde_json.specs.Find.{as_i64, as_str}
@@ -27,9 +27,13 @@ abbrev pub of_four : {A B C D E : Type 0} → (A → B → C → D → E) → Op
 of_four f (Some a) b c d = of_three (f a) b c d
 of_four f None b c d = None
 
+-- the kinds of faults with their words
+unfoldable pub kinds : List (Kind × Text)
+kinds = map (λ row. (row.0, row.1.now)) KINDS
+
 -- the kind of faults that a word stands for
 unfoldable pub kind_named : Text → Option Kind
-kind_named text = option_map (λ row. row.0) (find (λ row. bytes_eq text row.1.now) KINDS)
+kind_named text = option_map (λ row. row.0) (find (λ row. bytes_eq text row.1) kinds)
 
 -- the strings of a list
 abbrev pub texts_in : Items → Option (List Text)

@@ -1,5 +1,7 @@
 pub mod Words
 pub mod Forms
+pub mod FormWords
+pub mod FormParts
 pub mod Parts
 pub mod Fault
 pub mod Script

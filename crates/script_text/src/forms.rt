@@ -1,13 +1,15 @@
 //! The forms of expressions.
 
-ghost use Rattle.std.specs.Prelude.{◌≡◌, Some, None, Err, IfOk, IfErr, map, option_map, string_bytes};
+ghost use Rattle.std.specs.Prelude.{◌≡◌, ◌≢◌, Some, None, Err, IfOk, map, option_and_then, option_map, string_bytes};
 ghost use Rattle.serde_json.specs.Find.{as_str};
 ghost use Rattle.serde_json.specs.View.{view, items_view};
-ghost use Rattle.py_node.specs.Tree.{tree_of, pair_of, texts_of};
-ghost use Rattle.script_text.specs.Forms.{tuple, list, seq, dict, pairs_in, pair_in, paired_of, texts_in, all_differ, params_of, expr_of, array_of, name_of, bind_of, func_of, attr_of, setattr_of, delattr_of, call_of, op_of, if_of, raise_of, class_of, keywords_of, list_of, exprs_of, body_of, entries_in, entry_of, named_of, differing, named};
+ghost use Rattle.py_node.specs.Tree.{TIf, TName, TRaise, TSetAttr, pair_of, texts_of, tree_of};
+ghost use Rattle.script_text.specs.Forms.{all_differ, array_of, call, class, differing, entries_in, entry_of, expr_of, exprs_of, kind_named, named, pair_in, pairs_in, params_of, texts_in};
+ghost use Rattle.script_text.specs.FormParts.{many_tree, parts_tree, single_tree};
 
-use crate::parts::{Unread, next, no_more, one, three, three_and_rest, two, two_and_rest};
-use crate::words::{read_kind, read_word};
+use crate::form_parts::{Many, Parts, Single, pair_items, parts_of};
+use crate::parts::Unread;
+use crate::words::read_kind;
 use py_node::{Constant, Expr};
 use serde_json::Value;
 use std::alloc::{AllocError, Global};
@@ -101,270 +103,175 @@ pub(crate) fn read_expr(alloc: Global, value: &Value) -> Result<Expr, Unread>
     }
 }
 
-// A form's word, and what the form takes.
-#[tactic(auto, unfolding(crate::specs::Forms::array_of))]
+// What an array spells: a form, by its word.
 #[cycle(forms)]
 fn read_array(alloc: Global, items: &[Value]) -> Result<Expr, Unread>
     ensures ok { IfOk result (λ e. array_of (items_view items.now) ≡ Some (tree_of e)) }
     ensures shape { result ≡ Err Unread.Shape → array_of (items_view items.now) ≡ None }
 {
-    let (head, rest) = next(items)?;
-    let word = head.as_str().ok_or(Unread::Shape)?;
-    if word == "name" {
-        read_name(alloc, rest)
-    } else if word == "bind" {
-        read_bind(alloc, rest)
-    } else if word == "tuple" {
-        read_tuple(alloc, rest)
-    } else if word == "list" {
-        read_items(alloc, rest)
-    } else if word == "dict" {
-        read_dict(alloc, rest)
-    } else if word == "func" {
-        read_func(alloc, false, rest)
-    } else if word == "func*" {
-        read_func(alloc, true, rest)
-    } else if word == "attr" {
-        read_attr(alloc, rest)
-    } else if word == "setattr" {
-        read_setattr(alloc, rest)
-    } else if word == "delattr" {
-        read_delattr(alloc, rest)
-    } else if word == "call" {
-        read_call(alloc, rest)
-    } else if word == "op" {
-        read_op(alloc, rest)
-    } else if word == "if" {
-        read_if(alloc, rest)
-    } else if word == "seq" {
-        read_seq(alloc, rest)
-    } else if word == "raise" {
-        read_raise(rest)
-    } else if word == "class" {
-        read_class(alloc, rest)
-    } else {
-        Err(Unread::Shape)
+    let parts = parts_of(items)?;
+    read_parts(alloc, parts)
+}
+
+// What the parts of a form spell.
+#[cycle(forms)]
+fn read_parts(alloc: Global, parts: Parts<'_>) -> Result<Expr, Unread>
+    ensures ok { IfOk result (λ e. parts_tree parts.entry ≡ Some (tree_of e)) }
+    ensures shape { result ≡ Err Unread.Shape → parts_tree parts.entry ≡ None }
+{
+    match parts {
+        Parts::Name(name) => read_name(alloc, name),
+        Parts::Raise(word) => read_raise(word),
+        Parts::Single(single, value) => {
+            let expr = read_expr(alloc, value)?;
+            single_of(alloc, single, expr)
+        }
+        Parts::SetAttr(object, name, value) => {
+            let target = read_expr(alloc, object)?;
+            let text = read_text(alloc, name)?;
+            let expr = read_expr(alloc, value)?;
+            set_attr_of(alloc, target, text, expr)
+        }
+        Parts::If(condition, first, second) => {
+            let test = read_expr(alloc, condition)?;
+            let chosen = read_expr(alloc, first)?;
+            let other = read_expr(alloc, second)?;
+            if_of(alloc, test, chosen, other)
+        }
+        Parts::Many(many, values) => {
+            let exprs = read_exprs(alloc, values)?;
+            many_of(many, exprs)
+        }
+        Parts::Dict(values) => {
+            let pairs = read_pairs(alloc, values)?;
+            Ok(Expr::Dict(pairs))
+        }
+        Parts::Call(callee, values, keyword_list) => {
+            let function = read_expr(alloc, callee)?;
+            let args = read_exprs(alloc, values)?;
+            let keywords = read_entries(alloc, keyword_list)?;
+            call_of(alloc, function, args, keywords)
+        }
+        Parts::Class(name, base_list, entry_list, keyword_list) => {
+            let text = read_text(alloc, name)?;
+            let bases = read_exprs(alloc, base_list)?;
+            let entries = read_entries(alloc, entry_list)?;
+            let keywords = read_entries(alloc, keyword_list)?;
+            Ok(class_of(text, bases, keywords, entries))
+        }
     }
 }
 
 // A name.
-#[tactic(auto, unfolding(crate::specs::Forms::name_of))]
-fn read_name(alloc: Global, items: &[Value]) -> Result<Expr, Unread>
-    ensures ok { IfOk result (λ e. name_of (items_view items.now) ≡ Some (tree_of e)) }
-    ensures shape { result ≡ Err Unread.Shape → name_of (items_view items.now) ≡ None }
+fn read_name(alloc: Global, name: &Value) -> Result<Expr, Unread>
+    ensures ok { IfOk result (λ e. option_map TName (as_str (view name.now)) ≡ Some (tree_of e)) }
+    ensures shape { result ≡ Err Unread.Shape → option_map TName (as_str (view name.now)) ≡ None }
 {
-    let name = one(items)?;
     let text = read_text(alloc, name)?;
     Ok(Expr::Name(text))
 }
 
-// A name, and the expression that it is bound to.
-#[tactic(auto, unfolding(crate::specs::Forms::bind_of))]
-#[cycle(forms)]
-fn read_bind(alloc: Global, items: &[Value]) -> Result<Expr, Unread>
-    ensures ok { IfOk result (λ e. bind_of (items_view items.now) ≡ Some (tree_of e)) }
-    ensures shape { result ≡ Err Unread.Shape → bind_of (items_view items.now) ≡ None }
+// The kind of a fault.
+fn read_raise(word: &Value) -> Result<Expr, Unread>
+    ensures ok { IfOk result (λ e.
+        option_map TRaise (option_and_then kind_named (as_str (view word.now))) ≡ Some (tree_of e)) }
+    ensures shape { result ≡ Err Unread.Shape →
+        option_map TRaise (option_and_then kind_named (as_str (view word.now))) ≡ None }
 {
-    let (name, value) = two(items)?;
-    let text = read_text(alloc, name)?;
-    let expr = read_expr(alloc, value)?;
-    Ok(Expr::Bind(text, Box::new(alloc, expr)?))
-}
-
-// The items of a tuple.
-#[cycle(forms)]
-fn read_tuple(alloc: Global, items: &[Value]) -> Result<Expr, Unread>
-    ensures ok { IfOk result (λ e. option_map tuple (exprs_of (items_view items.now)) ≡ Some (tree_of e)) }
-    ensures shape { result ≡ Err Unread.Shape → option_map tuple (exprs_of (items_view items.now)) ≡ None }
-{
-    let parts = read_exprs(alloc, items)?;
-    Ok(Expr::Tuple(parts))
-}
-
-// The items of a list.
-#[cycle(forms)]
-fn read_items(alloc: Global, items: &[Value]) -> Result<Expr, Unread>
-    ensures ok { IfOk result (λ e. option_map list (exprs_of (items_view items.now)) ≡ Some (tree_of e)) }
-    ensures shape { result ≡ Err Unread.Shape → option_map list (exprs_of (items_view items.now)) ≡ None }
-{
-    let parts = read_exprs(alloc, items)?;
-    Ok(Expr::List(parts))
-}
-
-// The keys of a dict with their values.
-#[cycle(forms)]
-fn read_dict(alloc: Global, items: &[Value]) -> Result<Expr, Unread>
-    ensures ok { IfOk result (λ e. option_map dict (pairs_in (items_view items.now)) ≡ Some (tree_of e)) }
-    ensures shape { result ≡ Err Unread.Shape → option_map dict (pairs_in (items_view items.now)) ≡ None }
-{
-    let pairs = read_pairs(alloc, items)?;
-    Ok(Expr::Dict(pairs))
-}
-
-// A name, the parameters, of which the last one may take the rest of the arguments, and the body.
-#[tactic(auto, unfolding(crate::specs::Forms::func_of))]
-#[cycle(forms)]
-fn read_func(alloc: Global, rest: bool, items: &[Value]) -> Result<Expr, Unread>
-    ensures ok { IfOk result (λ e. func_of rest (items_view items.now) ≡ Some (tree_of e)) }
-    ensures shape { result ≡ Err Unread.Shape → func_of rest (items_view items.now) ≡ None }
-{
-    let (name, params, body) = three(items)?;
-    let text = read_text(alloc, name)?;
-    let texts = read_params(alloc, rest, params)?;
-    let expr = read_expr(alloc, body)?;
-    Ok(Expr::Func(text, texts, rest, Box::new(alloc, expr)?))
-}
-
-// An object, and the name of an attribute.
-#[tactic(auto, unfolding(crate::specs::Forms::attr_of))]
-#[cycle(forms)]
-fn read_attr(alloc: Global, items: &[Value]) -> Result<Expr, Unread>
-    ensures ok { IfOk result (λ e. attr_of (items_view items.now) ≡ Some (tree_of e)) }
-    ensures shape { result ≡ Err Unread.Shape → attr_of (items_view items.now) ≡ None }
-{
-    let (object, name) = two(items)?;
-    let target = read_expr(alloc, object)?;
-    let text = read_text(alloc, name)?;
-    Ok(Expr::Attr(Box::new(alloc, target)?, text))
-}
-
-// An object, the name of an attribute, and what it is set to.
-#[tactic(auto, unfolding(crate::specs::Forms::setattr_of))]
-#[cycle(forms)]
-fn read_setattr(alloc: Global, items: &[Value]) -> Result<Expr, Unread>
-    ensures ok { IfOk result (λ e. setattr_of (items_view items.now) ≡ Some (tree_of e)) }
-    ensures shape { result ≡ Err Unread.Shape → setattr_of (items_view items.now) ≡ None }
-{
-    let (object, name, value) = three(items)?;
-    let target = read_expr(alloc, object)?;
-    let text = read_text(alloc, name)?;
-    let expr = read_expr(alloc, value)?;
-    Ok(Expr::SetAttr(Box::new(alloc, target)?, text, Box::new(alloc, expr)?))
-}
-
-// An object, and the name of an attribute that is taken out.
-#[tactic(auto, unfolding(crate::specs::Forms::delattr_of))]
-#[cycle(forms)]
-fn read_delattr(alloc: Global, items: &[Value]) -> Result<Expr, Unread>
-    ensures ok { IfOk result (λ e. delattr_of (items_view items.now) ≡ Some (tree_of e)) }
-    ensures shape { result ≡ Err Unread.Shape → delattr_of (items_view items.now) ≡ None }
-{
-    let (object, name) = two(items)?;
-    let target = read_expr(alloc, object)?;
-    let text = read_text(alloc, name)?;
-    Ok(Expr::DelAttr(Box::new(alloc, target)?, text))
-}
-
-// What is called, the arguments, and the keywords.
-#[tactic(auto, unfolding(crate::specs::Forms::call_of))]
-#[cycle(forms)]
-fn read_call(alloc: Global, items: &[Value]) -> Result<Expr, Unread>
-    ensures ok { IfOk result (λ e. call_of (items_view items.now) ≡ Some (tree_of e)) }
-    ensures shape { result ≡ Err Unread.Shape → call_of (items_view items.now) ≡ None }
-{
-    let (callee, list, rest) = two_and_rest(items)?;
-    let function = read_expr(alloc, callee)?;
-    let args = read_list(alloc, list)?;
-    let keywords = read_keywords(alloc, rest)?;
-    Ok(Expr::Call(Box::new(alloc, function)?, args, keywords))
-}
-
-// The word of an operation, and its operands.
-#[tactic(auto, unfolding(crate::specs::Forms::op_of))]
-#[cycle(forms)]
-fn read_op(alloc: Global, items: &[Value]) -> Result<Expr, Unread>
-    ensures ok { IfOk result (λ e. op_of (items_view items.now) ≡ Some (tree_of e)) }
-    ensures shape { result ≡ Err Unread.Shape → op_of (items_view items.now) ≡ None }
-{
-    let (head, rest) = next(items)?;
-    let (word, arity) = read_word(head)?;
-    let operands = read_exprs(alloc, rest)?;
-    if arity.allows(operands.len()) {
-        Ok(Expr::Op(word, operands))
-    } else {
-        Err(Unread::Shape)
-    }
-}
-
-// A condition, and what is evaluated where it is true and where it isn't.
-#[tactic(auto, unfolding(crate::specs::Forms::if_of))]
-#[cycle(forms)]
-fn read_if(alloc: Global, items: &[Value]) -> Result<Expr, Unread>
-    ensures ok { IfOk result (λ e. if_of (items_view items.now) ≡ Some (tree_of e)) }
-    ensures shape { result ≡ Err Unread.Shape → if_of (items_view items.now) ≡ None }
-{
-    let (condition, first, second) = three(items)?;
-    let test = read_expr(alloc, condition)?;
-    let chosen = read_expr(alloc, first)?;
-    let other = read_expr(alloc, second)?;
-    Ok(Expr::If(
-        Box::new(alloc, test)?,
-        Box::new(alloc, chosen)?,
-        Box::new(alloc, other)?,
-    ))
-}
-
-// Expressions one after another.
-#[cycle(forms)]
-fn read_seq(alloc: Global, items: &[Value]) -> Result<Expr, Unread>
-    ensures ok { IfOk result (λ e. option_map seq (exprs_of (items_view items.now)) ≡ Some (tree_of e)) }
-    ensures shape { result ≡ Err Unread.Shape → option_map seq (exprs_of (items_view items.now)) ≡ None }
-{
-    let parts = read_exprs(alloc, items)?;
-    Ok(Expr::Seq(parts))
-}
-
-// The kind of the fault.
-#[tactic(auto, unfolding(crate::specs::Forms::raise_of))]
-fn read_raise(items: &[Value]) -> Result<Expr, Unread>
-    ensures ok { IfOk result (λ e. raise_of (items_view items.now) ≡ Some (tree_of e)) }
-    ensures shape { result ≡ Err Unread.Shape → raise_of (items_view items.now) ≡ None }
-{
-    let word = one(items)?;
     let kind = read_kind(word)?;
     Ok(Expr::Raise(kind))
 }
 
-// A name, the bases, the entries of the body, and the keywords.
-#[tactic(auto, unfolding(crate::specs::Forms::class_of))]
-#[cycle(forms)]
-fn read_class(alloc: Global, items: &[Value]) -> Result<Expr, Unread>
-    ensures ok { IfOk result (λ e. class_of (items_view items.now) ≡ Some (tree_of e)) }
-    ensures shape { result ≡ Err Unread.Shape → class_of (items_view items.now) ≡ None }
+// An expression with what stands beside it.
+fn single_of(alloc: Global, single: Single<'_>, expr: Expr) -> Result<Expr, Unread>
+    ensures ok { IfOk result (λ e. single_tree single.entry (Some (tree_of expr)) ≡ Some (tree_of e)) }
+    ensures shape { result ≡ Err Unread.Shape → single_tree single.entry (Some (tree_of expr)) ≡ None }
 {
-    let (name, base_list, entry_list, rest) = three_and_rest(items)?;
-    let text = read_text(alloc, name)?;
-    let bases = read_list(alloc, base_list)?;
-    let entries = read_body(alloc, entry_list)?;
-    let keywords = read_keywords(alloc, rest)?;
-    Ok(Expr::Class(text, bases, keywords, entries))
-}
-
-// Nothing more, or a list of keywords.
-#[tactic(auto, unfolding(crate::specs::Forms::keywords_of))]
-#[cycle(forms)]
-fn read_keywords(alloc: Global, items: &[Value]) -> Result<Vec<(String, Expr)>, Unread>
-    ensures ok { IfOk result (λ v. keywords_of (items_view items.now) ≡ Some (map named v.items)) }
-    ensures shape { result ≡ Err Unread.Shape → keywords_of (items_view items.now) ≡ None }
-{
-    let Some((list, rest)) = items.split_first() else {
-        return Ok(Vec::new(alloc));
-    };
-    no_more(rest)?;
-    read_body(alloc, list)
-}
-
-// A list of expressions.
-#[tactic(auto, unfolding(crate::specs::Forms::list_of))]
-#[cycle(forms)]
-fn read_list(alloc: Global, value: &Value) -> Result<Vec<Expr>, Unread>
-    ensures ok { IfOk result (λ v. list_of (view value.now) ≡ Some (map tree_of v.items)) }
-    ensures shape { result ≡ Err Unread.Shape → list_of (view value.now) ≡ None }
-{
-    match value {
-        Value::Array(items) => read_exprs(alloc, items.as_slice()),
-        _ => Err(Unread::Shape),
+    match single {
+        Single::Bind(name) => {
+            let text = read_text(alloc, name)?;
+            Ok(Expr::Bind(text, Box::new(alloc, expr)?))
+        }
+        Single::Func(rest, name, params) => {
+            let text = read_text(alloc, name)?;
+            let texts = read_params(alloc, rest, params)?;
+            Ok(Expr::Func(text, texts, rest, Box::new(alloc, expr)?))
+        }
+        Single::Attr(name) => {
+            let text = read_text(alloc, name)?;
+            Ok(Expr::Attr(Box::new(alloc, expr)?, text))
+        }
+        Single::DelAttr(name) => {
+            let text = read_text(alloc, name)?;
+            Ok(Expr::DelAttr(Box::new(alloc, expr)?, text))
+        }
     }
+}
+
+// An attribute that is set.
+fn set_attr_of(alloc: Global, target: Expr, name: String, expr: Expr) -> Result<Expr, Unread>
+    ensures ok { IfOk result (λ e. tree_of e ≡ TSetAttr (tree_of target) (string_bytes name) (tree_of expr)) }
+    ensures shape { result ≢ Err Unread.Shape }
+{
+    Ok(Expr::SetAttr(Box::new(alloc, target)?, name, Box::new(alloc, expr)?))
+}
+
+// A choice between two expressions.
+fn if_of(alloc: Global, condition: Expr, first: Expr, second: Expr) -> Result<Expr, Unread>
+    ensures ok { IfOk result (λ e. tree_of e ≡ TIf (tree_of condition) (tree_of first) (tree_of second)) }
+    ensures shape { result ≢ Err Unread.Shape }
+{
+    Ok(Expr::If(
+        Box::new(alloc, condition)?,
+        Box::new(alloc, first)?,
+        Box::new(alloc, second)?,
+    ))
+}
+
+// Expressions one after another: those of an operation are as many as its word takes.
+fn many_of(many: Many, exprs: Vec<Expr>) -> Result<Expr, Unread>
+    ensures ok { IfOk result (λ e. many_tree many (Some (map tree_of exprs.items)) ≡ Some (tree_of e)) }
+    ensures shape { result ≡ Err Unread.Shape → many_tree many (Some (map tree_of exprs.items)) ≡ None }
+{
+    match many {
+        Many::Tuple => Ok(Expr::Tuple(exprs)),
+        Many::List => Ok(Expr::List(exprs)),
+        Many::Seq => Ok(Expr::Seq(exprs)),
+        Many::Op(word, arity) => {
+            if arity.allows(exprs.len()) {
+                Ok(Expr::Op(word, exprs))
+            } else {
+                Err(Unread::Shape)
+            }
+        }
+    }
+}
+
+// A call.
+fn call_of(
+    alloc: Global,
+    function: Expr,
+    args: Vec<Expr>,
+    keywords: Vec<(String, Expr)>,
+) -> Result<Expr, Unread>
+    ensures ok { IfOk result (λ e.
+        tree_of e ≡ call (tree_of function) (map tree_of args.items) (map named keywords.items)) }
+    ensures shape { result ≢ Err Unread.Shape }
+{
+    Ok(Expr::Call(Box::new(alloc, function)?, args, keywords))
+}
+
+// A class.
+fn class_of(
+    name: String,
+    bases: Vec<Expr>,
+    keywords: Vec<(String, Expr)>,
+    entries: Vec<(String, Expr)>,
+) -> Expr
+    ensures { tree_of result ≡ class (string_bytes name) (map tree_of bases.items) (map named entries.items)
+        (map named keywords.items) }
+{
+    Expr::Class(name, bases, keywords, entries)
 }
 
 /// The expressions that values spell.
@@ -396,43 +303,19 @@ fn read_pairs(alloc: Global, items: &[Value]) -> Result<Vec<(Expr, Expr)>, Unrea
 }
 
 // A pair is an array of a key and a value.
-#[tactic(auto, unfolding(crate::specs::Forms::pair_in))]
+#[tactic(auto, unfolding(crate::specs::Forms::pair_in, crate::specs::Forms::paired_of))]
 #[cycle(forms)]
 fn read_pair(alloc: Global, value: &Value) -> Result<(Expr, Expr), Unread>
     ensures ok { IfOk result (λ p. pair_in (view value.now) ≡ Some (pair_of p)) }
     ensures shape { result ≡ Err Unread.Shape → pair_in (view value.now) ≡ None }
 {
-    match value {
-        Value::Array(items) => read_paired(alloc, items.as_slice()),
-        _ => Err(Unread::Shape),
-    }
-}
-
-#[tactic(auto, unfolding(crate::specs::Forms::paired_of))]
-#[cycle(forms)]
-fn read_paired(alloc: Global, items: &[Value]) -> Result<(Expr, Expr), Unread>
-    ensures ok { IfOk result (λ p. paired_of (items_view items.now) ≡ Some (pair_of p)) }
-    ensures shape { result ≡ Err Unread.Shape → paired_of (items_view items.now) ≡ None }
-{
-    let (first, second) = two(items)?;
+    let (first, second) = pair_items(value)?;
     let key = read_expr(alloc, first)?;
     let value = read_expr(alloc, second)?;
     Ok((key, value))
 }
 
-// A list of entries.
-#[tactic(auto, unfolding(crate::specs::Forms::body_of))]
-#[cycle(forms)]
-fn read_body(alloc: Global, value: &Value) -> Result<Vec<(String, Expr)>, Unread>
-    ensures ok { IfOk result (λ v. body_of (view value.now) ≡ Some (map named v.items)) }
-    ensures shape { result ≡ Err Unread.Shape → body_of (view value.now) ≡ None }
-{
-    match value {
-        Value::Array(items) => read_entries(alloc, items.as_slice()),
-        _ => Err(Unread::Shape),
-    }
-}
-
+// The entries of a list.
 #[tactic(auto, unfolding(crate::specs::Forms::entries_in))]
 #[cycle(forms)]
 fn read_entries(alloc: Global, items: &[Value]) -> Result<Vec<(String, Expr)>, Unread>
@@ -447,25 +330,13 @@ fn read_entries(alloc: Global, items: &[Value]) -> Result<Vec<(String, Expr)>, U
 }
 
 // An entry is an array of a name and an expression.
-#[tactic(auto, unfolding(crate::specs::Forms::entry_of))]
+#[tactic(auto, unfolding(crate::specs::Forms::entry_of, crate::specs::Forms::named_of))]
 #[cycle(forms)]
 fn read_entry(alloc: Global, value: &Value) -> Result<(String, Expr), Unread>
     ensures ok { IfOk result (λ e. entry_of (view value.now) ≡ Some (named e)) }
     ensures shape { result ≡ Err Unread.Shape → entry_of (view value.now) ≡ None }
 {
-    match value {
-        Value::Array(items) => read_named(alloc, items.as_slice()),
-        _ => Err(Unread::Shape),
-    }
-}
-
-#[tactic(auto, unfolding(crate::specs::Forms::named_of))]
-#[cycle(forms)]
-fn read_named(alloc: Global, items: &[Value]) -> Result<(String, Expr), Unread>
-    ensures ok { IfOk result (λ e. named_of (items_view items.now) ≡ Some (named e)) }
-    ensures shape { result ≡ Err Unread.Shape → named_of (items_view items.now) ≡ None }
-{
-    let (name, value) = two(items)?;
+    let (name, value) = pair_items(value)?;
     let text = read_text(alloc, name)?;
     let expr = read_expr(alloc, value)?;
     Ok((text, expr))

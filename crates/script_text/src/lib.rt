@@ -1,6 +1,8 @@
 //! The language of scripts: the commands that a text spells, and the text that answers them.
 #![tactic(auto)]
 
+mod form_parts;
+mod form_words;
 mod forms;
 mod parts;
 pub mod read;

@@ -4,10 +4,11 @@ ghost use Rattle.std.specs.Prelude.{◌≡◌, bytes_eq, map, ok_or, option_and_
 ghost use Rattle.std.specs.List.{find};
 ghost use Rattle.serde_json.specs.Find.{as_str};
 ghost use Rattle.serde_json.specs.View.{view};
-ghost use Rattle.script_text.specs.Forms.{kind_named};
+ghost use Rattle.script_text.specs.Forms.{kind_named, kinds};
 ghost use Rattle.script_text.specs.Words.{allows, operation_of, word_of, words};
 
 use crate::parts::Unread;
+use py_node::raised::KINDS;
 use py_node::{
     Kind, ObjectWord, PyComparisonOp, PyNumberBinaryOp, PyNumberUnaryOp, SequenceWord, Word,
 };
@@ -196,38 +197,26 @@ pub(crate) fn read_word(value: &Value) -> Result<(Word, Arity), Unread>
     find_word(text).ok_or(Unread::Shape)
 }
 
+// The kinds of faults with their words.
+#[tactic(auto, unfolding(crate::specs::Forms::kinds))]
+fn all_kinds() -> &'static [(Kind, &'static str)]
+    ensures { map (λ row. (row.0, row.1.now)) result.now ≡ kinds }
+{
+    &KINDS
+}
+
 // The kind of faults that a word stands for.
-#[tactic(auto, unfolding(crate::specs::Forms::kind_named))]
 fn find_kind(text: &str) -> Option<Kind>
     ensures { result ≡ kind_named text.now }
 {
-    if text == "TypeError" {
-        Some(Kind::TypeError)
-    } else if text == "AttributeError" {
-        Some(Kind::AttributeError)
-    } else if text == "OverflowError" {
-        Some(Kind::OverflowError)
-    } else if text == "ZeroDivisionError" {
-        Some(Kind::ZeroDivisionError)
-    } else if text == "ValueError" {
-        Some(Kind::ValueError)
-    } else if text == "KeyError" {
-        Some(Kind::KeyError)
-    } else if text == "IndexError" {
-        Some(Kind::IndexError)
-    } else if text == "StopIteration" {
-        Some(Kind::StopIteration)
-    } else if text == "NotImplementedError" {
-        Some(Kind::NotImplementedError)
-    } else if text == "NameError" {
-        Some(Kind::NameError)
-    } else if text == "RuntimeError" {
-        Some(Kind::RuntimeError)
-    } else if text == "RecursionError" {
-        Some(Kind::RecursionError)
-    } else {
-        None
-    }
+    kind_in(all_kinds(), text)
+}
+
+// What stands for a text in the first row that has it.
+fn kind_in(rows: &[(Kind, &str)], text: &str) -> Option<Kind>
+    ensures { result ≡ option_map (λ row. row.0) (find (λ row. bytes_eq text.now row.1.now) rows.now) }
+{
+    rows.iter().find(|row| text == row.1).map(|row| row.0)
 }
 
 // The kind of faults that a value names.

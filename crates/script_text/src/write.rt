@@ -5,10 +5,10 @@ ghost use Rattle.plain_machine.specs.ClassText.{classes_text};
 ghost use Rattle.class_world.specs.Reading.{Reading, Reads, plain};
 
 use class_world::World;
-use class_world::class_lines::push_classes;
 use py_node::OutOfMemory;
 pub use reply_text::write::write_replies;
 use std::alloc::Global;
+use world_text::class_lines::push_classes;
 
 /// The lines of the classes that a script made in a world, in the order in which it made them: of each the names along
 /// its linearisation, and its filled slots. Nothing else than want of memory is an error.

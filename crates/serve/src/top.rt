@@ -1,20 +1,21 @@
 //! The one top call: words, a source and a sink.
 
-ghost use Rattle.std.specs.Prelude.{◌≡◌, ◌<◌, ◌≤◌, ◌+◌, ◌^◌, [], ◌++◌, ℕ, List, length, take, drop, map, string_bytes, Some, None, Ok, Err};
+ghost use Rattle.std.specs.Prelude.{◌≡◌, ◌<◌, ◌≤◌, ◌+◌, ◌^◌, [], ◌++◌, ℕ, List, length, take, drop, map, string_bytes, Some, None, Ok};
 ghost use Rattle.std.specs.Option.{ForSome};
 ghost use Rattle.outside.specs.Count.{Rose};
-ghost use Rattle.outside.specs.Words.{units_in, generation_in};
+ghost use Rattle.outside.specs.Words.{job_in};
 ghost use Rattle.outside.specs.declared.words.Generation.{Generation};
+ghost use Rattle.outside.specs.declared.words.Job.{Job as Asked};
 ghost use Rattle.script_text.specs.Script.{script_of};
 ghost use Rattle.script_text.specs.declared.read.ScriptError.{ScriptError as Refusal};
 ghost use Rattle.py_node.specs.Tree.{Tree};
-ghost use Rattle.serve.specs.Headline.{IsTextOf, run_text, generation_text};
+ghost use Rattle.serve.specs.Headline.{IsRefused, IsTextOf, run_text, generation_text};
 ghost use Rattle.serve.specs.Status.{HasReadAll, IsDoneOrPoor, IsWriteEnd};
 
 use crate::generation::generate;
 use crate::script::run;
 use crate::status::Status;
-use outside::words::{generation_of, units_of};
+use outside::words::{Job, job_of};
 use outside::{Sink, Source};
 use std::alloc::Global;
 
@@ -28,30 +29,28 @@ pub fn serve<S: Source, K: Sink>(
     sink: &mut K,
 ) -> Status
     // With `run N`, what is written is the text of the plain machine's run, and nothing else.
-    ensures done { (units : ℕ) → units_in (map string_bytes words.now) ≡ Some units → result ≡ Status.Done
+    ensures done { (units : ℕ) → job_in (map string_bytes words.now) ≡ Some (Job.Run units) → result ≡ Status.Done
         → ForSome (S.left source.old) (λ bytes. (length bytes ≤ 2 ^ 24) × (text : List ℕ) × IsTextOf bytes units text
         × ForSome (K.taken sink.old) (λ old. K.taken sink.new ≡ Some (old ++ text))) }
     // What has a script's answer, or failed in writing it, has read all; whatever comes, at most one byte
     // past the limit is read, and for words that are none nothing.
-    ensures read { (units : ℕ) → units_in (map string_bytes words.now) ≡ Some units → HasReadAll result
+    ensures read { (units : ℕ) → job_in (map string_bytes words.now) ≡ Some (Job.Run units) → HasReadAll result
         → ForSome (S.left source.old) (λ _. S.left source.new ≡ Some []) }
     ensures at_most { ForSome (S.left source.old) (λ bytes. (n : ℕ) × (n ≤ 2 ^ 24 + 1) ×
         (S.left source.new ≡ Some (drop n bytes))) }
     ensures unread { result ≡ Status.Usage → source.new ≡ source.old }
     // Usage comes exactly where the words are none that the program knows.
-    ensures usage { result ≡ Status.Usage → (units_in (map string_bytes words.now) ≡ None)
-        × (generation_in (map string_bytes words.now) ≡ None) }
-    ensures only_usage { units_in (map string_bytes words.now) ≡ None
-        → generation_in (map string_bytes words.now) ≡ None → result ≡ Status.Usage }
-    // A word of a script comes only where the bytes, which are few enough, give it.
-    ensures script { (e : Refusal) → result ≡ Status.Script e → ForSome (S.left source.old) (λ bytes.
-        (length bytes ≤ 2 ^ 24) × (script_of bytes ≡ Err e)) }
+    ensures usage { result ≡ Status.Usage → job_in (map string_bytes words.now) ≡ None }
+    ensures only_usage { job_in (map string_bytes words.now) ≡ None → result ≡ Status.Usage }
+    // A word of a script comes only of a job whose bytes, which are few enough, give it.
+    ensures script { (e : Refusal) → result ≡ Status.Script e → (job : Asked) × (job_in (map string_bytes words.now)
+        ≡ Some job) × ForSome (S.left source.old) (λ bytes. (length bytes ≤ 2 ^ 24) × IsRefused job bytes e) }
     ensures read_fault { result ≡ Status.ReadFault → Rose (S.faults source.old) (S.faults source.new) }
     ensures too_large { result ≡ Status.TooLarge → ForSome (S.left source.old) (λ bytes. 2 ^ 24 < length bytes) }
     ensures fits { ForSome (S.left source.old) (λ bytes. length bytes ≤ 2 ^ 24 → result ≡ Status.TooLarge → ⊥) }
     ensures write_fault { result ≡ Status.WriteFault → Rose (K.faults sink.old) (K.faults sink.new) }
     // What was taken before a fault is a front of the text.
-    ensures front { (units : ℕ) → units_in (map string_bytes words.now) ≡ Some units → result ≡ Status.WriteFault
+    ensures front { (units : ℕ) → job_in (map string_bytes words.now) ≡ Some (Job.Run units) → result ≡ Status.WriteFault
         → ForSome (S.left source.old) (λ bytes. (length bytes ≤ 2 ^ 24) × (text : List ℕ) × IsTextOf bytes units text
         × ForSome (K.taken sink.old) (λ old. (n : ℕ) × (n < length text) ×
         (K.taken sink.new ≡ Some (old ++ take n text)))) }
@@ -60,44 +59,42 @@ pub fn serve<S: Source, K: Sink>(
         K.taken sink.old }
     // The words `run N`, bytes that spell a script and are few enough, and no failure: then all is
     // written, or memory could not be had.
-    ensures complete { (units : ℕ) → units_in (map string_bytes words.now) ≡ Some units
+    ensures complete { (units : ℕ) → job_in (map string_bytes words.now) ≡ Some (Job.Run units)
         → ForSome (S.left source.old) (λ bytes. (commands : List Tree) → script_of bytes ≡ Ok commands
         → length bytes ≤ 2 ^ 24
         → (Rose (S.faults source.old) (S.faults source.new) → ⊥) → (Rose (K.faults sink.old) (K.faults sink.new) → ⊥)
         → IsDoneOrPoor result) }
     // The same known before the call: a source that never fails, and a sink that is sure of the whole text.
-    ensures ahead { (units : ℕ) → units_in (map string_bytes words.now) ≡ Some units
+    ensures ahead { (units : ℕ) → job_in (map string_bytes words.now) ≡ Some (Job.Run units)
         → ForSome (S.left source.old) (λ bytes. (commands : List Tree) → script_of bytes ≡ Ok commands
         → length bytes ≤ 2 ^ 24
         → S.quiet source.old → length (run_text commands units) ≤ K.sure sink.old → IsDoneOrPoor result) }
     // A source that never fails, a text that the sink is sure of, and counts that never fall.
     ensures quiet { S.quiet source.old → result ≡ Status.ReadFault → ⊥ }
-    ensures sure { (units : ℕ) → units_in (map string_bytes words.now) ≡ Some units
+    ensures sure { (units : ℕ) → job_in (map string_bytes words.now) ≡ Some (Job.Run units)
         → ForSome (S.left source.old) (λ bytes. (text : List ℕ) → IsTextOf bytes units text
         → length text ≤ K.sure sink.old → result ≡ Status.WriteFault → ⊥) }
     ensures later { S.faults source.old ≤ S.faults source.new }
     ensures later_sink { K.faults sink.old ≤ K.faults sink.new }
     // With `gen SEED COUNT`, the source is left alone, and what is written is what the replies of the plain machine to
     // the generated commands add up to; it ends so, or the sink failed, or memory could not be had.
-    ensures gen_unread { (g : Generation) → generation_in (map string_bytes words.now) ≡ Some g
+    ensures gen_unread { (g : Generation) → job_in (map string_bytes words.now) ≡ Some (Job.Generate g)
         → source.new ≡ source.old }
-    ensures gen_ends { (g : Generation) → generation_in (map string_bytes words.now) ≡ Some g → IsWriteEnd result }
-    ensures gen_done { (g : Generation) → generation_in (map string_bytes words.now) ≡ Some g → result ≡ Status.Done
+    ensures gen_ends { (g : Generation) → job_in (map string_bytes words.now) ≡ Some (Job.Generate g) → IsWriteEnd result }
+    ensures gen_done { (g : Generation) → job_in (map string_bytes words.now) ≡ Some (Job.Generate g) → result ≡ Status.Done
         → ForSome (K.taken sink.old) (λ old. K.taken sink.new ≡ Some (old ++ generation_text g.seed g.count)) }
-    ensures gen_front { (g : Generation) → generation_in (map string_bytes words.now) ≡ Some g
+    ensures gen_front { (g : Generation) → job_in (map string_bytes words.now) ≡ Some (Job.Generate g)
         → result ≡ Status.WriteFault → ForSome (K.taken sink.old) (λ old. (n : ℕ)
         × (n < length (generation_text g.seed g.count))
         × (K.taken sink.new ≡ Some (old ++ take n (generation_text g.seed g.count)))) }
-    ensures gen_complete { (g : Generation) → generation_in (map string_bytes words.now) ≡ Some g
+    ensures gen_complete { (g : Generation) → job_in (map string_bytes words.now) ≡ Some (Job.Generate g)
         → (Rose (K.faults sink.old) (K.faults sink.new) → ⊥) → IsDoneOrPoor result }
-    ensures gen_ahead { (g : Generation) → generation_in (map string_bytes words.now) ≡ Some g
+    ensures gen_ahead { (g : Generation) → job_in (map string_bytes words.now) ≡ Some (Job.Generate g)
         → length (generation_text g.seed g.count) ≤ K.sure sink.old → IsDoneOrPoor result }
 {
-    if let Some(units) = units_of(words) {
-        run(alloc, units, source, sink)
-    } else if let Some(generation) = generation_of(words) {
-        generate(alloc, generation, sink)
-    } else {
-        Status::Usage
+    match job_of(words) {
+        Some(Job::Run(units)) => run(alloc, units, source, sink),
+        Some(Job::Generate(generation)) => generate(alloc, generation, sink),
+        None => Status::Usage,
     }
 }

@@ -3,3 +3,4 @@ pub mod Stack
 pub mod Runs
 pub mod State
 pub mod Asks
+pub mod Makers

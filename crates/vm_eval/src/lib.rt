@@ -3,7 +3,10 @@
 
 mod ask;
 pub mod calls;
+mod class_changes;
 pub mod machine;
+mod makers;
+mod mark;
 mod nodes;
 pub mod protocols;
 mod run;

@@ -11,10 +11,10 @@ ghost use Rattle.vm_eval.specs.Stack.{AsDeep, of_end, ending_of};
 ghost use Rattle.vm_eval.specs.Runs.{Replied, Runs};
 
 use crate::stack::{End, Kept, drive};
-use class_world::expressions::add_expr;
-use class_world::show::show;
 use class_world::{Fixed, World};
 use py_node::{Answer, Command, EvalTask, OutOfMemory, PyObjectRef, Reply, ReplyAnswer, Task};
+use world_text::expressions::add_expr;
+use world_text::show::show;
 
 // The replies to commands, each of which may use so many units.
 pub(crate) fn replies(

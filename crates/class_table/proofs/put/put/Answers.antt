@@ -48,3 +48,6 @@ returns-clause-ok c =
     let within = number-within c.args.classes.now c.place-at.result c.args.class.0 c.place-at.ensures in
     plain-final c.args.classes.now c.requires.coherent c.place-at.result c.index-classes-at.result within c.index-classes-at.is c.args.name (λ attrs. with_value is_same_name attrs c.args.name c.args.value) (setting c.args.name c.args.value) c.refresh.new.classes (done c)
     ∙ ap (λ (n : ℕ). with_class_attr is_same_name (classes_of c.args.classes.now) n c.args.name c.args.value) (read-number c.args.classes.now c.place-at.result c.args.class.0 c.index-classes-at.result c.place-at.ensures c.index-classes-at.is)
+
+pub bounds-classes-at : goal.bounds-classes-at
+bounds-classes-at c = number-within c.args.classes.now c.place-at.result c.args.class.0 c.place-at.ensures

@@ -1,7 +1,9 @@
 use Rattle.std.proofs.Common.{◌≡◌, ℕ, List, get_or, set, sym, ap, subst, ◌∙◌}
+use Rattle.std.proofs.lemmas.List.{length-set}
 use Rattle.class_table.specs.Keys.{numbers}
 use Rattle.class_table.specs.Stored.{StoredClass}
 use Rattle.class_table.specs.Renewed.{AreSwapped}
+use Rattle.class_table.proofs.Found.{number-within}
 use Rattle.class_table.proofs.Renewing.{lines-mid, full-mid, plain-final, coherent-final}
 use Rattle.class_table.proofs.rebase.change_bases.Goals as goal
 
@@ -56,3 +58,15 @@ returns-clause-set g c =
     let P : List StoredClass → Type 0 = λ ys. AreSwapped renewed ys c.swap_in.new.classes in
     let swapped = subst P first c.swap_in.ensures in
     plain-final kept c.requires.coherent c.args.class.0 bs c.requires.own c.requires.there c.requires.passed renewed c.requires.renewed at c.place-at.ensures k c.index-classes-at.is c.swap_in.new.classes swapped c.settle_all.new.classes c.settle_all.ensures.refreshed
+
+pub place-at-requires-clause-ascending : goal.place-at-requires-clause-ascending
+place-at-requires-clause-ascending g c = c.requires.coherent.sound.ascending
+
+pub bounds-classes-at : goal.bounds-classes-at
+bounds-classes-at g c = number-within c.args.classes.now c.place-at.result c.args.class.0 c.place-at.ensures
+
+pub swap_in-requires : goal.swap_in-requires
+swap_in-requires g c = c.requires.renewed.count ∙ sym (length-set c.args.classes.now c.place-at.result c.set_bases.new.self)
+
+pub returns-clause-steps : goal.returns-clause-steps
+returns-clause-steps g c = c.settle_all.ensures.steps

@@ -31,3 +31,6 @@ returns-clause-named c =
     ap classes_of (named kept at k c.set_name.new.self _ c.args.name.now c.index-classes-at.is c.set_name.ensures c.in_ok-text.ensures.ok)
     ∙ plain-named kept c.requires.coherent at k within c.index-classes-at.is c.args.name.now
     ∙ ap (λ (n : ℕ). with_class_name (classes_of kept) n c.args.name.now) num
+
+pub bounds-classes-at : goal.bounds-classes-at
+bounds-classes-at c = number-within c.args.classes.now c.place-at.result c.args.class.0 c.place-at.ensures

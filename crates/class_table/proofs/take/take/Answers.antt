@@ -97,3 +97,6 @@ returns c =
           ∙ ap (λ (m : ℕ). without_class_attr is_same_name (classes_of kept) m n) num;
       absent = λ e. same;
     }
+
+pub bounds-classes-at : goal.bounds-classes-at
+bounds-classes-at c = number-within c.args.classes.now c.place-at.result c.args.class.0 c.place-at.ensures

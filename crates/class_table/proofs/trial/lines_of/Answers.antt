@@ -1,10 +1,14 @@
+use Rattle.std.proofs.Common.{List, map, Some, sym, ap, ◌∙◌}
+use Rattle.std.specs.Global.{Vec}
+use Rattle.py_node.specs.declared.refs.PyTypeRef.{PyTypeRef}
+use Rattle.mro_merge.specs.Lists.{rows}
 use Rattle.class_table.specs.Keys.{numbers}
-use Rattle.std.proofs.Common.{sym}
 use Rattle.class_model.specs.Class.{lin}
 use Rattle.class_model.specs.Change.{with_bases}
 use Rattle.class_table.specs.Stored.{classes_of}
 use Rattle.class_table.proofs.Trials.{none-among}
 use Rattle.class_table.proofs.Along.{held-at}
+use Rattle.class_table.proofs.Collected.{lines-more}
 use Rattle.class_table.proofs.trial.lines_of.Goals as goal
 
 pub line_of-requires-clause-there : goal.line_of-requires-clause-there
@@ -17,3 +21,9 @@ pub returns-in-None : goal.returns-in-None
 returns-in-None c =
     let u = with_bases (classes_of c.args.change.classes.now) c.args.change.class.0 (numbers c.args.change.bases.now) in
     none-among (lin u) (numbers c.args.bases.now) _ (held-at c.args.bases.now c.loop-base.base-index (record { 0 = 0 }) c.loop-base-test.true) (sym c.in-None.ensures)
+
+pub loop-base-preserved : goal.loop-base-preserved
+loop-base-preserved c =
+    let u = with_bases (classes_of c.args.change.classes.now) c.args.change.class.0 (numbers c.args.change.bases.now) in
+    ap (λ (vs : List (Vec PyTypeRef)). map Some (rows vs)) c.in_ok-push-in-Some.ensures.items
+    ∙ lines-more (lin u) c.args.bases.now c.loop-base.lines.items c.in_ok-copy-in-Some.copy c.loop-base.base-index (record { 0 = 0 }) c.loop-base-test.true c.loop-base.invariant (ap Some (ap numbers c.in_ok-copy-in-Some.ensures.items) ∙ c.in-Some.ensures)

@@ -1,64 +1,95 @@
-use Rattle.std.proofs.Common.{◌≡◌, Some, sym, ap, subst, arith, length, ◌∙◌}
+use Rattle.std.proofs.Common.{◌≡◌, ℕ, Some, IfOk, refl, subst, length}
 use Rattle.class_model.specs.Layout.{best_of}
-use Rattle.class_model.specs.Sound.{AreSound}
-use Rattle.class_world.specs.Held.{Held}
+use Rattle.py_node.specs.declared.built_in.BuiltIn.{BuiltIn}
 use Rattle.py_node.specs.declared.built_in.BuiltIn.TheVariants.{TypeType}
-use Rattle.py_node.specs.declared.refs.PyTypeRef.{PyTypeRef}
 use Rattle.class_table.specs.Keys.{numbers}
-use Rattle.class_table.specs.Refused.{heap_class}
+use Rattle.class_table.specs.Refused.{heap_class, refused_bases, refusal, WithMemory}
+use Rattle.class_world.specs.Held.{Held}
 use Rattle.class_world.specs.contracts.world.World.{the_view}
-use Rattle.class_world.specs.Sound.{IsClass, IsOf, AreNames, of_binding, of_class_ref, of_each}
+use Rattle.class_world.specs.Sound.{IsClass, IsOf, AreNames, Holds, of_binding, of_class_ref, of_each}
 use Rattle.class_world.proofs.Claims.{opened, opened-one}
 use Rattle.class_world.proofs.Growth.{grows-seen}
-use Rattle.class_world.proofs.ClassChanges.{room, bases-there, made-grows, class-made, class-made-of, node-made, made-sound}
+use Rattle.class_world.proofs.ClassChanges.{room, bases-there}
+use Rattle.class_world.proofs.MadeClass.{IsMade, sound-after, plain-after, number-after, not-after, reads-after, grows-after, class-after, node-after, of-after}
 use Rattle.class_world.proofs.world.World.add_heap.Goals as goal
 
-pub new_heap-requires-clause-bases : goal.new_heap-requires-clause-bases
-new_heap-requires-clause-bases c =
+pub heap_with_node-made-requires-clause-bases : goal.heap_with_node-made-requires-clause-bases
+heap_with_node-made-requires-clause-bases c =
     let w = the_view c.self.inside in
     bases-there w c.args.bases.items (opened w c.args.self.now (of_each of_class_ref c.args.bases.items) c.self.view_is c.requires.bases)
 
-pub new_heap-requires-clause-fresh : goal.new_heap-requires-clause-fresh
-new_heap-requires-clause-fresh c =
-    let l = room (the_view c.self.inside) c.self.inside.classes c.self.invariant.classes in
-    let size : c.len.result ≡ length (the_view c.self.inside).nodes = omega (arith, c.len.ensures, c.in-Ok.ensures.len, c.self.inside.nodes.ok.0) in
-    omega (arith, l, size)
+pub heap_with_node-made-requires-clause-fresh : goal.heap_with_node-made-requires-clause-fresh
+heap_with_node-made-requires-clause-fresh c = room (the_view c.self.inside) c.self.inside.classes c.self.invariant.classes
 
-pub invariant_of-self-in-Ok-new_heap : goal.invariant_of-self-in-Ok-new_heap
-invariant_of-self-in-Ok-new_heap c =
+pub invariant_of-self : goal.invariant_of-self
+invariant_of-self c =
     let w = the_view c.self.inside in
+    let k = heap_class c.args.name.now (length w.nodes) (numbers c.args.bases.items) c.args.attrs c.args.members.items in
+    let made : IsMade w c.args.metaclass k c.heap_with_node-made.new.classes c.heap_with_node-made.new.nodes.items c.heap_with_node-made.result = record { added = c.heap_with_node-made.ensures.added; node = c.heap_with_node-made.ensures.node; number = c.heap_with_node-made.ensures.number; err = c.heap_with_node-made.ensures.err; no_node = c.heap_with_node-made.ensures.no_node } in
     let meta = opened-one w c.args.self.now (IsClass c.args.metaclass.0) c.self.view_is c.requires.metaclass in
     let of = opened-one w c.args.self.now (IsOf c.args.metaclass.0 TypeType) c.self.view_is c.requires.of_classes in
     let attrs = opened w c.args.self.now (of_each of_binding c.args.attrs) c.self.view_is c.requires.attrs in
-    let members = opened-one w c.args.self.now (AreNames c.args.members.items) c.self.view_is c.requires.members in
-    let k = heap_class c.args.name.now c.len.result (numbers c.args.bases.items) c.args.attrs c.args.members.items in
-    let size : c.len.result ≡ length w.nodes = omega (arith, c.len.ensures, c.in-Ok.ensures.len, c.self.inside.nodes.ok.0) in
-    rw (c.push_reserved.ensures.items, c.new.ensures, c.in-Ok.ensures.items, c.in-Ok-new_heap.ensures.added)
-    (made-sound w c.args.metaclass k c.in-Ok-new_heap.class (ap (λ (n : PyTypeRef). n.0) c.in-Ok-new_heap.ensures.number ∙ size) size c.self.invariant members meta of attrs)
+    sound-after w c.args.metaclass k refl c.heap_with_node-made.new.classes c.heap_with_node-made.new.nodes.items c.heap_with_node-made.result made c.self.invariant (opened-one w c.args.self.now (AreNames c.args.members.items) c.self.view_is c.requires.members) meta of attrs
 
-pub returns-in-Ok-new_heap-clause-grows : goal.returns-in-Ok-new_heap-clause-grows
-returns-in-Ok-new_heap-clause-grows c =
-    rw (c.push_reserved.ensures.items, c.new.ensures, c.in-Ok.ensures.items, c.in-Ok-new_heap.ensures.added) (grows-seen (the_view c.self.inside) _ _ c.self.view_is (made-grows (the_view c.self.inside) c.args.metaclass _ c.in-Ok-new_heap.class))
-
-pub returns-in-Ok-new_heap-clause-class : goal.returns-in-Ok-new_heap-clause-class
-returns-in-Ok-new_heap-clause-class c =
+pub returns-clause-made : goal.returns-clause-made
+returns-clause-made c =
     let w = the_view c.self.inside in
-    let size : c.len.result ≡ length w.nodes = omega (arith, c.len.ensures, c.in-Ok.ensures.len, c.self.inside.nodes.ok.0) in
-    let k = heap_class c.args.name.now c.len.result (numbers c.args.bases.items) c.args.attrs c.args.members.items in
-    rw (c.push_reserved.ensures.items, c.new.ensures, c.in-Ok.ensures.items, c.in-Ok-new_heap.ensures.added) (class-made w c.args.metaclass k c.in-Ok-new_heap.class (ap (λ (n : PyTypeRef). n.0) c.in-Ok-new_heap.ensures.number ∙ size) size c.self.invariant)
+    let k = heap_class c.args.name.now (length w.nodes) (numbers c.args.bases.items) c.args.attrs c.args.members.items in
+    let made : IsMade w c.args.metaclass k c.heap_with_node-made.new.classes c.heap_with_node-made.new.nodes.items c.heap_with_node-made.result = record { added = c.heap_with_node-made.ensures.added; node = c.heap_with_node-made.ensures.node; number = c.heap_with_node-made.ensures.number; err = c.heap_with_node-made.ensures.err; no_node = c.heap_with_node-made.ensures.no_node } in
+    plain-after w c.args.metaclass k refl c.heap_with_node-made.new.classes c.heap_with_node-made.new.nodes.items c.args.self.now c.self.view_is c.heap_with_node-made.result made
 
-pub returns-in-Ok-new_heap-clause-of : goal.returns-in-Ok-new_heap-clause-of
-returns-in-Ok-new_heap-clause-of c = λ d b e h.
+pub returns-clause-number : goal.returns-clause-number
+returns-clause-number c =
     let w = the_view c.self.inside in
-    let k = heap_class c.args.name.now c.len.result (numbers c.args.bases.items) c.args.attrs c.args.members.items in
-    let size : c.len.result ≡ length w.nodes = omega (arith, c.len.ensures, c.in-Ok.ensures.len, c.self.inside.nodes.ok.0) in
+    let k = heap_class c.args.name.now (length w.nodes) (numbers c.args.bases.items) c.args.attrs c.args.members.items in
+    let made : IsMade w c.args.metaclass k c.heap_with_node-made.new.classes c.heap_with_node-made.new.nodes.items c.heap_with_node-made.result = record { added = c.heap_with_node-made.ensures.added; node = c.heap_with_node-made.ensures.node; number = c.heap_with_node-made.ensures.number; err = c.heap_with_node-made.ensures.err; no_node = c.heap_with_node-made.ensures.no_node } in
+    number-after w c.args.metaclass k refl c.heap_with_node-made.new.classes c.heap_with_node-made.new.nodes.items c.args.self.now c.self.view_is c.heap_with_node-made.result made
+
+pub returns-clause-err : goal.returns-clause-err
+returns-clause-err c =
+    let w = the_view c.self.inside in
+    let k = heap_class c.args.name.now (length w.nodes) (numbers c.args.bases.items) c.args.attrs c.args.members.items in
+    let made : IsMade w c.args.metaclass k c.heap_with_node-made.new.classes c.heap_with_node-made.new.nodes.items c.heap_with_node-made.result = record { added = c.heap_with_node-made.ensures.added; node = c.heap_with_node-made.ensures.node; number = c.heap_with_node-made.ensures.number; err = c.heap_with_node-made.ensures.err; no_node = c.heap_with_node-made.ensures.no_node } in
+    not-after w c.args.metaclass k refl c.heap_with_node-made.new.classes c.heap_with_node-made.new.nodes.items c.args.self.now c.self.view_is c.heap_with_node-made.result made
+
+pub returns-clause-reads : goal.returns-clause-reads
+returns-clause-reads c =
+    let w = the_view c.self.inside in
+    let k = heap_class c.args.name.now (length w.nodes) (numbers c.args.bases.items) c.args.attrs c.args.members.items in
+    let made : IsMade w c.args.metaclass k c.heap_with_node-made.new.classes c.heap_with_node-made.new.nodes.items c.heap_with_node-made.result = record { added = c.heap_with_node-made.ensures.added; node = c.heap_with_node-made.ensures.node; number = c.heap_with_node-made.ensures.number; err = c.heap_with_node-made.ensures.err; no_node = c.heap_with_node-made.ensures.no_node } in
+    reads-after w c.args.metaclass k refl c.heap_with_node-made.new.classes c.heap_with_node-made.new.nodes.items c.args.self.now c.self.view_is
+
+pub returns-clause-grows : goal.returns-clause-grows
+returns-clause-grows c =
+    let w = the_view c.self.inside in
+    let k = heap_class c.args.name.now (length w.nodes) (numbers c.args.bases.items) c.args.attrs c.args.members.items in
+    let made : IsMade w c.args.metaclass k c.heap_with_node-made.new.classes c.heap_with_node-made.new.nodes.items c.heap_with_node-made.result = record { added = c.heap_with_node-made.ensures.added; node = c.heap_with_node-made.ensures.node; number = c.heap_with_node-made.ensures.number; err = c.heap_with_node-made.ensures.err; no_node = c.heap_with_node-made.ensures.no_node } in
+    grows-seen w _ _ c.self.view_is (grows-after w c.args.metaclass k refl c.heap_with_node-made.new.classes c.heap_with_node-made.new.nodes.items c.heap_with_node-made.result made)
+
+pub returns-clause-class : goal.returns-clause-class
+returns-clause-class c =
+    let w = the_view c.self.inside in
+    let k = heap_class c.args.name.now (length w.nodes) (numbers c.args.bases.items) c.args.attrs c.args.members.items in
+    let made : IsMade w c.args.metaclass k c.heap_with_node-made.new.classes c.heap_with_node-made.new.nodes.items c.heap_with_node-made.result = record { added = c.heap_with_node-made.ensures.added; node = c.heap_with_node-made.ensures.node; number = c.heap_with_node-made.ensures.number; err = c.heap_with_node-made.ensures.err; no_node = c.heap_with_node-made.ensures.no_node } in
+    class-after w c.args.metaclass k refl c.heap_with_node-made.new.classes c.heap_with_node-made.new.nodes.items c.heap_with_node-made.result made c.self.invariant
+
+pub returns-clause-node : goal.returns-clause-node
+returns-clause-node c =
+    let w = the_view c.self.inside in
+    let k = heap_class c.args.name.now (length w.nodes) (numbers c.args.bases.items) c.args.attrs c.args.members.items in
+    let made : IsMade w c.args.metaclass k c.heap_with_node-made.new.classes c.heap_with_node-made.new.nodes.items c.heap_with_node-made.result = record { added = c.heap_with_node-made.ensures.added; node = c.heap_with_node-made.ensures.node; number = c.heap_with_node-made.ensures.number; err = c.heap_with_node-made.ensures.err; no_node = c.heap_with_node-made.ensures.no_node } in
+    node-after w c.args.metaclass k refl c.heap_with_node-made.new.classes c.heap_with_node-made.new.nodes.items c.heap_with_node-made.result made
+
+pub returns-clause-refused : goal.returns-clause-refused
+returns-clause-refused c =
+    subst (λ (w : Held). WithMemory c.heap_with_node-made.result (refusal c.heap_with_node-made.result ≡ refused_bases w.classes (numbers c.args.bases.items))) c.self.view_is c.heap_with_node-made.ensures.refused
+
+pub returns-clause-of : goal.returns-clause-of
+returns-clause-of c =
+    let w = the_view c.self.inside in
+    let k = heap_class c.args.name.now (length w.nodes) (numbers c.args.bases.items) c.args.attrs c.args.members.items in
+    let made : IsMade w c.args.metaclass k c.heap_with_node-made.new.classes c.heap_with_node-made.new.nodes.items c.heap_with_node-made.result = record { added = c.heap_with_node-made.ensures.added; node = c.heap_with_node-made.ensures.node; number = c.heap_with_node-made.ensures.number; err = c.heap_with_node-made.ensures.err; no_node = c.heap_with_node-made.ensures.no_node } in
     let there = bases-there w c.args.bases.items (opened w c.args.self.now (of_each of_class_ref c.args.bases.items) c.self.view_is c.requires.bases) in
-    let more = subst AreSound c.in-Ok-new_heap.ensures.added c.sound-in-Ok-new_heap.ensures.sound in
-    let best = subst (λ (v : Held). best_of v.classes (numbers c.args.bases.items) ≡ Some d) (sym c.self.view_is) e in
-    rw (c.push_reserved.ensures.items, c.new.ensures, c.in-Ok.ensures.items, c.in-Ok-new_heap.ensures.added)
-    (class-made-of w c.args.metaclass k c.in-Ok-new_heap.class (ap (λ (n : PyTypeRef). n.0) c.in-Ok-new_heap.ensures.number ∙ size) size c.self.invariant d b c.sound.ensures.sound more there best (opened-one w c.args.self.now (IsOf d b) c.self.view_is h))
-
-pub returns-in-Ok-new_heap-clause-node : goal.returns-in-Ok-new_heap-clause-node
-returns-in-Ok-new_heap-clause-node c =
-    let size : c.len.result ≡ length (the_view c.self.inside).nodes = omega (arith, c.len.ensures, c.in-Ok.ensures.len, c.self.inside.nodes.ok.0) in
-    rw (c.push_reserved.ensures.items, c.new.ensures, c.in-Ok.ensures.items, c.in-Ok-new_heap.ensures.added) (node-made (the_view c.self.inside) c.args.metaclass _ c.in-Ok-new_heap.class _ (ap (λ (n : PyTypeRef). n.0) c.in-Ok-new_heap.ensures.number ∙ size))
+    let new : Held = record w { nodes = c.heap_with_node-made.new.nodes.items; classes = c.heap_with_node-made.new.classes } in
+    subst (λ (v : Held). IfOk c.heap_with_node-made.result (λ x. (d : ℕ) (b : BuiltIn) → best_of v.classes (numbers c.args.bases.items) ≡ Some d → Holds v (IsOf d b) → Holds new (IsOf x.0 b))) c.self.view_is
+    (of-after w c.args.metaclass k refl c.heap_with_node-made.new.classes c.heap_with_node-made.new.nodes.items c.heap_with_node-made.result made c.self.invariant c.sound.ensures.sound c.sound-2.ensures.sound there)

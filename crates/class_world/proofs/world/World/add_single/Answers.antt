@@ -1,66 +1,99 @@
-use Rattle.std.proofs.Common.{◌≡◌, Some, [], ◌∷◌, ap, subst, arith, length, ◌∙◌}
+use Rattle.std.proofs.Common.{◌≡◌, Some, IfOk, [], ◌∷◌, refl, subst, arith, length}
 use Rattle.class_model.specs.Layout.{best_of}
-use Rattle.class_model.specs.Sound.{AreSound}
+use Rattle.py_node.specs.declared.built_in.BuiltIn.{BuiltIn}
 use Rattle.py_node.specs.declared.built_in.BuiltIn.TheVariants.{TypeType}
-use Rattle.py_node.specs.declared.refs.PyTypeRef.{PyTypeRef}
-use Rattle.class_table.specs.OneBase.{single_class}
+use Rattle.class_table.specs.OneBase.{single_class, refused_single}
+use Rattle.class_table.specs.Refused.{refusal}
 use Rattle.class_table.proofs.Bests.{found}
 use Rattle.class_table.proofs.Heaps.{only-best}
+use Rattle.class_world.specs.Held.{Held}
 use Rattle.class_world.specs.contracts.world.World.{the_view}
-use Rattle.class_world.specs.Sound.{IsClass, IsOf, of_binding, of_each}
+use Rattle.class_world.specs.Sound.{IsClass, IsOf, Holds, of_binding, of_each}
 use Rattle.class_world.proofs.Claims.{opened, opened-one}
 use Rattle.class_world.proofs.Growth.{grows-seen}
-use Rattle.class_world.proofs.ClassChanges.{room, made-grows, class-made, class-made-of, node-made, made-sound}
+use Rattle.class_world.proofs.ClassChanges.{room}
+use Rattle.class_world.proofs.Stored.{ok-map}
 use Rattle.class_world.proofs.OneBase.{class-there, no-names}
+use Rattle.class_world.proofs.MadeClass.{IsMade, sound-after, plain-after, number-after, not-after, reads-after, grows-after, class-after, node-after, of-after}
 use Rattle.class_world.proofs.world.World.add_single.Goals as goal
 
-pub is_base-requires : goal.is_base-requires
-is_base-requires c = class-there _ _ (opened-one (the_view c.self.inside) c.args.self.now (IsClass c.args.base.0) c.self.view_is c.requires.base)
+pub single_with_node-made-requires-clause-base : goal.single_with_node-made-requires-clause-base
+single_with_node-made-requires-clause-base c = class-there _ _ (opened-one (the_view c.self.inside) c.args.self.now (IsClass c.args.base.0) c.self.view_is c.requires.base)
 
-pub new_single-requires-clause-base : goal.new_single-requires-clause-base
-new_single-requires-clause-base c = class-there _ _ (opened-one (the_view c.self.inside) c.args.self.now (IsClass c.args.base.0) c.self.view_is c.requires.base)
+pub single_with_node-made-requires-clause-fresh : goal.single_with_node-made-requires-clause-fresh
+single_with_node-made-requires-clause-fresh c = room (the_view c.self.inside) c.self.inside.classes c.self.invariant.classes
 
-pub new_single-requires-clause-fresh : goal.new_single-requires-clause-fresh
-new_single-requires-clause-fresh c =
-    let l = room (the_view c.self.inside) c.self.inside.classes c.self.invariant.classes in
-    let size : c.len.result ≡ length (the_view c.self.inside).nodes = omega (arith, c.len.ensures, c.in-Ok.ensures.len, c.self.inside.nodes.ok.0) in
-    omega (arith, l, size)
-
-pub invariant_of-self-in-Ok-new_single : goal.invariant_of-self-in-Ok-new_single
-invariant_of-self-in-Ok-new_single c =
+pub invariant_of-self : goal.invariant_of-self
+invariant_of-self c =
     let w = the_view c.self.inside in
+    let k = single_class c.args.name.now (length w.nodes) c.args.base.0 c.args.attrs c.args.flags.0 in
+    let made : IsMade w c.args.metaclass k c.single_with_node-made.new.classes c.single_with_node-made.new.nodes.items c.single_with_node-made.result = record { added = c.single_with_node-made.ensures.added; node = c.single_with_node-made.ensures.node; number = c.single_with_node-made.ensures.number; err = c.single_with_node-made.ensures.err; no_node = c.single_with_node-made.ensures.no_node } in
     let meta = opened-one w c.args.self.now (IsClass c.args.metaclass.0) c.self.view_is c.requires.metaclass in
     let of = opened-one w c.args.self.now (IsOf c.args.metaclass.0 TypeType) c.self.view_is c.requires.of_classes in
     let attrs = opened w c.args.self.now (of_each of_binding c.args.attrs) c.self.view_is c.requires.attrs in
-    let k = single_class c.args.name.now c.len.result c.args.base.0 c.args.attrs c.args.flags.0 in
-    let size : c.len.result ≡ length w.nodes = omega (arith, c.len.ensures, c.in-Ok.ensures.len, c.self.inside.nodes.ok.0) in
-    rw (c.push_reserved.ensures.items, c.new.ensures, c.in-Ok.ensures.items, c.in-Ok-new_single.ensures.added)
-    (made-sound w c.args.metaclass k c.in-Ok-new_single.class (ap (λ (n : PyTypeRef). n.0) c.in-Ok-new_single.ensures.number ∙ size) size c.self.invariant (no-names w) meta of attrs)
+    sound-after w c.args.metaclass k refl c.single_with_node-made.new.classes c.single_with_node-made.new.nodes.items c.single_with_node-made.result made c.self.invariant (no-names w) meta of attrs
 
-pub returns-in-Ok-new_single-clause-grows : goal.returns-in-Ok-new_single-clause-grows
-returns-in-Ok-new_single-clause-grows c =
-    rw (c.push_reserved.ensures.items, c.new.ensures, c.in-Ok.ensures.items, c.in-Ok-new_single.ensures.added) (grows-seen (the_view c.self.inside) _ _ c.self.view_is (made-grows (the_view c.self.inside) c.args.metaclass _ c.in-Ok-new_single.class))
-
-pub returns-in-Ok-new_single-clause-class : goal.returns-in-Ok-new_single-clause-class
-returns-in-Ok-new_single-clause-class c =
+pub returns-clause-made : goal.returns-clause-made
+returns-clause-made c =
     let w = the_view c.self.inside in
-    let size : c.len.result ≡ length w.nodes = omega (arith, c.len.ensures, c.in-Ok.ensures.len, c.self.inside.nodes.ok.0) in
-    let k = single_class c.args.name.now c.len.result c.args.base.0 c.args.attrs c.args.flags.0 in
-    rw (c.push_reserved.ensures.items, c.new.ensures, c.in-Ok.ensures.items, c.in-Ok-new_single.ensures.added) (class-made w c.args.metaclass k c.in-Ok-new_single.class (ap (λ (n : PyTypeRef). n.0) c.in-Ok-new_single.ensures.number ∙ size) size c.self.invariant)
+    let k = single_class c.args.name.now (length w.nodes) c.args.base.0 c.args.attrs c.args.flags.0 in
+    let made : IsMade w c.args.metaclass k c.single_with_node-made.new.classes c.single_with_node-made.new.nodes.items c.single_with_node-made.result = record { added = c.single_with_node-made.ensures.added; node = c.single_with_node-made.ensures.node; number = c.single_with_node-made.ensures.number; err = c.single_with_node-made.ensures.err; no_node = c.single_with_node-made.ensures.no_node } in
+    plain-after w c.args.metaclass k refl c.single_with_node-made.new.classes c.single_with_node-made.new.nodes.items c.args.self.now c.self.view_is c.single_with_node-made.result made
 
-pub returns-in-Ok-new_single-clause-of : goal.returns-in-Ok-new_single-clause-of
-returns-in-Ok-new_single-clause-of c = λ b h.
+pub returns-clause-number : goal.returns-clause-number
+returns-clause-number c =
     let w = the_view c.self.inside in
+    let k = single_class c.args.name.now (length w.nodes) c.args.base.0 c.args.attrs c.args.flags.0 in
+    let made : IsMade w c.args.metaclass k c.single_with_node-made.new.classes c.single_with_node-made.new.nodes.items c.single_with_node-made.result = record { added = c.single_with_node-made.ensures.added; node = c.single_with_node-made.ensures.node; number = c.single_with_node-made.ensures.number; err = c.single_with_node-made.ensures.err; no_node = c.single_with_node-made.ensures.no_node } in
+    number-after w c.args.metaclass k refl c.single_with_node-made.new.classes c.single_with_node-made.new.nodes.items c.args.self.now c.self.view_is c.single_with_node-made.result made
+
+pub returns-clause-err : goal.returns-clause-err
+returns-clause-err c =
+    let w = the_view c.self.inside in
+    let k = single_class c.args.name.now (length w.nodes) c.args.base.0 c.args.attrs c.args.flags.0 in
+    let made : IsMade w c.args.metaclass k c.single_with_node-made.new.classes c.single_with_node-made.new.nodes.items c.single_with_node-made.result = record { added = c.single_with_node-made.ensures.added; node = c.single_with_node-made.ensures.node; number = c.single_with_node-made.ensures.number; err = c.single_with_node-made.ensures.err; no_node = c.single_with_node-made.ensures.no_node } in
+    not-after w c.args.metaclass k refl c.single_with_node-made.new.classes c.single_with_node-made.new.nodes.items c.args.self.now c.self.view_is c.single_with_node-made.result made
+
+pub returns-clause-reads : goal.returns-clause-reads
+returns-clause-reads c =
+    let w = the_view c.self.inside in
+    let k = single_class c.args.name.now (length w.nodes) c.args.base.0 c.args.attrs c.args.flags.0 in
+    let made : IsMade w c.args.metaclass k c.single_with_node-made.new.classes c.single_with_node-made.new.nodes.items c.single_with_node-made.result = record { added = c.single_with_node-made.ensures.added; node = c.single_with_node-made.ensures.node; number = c.single_with_node-made.ensures.number; err = c.single_with_node-made.ensures.err; no_node = c.single_with_node-made.ensures.no_node } in
+    reads-after w c.args.metaclass k refl c.single_with_node-made.new.classes c.single_with_node-made.new.nodes.items c.args.self.now c.self.view_is
+
+pub returns-clause-grows : goal.returns-clause-grows
+returns-clause-grows c =
+    let w = the_view c.self.inside in
+    let k = single_class c.args.name.now (length w.nodes) c.args.base.0 c.args.attrs c.args.flags.0 in
+    let made : IsMade w c.args.metaclass k c.single_with_node-made.new.classes c.single_with_node-made.new.nodes.items c.single_with_node-made.result = record { added = c.single_with_node-made.ensures.added; node = c.single_with_node-made.ensures.node; number = c.single_with_node-made.ensures.number; err = c.single_with_node-made.ensures.err; no_node = c.single_with_node-made.ensures.no_node } in
+    grows-seen w _ _ c.self.view_is (grows-after w c.args.metaclass k refl c.single_with_node-made.new.classes c.single_with_node-made.new.nodes.items c.single_with_node-made.result made)
+
+pub returns-clause-class : goal.returns-clause-class
+returns-clause-class c =
+    let w = the_view c.self.inside in
+    let k = single_class c.args.name.now (length w.nodes) c.args.base.0 c.args.attrs c.args.flags.0 in
+    let made : IsMade w c.args.metaclass k c.single_with_node-made.new.classes c.single_with_node-made.new.nodes.items c.single_with_node-made.result = record { added = c.single_with_node-made.ensures.added; node = c.single_with_node-made.ensures.node; number = c.single_with_node-made.ensures.number; err = c.single_with_node-made.ensures.err; no_node = c.single_with_node-made.ensures.no_node } in
+    class-after w c.args.metaclass k refl c.single_with_node-made.new.classes c.single_with_node-made.new.nodes.items c.single_with_node-made.result made c.self.invariant
+
+pub returns-clause-node : goal.returns-clause-node
+returns-clause-node c =
+    let w = the_view c.self.inside in
+    let k = single_class c.args.name.now (length w.nodes) c.args.base.0 c.args.attrs c.args.flags.0 in
+    let made : IsMade w c.args.metaclass k c.single_with_node-made.new.classes c.single_with_node-made.new.nodes.items c.single_with_node-made.result = record { added = c.single_with_node-made.ensures.added; node = c.single_with_node-made.ensures.node; number = c.single_with_node-made.ensures.number; err = c.single_with_node-made.ensures.err; no_node = c.single_with_node-made.ensures.no_node } in
+    node-after w c.args.metaclass k refl c.single_with_node-made.new.classes c.single_with_node-made.new.nodes.items c.single_with_node-made.result made
+
+pub returns-clause-refused : goal.returns-clause-refused
+returns-clause-refused c =
+    subst (λ (w : Held). refusal c.single_with_node-made.result ≡ refused_single w.classes c.args.base.0) c.self.view_is c.single_with_node-made.ensures.refused
+
+pub returns-clause-of : goal.returns-clause-of
+returns-clause-of c =
+    let w = the_view c.self.inside in
+    let k = single_class c.args.name.now (length w.nodes) c.args.base.0 c.args.attrs c.args.flags.0 in
+    let made : IsMade w c.args.metaclass k c.single_with_node-made.new.classes c.single_with_node-made.new.nodes.items c.single_with_node-made.result = record { added = c.single_with_node-made.ensures.added; node = c.single_with_node-made.ensures.node; number = c.single_with_node-made.ensures.number; err = c.single_with_node-made.ensures.err; no_node = c.single_with_node-made.ensures.no_node } in
     let d = c.args.base.0 in
-    let k = single_class c.args.name.now c.len.result d c.args.attrs c.args.flags.0 in
-    let size : c.len.result ≡ length w.nodes = omega (arith, c.len.ensures, c.in-Ok.ensures.len, c.self.inside.nodes.ok.0) in
     let base = class-there w d (opened-one w c.args.self.now (IsClass d) c.self.view_is c.requires.base) in
-    let more = subst AreSound c.in-Ok-new_single.ensures.added c.sound-in-Ok-new_single.ensures.sound in
     let best : best_of w.classes (d ∷ []) ≡ Some d = only-best w.classes (found w.classes c.sound.ensures.sound) (c.args.base ∷ []) (omega arith) (base, tt) (omega arith) in
-    rw (c.push_reserved.ensures.items, c.new.ensures, c.in-Ok.ensures.items, c.in-Ok-new_single.ensures.added)
-    (class-made-of w c.args.metaclass k c.in-Ok-new_single.class (ap (λ (n : PyTypeRef). n.0) c.in-Ok-new_single.ensures.number ∙ size) size c.self.invariant d b c.sound.ensures.sound more (base, tt) best (opened-one w c.args.self.now (IsOf d b) c.self.view_is h))
-
-pub returns-in-Ok-new_single-clause-node : goal.returns-in-Ok-new_single-clause-node
-returns-in-Ok-new_single-clause-node c =
-    let size : c.len.result ≡ length (the_view c.self.inside).nodes = omega (arith, c.len.ensures, c.in-Ok.ensures.len, c.self.inside.nodes.ok.0) in
-    rw (c.push_reserved.ensures.items, c.new.ensures, c.in-Ok.ensures.items, c.in-Ok-new_single.ensures.added) (node-made (the_view c.self.inside) c.args.metaclass _ c.in-Ok-new_single.class _ (ap (λ (n : PyTypeRef). n.0) c.in-Ok-new_single.ensures.number ∙ size))
+    let new : Held = record w { nodes = c.single_with_node-made.new.nodes.items; classes = c.single_with_node-made.new.classes } in
+    subst (λ (v : Held). IfOk c.single_with_node-made.result (λ x. (b : BuiltIn) → Holds v (IsOf d b) → Holds new (IsOf x.0 b))) c.self.view_is
+    (ok-map _ _ c.single_with_node-made.result (λ x h b. h d b best) (of-after w c.args.metaclass k refl c.single_with_node-made.new.classes c.single_with_node-made.new.nodes.items c.single_with_node-made.result made c.self.invariant c.sound.ensures.sound c.sound-2.ensures.sound (base, tt)))

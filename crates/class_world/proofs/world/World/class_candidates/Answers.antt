@@ -2,7 +2,7 @@ use Rattle.std.proofs.Common.{sym, ◌∙◌}
 use Rattle.class_world.specs.contracts.world.World.{the_view}
 use Rattle.class_world.specs.Sound.{Holds, IsClass}
 use Rattle.class_world.proofs.Claims.{opened-one}
-use Rattle.class_world.proofs.Look.{candidates-seen}
+use Rattle.class_world.proofs.Look.{candidates-seen, goes-first-seen}
 use Rattle.class_world.proofs.world.World.class_candidates.Goals as goal
 
 pub candidates-requires-clause-a : goal.candidates-requires-clause-a
@@ -13,5 +13,8 @@ pub candidates-requires-clause-b : goal.candidates-requires-clause-b
 unfolding Holds
 candidates-requires-clause-b c = opened-one (the_view c.self.inside) c.args.self.now (IsClass c.args.b.0) c.self.view_is c.requires.b
 
-pub returns : goal.returns
-returns c = λ t r. candidates-seen (the_view c.self.inside) c.args.self.now c.args.left c.args.right c.args.a.0 c.args.b.0 c.self.view_is c.self.invariant t r ∙ sym c.candidates.ensures
+pub returns-clause-list : goal.returns-clause-list
+returns-clause-list c = λ t r. candidates-seen (the_view c.self.inside) c.args.self.now c.args.left c.args.right c.args.a.0 c.args.b.0 c.self.view_is c.self.invariant t r ∙ sym c.candidates.ensures.list
+
+pub returns-clause-first : goal.returns-clause-first
+returns-clause-first c = λ t r. goes-first-seen (the_view c.self.inside) c.args.self.now c.args.right c.args.a.0 c.args.b.0 c.self.view_is c.self.invariant t r ∙ sym c.candidates.ensures.first

@@ -1,5 +1,0 @@
-use Rattle.class_world.proofs.Stored.{no-names}
-use Rattle.call_table.proofs.lists.no_names.Goals as goal
-
-pub returns : goal.returns
-returns c = λ w. rw c.new.ensures.items (no-names w)

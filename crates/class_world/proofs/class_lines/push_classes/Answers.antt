@@ -1,5 +1,0 @@
-use Rattle.class_world.proofs.ClassText.{text-seen}
-use Rattle.class_world.proofs.class_lines.push_classes.Goals as goal
-
-pub returns : goal.returns
-returns c = λ t r. rw (text-seen c.args.world.now t c.classes.ensures.known r, ← c.classes.ensures.same) c.in_ok-push_each.ensures

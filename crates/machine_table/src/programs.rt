@@ -1,0 +1,60 @@
+//! What the program does: commands that are generated, and words and scripts that are served.
+
+use generator::commands::{change_command, class_command};
+use generator::{Draws, Tally};
+use outside::{MemorySink, MemorySource};
+use py_node::{Expr, OutOfMemory};
+use serve::Status;
+use serve::top::serve;
+use std::alloc::{AllocError, Global};
+use table_lines::{NoValue, Table};
+
+pub fn put(table: &mut Table, alloc: Global) {
+    table.put("generator::class_command", class(alloc));
+    table.put("generator::change_command", change(alloc));
+    table.put_bytes("Tally::text", Tally::new().text(alloc));
+    table.put_bytes(
+        "serve::serve with run",
+        served(alloc, &["run", "1000"], b"[33]"),
+    );
+    table.put_bytes(
+        "serve::serve with gen",
+        served(alloc, &["gen", "1", "3"], b""),
+    );
+}
+
+// The name that the second class is bound to.
+fn class(alloc: Global) -> Result<Option<String>, OutOfMemory> {
+    match class_command(alloc, &mut Draws::new(1), 1)?.expr {
+        Expr::Bind(name, _) => Ok(Some(name)),
+        _ => Ok(None),
+    }
+}
+
+// The attribute that the first change of another seed sets.
+fn change(alloc: Global) -> Result<Option<String>, OutOfMemory> {
+    match change_command(alloc, &mut Draws::new(3), 0)?.expr {
+        Expr::SetAttr(_, name, _) => Ok(Some(name)),
+        _ => Ok(None),
+    }
+}
+
+// The texts as words.
+fn words(alloc: Global, texts: &[&str]) -> Result<Vec<String>, AllocError> {
+    let mut words = Vec::new(alloc);
+    for text in texts {
+        words.push(String::from_str(alloc, text)?)?;
+    }
+    Ok(words)
+}
+
+// What is written where all is well.
+fn served(alloc: Global, texts: &[&str], script: &[u8]) -> Result<Vec<u8>, NoValue> {
+    let words = words(alloc, texts)?;
+    let mut source = MemorySource::new(script.to_vec(alloc)?, 1, Vec::new(alloc));
+    let mut sink = MemorySink::new(alloc, 1, Vec::new(alloc));
+    match serve(alloc, &words, &mut source, &mut sink) {
+        Status::Done => Ok(sink.bytes().to_vec(alloc)?),
+        _ => Err(NoValue),
+    }
+}

@@ -1,0 +1,9 @@
+use Rattle.std.proofs.Common.{◌≡◌, drop}
+use Rattle.order_check.specs.Lists.{rows}
+use Rattle.order_check.specs.Report.{list_with}
+use Rattle.order_check.proofs.checking.list_with.Given as goal
+
+abbrev pub invariant-loop-place : goal.invariant-loop-place
+invariant-loop-place l =
+    list_with l.first l.second (drop l.place l.bases) (rows (drop l.place l.lists))
+    ≡ list_with l.first l.second l.bases (rows l.lists)

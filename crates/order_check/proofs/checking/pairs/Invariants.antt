@@ -1,0 +1,10 @@
+use Rattle.std.proofs.Common.{◌≡◌, ◌++◌, drop}
+use Rattle.order_check.specs.Lists.{rows}
+use Rattle.order_check.specs.Cycle.{first_or}
+use Rattle.order_check.specs.Report.{pairs_to, pairs_of}
+use Rattle.order_check.proofs.checking.pairs.Given as goal
+
+abbrev pub invariant-loop-place : goal.invariant-loop-place
+invariant-loop-place l =
+    l.found.items ++ pairs_to l.bases (rows l.lists) (first_or 0 l.cycle) (drop l.place l.cycle)
+    ≡ pairs_of l.bases (rows l.lists) l.cycle

@@ -1,0 +1,11 @@
+use Rattle.std.proofs.Common.{◌≡◌, ℕ, suc, ◌+◌, ◌<◌, length}
+use Rattle.std.specs.Prelude.{slice_get}
+use Rattle.order_check.specs.Report.{OnBoth, IsLine, IsFoundLine}
+use Rattle.order_check.proofs.checking.report_of.Given as goal
+
+abbrev pub invariant-loop-place : goal.invariant-loop-place
+invariant-loop-place l = record {
+  count : length l.lines.items + 1 ≡ l.place;
+  right : (k : ℕ) → k < length l.lines.items → OnBoth (IsLine l.entries) (slice_get l.entries (suc k)) (slice_get l.lines.items k);
+  found : (k : ℕ) → k < length l.lines.items → OnBoth (IsFoundLine l.entries) (slice_get l.entries (suc k)) (slice_get l.lines.items k);
+}

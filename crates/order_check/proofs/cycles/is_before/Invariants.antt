@@ -1,0 +1,6 @@
+use Rattle.std.proofs.Common.{◌≡◌, drop}
+use Rattle.order_check.specs.Cycle.{is_before}
+use Rattle.order_check.proofs.cycles.is_before.Given as goal
+
+abbrev pub invariant-loop-place : goal.invariant-loop-place
+invariant-loop-place l = is_before l.first l.second (drop l.place l.list) ≡ is_before l.first l.second l.list

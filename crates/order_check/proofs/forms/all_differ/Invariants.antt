@@ -1,0 +1,7 @@
+use Rattle.std.proofs.Common.{◌≡◌, drop}
+use Rattle.class_model.specs.Order.{is_distinct}
+use Rattle.order_check.specs.Hierarchy.{keys_of}
+use Rattle.order_check.proofs.forms.all_differ.Given as goal
+
+abbrev pub invariant-loop-place : goal.invariant-loop-place
+invariant-loop-place l = is_distinct (keys_of (drop l.place l.entries)) ≡ is_distinct (keys_of l.entries)

@@ -1,0 +1,7 @@
+use Rattle.std.proofs.Common.{◌≡◌, drop}
+use Rattle.class_model.specs.Order.{has}
+use Rattle.order_check.specs.Hierarchy.{keys_of}
+use Rattle.order_check.proofs.forms.has_key.Given as goal
+
+abbrev pub invariant-loop-entry : goal.invariant-loop-entry
+invariant-loop-entry l = has (keys_of (drop l.entry-index l.entries)) l.key ≡ has (keys_of l.entries) l.key

@@ -1,0 +1,7 @@
+use Rattle.std.proofs.Common.{◌≡◌, take}
+use Rattle.mro_merge.specs.Lists.{rows as class_rows}
+use Rattle.order_check.specs.Lists.{rows}
+use Rattle.order_check.proofs.least.all_references.Given as goal
+
+abbrev pub invariant-loop-list : goal.invariant-loop-list
+invariant-loop-list l = class_rows l.found.items ≡ rows (take l.list-index l.lists)

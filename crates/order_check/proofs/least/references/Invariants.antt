@@ -1,0 +1,6 @@
+use Rattle.std.proofs.Common.{◌≡◌, take}
+use Rattle.mro_merge.specs.Lists.{numbers}
+use Rattle.order_check.proofs.least.references.Given as goal
+
+abbrev pub invariant-loop-key : goal.invariant-loop-key
+invariant-loop-key l = numbers l.found.items ≡ take l.key-index l.keys

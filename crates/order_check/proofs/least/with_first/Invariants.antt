@@ -1,0 +1,6 @@
+use Rattle.std.proofs.Common.{◌≡◌, ◌∷◌, take}
+use Rattle.mro_merge.specs.Lists.{numbers}
+use Rattle.order_check.proofs.least.with_first.Given as goal
+
+abbrev pub invariant-loop-class : goal.invariant-loop-class
+invariant-loop-class l = l.order.items ≡ l.key ∷ numbers (take l.class-index l.rest)

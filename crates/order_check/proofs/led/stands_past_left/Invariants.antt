@@ -1,0 +1,10 @@
+use Rattle.std.proofs.Common.{◌≡◌, drop}
+use Rattle.class_model.specs.Change.{stands_past}
+use Rattle.order_check.specs.Line.{rest}
+use Rattle.order_check.specs.Told.{told_in, lists_past, lists_told}
+use Rattle.order_check.proofs.led.stands_past_left.Given as goal
+
+abbrev pub invariant-loop-base : goal.invariant-loop-base
+invariant-loop-base l =
+    stands_past l.key (rest (lists_past (told_in l.told) l.bases (drop l.base-index l.bases)) l.seen)
+    ≡ stands_past l.key (rest (lists_told (told_in l.told) l.bases) l.seen)

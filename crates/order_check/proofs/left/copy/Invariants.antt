@@ -1,0 +1,6 @@
+use Rattle.std.proofs.Common.{◌≡◌, take}
+use Rattle.order_check.specs.Lists.{rows}
+use Rattle.order_check.proofs.left.copy.Given as goal
+
+abbrev pub invariant-loop-list : goal.invariant-loop-list
+invariant-loop-list l = rows l.copied.items ≡ rows (take l.list-index l.lists)

@@ -1,0 +1,7 @@
+use Rattle.std.proofs.Common.{◌≡◌, drop}
+use Rattle.mro_merge.specs.Steps.{first_free}
+use Rattle.order_check.specs.Lists.{rows}
+use Rattle.order_check.proofs.left.first_free.Given as goal
+
+abbrev pub invariant-loop-list : goal.invariant-loop-list
+invariant-loop-list l = first_free (rows l.lists) (rows (drop l.list-index l.lists)) ≡ first_free (rows l.lists) (rows l.lists)

@@ -1,0 +1,7 @@
+use Rattle.std.proofs.Common.{◌≡◌, ◌++◌, map, take, drop}
+use Rattle.class_model.specs.Order.{without}
+use Rattle.order_check.specs.Lists.{rows}
+use Rattle.order_check.proofs.left.strike.Given as goal
+
+abbrev pub invariant-loop-i : goal.invariant-loop-i
+invariant-loop-i l = rows l.lists.items ≡ map (without l.key) (take l.i (rows l.fn.lists.items)) ++ drop l.i (rows l.fn.lists.items)

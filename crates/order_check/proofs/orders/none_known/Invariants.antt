@@ -1,0 +1,7 @@
+use Rattle.std.proofs.Common.{◌≡◌, length}
+use Rattle.order_check.specs.Hierarchy.{orders}
+use Rattle.order_check.specs.Known.{AllNone}
+use Rattle.order_check.proofs.orders.none_known.Given as goal
+
+abbrev pub invariant-loop-place : goal.invariant-loop-place
+invariant-loop-place l = record { count : length l.known.items ≡ l.place; none : AllNone (orders l.known.items) }

@@ -1,0 +1,13 @@
+use Rattle.std.proofs.Common.{◌≡◌, ◌<◌, ◌≤◌, true, false, length}
+use Rattle.order_check.specs.Hierarchy.{orders}
+use Rattle.order_check.specs.Known.{AreKnown, IsClosedTo, unknown}
+use Rattle.order_check.proofs.orders.try_all.Given as goal
+
+abbrev pub invariant-loop-place : goal.invariant-loop-place
+invariant-loop-place l = record {
+  count : length l.known.items ≡ length l.entries;
+  known : AreKnown l.entries (orders l.known.items);
+  fewer : unknown (orders l.known.items) ≤ unknown (orders l.fn.known.items);
+  found : l.found ≡ true → unknown (orders l.known.items) < unknown (orders l.fn.known.items);
+  closed : l.found ≡ false → IsClosedTo l.entries (orders l.known.items) l.place;
+}

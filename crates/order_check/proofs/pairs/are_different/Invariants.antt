@@ -1,0 +1,7 @@
+use Rattle.std.proofs.Common.{◌≡◌, drop}
+use Rattle.class_model.specs.Order.{is_distinct}
+use Rattle.order_check.specs.Told.{firsts}
+use Rattle.order_check.proofs.pairs.are_different.Given as goal
+
+abbrev pub invariant-loop-place : goal.invariant-loop-place
+invariant-loop-place l = is_distinct (firsts (drop l.place l.pairs)) ≡ is_distinct (firsts l.pairs)

@@ -1,0 +1,6 @@
+use Rattle.std.proofs.Common.{◌≡◌, length}
+use Rattle.order_check.specs.Known.{unknown}
+use Rattle.order_check.proofs.ranks.none_ranked.Given as goal
+
+abbrev pub invariant-loop-place : goal.invariant-loop-place
+invariant-loop-place l = record { count : length l.ranks.items ≡ l.place; none : unknown l.ranks.items ≡ l.place }

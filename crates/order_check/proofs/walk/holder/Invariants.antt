@@ -1,0 +1,7 @@
+use Rattle.std.proofs.Common.{◌≡◌, drop}
+use Rattle.order_check.specs.Lists.{rows}
+use Rattle.order_check.specs.Found.{holder}
+use Rattle.order_check.proofs.walk.holder.Given as goal
+
+abbrev pub invariant-loop-list : goal.invariant-loop-list
+invariant-loop-list l = holder l.key (rows (drop l.list-index l.lists)) ≡ holder l.key (rows l.lists)

@@ -1,0 +1,7 @@
+use Rattle.std.proofs.Common.{◌≡◌, ◌-◌, [], length}
+use Rattle.order_check.specs.Lists.{rows}
+use Rattle.order_check.specs.Found.{walk}
+use Rattle.order_check.proofs.walk.walk.Given as goal
+
+abbrev pub invariant-loop-step : goal.invariant-loop-step
+invariant-loop-step l = walk (length l.lists - l._step) (rows l.lists) l.seen.items l.next ≡ walk (length l.lists) (rows l.lists) [] l.first

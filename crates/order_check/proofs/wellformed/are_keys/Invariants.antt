@@ -1,0 +1,7 @@
+use Rattle.std.proofs.Common.{◌≡◌, drop}
+use Rattle.class_model.specs.Order.{is_within}
+use Rattle.order_check.specs.Hierarchy.{keys_of}
+use Rattle.order_check.proofs.wellformed.are_keys.Given as goal
+
+abbrev pub invariant-loop-base : goal.invariant-loop-base
+invariant-loop-base l = is_within (drop l.base-index l.bases) (keys_of l.entries) ≡ is_within l.bases (keys_of l.entries)

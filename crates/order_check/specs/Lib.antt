@@ -1,0 +1,11 @@
+pub mod Lists
+pub mod Cycle
+pub mod Found
+pub mod Orders
+pub mod Line
+pub mod Hierarchy
+pub mod Forms
+pub mod Report
+pub mod Known
+pub mod WellFormed
+pub mod Told

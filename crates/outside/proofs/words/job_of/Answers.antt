@@ -1,0 +1,13 @@
+-- Words that are neither two nor three ask for nothing.
+use Rattle.std.proofs.Common.{arith, map, string_bytes}
+use Rattle.std.proofs.lemmas.List.{length-map}
+use Rattle.outside.proofs.NoJob.{no_job}
+use Rattle.outside.proofs.words.job_of.Goals as goal
+
+pub returns-in_default-clause-job : goal.returns-in_default-clause-job
+returns-in_default-clause-job c =
+    no_job (map string_bytes c.args.words.now) (λ two. omega (arith, length-map c.args.words.now string_bytes)) (λ three. omega (arith, length-map c.args.words.now string_bytes))
+
+pub returns-in_default-2-clause-job : goal.returns-in_default-2-clause-job
+returns-in_default-2-clause-job c =
+    no_job (map string_bytes c.args.words.now) (λ two. omega (arith, length-map c.args.words.now string_bytes)) (λ three. omega (arith, length-map c.args.words.now string_bytes))

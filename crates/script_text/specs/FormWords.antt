@@ -1,0 +1,18 @@
+-- The words of forms.
+use Rattle.std.specs.Prelude.{codes, List, [], ◌∷◌, Option, option_map, bytes_eq}
+use Rattle.std.specs.List.{find}
+use Rattle.py_node.specs.Tree.{Text}
+use Rattle.script_text.specs.declared.form_words.FormWord.{FormWord}
+use Rattle.script_text.specs.declared.form_words.FormWord.TheVariants as form
+
+-- the words, and the form that each stands for
+unfoldable pub form_words : List (Text × FormWord)
+form_words =
+    (codes "name", form.Name) ∷ (codes "bind", form.Bind) ∷ (codes "tuple", form.Tuple) ∷ (codes "list", form.List)
+    ∷ (codes "dict", form.Dict) ∷ (codes "func", form.Func) ∷ (codes "func*", form.FuncRest) ∷ (codes "attr", form.Attr)
+    ∷ (codes "setattr", form.SetAttr) ∷ (codes "delattr", form.DelAttr) ∷ (codes "call", form.Call) ∷ (codes "op", form.Op)
+    ∷ (codes "if", form.If) ∷ (codes "seq", form.Seq) ∷ (codes "raise", form.Raise) ∷ (codes "class", form.Class) ∷ []
+
+-- the form that a text stands for
+abbrev pub form_named : Text → Option FormWord
+form_named text = option_map (λ row. row.1) (find (λ row. bytes_eq text row.0) form_words)

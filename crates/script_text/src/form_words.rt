@@ -1,0 +1,81 @@
+//! The words of forms.
+
+ghost use Rattle.std.specs.Prelude.{◌≡◌, bytes_eq, map, ok_or, option_and_then, option_map};
+ghost use Rattle.std.specs.List.{find};
+ghost use Rattle.serde_json.specs.Find.{as_str};
+ghost use Rattle.serde_json.specs.View.{view};
+ghost use Rattle.script_text.specs.FormWords.{form_named, form_words};
+
+use crate::parts::Unread;
+use serde_json::Value;
+
+/// What an array spells, by the word that it begins with.
+#[derive(Clone, Copy)]
+pub(crate) enum FormWord {
+    Name,
+    Bind,
+    Tuple,
+    List,
+    Dict,
+    Func,
+    FuncRest,
+    Attr,
+    SetAttr,
+    DelAttr,
+    Call,
+    Op,
+    If,
+    Seq,
+    Raise,
+    Class,
+}
+
+/// The words, and the form that each stands for.
+pub(crate) const FORMS: [(&str, FormWord); 16] = [
+    ("name", FormWord::Name),
+    ("bind", FormWord::Bind),
+    ("tuple", FormWord::Tuple),
+    ("list", FormWord::List),
+    ("dict", FormWord::Dict),
+    ("func", FormWord::Func),
+    ("func*", FormWord::FuncRest),
+    ("attr", FormWord::Attr),
+    ("setattr", FormWord::SetAttr),
+    ("delattr", FormWord::DelAttr),
+    ("call", FormWord::Call),
+    ("op", FormWord::Op),
+    ("if", FormWord::If),
+    ("seq", FormWord::Seq),
+    ("raise", FormWord::Raise),
+    ("class", FormWord::Class),
+];
+
+// The words in order.
+#[tactic(auto, unfolding(crate::specs::FormWords::form_words))]
+fn all_forms() -> &'static [(&'static str, FormWord)]
+    ensures { map (λ row. (row.0.now, row.1)) result.now ≡ form_words }
+{
+    &FORMS
+}
+
+// The form that a word stands for.
+fn find_form(text: &str) -> Option<FormWord>
+    ensures { result ≡ form_named text.now }
+{
+    form_in(all_forms(), text)
+}
+
+// What stands for a text in the first row that has it.
+fn form_in(rows: &[(&str, FormWord)], text: &str) -> Option<FormWord>
+    ensures { result ≡ option_map (λ row. row.1) (find (λ row. bytes_eq text.now row.0.now) rows.now) }
+{
+    rows.iter().find(|row| text == row.0).map(|row| row.1)
+}
+
+// The form that a value names.
+pub(crate) fn read_form(value: &Value) -> Result<FormWord, Unread>
+    ensures { result ≡ ok_or (option_and_then form_named (as_str (view value.now))) Unread.Shape }
+{
+    let text = value.as_str().ok_or(Unread::Shape)?;
+    find_form(text).ok_or(Unread::Shape)
+}

@@ -1,0 +1,5 @@
+use Rattle.seat_example.specs.Sheets.{newest}
+use Rattle.seat_example.proofs.sign.leave.Given as goal
+
+abbrev pub ghost-give : goal.ghost-give
+ghost-give a = newest a.seat.now.number a.seat.now.seen a.value.names.items

@@ -1,0 +1,14 @@
+use Rattle.std.proofs.Common.{arith, sym, ap, ◌∙◌, ◌∷◌, ◌++◌, [], subst, Some}
+use Rattle.atomic_table.specs.Table.{opening}
+use Rattle.seat_lock.specs.Rule.{HasOneHistory, founder}
+use Rattle.seat_lock.proofs.Ends.{opens}
+use Rattle.seat_lock.proofs.Rows.{free_row}
+use Rattle.seat_lock.proofs.lock.SeatLock.new.Goals as goal
+
+pub new-requires : goal.new-requires
+new-requires g c =
+    let items = c.push_reserved.ensures.items ∙ ap (λ xs. xs ++ Some c.args.value ∷ []) c.in-Ok-with_capacity.ensures.items in
+    subst (λ xs. HasOneHistory g.T.Turns.stands c.from.result (opening (0 ∷ 0 ∷ []) xs (founder c.from.result))) (sym items) (opens g.T.Turns.stands c.from.result c.args.value c.requires.value (omega arith))
+
+pub returns-clause-free : goal.returns-clause-free
+returns-clause-free g c = let dealt = c.deal.ensures in free_row _ _ c.args.seats (sym c.deal.new.row.ok.0 ∙ dealt.len) dealt.seats

@@ -1,0 +1,6 @@
+use Rattle.std.proofs.Common.{[]}
+use Rattle.class_world.proofs.Stored.{names-push, no-names}
+use Rattle.table_lines.proofs.lists.one_name.Goals as goal
+
+pub returns : goal.returns
+returns c = λ w h. rw c.in_ok-vec.ensures.items (names-push w [] c.args.name (no-names w) h)

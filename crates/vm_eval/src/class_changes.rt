@@ -1,0 +1,221 @@
+//! Classes that a host makes and changes on a machine. Each call is the world's own: its refusals and what it changes are
+//! those. Want of memory sets the machine's mark.
+
+ghost use Rattle.std.specs.Prelude.{◌≡◌, ◌≤◌, ◌∷◌, [], ℕ, Ok, Some, IfOk, OnOk, OnErr, is_some, length};
+ghost use Rattle.py_node.specs.declared.built_in.BuiltIn.{BuiltIn};
+ghost use Rattle.py_node.specs.declared.built_in.BuiltIn.TheVariants.{TypeType};
+ghost use Rattle.class_model.specs.Class.{class_at as class_numbered, own_of};
+ghost use Rattle.class_model.specs.Layout.{best_of};
+ghost use Rattle.class_table.specs.Keys.{numbers};
+ghost use Rattle.class_table.specs.OneBase.{refused_single, single_class, flags_at, static_flags};
+ghost use Rattle.class_table.specs.Rebase.{refused_rebase, told, IsToldFirst};
+ghost use Rattle.class_table.specs.Refused.{refusal, WithMemory, NeedsNoMemory, IsEarly, refused_attr, NamesNoClass};
+ghost use Rattle.plain_machine.specs.Change.{SetBases, apply, without_own_attr};
+ghost use Rattle.plain_machine.specs.Known.{the_type};
+ghost use Rattle.plain_machine.specs.World.{ref, is_text, with_new_class, with_own_attr};
+ghost use Rattle.class_world.specs.NewHeap.{heap_class_of, refused_heap};
+ghost use Rattle.class_world.specs.Reading.{Reading, Reads, bindings, plain};
+ghost use Rattle.class_world.specs.Sound.{AllHold, Holds, Grows, IsNode, IsName, AreNames, IsClass, IsOf, of_each, of_binding, of_class_ref};
+ghost use Rattle.vm_eval.specs.State.{MadeHeap, MarkedAs};
+
+use crate::machine::VirtualMachine;
+use class_table::{ClassFault, Steps};
+use py_node::{PyAttributes, PyObjectRef, PyStrInterned, PyTypeFlags, PyTypeRef};
+use std::sync::ledger::Ledger;
+
+impl VirtualMachine {
+    /// A class that a script could make, and the node that stands for it: with the name, the bases,
+    /// the attributes and the members. Where it is refused the machine stays as it was, and where
+    /// memory runs out its world does.
+    pub fn new_heap(
+        &mut self,
+        name: &str,
+        bases: Vec<PyTypeRef>,
+        attrs: PyAttributes,
+        members: Vec<PyStrInterned>,
+        metaclass: PyTypeRef,
+    ) -> Result<PyTypeRef, ClassFault>
+        requires bases { AllHold self.old.world (of_each of_class_ref bases.items) }
+        requires attrs { AllHold self.old.world (of_each of_binding attrs) }
+        requires members { Holds self.old.world (AreNames members.items) }
+        requires metaclass { Holds self.old.world (IsClass metaclass.0) }
+        requires of_classes { Holds self.old.world (IsOf metaclass.0 TypeType) }
+        ensures made { OnOk result ((t : Reading) →
+            MadeHeap t self.old.world self.new.world metaclass.0 name.now bases.items attrs members.items) }
+        ensures number { IfOk result (λ c. (t : Reading) → c.0 ≡ length (plain t self.old.world).nodes) }
+        ensures early { (t : Reading) →
+            IsEarly (plain t self.old.world).classes (numbers bases.items) (refusal result) }
+        ensures refused { (t : Reading) → Reads t self.old.world →
+            WithMemory result (refusal result ≡
+            refused_heap (plain t self.old.world) (numbers bases.items) (bindings t attrs)) }
+        ensures err { OnErr result (self.new.world ≡ self.old.world) }
+        ensures reads { (t : Reading) → Reads t self.new.world → Reads t self.old.world }
+        ensures grows { Grows self.old.world self.new.world }
+        ensures class { IfOk result (λ c. Holds self.new.world (IsClass c.0)) }
+        ensures of { IfOk result (λ c. (d : ℕ) (b : BuiltIn) → best_of self.old.world.classes (numbers bases.items) ≡
+            Some d → Holds self.old.world (IsOf d b) → Holds self.new.world (IsOf c.0 b)) }
+        ensures node { IfOk result (λ c. Holds self.new.world (IsNode (ref c.0))) }
+        ensures mark { MarkedAs self.old self.new result }
+        ensures names { NamesNoClass result }
+    {
+        let class = self.world.new_heap(name, bases, attrs, members, metaclass);
+        self.marked_as(class)
+    }
+
+    /// Gives a class's own attribute a value. The class must be made by a script. Where it is refused
+    /// the machine stays as it was, and where memory runs out its world does.
+    pub fn set_attr(
+        &mut self,
+        class: PyTypeRef,
+        name: PyStrInterned,
+        value: PyObjectRef,
+    ) -> Result<(), ClassFault>
+        requires class { Holds self.old.world (IsClass class.0) }
+        requires name { Holds self.old.world (IsName name) }
+        requires value { Holds self.old.world (IsNode value) }
+        ensures refused { (t : Reading) → refusal result ≡ refused_attr (plain t self.old.world).classes class.0 }
+        ensures set { OnOk result ((t : Reading) → plain t self.new.world ≡
+            with_own_attr (plain t self.old.world) class.0 (t.text name.0) value) }
+        ensures err { OnErr result (self.new.world ≡ self.old.world) }
+        ensures reads { (t : Reading) → Reads t self.new.world → Reads t self.old.world }
+        ensures grows { Grows self.old.world self.new.world }
+        ensures mark { MarkedAs self.old self.new result }
+        ensures names { NamesNoClass result }
+    {
+        let set = self.world.set_attr(class, name, value);
+        self.marked_as(set)
+    }
+
+    /// A class as a script makes it, with one base and no attributes, and the node that stands for it. It is
+    /// refused where the base may have no subclasses; then, and where memory runs out, the machine's world stays as it was.
+    pub fn new_simple_heap(&mut self, name: &str, base: PyTypeRef) -> Result<PyTypeRef, ClassFault>
+        requires base { Holds self.old.world (IsClass base.0) }
+        ensures made { OnOk result ((t : Reading) → plain t self.new.world ≡ with_new_class (plain t self.old.world) the_type
+            (heap_class_of t name.now (length (plain t self.old.world).nodes) (base ∷ []) [] [])) }
+        ensures number { IfOk result (λ c. (t : Reading) → c.0 ≡ length (plain t self.old.world).nodes) }
+        ensures refused { (t : Reading) → refusal result ≡ refused_single (plain t self.old.world).classes base.0 }
+        ensures err { OnErr result (self.new.world ≡ self.old.world) }
+        ensures reads { (t : Reading) → Reads t self.new.world → Reads t self.old.world }
+        ensures grows { Grows self.old.world self.new.world }
+        ensures class { IfOk result (λ c. Holds self.new.world (IsClass c.0)) }
+        ensures of { IfOk result (λ c. (b : BuiltIn) → Holds self.old.world (IsOf base.0 b) → Holds self.new.world (IsOf c.0 b)) }
+        ensures node { IfOk result (λ c. Holds self.new.world (IsNode (ref c.0))) }
+        ensures mark { MarkedAs self.old self.new result }
+        ensures names { NamesNoClass result }
+    {
+        let class = self.world.new_simple_heap(name, base);
+        self.marked_as(class)
+    }
+
+    /// A static class, which scripts can't change, and the node that stands for it: with one base and attributes,
+    /// and with the flags but for what the base settles. It is refused where the base may have no subclasses;
+    /// then, and where memory runs out, the machine's world stays as it was.
+    pub fn new_static(
+        &mut self,
+        name: &str,
+        base: PyTypeRef,
+        attrs: PyAttributes,
+        flags: PyTypeFlags,
+        metaclass: PyTypeRef,
+    ) -> Result<PyTypeRef, ClassFault>
+        requires base { Holds self.old.world (IsClass base.0) }
+        requires attrs { AllHold self.old.world (of_each of_binding attrs) }
+        requires metaclass { Holds self.old.world (IsClass metaclass.0) }
+        requires of_classes { Holds self.old.world (IsOf metaclass.0 TypeType) }
+        ensures made { OnOk result ((t : Reading) → plain t self.new.world ≡
+            with_new_class (plain t self.old.world) metaclass.0 (single_class name.now (length (plain t self.old.world).nodes)
+            base.0 (bindings t attrs) (static_flags flags.0 (flags_at (plain t self.old.world).classes base.0)))) }
+        ensures number { IfOk result (λ c. (t : Reading) → c.0 ≡ length (plain t self.old.world).nodes) }
+        ensures refused { (t : Reading) → refusal result ≡ refused_single (plain t self.old.world).classes base.0 }
+        ensures err { OnErr result (self.new.world ≡ self.old.world) }
+        ensures reads { (t : Reading) → Reads t self.new.world → Reads t self.old.world }
+        ensures grows { Grows self.old.world self.new.world }
+        ensures class { IfOk result (λ c. Holds self.new.world (IsClass c.0)) }
+        ensures of { IfOk result (λ c. (b : BuiltIn) → Holds self.old.world (IsOf base.0 b) → Holds self.new.world (IsOf c.0 b)) }
+        ensures node { IfOk result (λ c. Holds self.new.world (IsNode (ref c.0))) }
+        ensures mark { MarkedAs self.old self.new result }
+        ensures names { NamesNoClass result }
+    {
+        let class = self.world.new_static(name, base, attrs, flags, metaclass);
+        self.marked_as(class)
+    }
+
+    /// Gives a class's own attribute a value, by the text of its name. The class must be made by a script. Where it is
+    /// refused or memory runs out, only the text may have got a number.
+    pub fn set_str_attr(
+        &mut self,
+        class: PyTypeRef,
+        name: &str,
+        value: PyObjectRef,
+    ) -> Result<(), ClassFault>
+        requires class { Holds self.old.world (IsClass class.0) }
+        requires value { Holds self.old.world (IsNode value) }
+        ensures refused { (t : Reading) → refusal result ≡ refused_attr (plain t self.old.world).classes class.0 }
+        ensures set { OnOk result ((t : Reading) → Reads t self.new.world → plain t self.new.world ≡
+            with_own_attr (plain t self.old.world) class.0 name.now value) }
+        ensures same { OnErr result ((t : Reading) → plain t self.new.world ≡ plain t self.old.world) }
+        ensures reads { (t : Reading) → Reads t self.new.world → Reads t self.old.world }
+        ensures grows { Grows self.old.world self.new.world }
+        ensures mark { MarkedAs self.old self.new result }
+        ensures names { NamesNoClass result }
+    {
+        let set = self.world.set_str_attr(class, name, value);
+        self.marked_as(set)
+    }
+
+    /// Takes an own attribute out of a class that a script made, and says whether it was there. Where it is refused, the
+    /// machine's world stays as it was.
+    pub fn del_attr_direct(
+        &mut self,
+        class: PyTypeRef,
+        name: PyStrInterned,
+    ) -> Result<bool, ClassFault>
+        requires class { Holds self.old.world (IsClass class.0) }
+        requires name { Holds self.old.world (IsName name) }
+        ensures refused { (t : Reading) → refusal result ≡ refused_attr (plain t self.old.world).classes class.0 }
+        ensures memory { NeedsNoMemory result }
+        ensures there { IfOk result (λ b. (t : Reading) → Reads t self.old.world → b ≡
+            is_some (own_of (λ y. is_text y (t.text name.0)) (class_numbered (plain t self.old.world).classes class.0))) }
+        ensures taken { OnOk result ((t : Reading) → plain t self.new.world ≡
+            without_own_attr (plain t self.old.world) class.0 (t.text name.0)) }
+        ensures absent { result ≡ Ok false → self.new.world ≡ self.old.world }
+        ensures err { OnErr result (self.new.world ≡ self.old.world) }
+        ensures reads { (t : Reading) → Reads t self.new.world → Reads t self.old.world }
+        ensures grows { Grows self.old.world self.new.world }
+        ensures mark { MarkedAs self.old self.new result }
+        ensures names { NamesNoClass result }
+    {
+        let there = self.world.del_attr_direct(class, name);
+        self.marked_as(there)
+    }
+
+    /// Gives a class other bases. The tests that need no order are told first, and also where memory is short: a script
+    /// made the class; it gets bases; none of them is the class or derives from it; each may have subclasses and its
+    /// layout goes with those before it; the class keeps its solid class; none stands twice. Then the least-numbered
+    /// class is told that would have no order while all its bases have one. Where it is refused, and where memory runs
+    /// out, the machine's world stays as it was. No count of steps falls.
+    pub fn set_bases<L: Ledger>(
+        &mut self,
+        class: PyTypeRef,
+        bases: Vec<PyTypeRef>,
+        steps: &mut Steps<L>,
+    ) -> Result<(), ClassFault>
+        requires class { Holds self.old.world (IsClass class.0) }
+        requires bases { AllHold self.old.world (of_each of_class_ref bases.items) }
+        ensures early { (t : Reading) →
+            IsToldFirst (plain t self.old.world).classes class.0 (numbers bases.items) (told result) }
+        ensures refused { (t : Reading) → WithMemory result (told result ≡
+            refused_rebase (plain t self.old.world).classes class.0 (numbers bases.items)) }
+        ensures set { OnOk result ((t : Reading) → plain t self.new.world ≡
+            apply (plain t self.old.world) (SetBases class.0 (numbers bases.items))) }
+        ensures err { OnErr result (self.new.world ≡ self.old.world) }
+        ensures merges { steps.old.merges ≤ steps.new.merges }
+        ensures probes { steps.old.probes ≤ steps.new.probes }
+        ensures reads { (t : Reading) → Reads t self.new.world → Reads t self.old.world }
+        ensures grows { Grows self.old.world self.new.world }
+        ensures mark { MarkedAs self.old self.new result }
+    {
+        let set = self.world.set_bases(class, bases, steps);
+        self.marked_as(set)
+    }
+}

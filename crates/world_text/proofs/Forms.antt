@@ -1,0 +1,137 @@
+-- What is to be stored stands for the tree of its expression, where its parts do.
+use Rattle.std.proofs.Common.{◌≡◌, ℕ, Bool, List, [], ◌∷◌, map, String, string_bytes, refl, sym, ap, ◌∙◌, rules}
+use Rattle.std.specs.Global.{Box, Vec}
+use Rattle.std.specs.declared.alloc.Global.{Global}
+use Rattle.py_node.specs.declared.refs.PyStrInterned.{PyStrInterned}
+use Rattle.py_node.specs.declared.expr.Word.{Word}
+use Rattle.py_node.specs.declared.payload.Form.TheVariants as form
+use Rattle.py_node.specs.declared.expr.Expr.{Expr, the_lemmas}
+use Rattle.py_node.specs.declared.expr.Expr.TheViews as expr
+use Rattle.py_node.specs.Tree.{TBind, TTuple, TList, TDict, TFunc, TAttr, TSetAttr, TDelAttr, TCall, TOp, TIf, TSeq, TClass, entry, entries_of, trees_of, keyed_of, texts_of, tree_of, part_of, pair_of}
+use Rattle.class_world.specs.Held.{Held}
+use Rattle.class_world.specs.Reading.{entry_list}
+use Rattle.world_text.specs.Store.{HasName, HasNames, HasTree, HasTrees, HasPairs, HasEntries, HasForm}
+
+-- entries, by their texts and trees
+entries_parts : (es : List (String Global × Expr)) → entry_list (map part_of es) ≡ entries_of (map (λ p. (p.0, tree_of p.1)) es)
+entries_parts [] = refl
+entries_parts (e ∷ es) = ap (λ rest. entry (string_bytes e.0) (tree_of e.1) rest) (entries_parts es)
+
+-- the tree of an expression, by those of its parts
+bind-tree : (a0 : String Global) (a1 : Box Expr) → tree_of (expr.Bind a0 a1) ≡ TBind (string_bytes a0) (tree_of a1.value)
+bind-tree a0 a1 = search (rules, the_lemmas)
+
+tuple-tree : (a0 : Vec Expr) → tree_of (expr.Tuple a0) ≡ TTuple (trees_of (map tree_of a0.items))
+tuple-tree a0 = search (rules, the_lemmas)
+
+list-tree : (a0 : Vec Expr) → tree_of (expr.List a0) ≡ TList (trees_of (map tree_of a0.items))
+list-tree a0 = search (rules, the_lemmas)
+
+dict-tree : (a0 : Vec (Expr × Expr)) → tree_of (expr.Dict a0) ≡ TDict (keyed_of (map pair_of a0.items))
+dict-tree a0 = search (rules, the_lemmas)
+
+func-tree : (a0 : String Global) (a1 : Vec (String Global)) (a2 : Bool) (a3 : Box Expr) → tree_of (expr.Func a0 a1 a2 a3) ≡ TFunc (string_bytes a0) (texts_of a1.items) a2 (tree_of a3.value)
+func-tree a0 a1 a2 a3 = search (rules, the_lemmas)
+
+attr-tree : (a0 : Box Expr) (a1 : String Global) → tree_of (expr.Attr a0 a1) ≡ TAttr (tree_of a0.value) (string_bytes a1)
+attr-tree a0 a1 = search (rules, the_lemmas)
+
+set_attr-tree : (a0 : Box Expr) (a1 : String Global) (a2 : Box Expr) → tree_of (expr.SetAttr a0 a1 a2) ≡ TSetAttr (tree_of a0.value) (string_bytes a1) (tree_of a2.value)
+set_attr-tree a0 a1 a2 = search (rules, the_lemmas)
+
+del_attr-tree : (a0 : Box Expr) (a1 : String Global) → tree_of (expr.DelAttr a0 a1) ≡ TDelAttr (tree_of a0.value) (string_bytes a1)
+del_attr-tree a0 a1 = search (rules, the_lemmas)
+
+call-tree : (a0 : Box Expr) (a1 : Vec Expr) (a2 : Vec (String Global × Expr)) → tree_of (expr.Call a0 a1 a2) ≡ TCall (tree_of a0.value) (trees_of (map tree_of a1.items)) (entries_of (map (λ p. (p.0, tree_of p.1)) a2.items))
+call-tree a0 a1 a2 = search (rules, the_lemmas)
+
+op-tree : (a0 : Word) (a1 : Vec Expr) → tree_of (expr.Op a0 a1) ≡ TOp a0 (trees_of (map tree_of a1.items))
+op-tree a0 a1 = search (rules, the_lemmas)
+
+if-tree : (a0 : Box Expr) (a1 : Box Expr) (a2 : Box Expr) → tree_of (expr.If a0 a1 a2) ≡ TIf (tree_of a0.value) (tree_of a1.value) (tree_of a2.value)
+if-tree a0 a1 a2 = search (rules, the_lemmas)
+
+seq-tree : (a0 : Vec Expr) → tree_of (expr.Seq a0) ≡ TSeq (trees_of (map tree_of a0.items))
+seq-tree a0 = search (rules, the_lemmas)
+
+class-tree : (a0 : String Global) (a1 : Vec Expr) (a2 : Vec (String Global × Expr)) (a3 : Vec (String Global × Expr)) → tree_of (expr.Class a0 a1 a2 a3) ≡ TClass (string_bytes a0) (trees_of (map tree_of a1.items)) (entries_of (map (λ p. (p.0, tree_of p.1)) a2.items)) (entries_of (map (λ p. (p.0, tree_of p.1)) a3.items))
+class-tree a0 a1 a2 a3 = search (rules, the_lemmas)
+
+module _ {w : Held} {e : Expr} where
+  pub bind-form : {x0 : PyStrInterned} {x1 : ℕ} (a0 : String Global) (a1 : Box Expr) → e ≡ expr.Bind a0 a1 → HasName w x0 (string_bytes a0) → HasTree w x1 (tree_of a1.value) → HasForm w (form.Bind x0 x1) (tree_of e)
+  bind-form {x0} {x1} a0 a1 q h0 h1 = record {
+    there = (h0.there, (h1.there, tt));
+    read = λ t r. let p : TBind (t.text x0.0) (t.tree x1) ≡ TBind (string_bytes a0) (tree_of a1.value) = λ i. TBind (h0.read t r i) (h1.read t r i) in p ∙ sym (bind-tree a0 a1) ∙ ap tree_of (sym q);
+  }
+
+  pub tuple-form : {x0 : Vec ℕ} (a0 : Vec Expr) → e ≡ expr.Tuple a0 → HasTrees w x0.items (map tree_of a0.items) → HasForm w (form.Tuple x0) (tree_of e)
+  tuple-form {x0} a0 q h0 = record {
+    there = (h0.there, tt);
+    read = λ t r. let p : TTuple (trees_of (map t.tree x0.items)) ≡ TTuple (trees_of (map tree_of a0.items)) = λ i. TTuple (trees_of (h0.read t r i)) in p ∙ sym (tuple-tree a0) ∙ ap tree_of (sym q);
+  }
+
+  pub list-form : {x0 : Vec ℕ} (a0 : Vec Expr) → e ≡ expr.List a0 → HasTrees w x0.items (map tree_of a0.items) → HasForm w (form.List x0) (tree_of e)
+  list-form {x0} a0 q h0 = record {
+    there = (h0.there, tt);
+    read = λ t r. let p : TList (trees_of (map t.tree x0.items)) ≡ TList (trees_of (map tree_of a0.items)) = λ i. TList (trees_of (h0.read t r i)) in p ∙ sym (list-tree a0) ∙ ap tree_of (sym q);
+  }
+
+  pub dict-form : {x0 : Vec (ℕ × ℕ)} (a0 : Vec (Expr × Expr)) → e ≡ expr.Dict a0 → HasPairs w x0.items (map pair_of a0.items) → HasForm w (form.Dict x0) (tree_of e)
+  dict-form {x0} a0 q h0 = record {
+    there = (h0.keys, (h0.values, tt));
+    read = λ t r. let p : TDict (keyed_of (map (λ p. (t.tree p.0, t.tree p.1)) x0.items)) ≡ TDict (keyed_of (map pair_of a0.items)) = λ i. TDict (keyed_of (h0.read t r i)) in p ∙ sym (dict-tree a0) ∙ ap tree_of (sym q);
+  }
+
+  pub func-form : {x0 : PyStrInterned} {x1 : Vec PyStrInterned} {x3 : ℕ} (a0 : String Global) (a1 : Vec (String Global)) (a2 : Bool) (a3 : Box Expr) → e ≡ expr.Func a0 a1 a2 a3 → HasName w x0 (string_bytes a0) → HasNames w x1.items (texts_of a1.items) → HasTree w x3 (tree_of a3.value) → HasForm w (form.Func x0 x1 a2 x3) (tree_of e)
+  func-form {x0} {x1} {x3} a0 a1 a2 a3 q h0 h1 h3 = record {
+    there = (h0.there, (h1.there, (h3.there, tt)));
+    read = λ t r. let p : TFunc (t.text x0.0) (map (λ x. t.text x.0) x1.items) a2 (t.tree x3) ≡ TFunc (string_bytes a0) (texts_of a1.items) a2 (tree_of a3.value) = λ i. TFunc (h0.read t r i) (h1.read t r i) a2 (h3.read t r i) in p ∙ sym (func-tree a0 a1 a2 a3) ∙ ap tree_of (sym q);
+  }
+
+  pub attr-form : {x0 : ℕ} {x1 : PyStrInterned} (a0 : Box Expr) (a1 : String Global) → e ≡ expr.Attr a0 a1 → HasTree w x0 (tree_of a0.value) → HasName w x1 (string_bytes a1) → HasForm w (form.Attr x0 x1) (tree_of e)
+  attr-form {x0} {x1} a0 a1 q h0 h1 = record {
+    there = (h0.there, (h1.there, tt));
+    read = λ t r. let p : TAttr (t.tree x0) (t.text x1.0) ≡ TAttr (tree_of a0.value) (string_bytes a1) = λ i. TAttr (h0.read t r i) (h1.read t r i) in p ∙ sym (attr-tree a0 a1) ∙ ap tree_of (sym q);
+  }
+
+  pub set_attr-form : {x0 : ℕ} {x1 : PyStrInterned} {x2 : ℕ} (a0 : Box Expr) (a1 : String Global) (a2 : Box Expr) → e ≡ expr.SetAttr a0 a1 a2 → HasTree w x0 (tree_of a0.value) → HasName w x1 (string_bytes a1) → HasTree w x2 (tree_of a2.value) → HasForm w (form.SetAttr x0 x1 x2) (tree_of e)
+  set_attr-form {x0} {x1} {x2} a0 a1 a2 q h0 h1 h2 = record {
+    there = (h0.there, (h1.there, (h2.there, tt)));
+    read = λ t r. let p : TSetAttr (t.tree x0) (t.text x1.0) (t.tree x2) ≡ TSetAttr (tree_of a0.value) (string_bytes a1) (tree_of a2.value) = λ i. TSetAttr (h0.read t r i) (h1.read t r i) (h2.read t r i) in p ∙ sym (set_attr-tree a0 a1 a2) ∙ ap tree_of (sym q);
+  }
+
+  pub del_attr-form : {x0 : ℕ} {x1 : PyStrInterned} (a0 : Box Expr) (a1 : String Global) → e ≡ expr.DelAttr a0 a1 → HasTree w x0 (tree_of a0.value) → HasName w x1 (string_bytes a1) → HasForm w (form.DelAttr x0 x1) (tree_of e)
+  del_attr-form {x0} {x1} a0 a1 q h0 h1 = record {
+    there = (h0.there, (h1.there, tt));
+    read = λ t r. let p : TDelAttr (t.tree x0) (t.text x1.0) ≡ TDelAttr (tree_of a0.value) (string_bytes a1) = λ i. TDelAttr (h0.read t r i) (h1.read t r i) in p ∙ sym (del_attr-tree a0 a1) ∙ ap tree_of (sym q);
+  }
+
+  pub call-form : {x0 : ℕ} {x1 : Vec ℕ} {x2 : Vec (PyStrInterned × ℕ)} (a0 : Box Expr) (a1 : Vec Expr) (a2 : Vec (String Global × Expr)) → e ≡ expr.Call a0 a1 a2 → HasTree w x0 (tree_of a0.value) → HasTrees w x1.items (map tree_of a1.items) → HasEntries w x2.items (map part_of a2.items) → HasForm w (form.Call x0 x1 x2) (tree_of e)
+  call-form {x0} {x1} {x2} a0 a1 a2 q h0 h1 h2 = record {
+    there = (h0.there, (h1.there, (h2.names, (h2.values, tt))));
+    read = λ t r. let p : TCall (t.tree x0) (trees_of (map t.tree x1.items)) (entry_list (map (λ e. (t.text e.0.0, t.tree e.1)) x2.items)) ≡ TCall (tree_of a0.value) (trees_of (map tree_of a1.items)) (entries_of (map (λ p. (p.0, tree_of p.1)) a2.items)) = λ i. TCall (h0.read t r i) (trees_of (h1.read t r i)) ((ap entry_list (h2.read t r) ∙ entries_parts a2.items) i) in p ∙ sym (call-tree a0 a1 a2) ∙ ap tree_of (sym q);
+  }
+
+  pub op-form : {x1 : Vec ℕ} (a0 : Word) (a1 : Vec Expr) → e ≡ expr.Op a0 a1 → HasTrees w x1.items (map tree_of a1.items) → HasForm w (form.Op a0 x1) (tree_of e)
+  op-form {x1} a0 a1 q h1 = record {
+    there = (h1.there, tt);
+    read = λ t r. let p : TOp a0 (trees_of (map t.tree x1.items)) ≡ TOp a0 (trees_of (map tree_of a1.items)) = λ i. TOp a0 (trees_of (h1.read t r i)) in p ∙ sym (op-tree a0 a1) ∙ ap tree_of (sym q);
+  }
+
+  pub if-form : {x0 : ℕ} {x1 : ℕ} {x2 : ℕ} (a0 : Box Expr) (a1 : Box Expr) (a2 : Box Expr) → e ≡ expr.If a0 a1 a2 → HasTree w x0 (tree_of a0.value) → HasTree w x1 (tree_of a1.value) → HasTree w x2 (tree_of a2.value) → HasForm w (form.If x0 x1 x2) (tree_of e)
+  if-form {x0} {x1} {x2} a0 a1 a2 q h0 h1 h2 = record {
+    there = (h0.there, (h1.there, (h2.there, tt)));
+    read = λ t r. let p : TIf (t.tree x0) (t.tree x1) (t.tree x2) ≡ TIf (tree_of a0.value) (tree_of a1.value) (tree_of a2.value) = λ i. TIf (h0.read t r i) (h1.read t r i) (h2.read t r i) in p ∙ sym (if-tree a0 a1 a2) ∙ ap tree_of (sym q);
+  }
+
+  pub seq-form : {x0 : Vec ℕ} (a0 : Vec Expr) → e ≡ expr.Seq a0 → HasTrees w x0.items (map tree_of a0.items) → HasForm w (form.Seq x0) (tree_of e)
+  seq-form {x0} a0 q h0 = record {
+    there = (h0.there, tt);
+    read = λ t r. let p : TSeq (trees_of (map t.tree x0.items)) ≡ TSeq (trees_of (map tree_of a0.items)) = λ i. TSeq (trees_of (h0.read t r i)) in p ∙ sym (seq-tree a0) ∙ ap tree_of (sym q);
+  }
+
+  pub class-form : {x0 : PyStrInterned} {x1 : Vec ℕ} {x2 : Vec (PyStrInterned × ℕ)} {x3 : Vec (PyStrInterned × ℕ)} (a0 : String Global) (a1 : Vec Expr) (a2 : Vec (String Global × Expr)) (a3 : Vec (String Global × Expr)) → e ≡ expr.Class a0 a1 a2 a3 → HasName w x0 (string_bytes a0) → HasTrees w x1.items (map tree_of a1.items) → HasEntries w x2.items (map part_of a2.items) → HasEntries w x3.items (map part_of a3.items) → HasForm w (form.Class x0 x1 x2 x3) (tree_of e)
+  class-form {x0} {x1} {x2} {x3} a0 a1 a2 a3 q h0 h1 h2 h3 = record {
+    there = (h0.there, (h1.there, (h2.names, (h2.values, (h3.names, (h3.values, tt))))));
+    read = λ t r. let p : TClass (t.text x0.0) (trees_of (map t.tree x1.items)) (entry_list (map (λ e. (t.text e.0.0, t.tree e.1)) x2.items)) (entry_list (map (λ e. (t.text e.0.0, t.tree e.1)) x3.items)) ≡ TClass (string_bytes a0) (trees_of (map tree_of a1.items)) (entries_of (map (λ p. (p.0, tree_of p.1)) a2.items)) (entries_of (map (λ p. (p.0, tree_of p.1)) a3.items)) = λ i. TClass (h0.read t r i) (trees_of (h1.read t r i)) ((ap entry_list (h2.read t r) ∙ entries_parts a2.items) i) ((ap entry_list (h3.read t r) ∙ entries_parts a3.items) i) in p ∙ sym (class-tree a0 a1 a2 a3) ∙ ap tree_of (sym q);
+  }

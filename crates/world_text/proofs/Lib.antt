@@ -1,0 +1,5 @@
+pub mod Adding
+pub mod Forms
+pub mod Parts
+pub mod Shown
+pub mod ClassText

@@ -1,0 +1,15 @@
+use Rattle.std.proofs.Common.{ap, ◌∙◌, ◌++◌, List, ℕ, arith}
+use Rattle.std.specs.List.{flat_map}
+use Rattle.class_model.specs.Numbers.{numbers_of}
+use Rattle.class_table.specs.Keys.{table_keys}
+use Rattle.reply_text.proofs.Members.{written_more}
+use Rattle.plain_machine.specs.ClassText.{heap_text}
+use Rattle.world_text.proofs.ClassText.{text-next, all-taken}
+use Rattle.world_text.proofs.class_lines.push_each.Goals as goal
+
+pub loop-place-preserved : goal.loop-place-preserved
+loop-place-preserved c =
+    written_more _ _ _ _ _ _ c.in_ok-push_if_heap.ensures c.loop-place.invariant (text-next table_keys c.args.classes.now (numbers_of c.args.classes.now) c.loop-place.place _ c.number_at.ensures.number)
+
+pub returns : goal.returns
+returns c = c.loop-place.invariant ∙ ap (λ (ns : List ℕ). c.args.out.now.items ++ flat_map (heap_text table_keys c.args.classes.now) ns) (all-taken c.args.classes.now c.loop-place.place (omega arith))

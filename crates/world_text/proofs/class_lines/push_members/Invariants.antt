@@ -1,0 +1,12 @@
+use Rattle.std.proofs.Common.{◌≡◌, ◌++◌, take, map, eqb}
+use Rattle.std.specs.Prelude.{codes}
+use Rattle.plain_machine.specs.Escapes.{escaped}
+use Rattle.plain_machine.specs.Lines.{joined}
+use Rattle.plain_machine.specs.ClassText.{name_at}
+use Rattle.world_text.proofs.class_lines.push_members.Given as goal
+
+abbrev pub invariant-loop-class : goal.invariant-loop-class
+invariant-loop-class l = record {
+  first : l.is_first ≡ eqb l.class-index 0;
+  written : l.out.items ≡ l.initial.out.items ++ joined (codes ", ") (map escaped (map (λ c. name_at l.classes c.0) (take l.class-index l.line)));
+}

@@ -1,0 +1,10 @@
+use Rattle.std.proofs.Common.{◌≡◌, ◌++◌, map, take}
+use Rattle.std.specs.List.{flat_map}
+use Rattle.plain_machine.specs.ClassLines.{slot_word}
+use Rattle.class_table.specs.Keys.{table_keys}
+use Rattle.plain_machine.specs.ClassText.{own_words}
+use Rattle.world_text.proofs.class_lines.push_own_slots.Given as goal
+
+abbrev pub invariant-loop-row : goal.invariant-loop-row
+invariant-loop-row l =
+    l.out.items ≡ l.initial.out.items ++ flat_map slot_word (own_words table_keys l.classes l.class.0 (map (λ r. r.0) (take l.row-index l.rows)))

@@ -1,0 +1,10 @@
+use Rattle.std.proofs.Common.{take}
+use Rattle.py_node.specs.Tree.{texts_of}
+use Rattle.world_text.specs.Store.{Adds, HasNames}
+use Rattle.world_text.proofs.expressions.names_of.Given as goal
+
+abbrev pub invariant-loop-text : goal.invariant-loop-text
+invariant-loop-text l = record {
+  adds : Adds l.initial.world l.world;
+  names : HasNames l.world l.names.items (texts_of (take l.text-index l.text-items));
+}

@@ -1,0 +1,20 @@
+-- What is shown inside a container, and where it is not.
+use Rattle.std.specs.Prelude.{ℕ, zero, suc, List, map, Option, Some, None, option_map, String, string_bytes}
+use Rattle.std.specs.Global.{Vec}
+use Rattle.std.specs.declared.alloc.Global.{Global}
+use Rattle.py_node.specs.Tree.{Text}
+use Rattle.plain_machine.specs.Show.{dots}
+
+-- texts, by their bytes
+abbrev pub texts_of : Option (Vec (String Global)) → Option (List Text)
+texts_of o = option_map (λ xs. map string_bytes xs.items) o
+
+-- what is one less deep, if anything is
+abbrev pub inside : {A : Type 0} → ℕ → (ℕ → A) → Option A
+inside zero f = None
+inside (suc n) f = Some (f n)
+
+-- the text of a container, or dots where its items are not shown
+abbrev pub or_dots : (List Text → Text) → Option (List Text) → Text
+or_dots text None = dots
+or_dots text (Some xs) = text xs
