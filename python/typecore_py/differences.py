@@ -38,7 +38,6 @@ KNOWN: dict[str, str] = {
     "class-dict": "a class's __dict__ is a new dict each time, which can be set in",
     "foreign-receiver": "a method of a built-in class that is given another's object may be NotImplemented",
     "doc-of-property": "a property has no text of its getter",
-    "reflected-first": "the right operand of a class below goes first though it overrides nothing",
     "mro-entries": "a base that is no class is refused",
     "super-kind": "super() in a function that no class made is a TypeError",
     "super-class": "super takes no object that only its __class__ makes one of the class",

@@ -227,15 +227,6 @@ def is_doc_of_property(case: Case) -> bool:
     return decorated and reads(case, "__doc__") and case.end == "= None" and case.python_end.startswith('= "')
 
 
-def is_reflected_first(case: Case) -> bool:
-    """The first body that differs is a reflected method here, and its left one in Python."""
-    for mine, theirs in zip(case.machine.events, case.python):
-        if mine != theirs:
-            reflected, left = name_of_event(mine), name_of_event(theirs)
-            return reflected == left.replace("__", "__r", 1) and left.startswith("__")
-    return False
-
-
 def starred(case: Case) -> bool:
     return any(isinstance(it, ast.Starred) for it in case.nodes)
 
@@ -291,7 +282,6 @@ RECOGNISERS: dict[str, Callable[[Case], bool]] = {
     "class-dict": is_class_dict,
     "foreign-receiver": is_foreign_receiver,
     "doc-of-property": is_doc_of_property,
-    "reflected-first": is_reflected_first,
     "keywords": is_keywords,
     "starred": is_starred,
     "profile": is_profile,
