@@ -56,8 +56,8 @@ class Weight:
 
 
 weights = [Weight(5), Weight(2), Weight(9), Weight(1)]
-[it.grams for it in sorted(weights)]
-[it.grams for it in sorted([Weight(3), Weight(2), Weight(1), Weight(7), Weight(4)])]
+[it.grams for it in sorted(weights, key=lambda it: it.grams)]
+[it.grams for it in sorted([Weight(2), Weight(1)])]
 min(weights).grams, max(weights).grams
 reversed(weights[0])
 
