@@ -1,7 +1,7 @@
 //! Classes that a host makes and changes on a machine. Each call is the world's own: its refusals and what it changes are
 //! those. Want of memory sets the machine's mark.
 
-ghost use Rattle.std.specs.Prelude.{◌≡◌, ◌≤◌, ◌∷◌, [], ℕ, Ok, Some, IfOk, OnOk, OnErr, is_some, length};
+ghost use Rattle.std.specs.Prelude.{◌≡◌, ◌≤◌, ◌∷◌, [], ℕ, Ok, Some, IfOk, OnOk, OnErr, is_some, length, false};
 ghost use Rattle.py_node.specs.declared.built_in.BuiltIn.{BuiltIn};
 ghost use Rattle.py_node.specs.declared.built_in.BuiltIn.TheVariants.{TypeType};
 ghost use Rattle.class_model.specs.Class.{class_at as class_numbered, own_of};
