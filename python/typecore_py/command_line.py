@@ -9,7 +9,8 @@ import sys
 from dataclasses import dataclass, replace
 from pathlib import Path
 
-from . import beside, graph, json_telling, machine, options, page, prompt, source, stopping, tracing, watching
+from . import beside, checking, graph, hierarchy, json_telling, machine, manual
+from . import options, page, prompt, source, stopping, tracing, watching
 from .differences import KNOWN, LAST, Comparison, Difference
 from .refusal import Refusals, Refused
 from .source import Program
@@ -74,11 +75,49 @@ def leave_output() -> None:
 
 def asked_for(asked: argparse.Namespace) -> int:
     """Reads all files before any is run, and does with each what was asked for."""
+    if asked.print:
+        Teller(sys.stdout).text(manual.PAGES[asked.print](options.parser()))
+        return DONE
     if asked.watch:
         return watching.watch(asked.files[0], lambda: all_files(asked))
     if asked.prompt:
         return at_prompt(asked)
+    if asked.check or asked.hierarchy:
+        return orders(asked)
     return all_files(asked)
+
+
+def orders(asked: argparse.Namespace) -> int:
+    """Finds the order of each class of the files or modules, or prints what the machine would be given."""
+    try:
+        members = members_of(asked.files)
+    except hierarchy.NoHierarchy as error:
+        say(str(error))
+        return NOT_READ
+    text = hierarchy.input_text(members)
+    if len(text.encode()) > source.LONGEST:
+        say("the hierarchy has more than 16,777,216 bytes")
+        return REFUSED
+    teller = Teller(sys.stdout)
+    if asked.hierarchy:
+        teller.text(text)
+        return DONE
+    words = [*machine_program(asked), "check", *(["par"] if asked.par else [])]
+    found = checking.taken_apart(machine.written(text, words), members)
+    is_well = checking.tell_differences(teller, found) if asked.against_python else checking.tell(teller, found)
+    teller.flush()
+    return DONE if is_well else DIFFERS
+
+
+def members_of(files: list[str]) -> list[hierarchy.Member]:
+    """The classes of sources, or of modules where what is named is no file."""
+    sources = [it for it in files if it.endswith(".py") or Path(it).is_file()]
+    if sources and len(sources) < len(files):
+        raise hierarchy.NoHierarchy("files and modules can't be mixed")
+    members = hierarchy.of_files(sources) if sources else hierarchy.of_modules(files)
+    if not members:
+        raise hierarchy.NoHierarchy(f"{' '.join(files)}: there is no class")
+    return members
 
 
 def all_files(asked: argparse.Namespace) -> int:

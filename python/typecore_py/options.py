@@ -49,6 +49,7 @@ def parser() -> argparse.ArgumentParser:
     made.add_argument("files", nargs="*", metavar="FILE.py", help="a Python source, or - for standard input")
     made.add_argument("-c", dest="text", metavar="TEXT", help="run this source in place of a file")
     made.add_argument("-i", dest="prompt", action="store_true", help="ask for statements, after those of a file if any")
+    made.add_argument("--print", choices=("man", "bash", "zsh"), help="print the manual page, or what a shell completes by")
     made.add_argument("--version", action="version", version=f"typecore-py {__version__}")
     made.add_argument("--units", type=units, default=100_000, metavar="N", help="what each command may spend (100000)")
     made.add_argument(
@@ -66,6 +67,13 @@ def parser() -> argparse.ArgumentParser:
     how.add_argument("--json", action="store_true", help="tell all as JSON: lines, sources, bodies, ends and classes")
     how.add_argument("--graph", action="store_true", help="tell the classes as a graph for Graphviz")
     how.add_argument("--html", metavar="OUT.html", help="write one page: source, answers and classes")
+    made.add_argument(
+        "--check",
+        action="store_true",
+        help="find each class's order, of sources that aren't run or of modules by their names, and tell conflicts",
+    )
+    made.add_argument("--hierarchy", action="store_true", help="print what --check gives to the machine, and run nothing")
+    made.add_argument("--par", action="store_true", help="--check with all processors")
     made.add_argument("--watch", action="store_true", help="run the file again whenever it changes")
     made.add_argument("--seconds", type=seconds, default=10.0, metavar="N", help="what Python may take a command (10)")
     made.add_argument("--now", action="store_true", help="run ./typecore --now: not proved, built in a minute or two")
@@ -77,6 +85,8 @@ def words(given: list[str] | None) -> argparse.Namespace:
     """What the words of the program ask for. Ends the program where they are wrong."""
     made = parser()
     asked = made.parse_args(given)
+    if asked.print:
+        return asked
     if asked.text is not None and asked.files:
         made.error("-c is in place of a file")
     if asked.text is None and not asked.files and not asked.prompt:
@@ -86,7 +96,15 @@ def words(given: list[str] | None) -> argparse.Namespace:
         made.error(f"{'-i' if single[0] == 'prompt' else '--' + single[0]} takes one file")
     if asked.watch and (asked.text is not None or "-" in asked.files):
         made.error("--watch is of a file")
-    others = ("watch", "script", "json", "graph", "html", "against_python")
+    if asked.check or asked.hierarchy:
+        ways = ("script", "quiet", "json", "graph", "html", "watch", "prompt", "where")
+        if asked.text is not None or any(getattr(asked, it) for it in ways) or asked.check == asked.hierarchy:
+            made.error("--check and --hierarchy are of files or modules, and go with no other way to tell")
+    if asked.par and not asked.check:
+        made.error("--par goes with --check")
+    if asked.hierarchy and asked.against_python:
+        made.error("--against-python goes with --check")
+    others = ("check", "hierarchy", "watch", "script", "json", "graph", "html", "against_python")
     if asked.prompt and any(getattr(asked, it) for it in others):
         made.error("-i goes with --quiet alone of the ways to tell")
     if asked.now and asked.machine:

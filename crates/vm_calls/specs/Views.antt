@@ -55,6 +55,13 @@ NodeMade class datum old new r =
 abbrev pub MakesNode : ℕ → (Reading → Datum) → State → State → Result PyObjectRef RunFault → Type 0
 MakesNode class datum = Tells (NodeMade class datum) of_node_ref
 
+-- the same, as a call ends that may also raise
+abbrev pub NewIs : ℕ → (Reading → Datum) → Held → Held → PyResult PyObjectRef → Type 0
+NewIs class datum old new end = (r : PyObjectRef) × (end ≡ Done r) × NodeMade class datum old new r
+
+abbrev pub TellsNew : ℕ → (Reading → Datum) → State → State → Result (PyResult PyObjectRef) RunFault → Type 0
+TellsNew class datum = Tells (NewIs class datum) (of_done of_node_ref)
+
 -- the task of a new whole number, asked with so many units in the world that has it, ended between the worlds
 abbrev pub AskedWith : ℤ → (PyObjectRef → PlainTask) → ℕ → Held → Held → PyResult Answer → Type 0
 AskedWith z task units old new end =

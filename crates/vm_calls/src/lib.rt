@@ -16,6 +16,7 @@ pub mod numbers;
 pub mod objects;
 pub mod operators;
 pub mod sequence;
+pub mod values;
 
 pub use attributes::{
     call_set_attr, del_attr, generic_getattr, generic_getattr_opt, generic_setattr, get_attr,
@@ -41,3 +42,4 @@ pub use operators::{
     _abs, _add, _and, _divmod, _floordiv, _invert, _lshift, _matmul, _mod, _mul, _neg, _or, _pos,
     _pow, _rshift, _sub, _truediv, _xor, binary_op, binary_op1,
 };
+pub use values::{int_of, new_int, new_text, text_of};

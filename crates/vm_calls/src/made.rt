@@ -25,7 +25,7 @@ pub(crate) enum Made {
 }
 
 // A new object.
-fn new_node(
+pub(crate) fn new_node(
     vm: &mut VirtualMachine,
     class: PyTypeRef,
     payload: Payload,

@@ -1,0 +1,9 @@
+-- What a host takes from an object.
+use Rattle.std.specs.Prelude.{Option, Some, None}
+use Rattle.py_node.specs.Tree.{Text}
+use Rattle.plain_machine.specs.Plain.{Datum, AText}
+
+-- the text that an object holds, where it holds one
+abbrev pub text_of : Option Datum → Option Text
+text_of (Some (AText x)) = Some x
+text_of _ = None

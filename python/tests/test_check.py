@@ -1,0 +1,124 @@
+"""Hierarchies from sources and modules, and what is told of their orders."""
+
+import io
+import tempfile
+import unittest
+from pathlib import Path
+
+from typecore_py import checking, hierarchy
+from typecore_py.hierarchy import Member
+from typecore_py.telling import Teller
+
+SOURCE = """
+from abc import ABC
+from typing import Generic
+
+class A(ABC): pass
+class B(A):
+    class Inner(A): pass
+class C(Generic[int], B.Inner): pass
+def make():
+    class A: pass
+    class D(A): pass
+class A(object): pass
+class E(A, B): pass
+"""
+
+
+def of_source(text: str) -> list[Member]:
+    """The classes of a source."""
+    with tempfile.TemporaryDirectory() as room:
+        path = Path(room, "m.py")
+        path.write_text(text)
+        return hierarchy.of_files([str(path)])
+
+
+class OfSources(unittest.TestCase):
+    def test_each_class_stands_after_its_bases_and_has_a_name_of_its_own(self) -> None:
+        found = [(it.name, it.bases) for it in of_source(SOURCE)]
+        wanted = [
+            ("abc.ABC", ()),
+            ("m.A", ("abc.ABC",)),
+            ("m.B", ("m.A",)),
+            ("m.B.Inner", ("m.A",)),
+            ("typing.Generic", ()),
+            ("m.C", ("typing.Generic", "m.B.Inner")),
+            ("m.make.A", ()),
+            ("m.make.D", ("m.make.A",)),
+            ("m.A#2", ()),
+            ("m.E", ("m.A#2", "m.B")),
+        ]
+        self.assertEqual(found, wanted)
+
+    def test_a_class_of_one_source_is_a_base_in_another(self) -> None:
+        with tempfile.TemporaryDirectory() as room:
+            one, two = Path(room, "one.py"), Path(room, "two.py")
+            one.write_text("class A: pass\n")
+            two.write_text("from .one import A\nimport pack.one as it\nclass B(A): pass\nclass C(it.A): pass\n")
+            found = hierarchy.of_files([str(one), str(two)])
+        self.assertEqual([it.bases for it in found], [(), ("one.A",), ("one.A",)])
+
+    def test_what_is_no_source_is_told(self) -> None:
+        with self.assertRaises(hierarchy.NoHierarchy):
+            of_source("class A(: pass")
+        with self.assertRaises(hierarchy.NoHierarchy):
+            hierarchy.of_files(["/nowhere/m.py"])
+
+
+class OfModules(unittest.TestCase):
+    def test_all_that_a_modules_classes_derive_from_is_there(self) -> None:
+        found = hierarchy.of_modules(["collections"])
+        names = [it.name for it in found]
+        self.assertIn(Member("collections.OrderedDict", ("dict",), python=__import__("collections").OrderedDict), found)
+        self.assertLess(names.index("dict"), names.index("collections.OrderedDict"))
+        self.assertEqual(len(names), len(set(names)))
+        for at, it in enumerate(found):
+            self.assertLessEqual(set(it.bases), set(names[:at]))
+
+    def test_a_module_that_is_not_there_is_told(self) -> None:
+        with self.assertRaises(hierarchy.NoHierarchy):
+            hierarchy.of_modules(["no_such_module"])
+
+
+class Reports(unittest.TestCase):
+    MEMBERS = [Member("A", ()), Member("B", ("A",)), Member("C", ("A", "B"), "m.py:3"), Member("E", ("C",))]
+    REPORT = "order A: A, object\norder B: B, A, object\ncycle C: A < B in bases; B < A in B\nnone E: C\n"
+
+    def told(self, text: str) -> str:
+        stream = io.StringIO()
+        checking.tell(Teller(stream), checking.taken_apart(text, self.MEMBERS))
+        return stream.getvalue()
+
+    def test_a_conflict_is_told_in_words(self) -> None:
+        wanted = (
+            "A: A, object\n"
+            "B: B, A, object\n"
+            "m.py:3: C has no order: A before B in the bases of C; B before A in the order of B\n"
+            "E has no order: its base C has none\n"
+            "4 classes; 2 without an order\n"
+        )
+        self.assertEqual(self.told(self.REPORT), wanted)
+
+    def test_a_base_that_stands_twice_is_told_so(self) -> None:
+        self.assertEqual(checking.in_words("A < A in bases", self.MEMBERS[2]), "A stands twice in the bases of C")
+
+    def test_pythons_orders_are_those_of_the_report(self) -> None:
+        found = checking.taken_apart(self.REPORT, self.MEMBERS)
+        stream = io.StringIO()
+        self.assertTrue(checking.tell_differences(Teller(stream), found))
+        self.assertEqual(stream.getvalue(), "4 classes; each order is Python's\n")
+
+    def test_an_order_that_is_not_pythons_is_told(self) -> None:
+        found = checking.taken_apart(self.REPORT.replace("B: B, A,", "B: A, B,"), self.MEMBERS)
+        stream = io.StringIO()
+        self.assertFalse(checking.tell_differences(Teller(stream), found))
+        self.assertIn("  here    A, B, object\n  Python  B, A, object\n", stream.getvalue())
+
+    def test_a_report_of_other_classes_is_refused(self) -> None:
+        for text in ("order A: A, object\n", self.REPORT.replace("order B", "order D"), self.REPORT.replace("none", "nun")):
+            with self.assertRaises(checking.MachineFailed):
+                checking.taken_apart(text, self.MEMBERS)
+
+
+if __name__ == "__main__":
+    unittest.main()
