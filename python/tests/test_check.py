@@ -115,7 +115,8 @@ class Reports(unittest.TestCase):
         self.assertIn("  here    A, B, object\n  Python  B, A, object\n", stream.getvalue())
 
     def test_a_report_of_other_classes_is_refused(self) -> None:
-        for text in ("order A: A, object\n", self.REPORT.replace("order B", "order D"), self.REPORT.replace("none", "nun")):
+        report = self.REPORT
+        for text in ("order A: A, object\n", report.replace("order B", "order D"), report.replace("none", "nun")):
             with self.assertRaises(checking.MachineFailed):
                 checking.taken_apart(text, self.MEMBERS)
 
