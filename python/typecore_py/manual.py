@@ -1,4 +1,4 @@
-"""The words of the program as a manual page, and as what shells complete them by: all of them are read of the parser."""
+"""The words of the program as a manual page, and as what shells complete them by, as the parser has them."""
 
 from __future__ import annotations
 
@@ -8,7 +8,8 @@ from collections.abc import Callable, Iterator
 from . import __version__
 
 SECTIONS = {
-    "FILES": "./typecore is the machine. TYPECORE_MACHINE names its program where typecore-py was installed without it.",
+    "FILES": "./typecore is the machine. TYPECORE_MACHINE names its program where typecore-py was installed "
+    "without it.",
     "SEE ALSO": "docs/PYTHON.md tells what of Python can be said, docs/DIFFERENCES.md what is answered otherwise, and "
     "docs/CHECK.md what --check tells.",
 }
@@ -67,7 +68,8 @@ def zsh(parser: argparse.ArgumentParser) -> str:
     """What zsh completes the words by."""
     lines = ["#compdef typecore-py", "_arguments \\"]
     for it in actions(parser):
-        told = " ".join((it.help or "").split()).translate({ord(sign): f"\\{sign}" for sign in "[]:"}).replace("'", "'\\''")
+        told = " ".join((it.help or "").split()).translate({ord(sign): f"\\{sign}" for sign in "[]:"})
+        told = told.replace("'", "'\\''")
         value = f":{it.metavar.lower()}:" if it.nargs != 0 and it.metavar else ""
         lines += [f"  '{word}[{told}]{value}' \\" for word in it.option_strings]
     return "\n".join([*lines, "  '*:source:_files -g \"*.py\"'"]) + "\n"
