@@ -49,7 +49,9 @@ def parser() -> argparse.ArgumentParser:
     made.add_argument("files", nargs="*", metavar="FILE.py", help="a Python source, or - for standard input")
     made.add_argument("-c", dest="text", metavar="TEXT", help="run this source in place of a file")
     made.add_argument("-i", dest="prompt", action="store_true", help="ask for statements, after those of a file if any")
-    made.add_argument("--print", choices=("man", "bash", "zsh"), help="print the manual page, or what a shell completes by")
+    made.add_argument(
+        "--print", choices=("man", "bash", "zsh"), help="print the manual page, or what a shell completes by"
+    )
     made.add_argument("--version", action="version", version=f"typecore-py {__version__}")
     made.add_argument("--units", type=units, default=100_000, metavar="N", help="what each command may spend (100000)")
     made.add_argument(
@@ -72,7 +74,7 @@ def parser() -> argparse.ArgumentParser:
         action="store_true",
         help="find each class's order, of sources that aren't run or of modules by their names, and tell conflicts",
     )
-    made.add_argument("--hierarchy", action="store_true", help="print what --check gives to the machine, and run nothing")
+    made.add_argument("--hierarchy", action="store_true", help="print what --check gives to the machine")
     made.add_argument("--par", action="store_true", help="--check with all processors")
     made.add_argument("--watch", action="store_true", help="run the file again whenever it changes")
     made.add_argument("--seconds", type=seconds, default=10.0, metavar="N", help="what Python may take a command (10)")
