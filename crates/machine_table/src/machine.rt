@@ -8,12 +8,12 @@ use class_table::ClassFault;
 use class_world::Fixed;
 use py_node::{
     Answer, BuiltIn, Constant, Expr, Known, OperatorTask, OutOfMemory, Payload, PyAttributes,
-    PyResult, PyTypeRef, Task,
+    PyResult, PyTypeRef, SlotEntry, SlotId, Task,
 };
 use std::alloc::Global;
 use table_lines::lists::{no_names, one_class};
 use table_lines::{NoValue, Table};
-use vm_eval::VirtualMachine;
+use vm_eval::{RunFault, VirtualMachine};
 use world_text::show::show;
 
 pub fn put(table: &mut Table, vm: &mut VirtualMachine, alloc: Global) {
@@ -25,6 +25,7 @@ pub fn put(table: &mut Table, vm: &mut VirtualMachine, alloc: Global) {
     table.put_text("VirtualMachine::make_node", made_number(vm));
     table.put_text("VirtualMachine::new_heap", made_class(vm));
     table.put_text("VirtualMachine::set_attr", attribute(vm));
+    table.put("VirtualMachine::fail", given_up(alloc));
 }
 
 // The sum of True and True.
@@ -83,4 +84,22 @@ fn attribute(vm: &mut VirtualMachine) -> Result<String, NoValue> {
         None => Err(NoValue),
         Some(value) => Ok(show(vm.world(), value)?),
     }
+}
+
+// Of a machine that has failed: whether it runs no command, and whether a class's late attribute, the slot that this fills
+// and what the class derives from are told as before.
+fn given_up(alloc: Global) -> Result<(bool, bool, bool, bool), NoValue> {
+    let mut vm = VirtualMachine::new(alloc)?;
+    let class = class(&mut vm)?;
+    let (name, none) = (vm.world().known(Known::Add), vm.world().fixed(Fixed::None));
+    vm.set_attr(class, name, none)?;
+    vm.fail();
+    let is_refused = matches!(vm.run(&[], UNITS), Err(RunFault::Failed));
+    let world = vm.world();
+    Ok((
+        is_refused,
+        world.class_attr(class, name) == Some(none),
+        world.class_slot(class, SlotId::Add) == Some(SlotEntry::Wrapper(SlotId::Add)),
+        world.is_sub(class, world.built_in(BuiltIn::Object)),
+    ))
 }

@@ -2,19 +2,29 @@
 
 use std::alloc::{AllocError, Global};
 
-/// A call of the program: its name, the file of its script, its words, and which calls of the source and of the
-/// sink are to fail, by their numbers from 0 on.
+/// A call of the program: its name, the file of its script, its words, and what fails in it.
 #[derive(Drop)]
 pub struct Case {
     pub name: String,
     pub script: String,
     pub words: Vec<String>,
-    pub failing_reads: Vec<u64>,
-    pub failing_writes: Vec<u64>,
+    pub failing: Failing,
 }
 
-/// The call that a line tells as `NAME | SCRIPT | WORDS`, with a fourth part `read N` or `write N` where that one fails.
-/// `None` for a line that tells no call, such as a comment's.
+/// Which calls of the source or of the sink fail, by their numbers from 0 on.
+#[derive(Clone, Copy, PartialEq, Eq)]
+pub enum Failing {
+    Nothing,
+    Read(u64),
+    Write(u64),
+    /// The call is made again and again, and each of its reads fails in turn.
+    EachRead,
+    /// The same of its writes.
+    EachWrite,
+}
+
+/// The call that a line tells as `NAME | SCRIPT | WORDS`, with a fourth part `read N` or `write N` where that one fails, or
+/// `each read` or `each write`. `None` for a line that tells no call, such as a comment's.
 pub fn case_of(alloc: Global, line: &str) -> Result<Option<Case>, AllocError> {
     if line.starts_with('#') {
         return Ok(None);
@@ -28,8 +38,7 @@ pub fn case_of(alloc: Global, line: &str) -> Result<Option<Case>, AllocError> {
         name: String::from_str(alloc, name.trim())?,
         script: String::from_str(alloc, script.trim())?,
         words: words_of(alloc, words)?,
-        failing_reads: failing(alloc, &fault, "read")?,
-        failing_writes: failing(alloc, &fault, "write")?,
+        failing: failing(&fault),
     }))
 }
 
@@ -41,15 +50,22 @@ fn words_of(alloc: Global, text: &str) -> Result<Vec<String>, AllocError> {
     Ok(words)
 }
 
-// The number that stands after this word, as a list.
-fn failing(alloc: Global, fault: &[String], word: &str) -> Result<Vec<u64>, AllocError> {
-    let mut calls = Vec::new(alloc);
-    if let [first, number] = fault {
-        if first.as_str() == word {
-            if let Ok(call) = number.as_str().parse::<u64>() {
-                calls.push(call)?;
-            }
-        }
+// What the words of a fault tell.
+fn failing(fault: &[String]) -> Failing {
+    let [first, second] = fault else {
+        return Failing::Nothing;
+    };
+    match (first.as_str(), second.as_str()) {
+        ("each", "read") => Failing::EachRead,
+        ("each", "write") => Failing::EachWrite,
+        (end, number) => one_failing(end, number.parse::<u64>().unwrap_or(0)),
     }
-    Ok(calls)
+}
+
+fn one_failing(end: &str, number: u64) -> Failing {
+    match end {
+        "read" => Failing::Read(number),
+        "write" => Failing::Write(number),
+        _ => Failing::Nothing,
+    }
 }

@@ -3,12 +3,13 @@
 //! The files are looked for where it runs, or in the folder that its first word names.
 #![tactic(auto)]
 
+mod calls;
 mod index;
 
-use index::{Case, case_of};
+use calls::{each_read, each_write, once};
+use index::{Case, Failing, case_of};
+use outside::StdSink;
 use outside::write_all::write_all;
-use outside::{MemorySink, MemorySource, StdSink};
-use serve::top::serve;
 use std::alloc::{AllocError, Global};
 use std::process::ExitCode;
 use std::{env, fs, io};
@@ -25,7 +26,7 @@ fn main(rt: HostRuntime) -> io::Result<ExitCode> {
                 &rt,
                 path(rt.alloc(), folder.as_str(), case.script.as_str())?,
             )?;
-            if write_all(&mut sink, &told(rt.alloc(), &case, script)?).is_err() {
+            if write_all(&mut sink, &told(rt.alloc(), &case, &script)?).is_err() {
                 return Ok(ExitCode::from(1));
             }
         }
@@ -38,12 +39,16 @@ fn path(alloc: Global, folder: &str, name: &str) -> Result<String, AllocError> {
 }
 
 // What is written of a call.
-fn told(alloc: Global, case: &Case, script: Vec<u8>) -> Result<Vec<u8>, AllocError> {
-    let mut source = MemorySource::new(script, 1, case.failing_reads.as_slice().to_vec(alloc)?);
-    let mut sink = MemorySink::new(alloc, 1, case.failing_writes.as_slice().to_vec(alloc)?);
-    let status = serve(alloc, &case.words, &mut source, &mut sink);
-    let word = status.word().unwrap_or("Done");
+fn told(alloc: Global, case: &Case, script: &[u8]) -> Result<Vec<u8>, AllocError> {
+    let told = match case.failing {
+        Failing::Nothing => once(alloc, case, script, None, None)?,
+        Failing::Read(call) => once(alloc, case, script, Some(call), None)?,
+        Failing::Write(call) => once(alloc, case, script, None, Some(call))?,
+        Failing::EachRead => return each_read(alloc, case, script),
+        Failing::EachWrite => return each_write(alloc, case, script),
+    };
+    let word = told.status.word().unwrap_or("Done");
     let mut text = format!(in alloc; "## {}\n{word}\n", case.name)?.into_bytes();
-    text.extend_from_slice(sink.bytes())?;
+    text.extend_from_slice(&told.taken)?;
     Ok(text)
 }

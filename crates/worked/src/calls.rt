@@ -1,0 +1,72 @@
+//! Calls of the program over a source and a sink in memory that move a byte at a time.
+
+use crate::index::Case;
+use outside::{MemorySink, MemorySource};
+use serve::Status;
+use serve::top::serve;
+use std::alloc::{AllocError, Global};
+
+/// How a call ended, and what the sink has taken.
+#[derive(Drop)]
+pub struct Told {
+    pub status: Status,
+    pub taken: Vec<u8>,
+}
+
+/// A call of which one read or one write may fail.
+pub fn once(
+    alloc: Global,
+    case: &Case,
+    script: &[u8],
+    failing_read: Option<u64>,
+    failing_write: Option<u64>,
+) -> Result<Told, AllocError> {
+    let mut source = MemorySource::new(script.to_vec(alloc)?, 1, calls(alloc, failing_read)?);
+    let mut sink = MemorySink::new(alloc, 1, calls(alloc, failing_write)?);
+    let status = serve(alloc, &case.words, &mut source, &mut sink);
+    Ok(Told {
+        status,
+        taken: sink.bytes().to_vec(alloc)?,
+    })
+}
+
+fn calls(alloc: Global, call: Option<u64>) -> Result<Vec<u64>, AllocError> {
+    let mut calls = Vec::new(alloc);
+    if let Some(call) = call {
+        calls.push(call)?;
+    }
+    Ok(calls)
+}
+
+/// What is written of a call each of whose reads fails in turn, the one that would tell the end too: how many ended as
+/// they should, and how the call ends whose reads don't reach the failing one.
+pub fn each_read(alloc: Global, case: &Case, script: &[u8]) -> Result<Vec<u8>, AllocError> {
+    let reads = script.len() as u64 + 1;
+    let mut well = 0u64;
+    for call in 0..reads {
+        let told = once(alloc, case, script, Some(call), None)?;
+        if told.status == Status::ReadFault && told.taken.is_empty() {
+            well += 1;
+        }
+    }
+    let last = once(alloc, case, script, Some(reads), None)?;
+    let word = last.status.word().unwrap_or("Done");
+    let text = format!(in alloc; "## {}\n{well} of {reads} reads fail as ReadFault with nothing written, then {word}\n", case.name)?;
+    Ok(text.into_bytes())
+}
+
+/// The same of its writes: what was taken then is a front of the text.
+pub fn each_write(alloc: Global, case: &Case, script: &[u8]) -> Result<Vec<u8>, AllocError> {
+    let whole = once(alloc, case, script, None, None)?;
+    let writes = whole.taken.len();
+    let mut well = 0u64;
+    for call in 0..writes {
+        let told = once(alloc, case, script, None, Some(call as u64))?;
+        if told.status == Status::WriteFault && told.taken.as_slice() == &whole.taken[..call] {
+            well += 1;
+        }
+    }
+    let word = whole.status.word().unwrap_or("Done");
+    let text = format!(in alloc; "## {}\n{well} of {writes} writes fail as WriteFault with a front of the text, else {word}\n", case.name)?;
+    Ok(text.into_bytes())
+}
