@@ -35,9 +35,10 @@ pub fn eval_ord(op: PyComparisonOp, order: Ordering) -> bool
     }
 }
 
-/// What a comparison gives of two things that are equal, which is asked only where that decides it.
+/// What a comparison gives of two things that are equal, which is asked only where that decides it: for the other
+/// comparisons `are_equal` need not be callable, and isn't called.
 pub fn map_eq<F: FnOnce() -> bool>(op: PyComparisonOp, are_equal: F) -> Option<bool>
-    requires { F.IsAlwaysCallable are_equal }
+    requires { AsksEqual op → F.IsAlwaysCallable are_equal }
     ensures asks { AsksEqual op → (b : Bool) × F.post are_equal b × (result ≡ decided_by_equal op b) }
     ensures other { (AsksEqual op → ⊥) → result ≡ None }
 {

@@ -59,9 +59,9 @@ pub fn operator_token(op: PyComparisonOp) -> &'static str
 }
 
 /// A comparison of objects that can only be equal or not: `==` gives what is told of them, `!=` the opposite, and the
-/// others are not for them, for which nothing is asked.
+/// others are not for them: `equal` need not be callable for these, and isn't called.
 pub fn eq_only<F: FnOnce() -> PyComparisonValue>(op: PyComparisonOp, equal: F) -> PyComparisonValue
-    requires { F.IsAlwaysCallable equal }
+    requires { AsksEqual op → F.IsAlwaysCallable equal }
     ensures asks { AsksEqual op → (v : Value Bool) × F.post equal v × (result ≡ by_equal op v) }
     ensures other { (AsksEqual op → ⊥) → result ≡ NotImplemented }
 {
