@@ -36,15 +36,15 @@ pub struct VirtualMachine {
 }
 
 impl Model for VirtualMachine {
-    ghost use Rattle.std.specs.Prelude.{◌≡◌, [], vec_capacity};
+    ghost use Rattle.std.specs.Prelude.{◌≡◌, ◌≤◌, [], vec_capacity};
     ghost use Rattle.vm_eval.specs.State.{State};
 
     ghost Value = { State };
 
     ghost view = { λ a. record { world = a.world; failed = a.failed; frames = vec_capacity a.stack } };
 
-    // No body runs.
-    ghost invariant = { λ a. a.world.scopes ≡ [] };
+    // No body runs, and there is room for 1,000 frames.
+    ghost invariant = { λ a. (a.world.scopes ≡ []) × (1000 ≤ vec_capacity a.stack) };
 }
 
 impl VirtualMachine {
@@ -64,6 +64,13 @@ impl VirtualMachine {
             stack,
             failed: false,
         })
+    }
+
+    /// The room for 1,000 frames that `new` reserved is there still: no call gives it back.
+    pub fn has_room(&self)
+        ensures { 1000 ≤ self.now.frames }
+    {
+        let _frames = self.stack.len();
     }
 
     /// The machine's world.

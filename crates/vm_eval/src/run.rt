@@ -1,6 +1,6 @@
 //! Commands, one after another.
 
-ghost use Rattle.std.specs.Prelude.{◌≡◌, [], IfErr, ◌∷◌, ◌++◌, IfOk, OnOk};
+ghost use Rattle.std.specs.Prelude.{◌≡◌, ◌≤◌, [], IfErr, ◌∷◌, ◌++◌, IfOk, OnOk, vec_capacity};
 ghost use Rattle.py_node.specs.Tree.{tree_of};
 ghost use Rattle.py_node.specs.Replies.{reply_of, reply_answer_of, GivesValue};
 ghost use Rattle.plain_machine.specs.Show.{show as show_of};
@@ -26,6 +26,7 @@ pub(crate) fn replies(
     ensures runs { IfOk result (λ replies. Runs commands.now world.old units world.new replies.items) }
     ensures lasts { Lasts world.old world.new }
     ensures bodies { OnOk result (AsDeep world.old world.new) }
+    ensures room { vec_capacity stack.old ≤ vec_capacity stack.new }
     ensures idle { commands.now ≡ [] → IfErr result (λ _. ⊥) }
 {
     let alloc = world.alloc();
@@ -56,6 +57,7 @@ fn reply(
         Replied (tree_of command.now.expr) world.old units world.new (reply_of reply)) }
     ensures lasts { Lasts world.old world.new }
     ensures bodies { OnOk result (AsDeep world.old world.new) }
+    ensures room { vec_capacity stack.old ≤ vec_capacity stack.new }
 {
     let number = add_expr(world, &command.expr)?;
     let end = drive(world, stack, Task::Eval(EvalTask::Eval(number)), units)?;

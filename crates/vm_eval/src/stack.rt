@@ -1,6 +1,6 @@
 //! The stack of frames: one turn at a time, until a task is answered or its units are used up.
 
-ghost use Rattle.std.specs.Prelude.{◌≡◌, ◌<◌, ℕ, [], ◌∷◌, ◌++◌, IfOk, OnErr, OnOk};
+ghost use Rattle.std.specs.Prelude.{◌≡◌, ◌<◌, ◌≤◌, ℕ, [], ◌∷◌, ◌++◌, IfOk, OnErr, OnOk, vec_capacity};
 ghost use Rattle.class_world.specs.Sound.{AllHold, Lasts, of_each};
 ghost use Rattle.class_world.specs.Claims.{of_task, of_protocol_task, of_ended, of_step, left_open, LeavesOpen};
 ghost use Rattle.eval_forms.specs.Rows.{of_eval_kept};
@@ -364,6 +364,7 @@ fn take_turn(
         RunsAbove n world.new stack.new.items turn) }
     ensures stack { IfOk result (λ turn. AllHold world.new (of_each of_kept stack.new.items)) }
     ensures holds { IfOk result (λ turn. AllHold world.new (of_turn turn)) }
+    ensures room { vec_capacity stack.old ≤ vec_capacity stack.new }
 {
     match step {
         Step::End(answer) => match stack.pop() {
@@ -391,7 +392,8 @@ fn take_turn(
 
 // One more frame.
 fn push(stack: &mut Vec<Kept>, kept: Kept) -> Result<(), OutOfMemory>
-    ensures { OnOk result (stack.new.items ≡ stack.old.items ++ kept ∷ []) }
+    ensures pushed { OnOk result (stack.new.items ≡ stack.old.items ++ kept ∷ []) }
+    ensures room { vec_capacity stack.old ≤ vec_capacity stack.new }
 {
     stack.push(kept)?;
     Ok(())
@@ -409,6 +411,7 @@ pub(crate) fn drive(
     ensures lasts { Lasts world.old world.new }
     ensures holds { IfOk result (λ end. AllHold world.new (of_end end)) }
     ensures bodies { OnOk result (AsDeep world.old world.new) }
+    ensures room { vec_capacity stack.old ≤ vec_capacity stack.new }
 {
     let depth = world.depth();
     match take_turns(world, stack, task, units)? {
@@ -432,6 +435,7 @@ fn take_turns(
     ensures lasts { Lasts world.old world.new }
     ensures holds { IfOk result (λ end. AllHold world.new (of_end end)) }
     ensures bodies { IfOk result (λ end. EndsDeep world.old world.new end) }
+    ensures room { vec_capacity stack.old ≤ vec_capacity stack.new }
 {
     stack.clear();
     let mut left = units;

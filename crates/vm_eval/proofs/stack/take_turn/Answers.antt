@@ -26,13 +26,13 @@ returns-in_ok-next-in-Ask-clause-stack c =
     let w = c.args.world.now in
     let h = rw c.in-Ask.is at c.requires.step in
     let all = each-push w of_kept c.args.stack.now.items c.in-Ask.kept c.requires.stack (all-rest w (of_task c.in-Ask.task) (of_kept c.in-Ask.kept) h) in
-    rw c.in_ok-push-in-Ask.ensures (all-last w c.begin.new.world c.in_ok-next-in-Ask.ensures.safe.0 _ all)
+    rw c.in_ok-push-in-Ask.ensures.pushed (all-last w c.begin.new.world c.in_ok-next-in-Ask.ensures.safe.0 _ all)
 
 pub returns-else-len-lt-DEPTH-clause-stack : goal.returns-else-len-lt-DEPTH-clause-stack
 returns-else-len-lt-DEPTH-clause-stack c =
     let w = c.args.world.now in
     let h = rw c.in-Ask.is at c.requires.step in
-    rw c.in_ok-push-in-Ask.ensures (each-push w of_kept c.args.stack.now.items c.in-Ask.kept c.requires.stack (all-rest w (of_task c.in-Ask.task) (of_kept c.in-Ask.kept) h))
+    rw c.in_ok-push-in-Ask.ensures.pushed (each-push w of_kept c.args.stack.now.items c.in-Ask.kept c.requires.stack (all-rest w (of_task c.in-Ask.task) (of_kept c.in-Ask.kept) h))
 
 pub returns-then-left-eq0-clause-turned : goal.returns-then-left-eq0-clause-turned
 returns-then-left-eq0-clause-turned c =
@@ -54,9 +54,9 @@ pub returns-in_ok-next-in-Ask-clause-turned : goal.returns-in_ok-next-in-Ask-cla
 returns-in_ok-next-in-Ask-clause-turned c =
     let frames = c.args.stack.now.items in
     let low : nat_lt (length (frames ++ c.in-Ask.kept ∷ [])) 1000 ≡ true =
-    lt-ltb _ _ (omega (arith, ap length c.in_ok-push-in-Ask.ensures, c.push.new.stack.ok.0)) in
+    lt-ltb _ _ (omega (arith, ap length c.in_ok-push-in-Ask.ensures.pushed, c.push.new.stack.ok.0)) in
     let units : suc (c.args.left.now - 1) ≡ c.args.left.now = omega arith in
-    rw (c.in_ok-push-in-Ask.ensures) (λ t reads. (
+    rw (c.in_ok-push-in-Ask.ensures.pushed) (λ t reads. (
       (c.in_ok-next-in-Ask.ensures.goes t reads).0,
       state-begin t c.args.world.now frames c.in-Ask.task c.in-Ask.kept (c.args.left.now - 1) _ _ low c.in_ok-next-in-Ask.ensures.goes reads
           ∙ ap (λ n. state t c.args.world.now frames n (Ask c.in-Ask.task c.in-Ask.kept)) units
@@ -67,9 +67,9 @@ pub returns-else-len-lt-DEPTH-clause-turned : goal.returns-else-len-lt-DEPTH-cla
 returns-else-len-lt-DEPTH-clause-turned c =
     let frames = c.args.stack.now.items in
     let high : nat_lt (length (frames ++ c.in-Ask.kept ∷ [])) 1000 ≡ false =
-    le-ltb _ _ (omega (arith, ap length c.in_ok-push-in-Ask.ensures, c.push.new.stack.ok.0)) in
+    le-ltb _ _ (omega (arith, ap length c.in_ok-push-in-Ask.ensures.pushed, c.push.new.stack.ok.0)) in
     let units : suc (c.args.left.now - 1) ≡ c.args.left.now = omega arith in
-    rw (c.in_ok-push-in-Ask.ensures, c.raise.ensures) (λ t reads. (
+    rw (c.in_ok-push-in-Ask.ensures.pushed, c.raise.ensures) (λ t reads. (
       reads,
       state-limit t c.args.world.now frames c.in-Ask.task c.in-Ask.kept (c.args.left.now - 1) high
           ∙ ap (λ n. state t c.args.world.now frames n (Ask c.in-Ask.task c.in-Ask.kept)) units

@@ -11,6 +11,7 @@ turns-init c = record {
   bodies = rw c.clear.ensures.items (let b = c.in_ok-step.ensures.safe.1.1 in omega (arith, b));
   stack = rw c.clear.ensures.items tt;
   step = c.in_ok-step.ensures.safe.1.0;
+  room = let k = c.clear.ensures.capacity in omega (arith, k);
 }
 
 pub turns-preserved : goal.turns-preserved
@@ -26,6 +27,7 @@ turns-preserved c =
       bodies = rw c.in-On.is at (c.in_ok-next.ensures.bodies (length c.args.world.now.scopes) now.bodies);
       stack = c.in_ok-next.ensures.stack;
       step = rw c.in-On.is at c.in_ok-next.ensures.holds;
+      room = let k = now.room in let m = c.take_turn.ensures.room in omega (arith, k, m);
     }
 
 pub returns-in-Finished-clause-bodies : goal.returns-in-Finished-clause-bodies

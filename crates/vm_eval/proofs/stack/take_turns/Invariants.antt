@@ -1,4 +1,5 @@
-use Rattle.std.proofs.Common.{◌≡◌, ◌+◌, [], length}
+use Rattle.std.proofs.Common.{◌≡◌, ◌+◌, ◌≤◌, [], length}
+use Rattle.std.specs.Prelude.{vec_capacity}
 use Rattle.plain_machine.specs.Answer.{reach}
 use Rattle.class_world.specs.Reading.{Reading, Reads, plain, task_of}
 use Rattle.class_world.specs.Sound.{AllHold, Lasts, of_each}
@@ -16,6 +17,7 @@ invariant-turns l = record {
   bodies : RunsAbove (length l.fn.world.scopes) l.world l.stack.items (On l.step);
   stack : AllHold l.world (of_each of_kept l.stack.items);
   step : AllHold l.world (of_step of_kept l.step);
+  room : vec_capacity l.fn.stack ≤ vec_capacity l.stack;
 }
 
 abbrev pub decreases-turns : goal.decreases-turns

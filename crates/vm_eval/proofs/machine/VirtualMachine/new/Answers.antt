@@ -1,4 +1,4 @@
-use Rattle.std.proofs.Common.{◌≡◌, [], refl, ap, ◌∙◌}
+use Rattle.std.proofs.Common.{◌≡◌, [], refl, ap, ◌∙◌, arith}
 use Rattle.py_node.specs.BuiltIns.{all_built_ins, built_in_flags, place_of, flags_of}
 use Rattle.py_node.specs.OwnAttrs.{own_attrs}
 use Rattle.plain_machine.specs.Start.{with_attr, start}
@@ -12,7 +12,7 @@ start-clear = refl
 pub invariant_of-result : goal.invariant_of-result
 invariant_of-result c =
     let r = c.readable.ensures in
-    none-held r.0 c.in_ok-world.world (ap (λ w. w.scopes) (c.in_ok-world.ensures.start r.0 r.1) ∙ start-clear)
+    (none-held r.0 c.in_ok-world.world (ap (λ w. w.scopes) (c.in_ok-world.ensures.start r.0 r.1) ∙ start-clear), let k = c.in_ok-stack.ensures.exact in omega (arith, k))
 
 pub returns-clause-rests : goal.returns-clause-rests
 returns-clause-rests c =
