@@ -1,5 +1,9 @@
-use Rattle.std.proofs.Common.{◌≡◌, [], subst, ◌∙◌}
-use Rattle.class_world.specs.Reading.{plain}
+use Rattle.std.proofs.Common.{◌≡◌, ℕ, [], subst, sym, ap, ◌∙◌}
+use Rattle.plain_machine.specs.Answer.{Out, answer}
+use Rattle.class_world.specs.Reading.{Reads, plain, task_of}
+use Rattle.vm_eval.specs.Asks.{ending_in, unnoted}
+use Rattle.vm_eval.specs.Say.{say}
+use Rattle.vm_eval.specs.Stack.{ending_of}
 use Rattle.vm_eval.specs.State.{State}
 use Rattle.vm_eval.proofs.Rests.{none-read, still-none}
 use Rattle.vm_eval.proofs.machine.VirtualMachine.ask.Goals as goal
@@ -9,3 +13,14 @@ returns-then-self-clause-rests c = λ t. subst (λ (s : State). (plain t s.world
 
 pub returns-in-Ok-clause-rests : goal.returns-in-Ok-clause-rests
 returns-in-Ok-clause-rests c = λ t. none-read t c.take_calls-starts.new.self (still-none c.self.inside.world c.take_calls-starts.new.self c.self.invariant.0 (c.take_calls-starts.ensures.grows.bodies ∙ c.in-Ok.ensures.bodies))
+
+pub returns-in-Ok-clause-answers : goal.returns-in-Ok-clause-answers
+returns-in-Ok-clause-answers c = λ t reads.
+    let new = c.take_calls-starts.new.self in
+    let said = c.in-Ok.ensures.answers t (c.take_calls-starts.ensures.reads t reads) in
+    let left = said.1 in
+    let out : unnoted (answer say (plain t c.self.inside.world) (task_of t c.args.task) c.args.units 0) ≡ Out (plain t new) (ending_in c.result_of.result) left =
+    ap unnoted said.2
+    ∙ ap (λ w. Out w (ending_of c.in-Ok.end) left) (sym (c.take_calls-starts.ensures.taken t))
+    ∙ ap (λ e. Out (plain t new) e left) (sym c.result_of.ensures.ending) in
+    subst (λ (s : State). Reads t s.world × (n : ℕ) × (unnoted (answer say (plain t s.world) (task_of t c.args.task) c.args.units 0) ≡ Out (plain t new) (ending_in c.result_of.result) n)) c.self.view_is (said.0, left, out)
