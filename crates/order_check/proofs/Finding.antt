@@ -1,5 +1,5 @@
 -- Orders that are found level by level.
-use Rattle.std.proofs.Common.{◌≡◌, ℕ, ◌<◌, Bool, true, List, [], ◌∷◌, ◌++◌, length, get_or, set, map, All, Option, Some, None, Ok, refl, sym, ap, subst, ◌∙◌}
+use Rattle.std.proofs.Common.{◌≡◌, ℕ, ◌<◌, true, List, [], ◌∷◌, ◌++◌, length, get_or, set, map, All, Option, Some, None, Ok, sym, ap, subst, ◌∙◌}
 use Rattle.std.specs.Prelude.{Result, Err, IfOk, IfSome, MatchResult, is_some, option_to_list}
 use Rattle.std.specs.List.{AllZip}
 use Rattle.std.specs.Global.{Vec}

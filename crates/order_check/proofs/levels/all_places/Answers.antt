@@ -1,4 +1,4 @@
-use Rattle.std.proofs.Common.{◌<◌, All, List, ℕ, sym, subst}
+use Rattle.std.proofs.Common.{◌<◌, All, ℕ, sym, subst}
 use Rattle.std.proofs.lemmas.List.Elements.{All-push}
 use Rattle.order_check.proofs.levels.all_places.Goals as goal
 

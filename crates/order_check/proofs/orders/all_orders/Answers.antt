@@ -1,6 +1,4 @@
-use Rattle.std.proofs.Common.{◌≡◌, length, List, arith, sym, subst}
-use Rattle.order_check.specs.declared.hierarchy.Entry.{Entry}
-use Rattle.order_check.specs.Hierarchy.{AreKeyed, orders}
+use Rattle.order_check.specs.Hierarchy.{orders}
 use Rattle.order_check.proofs.Tables.{none-known}
 use Rattle.order_check.proofs.orders.all_orders.Goals as goal
 
