@@ -1,0 +1,3 @@
+mod Journals
+mod Steps
+mod Histories
