@@ -10,10 +10,14 @@
 
 mod book;
 mod entry;
+mod gate;
 mod number;
+mod session;
 mod shared;
 mod single;
 
 pub use book::Book;
 pub use entry::{Entry, ExecFault, Receipt};
+pub use gate::{Gate, OpenGate};
+pub use session::perform;
 pub use shared::{Closed, Seat, SharedVm};
