@@ -80,45 +80,50 @@ class OfModules(unittest.TestCase):
             hierarchy.of_modules(["no_such_module"])
 
 
-class Reports(unittest.TestCase):
-    MEMBERS = [Member("A", ()), Member("B", ("A",)), Member("C", ("A", "B"), "m.py:3"), Member("E", ("C",))]
-    REPORT = "order A: A, object\norder B: B, A, object\ncycle C: A < B in bases; B < A in B\nnone E: C\n"
+class Answers(unittest.TestCase):
+    MEMBERS = [Member("A", ()), Member("B", ("A",)), Member("C", ("A", "B"), "m.py:3"), Member("E", ("object", "C"))]
+    TEXT = (
+        "= <class 'A'>\n= <class 'B'>\n! TypeError LocalPrecedence\n! NameError Unbound\n"
+        "class A: A, object\nslots A:\nclass B: B, A, object\nslots B:\n"
+    )
 
     def told(self, text: str) -> str:
         stream = io.StringIO()
-        checking.tell(Teller(stream), checking.taken_apart(text, self.MEMBERS))
+        checking.tell(Teller(stream), checking.found_in(text, self.MEMBERS))
         return stream.getvalue()
+
+    def test_each_class_is_made_over_its_bases(self) -> None:
+        wanted = (
+            '[["bind","c0",["class","A",[],[]]],\n ["bind","c1",["class","B",[["name","c0"]],[]]],\n'
+            ' ["bind","c2",["class","C",[["name","c0"],["name","c1"]],[]]],\n'
+            ' ["bind","c3",["class","E",[["name","object"],["name","c2"]],[]]]]\n'
+        )
+        self.assertEqual(checking.script_of(self.MEMBERS), wanted)
 
     def test_a_conflict_is_told_in_words(self) -> None:
         wanted = (
             "A: A, object\n"
             "B: B, A, object\n"
-            "m.py:3: C has no order: A before B in the bases of C; B before A in the order of B\n"
+            "m.py:3: C has no order: a base stands before a class that derives from it\n"
             "E has no order: its base C has none\n"
             "4 classes; 2 without an order\n"
         )
-        self.assertEqual(self.told(self.REPORT), wanted)
+        self.assertEqual(self.told(self.TEXT), wanted)
 
-    def test_a_base_that_stands_twice_is_told_so(self) -> None:
-        self.assertEqual(checking.in_words("A < A in bases", self.MEMBERS[2]), "A stands twice in the bases of C")
-
-    def test_pythons_orders_are_those_of_the_report(self) -> None:
-        found = checking.taken_apart(self.REPORT, self.MEMBERS)
+    def test_pythons_orders_are_those_of_the_machine(self) -> None:
         stream = io.StringIO()
-        self.assertTrue(checking.tell_differences(Teller(stream), found))
+        self.assertTrue(checking.tell_differences(Teller(stream), checking.found_in(self.TEXT, self.MEMBERS)))
         self.assertEqual(stream.getvalue(), "4 classes; each order is Python's\n")
 
     def test_an_order_that_is_not_pythons_is_told(self) -> None:
-        found = checking.taken_apart(self.REPORT.replace("B: B, A,", "B: A, B,"), self.MEMBERS)
+        text = self.TEXT.replace("class B: B, A,", "class B: B,")
         stream = io.StringIO()
-        self.assertFalse(checking.tell_differences(Teller(stream), found))
-        self.assertIn("  here    A, B, object\n  Python  B, A, object\n", stream.getvalue())
+        self.assertFalse(checking.tell_differences(Teller(stream), checking.found_in(text, self.MEMBERS)))
+        self.assertIn("  here    B, object\n  Python  B, A, object\n", stream.getvalue())
 
-    def test_a_report_of_other_classes_is_refused(self) -> None:
-        report = self.REPORT
-        for text in ("order A: A, object\n", report.replace("order B", "order D"), report.replace("none", "nun")):
-            with self.assertRaises(checking.MachineFailed):
-                checking.taken_apart(text, self.MEMBERS)
+    def test_too_few_answers_are_refused(self) -> None:
+        with self.assertRaises(checking.MachineFailed):
+            checking.found_in("= <class 'A'>\nclass A: A, object\nslots A:\n", self.MEMBERS)
 
 
 if __name__ == "__main__":

@@ -82,28 +82,25 @@ def asked_for(asked: argparse.Namespace) -> int:
         return watching.watch(asked.files[0], lambda: all_files(asked))
     if asked.prompt:
         return at_prompt(asked)
-    if asked.check or asked.hierarchy:
+    if asked.check:
         return orders(asked)
     return all_files(asked)
 
 
 def orders(asked: argparse.Namespace) -> int:
-    """Finds the order of each class of the files or modules, or prints what the machine would be given."""
+    """Finds the order of each class of the files or modules."""
     try:
         members = members_of(asked.files)
     except hierarchy.NoHierarchy as error:
         say(str(error))
         return NOT_READ
-    text = hierarchy.input_text(members)
-    if len(text.encode()) > source.LONGEST:
-        say("the hierarchy has more than 16,777,216 bytes")
+    script = checking.script_of(members)
+    if len(script.encode()) > source.LONGEST:
+        say("the hierarchy makes a script of more than 16,777,216 bytes")
         return REFUSED
+    text = machine.written(script, [*machine_program(asked), "run", str(checking.UNITS)])
+    found = checking.found_in(text, members)
     teller = Teller(sys.stdout)
-    if asked.hierarchy:
-        teller.text(text)
-        return DONE
-    words = [*machine_program(asked), "check", *(["par"] if asked.par else [])]
-    found = checking.taken_apart(machine.written(text, words), members)
     is_well = checking.tell_differences(teller, found) if asked.against_python else checking.tell(teller, found)
     teller.flush()
     return DONE if is_well else DIFFERS

@@ -4,7 +4,6 @@ from __future__ import annotations
 
 import ast
 import importlib
-import json
 import pkgutil
 import sys
 from collections.abc import Iterable, Iterator
@@ -44,12 +43,6 @@ class Names:
             name = f"{plain}#{number}"
         self.given.add(name)
         return name
-
-
-def input_text(members: Iterable[Member]) -> str:
-    """What `typecore check` reads: a list of names and bases, a line for each class."""
-    rows = (json.dumps([it.name, [base for base in it.bases]], separators=(",", ":")) for it in members)
-    return "[" + ",\n ".join(rows) + "]\n"
 
 
 # --- of modules ---

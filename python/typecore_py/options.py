@@ -74,8 +74,6 @@ def parser() -> argparse.ArgumentParser:
         action="store_true",
         help="find each class's order, of sources that aren't run or of modules by their names, and tell conflicts",
     )
-    made.add_argument("--hierarchy", action="store_true", help="print what --check gives to the machine")
-    made.add_argument("--par", action="store_true", help="--check with all processors")
     made.add_argument("--watch", action="store_true", help="run the file again whenever it changes")
     made.add_argument("--seconds", type=seconds, default=10.0, metavar="N", help="what Python may take a command (10)")
     made.add_argument("--now", action="store_true", help="run ./typecore --now: not proved, built in a minute or two")
@@ -98,15 +96,11 @@ def words(given: list[str] | None) -> argparse.Namespace:
         made.error(f"{'-i' if single[0] == 'prompt' else '--' + single[0]} takes one file")
     if asked.watch and (asked.text is not None or "-" in asked.files):
         made.error("--watch is of a file")
-    if asked.check or asked.hierarchy:
+    if asked.check:
         ways = ("script", "quiet", "json", "graph", "html", "watch", "prompt", "where")
-        if asked.text is not None or any(getattr(asked, it) for it in ways) or asked.check == asked.hierarchy:
-            made.error("--check and --hierarchy are of files or modules, and go with no other way to tell")
-    if asked.par and not asked.check:
-        made.error("--par goes with --check")
-    if asked.hierarchy and asked.against_python:
-        made.error("--against-python goes with --check")
-    others = ("check", "hierarchy", "watch", "script", "json", "graph", "html", "against_python")
+        if asked.text is not None or any(getattr(asked, it) for it in ways):
+            made.error("--check is of files or modules, and goes with --against-python alone of the ways to tell")
+    others = ("check", "watch", "script", "json", "graph", "html", "against_python")
     if asked.prompt and any(getattr(asked, it) for it in others):
         made.error("-i goes with --quiet alone of the ways to tell")
     if asked.now and asked.machine:

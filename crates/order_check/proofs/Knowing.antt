@@ -68,13 +68,16 @@ module _ (h : List Entry) (os : List (Option (List ℕ))) (known : AreKnown h os
           ∙ ap (option_and_then (least_order c bs)) all
           ∙ e
 
-  pub known-more : (i : ℕ) (xs bs : List ℕ) → AreKeyed h → length os ≡ length h → i < length h → bases_of (classes h) (get_or (keys_of h) i 0) ≡ Some bs → over (known_in h os) (get_or (keys_of h) i 0) bs ≡ Some xs → AreKnown h (set os i (Some xs))
+  pub known-right : (i : ℕ) (xs : List ℕ) → AreKeyed h → length os ≡ length h → i < length h → order_in h (get_or (keys_of h) i 0) ≡ Some xs → AreKnown h (set os i (Some xs))
   unfolding AreKnown
-  known-more i xs bs d n l k e c ys f = go (eqb (get_or (keys_of h) i 0) c) refl (sym (known-set h os i (Some xs) c d n l) ∙ f)
+  known-right i xs d n l e c ys f = go (eqb (get_or (keys_of h) i 0) c) refl (sym (known-set h os i (Some xs) c d n l) ∙ f)
     where
       go : (b : Bool) → eqb (get_or (keys_of h) i 0) c ≡ b → cond b (Some xs) (known_in h os c) ≡ Some ys → order_in h c ≡ Some ys
-      go true t g = ap (order_in h) (sym (eqb-true (get_or (keys_of h) i 0) c t)) ∙ order-over (get_or (keys_of h) i 0) bs xs k e ∙ g
+      go true t g = ap (order_in h) (sym (eqb-true (get_or (keys_of h) i 0) c t)) ∙ e ∙ g
       go false t g = known c ys g
+
+  pub known-more : (i : ℕ) (xs bs : List ℕ) → AreKeyed h → length os ≡ length h → i < length h → bases_of (classes h) (get_or (keys_of h) i 0) ≡ Some bs → over (known_in h os) (get_or (keys_of h) i 0) bs ≡ Some xs → AreKnown h (set os i (Some xs))
+  known-more i xs bs d n l k e = known-right i xs d n l (order-over (get_or (keys_of h) i 0) bs xs k e)
 
   module _ (keyed : AreKeyed h) (count : length os ≡ length h) (closed : IsClosedTo h os (length h)) where
     closed-at : (c : ℕ) → IsClosedAt h os c

@@ -22,3 +22,4 @@ pub mod Someness
 pub mod Keyed
 pub mod Ranking
 pub mod WellFounded
+pub mod Finding

@@ -1,12 +1,13 @@
 -- Entries, their keys, and what is known of them, by their places.
 use Rattle.std.proofs.Common.{◌≡◌, ℕ, zero, suc, ◌<◌, Bool, true, false, cond, eqb, List, [], ◌∷◌, length, get_or, set, Option, Some, None, inl, inr, refl, sym, ap, subst, ◌∙◌, arith}
-use Rattle.std.specs.Prelude.{option_map}
+use Rattle.std.specs.Prelude.{option_map, slice_get, string_bytes}
 use Rattle.std.proofs.lemmas.Bool.{eq-eqb, ne_eqb, eqb-true}
 use Rattle.std.proofs.lemmas.List.{get_or-map}
+use Rattle.std.proofs.lemmas.Option.{slice_get_within, slice_get-get_or}
 use Rattle.class_model.specs.Order.{Includes}
 use Rattle.class_model.specs.Class.{Class, class_at, bases_of}
 use Rattle.order_check.specs.declared.hierarchy.Entry.{Entry}
-use Rattle.order_check.specs.Hierarchy.{class_of, classes, keys_of, AreKeyed}
+use Rattle.order_check.specs.Hierarchy.{class_of, classes, keys_of, name_in, AreKeyed}
 use Rattle.order_check.specs.Known.{known_in, unknown}
 
 pub key-at : (h : List Entry) (i : ℕ) (e : Entry) → i < length h → e ≡ get_or h i e → get_or (keys_of h) i 0 ≡ e.key
@@ -37,6 +38,29 @@ bases-at (x ∷ h) (suc i) e d l is =
     let held = let P : ℕ → Type 0 = λ k. Includes (keys_of h) k in subst P (key-at h i e within is) (key-held h i within) in
     ap (λ b. option_map (λ (k : Class ℕ). k.bases) (cond b (Some (class_of x)) (class_at (classes h) e.key))) (ne_eqb x.key e.key (other-key x h e.key d held))
     ∙ bases-at h i e d.1 within is
+
+-- the name at a place
+pub name-at : (h : List Entry) (i : ℕ) (e : Entry) → AreKeyed h → i < length h → e ≡ get_or h i e → name_in h (get_or (keys_of h) i 0) ≡ string_bytes e.name
+name-at [] i e d l is = absurd (omega arith)
+name-at (x ∷ h) zero e d l is =
+    ap (λ b. cond b (string_bytes x.name) (name_in h x.key)) (eq-eqb x.key x.key refl) ∙ ap (λ (w : Entry). string_bytes w.name) (sym is)
+name-at (x ∷ h) (suc i) e d l is =
+    let within : i < length h = omega arith in
+    ap (λ b. cond b (string_bytes x.name) (name_in h (get_or (keys_of h) i 0))) (ne_eqb x.key (get_or (keys_of h) i 0) (other-key x h (get_or (keys_of h) i 0) d (key-held h i within)))
+    ∙ name-at h i e d.1 within is
+
+pub name-none : (h : List Entry) (c : ℕ) → (Includes (keys_of h) c → ⊥) → name_in h c ≡ []
+name-none [] c n = refl
+name-none (e ∷ h) c n =
+    ap (λ b. cond b (string_bytes e.name) (name_in h c)) (ne_eqb e.key c (λ i. n (inl i))) ∙ name-none h c (λ k. n (inr k))
+
+-- the bases of an entry
+pub bases-of_entry : (h : List Entry) (i : ℕ) (e : Entry) → AreKeyed h → slice_get h i ≡ Some e → bases_of (classes h) e.key ≡ Some e.bases.items
+bases-of_entry h i e d is =
+    let within = slice_get_within h i e is in
+    let at = slice_get-get_or h i e within in
+    let same : e ≡ get_or h i e = cc (is, at) in
+    bases-at h i e d within same
 
 -- a class with bases has an entry
 pub bases-held : (h : List Entry) (c : ℕ) (bs : List ℕ) → bases_of (classes h) c ≡ Some bs → Includes (keys_of h) c

@@ -1,5 +1,5 @@
 -- The classes of a hierarchy, and their linearisations.
-use Rattle.std.specs.Prelude.{◌≡◌, ℕ, List, [], map, take, Option, Some, option_map, slice_get}
+use Rattle.std.specs.Prelude.{◌≡◌, ℕ, cond, eqb, List, [], ◌∷◌, map, take, Option, Some, option_map, slice_get, string_bytes}
 use Rattle.std.specs.Global.{Vec}
 use Rattle.class_model.specs.Order.{Includes, Distinct}
 use Rattle.class_model.specs.Class.{Class, Classes, lin}
@@ -18,6 +18,11 @@ order_in h c = lin (classes h) c
 
 abbrev pub keys_of : List Entry → List ℕ
 keys_of h = map (λ e. e.key) h
+
+-- the name of the class with a key, and nothing where there is none
+abbrev pub name_in : List Entry → ℕ → List ℕ
+name_in [] c = []
+name_in (e ∷ h) c = cond (eqb e.key c) (string_bytes e.name) (name_in h c)
 
 -- no two entries have one key
 abbrev pub AreKeyed : List Entry → Type 0

@@ -1,12 +1,14 @@
 -- What is known of the linearisations so far. No public contract names these.
-use Rattle.std.specs.Prelude.{◌≡◌, ℕ, suc, ◌<◌, cond, eqb, List, [], ◌∷◌, map, length, get_or, Option, Some, None, option_and_then}
+use Rattle.std.specs.Prelude.{◌≡◌, ℕ, suc, ◌<◌, cond, eqb, List, [], ◌∷◌, map, length, get_or, Option, Some, None, option_and_then, IfSome}
+use Rattle.std.specs.Global.{Vec}
 use Rattle.class_model.specs.Order.{least_order, all_some, Includes}
 use Rattle.class_model.specs.Class.{bases_of}
 use Rattle.order_check.specs.declared.hierarchy.Entry.{Entry}
 use Rattle.order_check.specs.declared.known.Lines.{Lines}
 use Rattle.order_check.specs.declared.known.Lines.TheVariants.{All, Without}
+use Rattle.order_check.specs.declared.levels.Found.{Found}
 use Rattle.order_check.specs.Lists.{rows}
-use Rattle.order_check.specs.Hierarchy.{classes, keys_of, order_in}
+use Rattle.order_check.specs.Hierarchy.{classes, keys_of, order_in, orders, AreKeyed}
 use Rattle.order_check.specs.Report.{first_without}
 
 -- what the place of a key is
@@ -56,3 +58,14 @@ AllNone (Some xs ∷ os) = ⊥
 abbrev pub AreLinesFor : (ℕ → Option (List ℕ)) → List ℕ → Lines → Type 0
 AreLinesFor f bs (All lines) = all_some (map f bs) ≡ Some (rows lines.items)
 AreLinesFor f bs (Without b) = first_without f bs ≡ Some b
+
+-- it stands at a place of some entries, and its order, if it has one, is that of the class there
+abbrev pub IsFound : List Entry → Found → Type 0
+IsFound h f = (f.place < length h) × IfSome f.order (λ v. order_in h (get_or (keys_of h) f.place 0) ≡ Some v.items)
+
+-- so many entries have something known of each, and what is known is so
+pub record CanFind (h : List Entry) (known : List (Option (Vec ℕ))) (place : ℕ) : Type 0 where
+  pub keyed : AreKeyed h
+  pub count : length known ≡ length h
+  pub sound : AreKnown h (orders known)
+  pub inside : place < length h

@@ -11,10 +11,12 @@ ghost use Rattle.order_check.specs.Report.{list_with, pairs_of, found_pairs, IsL
 use crate::cycles::{cycle_of, is_before};
 use crate::hierarchy::{Entry, Hierarchy};
 use crate::known::{Lines, known_lines, known_order};
+use crate::levels::all_orders_par;
 use crate::orders::all_orders;
 use crate::report::{Line, Pair, Report};
 use py_node::OutOfMemory;
 use std::alloc::Global;
+use std::thread::Threads;
 
 // The first list that has one key before the other: by its base, and `None` where it is the list past those of the bases.
 fn list_with(lists: &[Vec<u64>], bases: &[u64], first: u64, second: u64) -> Option<u64>
@@ -124,5 +126,19 @@ pub fn check(alloc: Global, hierarchy: &Hierarchy) -> Result<Report, OutOfMemory
     ensures cycles { IfOk result (λ r. AreFound hierarchy.now.entries.items r.lines.items) }
 {
     let known = all_orders(alloc, hierarchy)?;
+    report_of(alloc, &hierarchy.entries, &known)
+}
+
+/// The same as `check` gives, with the orders found by as many threads as there are processors.
+pub fn check_par<R: Threads + Sync>(
+    rt: &R,
+    alloc: Global,
+    hierarchy: &Hierarchy,
+) -> Result<Report, OutOfMemory>
+    requires { AreKeyed hierarchy.now.entries.items }
+    ensures report { IfOk result (λ r. IsReport hierarchy.now.entries.items r.lines.items) }
+    ensures cycles { IfOk result (λ r. AreFound hierarchy.now.entries.items r.lines.items) }
+{
+    let known = all_orders_par(rt, alloc, hierarchy)?;
     report_of(alloc, &hierarchy.entries, &known)
 }

@@ -10,6 +10,7 @@ mod known;
 mod least;
 mod led;
 mod left;
+pub mod levels;
 mod line;
 pub mod orders;
 mod pairs;
@@ -21,11 +22,13 @@ mod walk;
 pub mod wellformed;
 
 pub use accepting::accept;
-pub use checking::check;
+pub use checking::{check, check_par};
 pub use cycles::cycle_of;
 pub use forms::is_in_order;
 pub use hierarchy::{Entry, Hierarchy};
+pub use levels::all_orders_par;
 pub use orders::all_orders;
+pub use place::name_of;
 pub use report::{Line, Pair, Report, Wrong};
 pub use wellformed::well_formed;
 

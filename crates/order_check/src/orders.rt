@@ -12,7 +12,7 @@ use py_node::OutOfMemory;
 use std::alloc::Global;
 
 // The least order of a class over what is known of its bases, where something is known of each.
-fn order_over(
+pub(crate) fn order_over(
     alloc: Global,
     entries: &[Entry],
     known: &[Option<Vec<u64>>],
@@ -87,7 +87,7 @@ fn try_all(
     Ok(found)
 }
 
-fn none_known(alloc: Global, count: usize) -> Result<Vec<Option<Vec<u64>>>, OutOfMemory>
+pub(crate) fn none_known(alloc: Global, count: usize) -> Result<Vec<Option<Vec<u64>>>, OutOfMemory>
     ensures count { IfOk result (λ v. length v.items ≡ count) }
     ensures none { IfOk result (λ v. AllNone (orders v.items)) }
 {
@@ -96,6 +96,25 @@ fn none_known(alloc: Global, count: usize) -> Result<Vec<Option<Vec<u64>>>, OutO
         known.push(None)?;
     }
     Ok(known)
+}
+
+// All orders, from some that are known: looks for those of the other classes until none is found.
+pub(crate) fn complete(
+    alloc: Global,
+    entries: &[Entry],
+    mut known: Vec<Option<Vec<u64>>>,
+) -> Result<Vec<Option<Vec<u64>>>, OutOfMemory>
+    requires keyed { AreKeyed entries.now }
+    requires count { length known.items ≡ length entries.now }
+    requires known { AreKnown entries.now (orders known.items) }
+    ensures count { IfOk result (λ found. length found.items ≡ length entries.now) }
+    ensures all { IfOk result (λ found. orders found.items ≡ all_orders entries.now) }
+{
+    loop {
+        if !try_all(alloc, entries, &mut known)? {
+            return Ok(known);
+        }
+    }
 }
 
 /// The linearisation of each class, in the order of the entries: of a class's consistent orders the least, and
@@ -107,10 +126,6 @@ pub fn all_orders(
     requires { AreKeyed hierarchy.now.entries.items }
     ensures { IfOk result (λ found. orders found.items ≡ all_orders hierarchy.now.entries.items) }
 {
-    let mut known = none_known(alloc, hierarchy.entries.len())?;
-    loop {
-        if !try_all(alloc, &hierarchy.entries, &mut known)? {
-            return Ok(known);
-        }
-    }
+    let known = none_known(alloc, hierarchy.entries.len())?;
+    complete(alloc, &hierarchy.entries, known)
 }

@@ -1,6 +1,7 @@
 //! Where the class with a key stands.
 
-ghost use Rattle.std.specs.Prelude.{◌<◌};
+ghost use Rattle.std.specs.Prelude.{◌≡◌, ◌<◌};
+ghost use Rattle.order_check.specs.Hierarchy.{AreKeyed, name_in};
 ghost use Rattle.order_check.specs.Known.{IsPlaceOf};
 
 use crate::hierarchy::Entry;
@@ -40,4 +41,15 @@ pub(crate) fn place_of(entries: &[Entry], key: u64) -> Option<usize>
         return Some(likely);
     }
     first_place(entries, key)
+}
+
+/// The name of the class with a key, which is empty where no class has it.
+pub fn name_of(entries: &[Entry], key: u64) -> &str
+    requires { AreKeyed entries.now }
+    ensures { result.now ≡ name_in entries.now key }
+{
+    match place_of(entries, key) {
+        None => "",
+        Some(place) => entries[place].name.as_str(),
+    }
 }

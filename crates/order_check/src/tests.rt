@@ -1,4 +1,7 @@
-use crate::{Entry, Hierarchy, Line, Pair, Report, Wrong, accept, check, is_in_order};
+use crate::{
+    Entry, Hierarchy, Line, Pair, Report, Wrong, accept, all_orders, all_orders_par, check,
+    check_par, is_in_order,
+};
 use py_node::OutOfMemory;
 use std::alloc::Global;
 use std::test::Fail;
@@ -73,5 +76,39 @@ fn tells_the_cycle(rt: HostRuntime) -> Result<(), Fail> {
         assert_eq!(rt; pairs[0].list, None);
         assert_eq!(rt; pairs[1].list, Some(2));
     }
+    Ok(())
+}
+
+// So many classes below one base.
+fn wide(alloc: Global) -> Result<Hierarchy, OutOfMemory> {
+    let mut entries = Vec::new(alloc);
+    entries.push(entry(alloc, 0, "object", &[])?)?;
+    entries.push(entry(alloc, 1, "Base", &[0])?)?;
+    for key in 2..4_098u64 {
+        entries.push(entry(alloc, key, "Leaf", &[1])?)?;
+    }
+    Ok(Hierarchy { entries })
+}
+
+#[test]
+fn finds_the_same_orders_by_levels(rt: HostRuntime) -> Result<(), Fail> {
+    let alloc = rt.alloc();
+    let hierarchy = wide(alloc)?;
+    assert!(rt; is_in_order(&hierarchy));
+    let orders = all_orders(alloc, &hierarchy)?;
+    let by_levels = all_orders_par(&rt, alloc, &hierarchy)?;
+    assert_eq!(rt; by_levels.len(), 4_098);
+    assert!(rt; by_levels == orders);
+    Ok(())
+}
+
+#[test]
+fn tells_the_same_by_levels(rt: HostRuntime) -> Result<(), Fail> {
+    let alloc = rt.alloc();
+    let hierarchy = conflicting(alloc)?;
+    assert!(rt; is_in_order(&hierarchy));
+    let found = check_par(&rt, alloc, &hierarchy)?;
+    assert_eq!(rt; accept(&hierarchy, &found), Ok(()));
+    assert_eq!(rt; found.lines.len(), 4);
     Ok(())
 }

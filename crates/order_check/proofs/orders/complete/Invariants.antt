@@ -1,12 +1,12 @@
 use Rattle.std.proofs.Common.{◌≡◌, length}
 use Rattle.order_check.specs.Hierarchy.{orders}
 use Rattle.order_check.specs.Known.{AreKnown, unknown}
-use Rattle.order_check.proofs.orders.all_orders.Given as goal
+use Rattle.order_check.proofs.orders.complete.Given as goal
 
 abbrev pub invariant-loop-known : goal.invariant-loop-known
 invariant-loop-known l = record {
-  count : length l.known.items ≡ length l.hierarchy.entries.items;
-  known : AreKnown l.hierarchy.entries.items (orders l.known.items);
+  count : length l.known.items ≡ length l.entries;
+  known : AreKnown l.entries (orders l.known.items);
 }
 
 abbrev pub decreases-loop-known : goal.decreases-loop-known

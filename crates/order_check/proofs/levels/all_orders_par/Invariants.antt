@@ -1,0 +1,14 @@
+use Rattle.std.proofs.Common.{◌≡◌, ◌<◌, All, length}
+use Rattle.order_check.specs.Hierarchy.{orders}
+use Rattle.order_check.specs.Known.{AreKnown}
+use Rattle.order_check.proofs.levels.all_orders_par.Given as goal
+
+abbrev pub invariant-loop-places : goal.invariant-loop-places
+invariant-loop-places g l = record {
+  count : length l.known.items ≡ length l.entries;
+  known : AreKnown l.entries (orders l.known.items);
+  places : All (λ place. place < length l.entries) l.places.items;
+}
+
+abbrev pub decreases-loop-places : goal.decreases-loop-places
+decreases-loop-places g l = length l.places.items

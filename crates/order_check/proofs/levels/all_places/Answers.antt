@@ -1,0 +1,8 @@
+use Rattle.std.proofs.Common.{◌<◌, All, ℕ, sym, subst}
+use Rattle.std.proofs.lemmas.List.Elements.{All-push}
+use Rattle.order_check.proofs.levels.all_places.Goals as goal
+
+pub loop-place-preserved : goal.loop-place-preserved
+loop-place-preserved c =
+    let P : ℕ → Type 0 = λ place. place < c.args.count in
+    subst (All P) (sym c.in_ok-push.ensures.items) (All-push P c.loop-place.places.items c.loop-place.place c.loop-place.invariant c.loop-place-test.true)

@@ -1,0 +1,14 @@
+use Rattle.std.proofs.Common.{◌≡◌, All, length}
+use Rattle.order_check.specs.Hierarchy.{orders}
+use Rattle.order_check.specs.Known.{AreKnown, IsFound}
+use Rattle.order_check.proofs.levels.keep.Given as goal
+
+abbrev pub invariant-loop-one : goal.invariant-loop-one
+invariant-loop-one l = record {
+  count : length l.known.items ≡ length l.entries;
+  known : AreKnown l.entries (orders l.known.items);
+  found : All (IsFound l.entries) l.found.items;
+}
+
+abbrev pub decreases-loop-one : goal.decreases-loop-one
+decreases-loop-one l = length l.found.items

@@ -1,0 +1,4 @@
+mod Journals
+mod Steps
+mod Histories
+mod Working

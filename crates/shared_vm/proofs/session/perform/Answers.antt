@@ -1,0 +1,21 @@
+use Rattle.std.proofs.Common.{◌≡◌, ◌++◌, ◌∷◌, [], List, sym, subst}
+use Rattle.std.proofs.lemmas.List.{map_push}
+use Rattle.py_node.specs.declared.expr.Command.{Command}
+use Rattle.py_node.specs.Tree.{Tree, tree_of}
+use Rattle.vm_eval.specs.Runs.{trees_in}
+use Rattle.shared_vm.specs.Work.{Performed}
+use Rattle.shared_vm.proofs.Working.{stays_more, performed_more}
+use Rattle.shared_vm.proofs.session.perform.Goals as goal
+
+pub loop-command-preserved : goal.loop-command-preserved
+loop-command-preserved g c =
+    let first = c.args.seat.now in
+    let old = c.loop-command.seat in
+    let new = c.execute.new.seat in
+    let done = c.in-Ok.ensures in
+    let more : trees_in (c.loop-command.yielded ++ c.in-Some.command ∷ []) ≡ trees_in c.loop-command.yielded ++ tree_of c.in-Some.command.expr ∷ [] =
+    map_push (λ (command : Command). tree_of command.expr) c.loop-command.yielded c.in-Some.command in (
+      stays_more c.args.vm.now.id first old new (tree_of c.in-Some.command.expr) c.args.budget _ c.loop-command.invariant.0 done,
+      subst (λ (cs : List Tree). Performed c.args.budget cs first new) (sym more)
+          (performed_more c.args.vm.now.id c.args.budget (trees_in c.loop-command.yielded) (tree_of c.in-Some.command.expr) first old new _ c.loop-command.invariant.0 c.loop-command.invariant.1 done),
+    )

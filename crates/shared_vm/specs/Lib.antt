@@ -1,0 +1,4 @@
+pub mod Journal
+pub mod Book
+pub mod Turns
+pub mod Work
