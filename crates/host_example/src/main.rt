@@ -16,14 +16,17 @@ use vm_calls::{call, get_attr, int_of, new_int, new_text, text_of};
 use vm_eval::VirtualMachine;
 
 // A function that scripts can call, and the host too.
-const SCRIPT: &str = r#"[["bind", "double", ["func", "double", ["n"], ["op", "*", ["name", "n"], 2]]]]"#;
+const SCRIPT: &str =
+    r#"[["bind", "double", ["func", "double", ["n"], ["op", "*", ["name", "n"], 2]]]]"#;
 
 // How many tasks a command or a call may ask.
 const UNITS: u64 = 1_000;
 
 fn main(rt: HostRuntime) -> io::Result<()> {
     match told(rt.alloc()) {
-        Ok((number, label, stop)) => println!(rt; "doubled: {number}\nlabel: {label}\na fault: {stop}"),
+        Ok((number, label, stop)) => println!(rt;
+            "doubled: {number}\nlabel: {label}\na fault: {stop}"
+        ),
         Err(stop) => println!(rt; "no answer: {stop}"),
     }
 }

@@ -51,7 +51,10 @@ pub fn each_read(alloc: Global, case: &Case, script: &[u8]) -> Result<Vec<u8>, A
     }
     let last = once(alloc, case, script, Some(reads), None)?;
     let word = last.status.word().unwrap_or("Done");
-    let text = format!(in alloc; "## {}\n{well} of {reads} reads fail as ReadFault with nothing written, then {word}\n", case.name)?;
+    let text = format!(in alloc;
+        "## {}\n{well} of {reads} reads fail as ReadFault with nothing written, then {word}\n",
+        case.name
+    )?;
     Ok(text.into_bytes())
 }
 
@@ -67,6 +70,9 @@ pub fn each_write(alloc: Global, case: &Case, script: &[u8]) -> Result<Vec<u8>, 
         }
     }
     let word = whole.status.word().unwrap_or("Done");
-    let text = format!(in alloc; "## {}\n{well} of {writes} writes fail as WriteFault with a front of the text, else {word}\n", case.name)?;
+    let text = format!(in alloc;
+        "## {}\n{well} of {writes} writes fail as WriteFault with a front of the text, else {word}\n",
+        case.name
+    )?;
     Ok(text.into_bytes())
 }
