@@ -38,21 +38,20 @@ fn calls(alloc: Global, call: Option<u64>) -> Result<Vec<u64>, AllocError> {
     Ok(calls)
 }
 
-/// What is written of a call each of whose reads fails in turn, the one that would tell the end too: how many ended as
-/// they should, and how the call ends whose reads don't reach the failing one.
+/// What is written of a call each of whose reads fails in turn, the one that would tell the end too: whether each ended as
+/// it should, and how the call ends whose reads don't reach the failing one.
 pub fn each_read(alloc: Global, case: &Case, script: &[u8]) -> Result<Vec<u8>, AllocError> {
-    let reads = script.len() as u64 + 1;
-    let mut well = 0u64;
+    let reads = (script.len() as u64).saturating_add(1);
+    let mut is_well = true;
     for call in 0..reads {
         let told = once(alloc, case, script, Some(call), None)?;
-        if told.status == Status::ReadFault && told.taken.is_empty() {
-            well += 1;
-        }
+        is_well = is_well && told.status == Status::ReadFault && told.taken.is_empty();
     }
     let last = once(alloc, case, script, Some(reads), None)?;
+    let how = how_many(is_well);
     let word = last.status.word().unwrap_or("Done");
     let text = format!(in alloc;
-        "## {}\n{well} of {reads} reads fail as ReadFault with nothing written, then {word}\n",
+        "## {}\n{how} of {reads} reads fails as ReadFault with nothing written, then {word}\n",
         case.name
     )?;
     Ok(text.into_bytes())
@@ -62,17 +61,22 @@ pub fn each_read(alloc: Global, case: &Case, script: &[u8]) -> Result<Vec<u8>, A
 pub fn each_write(alloc: Global, case: &Case, script: &[u8]) -> Result<Vec<u8>, AllocError> {
     let whole = once(alloc, case, script, None, None)?;
     let writes = whole.taken.len();
-    let mut well = 0u64;
+    let mut is_well = true;
     for call in 0..writes {
         let told = once(alloc, case, script, None, Some(call as u64))?;
-        if told.status == Status::WriteFault && told.taken.as_slice() == &whole.taken[..call] {
-            well += 1;
-        }
+        is_well = is_well
+            && told.status == Status::WriteFault
+            && told.taken.as_slice() == &whole.taken[..call];
     }
+    let how = how_many(is_well);
     let word = whole.status.word().unwrap_or("Done");
     let text = format!(in alloc;
-        "## {}\n{well} of {writes} writes fail as WriteFault with a front of the text, else {word}\n",
+        "## {}\n{how} of {writes} writes fails as WriteFault with a front of the text, else {word}\n",
         case.name
     )?;
     Ok(text.into_bytes())
+}
+
+fn how_many(is_well: bool) -> &'static str {
+    if is_well { "each" } else { "NOT each" }
 }

@@ -38,7 +38,7 @@ pub fn case_of(alloc: Global, line: &str) -> Result<Option<Case>, AllocError> {
         name: String::from_str(alloc, name.trim())?,
         script: String::from_str(alloc, script.trim())?,
         words: words_of(alloc, words)?,
-        failing: failing(&fault),
+        failing: what_fails(&fault),
     }))
 }
 
@@ -51,18 +51,18 @@ fn words_of(alloc: Global, text: &str) -> Result<Vec<String>, AllocError> {
 }
 
 // What the words of a fault tell.
-fn failing(fault: &[String]) -> Failing {
+fn what_fails(fault: &[String]) -> Failing {
     let [first, second] = fault else {
         return Failing::Nothing;
     };
     match (first.as_str(), second.as_str()) {
         ("each", "read") => Failing::EachRead,
         ("each", "write") => Failing::EachWrite,
-        (end, number) => one_failing(end, number.parse::<u64>().unwrap_or(0)),
+        (end, number) => call_that_fails(end, number.parse::<u64>().unwrap_or(0)),
     }
 }
 
-fn one_failing(end: &str, number: u64) -> Failing {
+fn call_that_fails(end: &str, number: u64) -> Failing {
     match end {
         "read" => Failing::Read(number),
         "write" => Failing::Write(number),
