@@ -1,83 +1,144 @@
-//! How another program embeds the machine: it runs a script, hands values in and takes them out, makes a class of its
-//! own, and tells a fault by its kind and its cause.
+//! How another program calls the machine: it makes a class and gives it an attribute, asks for this attribute of a new
+//! object, runs two commands, and looks at what it is told.
 #![tactic(auto)]
 
-mod stop;
+ghost use Rattle.std.specs.Prelude.{◌≡◌, [], ◌∷◌, IfOk};
+ghost use Rattle.class_world.specs.Sound.{AllHold, Grows, Holds, IsClass, IsName, IsNode, of_node_ref};
+ghost use Rattle.vm_eval.specs.Asks.{of_done};
 
-ghost use Rattle.std.specs.Prelude.{IfOk};
-ghost use Rattle.class_world.specs.Sound.{Grows, Holds, IsNode};
-
-use py_node::{BuiltIn, PyObjectRef};
-use script_text::read_script;
+use class_table::ClassFault;
+use class_world::Fixed;
+use py_node::{
+    BuiltIn, Command, Constant, Expr, OutOfMemory, PyAttributes, PyNumberBinaryOp, PyObjectRef,
+    PyResult, PyStrInterned, PyTypeRef, Reply, ReplyAnswer, Word,
+};
 use std::alloc::Global;
 use std::io;
-use stop::{Stop, done};
-use vm_calls::{call, get_attr, int_of, new_int, new_text, text_of};
-use vm_eval::VirtualMachine;
-
-// A function that scripts can call, and the host too.
-const SCRIPT: &str =
-    r#"[["bind", "double", ["func", "double", ["n"], ["op", "*", ["name", "n"], 2]]]]"#;
-
-// How many tasks a command or a call may ask.
-const UNITS: u64 = 1_000;
+use vm_eval::{RunFault, VirtualMachine};
+use world_text::show::show;
 
 fn main(rt: HostRuntime) -> io::Result<()> {
-    match told(rt.alloc()) {
-        Ok((number, label, stop)) => println!(rt;
-            "doubled: {number}\nlabel: {label}\na fault: {stop}"
-        ),
-        Err(stop) => println!(rt; "no answer: {stop}"),
+    let Ok(mut vm) = VirtualMachine::new(rt.alloc()) else {
+        return println!(rt; "no memory");
+    };
+    match changed(&mut vm, rt.alloc()) {
+        Ok((class, name)) => {
+            let text = vm.world().class_name(class);
+            println!(rt; "a class: {text}")?;
+            match attribute(&mut vm, class, name, rt.alloc()) {
+                Ok(PyResult::Done(text)) => println!(rt; "an attribute: {text}")?,
+                Ok(PyResult::Raised(_)) => println!(rt; "a fault")?,
+                Ok(PyResult::Budget) => println!(rt; "no units are left")?,
+                Err(_) => println!(rt; "no answer")?,
+            }
+        }
+        Err(_) => println!(rt; "no class")?,
+    }
+    match replies(&mut vm, rt.alloc()) {
+        Ok(replies) => {
+            for reply in &replies {
+                match &reply.answer {
+                    ReplyAnswer::Value(_, text) => println!(rt; "a value: {text}")?,
+                    ReplyAnswer::Raised(_) => println!(rt; "a fault")?,
+                    ReplyAnswer::Budget => println!(rt; "no units are left")?,
+                }
+            }
+        }
+        Err(_) => println!(rt; "no replies")?,
+    }
+    let failed = vm.has_failed();
+    println!(rt; "failed: {failed}")
+}
+
+// A class below `object`, with an attribute that is None, and the attribute's name.
+fn changed(vm: &mut VirtualMachine, alloc: Global) -> Result<(PyTypeRef, PyStrInterned), ClassFault>
+    ensures class { IfOk result (λ made. Holds vm.new.world (IsClass made.0.0)) }
+    ensures name { IfOk result (λ made. Holds vm.new.world (IsName made.1)) }
+{
+    let metaclass = vm.world().built_in(BuiltIn::TypeType);
+    let bases = one(alloc, vm.world().built_in(BuiltIn::Object))?;
+    let class = vm.new_heap(
+        "A",
+        bases,
+        PyAttributes::new(alloc),
+        Vec::new(alloc),
+        metaclass,
+    )?;
+    let name = vm.intern("x")?;
+    let none = vm.world().fixed(Fixed::None);
+    vm.set_attr(class, name, none)?;
+    Ok((class, name))
+}
+
+// The text of an attribute of a new object of a class. The object and its attribute are asked for with 1,000 units each.
+fn attribute(
+    vm: &mut VirtualMachine,
+    class: PyTypeRef,
+    name: PyStrInterned,
+    alloc: Global,
+) -> Result<PyResult<String>, RunFault>
+    requires class { Holds vm.old.world (IsClass class.0) }
+    requires name { Holds vm.old.world (IsName name) }
+{
+    let class = vm.world().class_node(class);
+    match object_of(vm, class, alloc)? {
+        PyResult::Done(object) => attribute_text(vm, object, name),
+        PyResult::Raised(raised) => Ok(PyResult::Raised(raised)),
+        PyResult::Budget => Ok(PyResult::Budget),
     }
 }
 
-// Twice a number, the label of a new order, and why an order can't be doubled.
-fn told(alloc: Global) -> Result<(i128, String, Stop), Stop> {
-    let mut vm = VirtualMachine::new(alloc)?;
-    let commands = read_script(alloc, SCRIPT.as_bytes())?;
-    vm.run(&commands, UNITS)?;
-    let number = new_int(&mut vm, 33)?;
-    let twice = doubled(&mut vm, alloc, number)?;
-    let number = int_of(&vm, twice).ok_or(Stop::OtherKind)?;
-    let order = new_order(&mut vm, alloc)?;
-    let label = label_of(&mut vm, alloc, order)?;
-    match doubled(&mut vm, alloc, order) {
-        Ok(_) => Err(Stop::OtherKind),
-        Err(stop) => Ok((number, label, stop)),
-    }
-}
-
-// What the script's function makes of an object.
-fn doubled(vm: &mut VirtualMachine, alloc: Global, object: PyObjectRef) -> Result<PyObjectRef, Stop>
-    requires { Holds vm.old.world (IsNode object) }
-    ensures node { IfOk result (λ r. Holds vm.new.world (IsNode r)) }
+// What a class makes that is called without arguments.
+#[tactic(auto, unfolding(class_world::specs::Sound::Holds))]
+fn object_of(
+    vm: &mut VirtualMachine,
+    class: PyObjectRef,
+    alloc: Global,
+) -> Result<PyResult<PyObjectRef>, RunFault>
+    requires { Holds vm.old.world (IsNode class) }
+    ensures object { IfOk result (λ told. AllHold vm.new.world (of_done of_node_ref told)) }
     ensures grows { Grows vm.old.world vm.new.world }
 {
-    let name = vm.intern("double")?;
-    let double = vm.world().variable(name).ok_or(Stop::Unbound)?;
-    let args = vec![in alloc; object]?;
-    done(call(vm, double, args, Vec::new(alloc), UNITS)?)
+    vm_calls::call(vm, class, Vec::new(alloc), Vec::new(alloc), 1000)
 }
 
-// A new object of a class of the host's own, all of whose objects have one label.
-fn new_order(vm: &mut VirtualMachine, alloc: Global) -> Result<PyObjectRef, Stop>
-    ensures { IfOk result (λ r. Holds vm.new.world (IsNode r)) }
+// The text of an attribute of an object.
+fn attribute_text(
+    vm: &mut VirtualMachine,
+    object: PyObjectRef,
+    name: PyStrInterned,
+) -> Result<PyResult<String>, RunFault>
+    requires object { Holds vm.old.world (IsNode object) }
+    requires name { Holds vm.old.world (IsName name) }
 {
-    let object = vm.world().built_in(BuiltIn::Object);
-    let class = vm.new_simple_heap("Order", object)?;
-    let label = done(new_text(vm, String::from_str(alloc, "none yet")?)?)?;
-    vm.set_str_attr(class, "label", label)?;
-    let order = vm.world().class_node(class);
-    done(call(vm, order, Vec::new(alloc), Vec::new(alloc), UNITS)?)
+    match vm_calls::get_attr(vm, object, name, 1000)? {
+        PyResult::Done(value) => Ok(PyResult::Done(show(vm.world(), value)?)),
+        PyResult::Raised(raised) => Ok(PyResult::Raised(raised)),
+        PyResult::Budget => Ok(PyResult::Budget),
+    }
 }
 
-// The text of an object's label.
-fn label_of(vm: &mut VirtualMachine, alloc: Global, object: PyObjectRef) -> Result<String, Stop>
-    requires { Holds vm.old.world (IsNode object) }
-    ensures { Grows vm.old.world vm.new.world }
+// A list of one class.
+fn one(alloc: Global, class: PyTypeRef) -> Result<Vec<PyTypeRef>, OutOfMemory>
+    ensures { IfOk result (λ v. v.items ≡ class ∷ []) }
 {
-    let name = vm.intern("label")?;
-    let label = done(get_attr(vm, object, name, UNITS)?)?;
-    let text = text_of(vm, label).ok_or(Stop::OtherKind)?;
-    Ok(String::from_str(alloc, text)?)
+    Ok(vec![in alloc; class]?)
+}
+
+// Two commands, run with 1,000 units each.
+fn replies(vm: &mut VirtualMachine, alloc: Global) -> Result<Vec<Reply>, RunFault> {
+    let commands = commands(alloc)?;
+    vm.run(&commands, 1000)
+}
+
+// `n = 33`, and then `n + 12`.
+fn commands(alloc: Global) -> Result<Vec<Command>, OutOfMemory> {
+    let bind = Expr::Bind(String::from_str(alloc, "n")?, Box::new(alloc, int(33))?);
+    let operands = vec![in alloc; Expr::Name(String::from_str(alloc, "n")?), int(12)]?;
+    let sum = Expr::Op(Word::Binary(PyNumberBinaryOp::Add), operands);
+    Ok(vec![in alloc; Command { expr: bind }, Command { expr: sum }]?)
+}
+
+fn int(number: i64) -> Expr {
+    Expr::Const(Constant::Int(number))
 }
