@@ -1,6 +1,5 @@
 pub mod Lists
 pub mod Distinct
-pub mod Values
 pub mod Found
 pub mod Told
 pub mod Nones

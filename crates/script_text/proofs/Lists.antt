@@ -8,18 +8,11 @@ use Rattle.serde_json.specs.declared.value.Value.{Value}
 use Rattle.py_node.specs.declared.expr.Expr.{Expr, Call, Class, Op, the_lemmas}
 use Rattle.py_node.specs.declared.expr.Word.{Word}
 use Rattle.py_node.specs.Tree.{TCall, TClass, TOp, entry, entries_of, trees_of, tree_of, pair_of}
-use Rattle.script_text.specs.Forms.{of_two, expr_of, exprs_of, pair_in, pairs_in, entry_of, entries_in, named, named_entries, call, class, operation}
+use Rattle.script_text.specs.Forms.{expr_of, exprs_of, pair_in, pairs_in, entry_of, entries_in, named, named_entries, call, class, operation}
+use Rattle.json_text.specs.Texts.{of_two}
+use Rattle.json_text.proofs.Lists.{onto, onto-found, turn}
 use Rattle.script_text.specs.Words.{allows}
 use Rattle.script_text.specs.declared.words.Arity.{Arity}
-
--- what is left, with what was found before it
-abbrev pub onto : {A : Type 0} → List A → Option (List A) → Option (List A)
-onto found left = option_map (λ more. found ++ more) left
-
--- one more is found
-pub onto-found : {A : Type 0} (found : List A) (a : A) (left : Option (List A)) → onto found (of_two ◌∷◌ (Some a) left) ≡ onto (found ++ a ∷ []) left
-onto-found found a None = refl
-onto-found found a (Some more) = ap Some (sym (append_assoc found (a ∷ []) more))
 
 -- an item is no deeper than its list
 pub depth-item : (vs : List Value) (i : ℕ) (v : Value) → i < length vs → depth (view (get_or vs i v)) ≤ items_depth (items_view vs)
@@ -32,17 +25,6 @@ depth-here vs i v h is =
     let same : depth (view v) ≡ depth (view (get_or vs i v)) = ap (λ w. depth (view w)) is in
     let within : depth (view (get_or vs i v)) ≤ items_depth (items_view vs) = depth-item vs i v h in
     omega (arith, same, within)
-
--- one turn of a loop that reads each item by `one`, where `all` reads a list
-pub turn : {V E A : Type 0} (one : V → Option A) (all : List V → Option (List A)) (f : E → A) → ((v : V) (vs : List V) → all (v ∷ vs) ≡ of_two ◌∷◌ (one v) (all vs))
-    → (vs : List V) (i : ℕ) (v : V) (found : List E) (e : E) (o : Option (List A)) → i < length vs → v ≡ get_or vs i v → one v ≡ Some (f e)
-    → o ≡ onto (map f found) (all (drop i vs)) → o ≡ onto (map f (found ++ e ∷ [])) (all (drop (i + 1) vs))
-turn one all f step vs i v found e o h is reads before =
-    let rest = drop (i + 1) vs in
-    let first : drop i vs ≡ v ∷ rest = rw (add-one, drop-cons vs i v h) (ap (λ w. w ∷ drop (suc i) vs) (sym is)) in
-    before ∙ ap (λ ws. onto (map f found) (all ws)) first
-    ∙ ap (onto (map f found)) (step v rest ∙ ap (λ a. of_two ◌∷◌ a (all rest)) reads)
-    ∙ onto-found (map f found) (f e) (all rest) ∙ ap (λ xs. onto xs (all rest)) (sym (map-append f found (e ∷ [])))
 
 pub exprs-turn : (vs : List Value) (i : ℕ) (v : Value) (found : List Expr) (e : Expr) → i < length vs → v ≡ get_or vs i v → expr_of (view v) ≡ Some (tree_of e)
     → exprs_of (items_view vs) ≡ onto (map tree_of found) (exprs_of (items_view (drop i vs)))

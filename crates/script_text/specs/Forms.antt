@@ -8,14 +8,10 @@ use Rattle.py_node.specs.declared.expr.Expr.{Expr}
 use Rattle.py_node.specs.declared.expr.Word.{Word}
 use Rattle.py_node.specs.declared.raised.Kind.{Kind}
 use Rattle.py_node.specs.declared.raised.TheConstants.{KINDS}
+use Rattle.json_text.specs.Texts.{of_two, texts_in}
 use Rattle.script_text.specs.declared.words.Arity.{Arity}
 use Rattle.script_text.specs.Words.{allows, operation_of}
 use Rattle.py_node.specs.Tree.{Text, LNone, LFalse, LTrue, LInt, LText, Tree, TConst, TName, TBind, TTuple, TList, TDict, TFunc, TAttr, TSetAttr, TDelAttr, TCall, TOp, TIf, TSeq, TRaise, TClass, Entries, no_entries, entry, keyed_of, trees_of, tree_of}
-
--- f of two parts, where both are there
-abbrev pub of_two : {A B C : Type 0} → (A → B → C) → Option A → Option B → Option C
-of_two f (Some a) b = option_map (f a) b
-of_two f None b = None
 
 -- f of three parts, where all are there
 abbrev pub of_three : {A B C D : Type 0} → (A → B → C → D) → Option A → Option B → Option C → Option D
@@ -34,11 +30,6 @@ kinds = map (λ row. (row.0, row.1.now)) KINDS
 -- the kind of faults that a word stands for
 unfoldable pub kind_named : Text → Option Kind
 kind_named text = option_map (λ row. row.0) (find (λ row. bytes_eq text row.1) kinds)
-
--- the strings of a list
-abbrev pub texts_in : Items → Option (List Text)
-texts_in no_items = Some []
-texts_in (item d ds) = of_two ◌∷◌ (as_str d) (texts_in ds)
 
 -- no text of a list stands twice
 abbrev pub all_differ : List Text → Bool

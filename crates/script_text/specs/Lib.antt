@@ -2,6 +2,4 @@ pub mod Words
 pub mod Forms
 pub mod FormWords
 pub mod FormParts
-pub mod Parts
-pub mod Fault
 pub mod Script

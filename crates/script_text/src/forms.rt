@@ -4,25 +4,18 @@ ghost use Rattle.std.specs.Prelude.{◌≡◌, ◌≢◌, Some, None, Err, IfOk,
 ghost use Rattle.serde_json.specs.Find.{as_str};
 ghost use Rattle.serde_json.specs.View.{view, items_view};
 ghost use Rattle.py_node.specs.Tree.{TIf, TName, TRaise, TSetAttr, pair_of, texts_of, tree_of};
-ghost use Rattle.script_text.specs.Forms.{all_differ, array_of, call, class, differing, entries_in, entry_of, expr_of, exprs_of, kind_named, named, pair_in, pairs_in, params_of, texts_in};
+ghost use Rattle.script_text.specs.Forms.{all_differ, array_of, call, class, differing, entries_in, entry_of, expr_of, exprs_of, kind_named, named, pair_in, pairs_in, params_of};
+ghost use Rattle.json_text.specs.Texts.{texts_in};
 ghost use Rattle.script_text.specs.FormParts.{many_tree, parts_tree, single_tree};
 
 use crate::form_parts::{Many, Parts, Single, pair_items, parts_of};
-use crate::parts::Unread;
+use json_text::Unread;
+use json_text::texts::{read_text, read_texts};
 use crate::words::read_kind;
 use py_node::{Constant, Expr};
 use serde_json::Value;
 use std::alloc::{AllocError, Global};
 use std::collections::BTreeSet;
-
-// A copy of a string.
-fn read_text(alloc: Global, value: &Value) -> Result<String, Unread>
-    ensures ok { IfOk result (λ s. as_str (view value.now) ≡ Some (string_bytes s)) }
-    ensures shape { result ≡ Err Unread.Shape → as_str (view value.now) ≡ None }
-{
-    let text = value.as_str().ok_or(Unread::Shape)?;
-    Ok(String::from_str(alloc, text)?)
-}
 
 // The parameters of a function: strings that all differ. Where the last is to take the rest of the arguments, there is
 // one at least.
@@ -53,18 +46,6 @@ fn read_names(alloc: Global, items: &[Value]) -> Result<Vec<String>, Unread>
     } else {
         Err(Unread::Shape)
     }
-}
-
-// The strings of a list.
-fn read_texts(alloc: Global, items: &[Value]) -> Result<Vec<String>, Unread>
-    ensures ok { IfOk result (λ v. texts_in (items_view items.now) ≡ Some (texts_of v.items)) }
-    ensures shape { result ≡ Err Unread.Shape → texts_in (items_view items.now) ≡ None }
-{
-    let mut found = Vec::with_capacity(alloc, items.len())?;
-    for item in items {
-        found.push(read_text(alloc, item)?)?;
-    }
-    Ok(found)
 }
 
 // Whether no text of a list stands twice.

@@ -4,10 +4,10 @@
 mod form_parts;
 mod form_words;
 mod forms;
-mod parts;
 pub mod read;
 mod words;
 pub mod write;
 
-pub use read::{ScriptError, ScriptFault, read_script};
+pub use json_text::{ScriptError, ScriptFault};
+pub use read::read_script;
 pub use write::{write_classes, write_replies};

@@ -5,7 +5,7 @@ use Rattle.outside.specs.declared.words.Job.TheVariants.{Run as RunJob, Generate
 use Rattle.py_node.specs.Tree.{Text, Tree}
 use Rattle.plain_machine.specs.Lines.{replies_text}
 use Rattle.script_text.specs.Script.{script_of}
-use Rattle.script_text.specs.declared.read.ScriptError.{ScriptError as Refusal}
+use Rattle.json_text.specs.declared.error.ScriptError.{ScriptError as Refusal}
 use Rattle.plain_machine.specs.Answer.{Run, plain_run}
 use Rattle.plain_machine.specs.ClassText.{classes_text}
 use Rattle.plain_machine.specs.Start.{start}

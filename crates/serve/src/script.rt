@@ -4,7 +4,7 @@ ghost use Rattle.std.specs.Prelude.{◌≡◌, ◌<◌, ◌≤◌, ◌+◌, ◌^
 ghost use Rattle.std.specs.Option.{ForSome};
 ghost use Rattle.outside.specs.Count.{Rose};
 ghost use Rattle.script_text.specs.Script.{script_of};
-ghost use Rattle.script_text.specs.declared.read.ScriptError.{ScriptError as Refusal};
+ghost use Rattle.json_text.specs.declared.error.ScriptError.{ScriptError as Refusal};
 ghost use Rattle.py_node.specs.Tree.{Tree};
 ghost use Rattle.serve.specs.Headline.{IsTextOf, run_text};
 ghost use Rattle.serve.specs.Status.{HasReadAll, IsDoneOrPoor};

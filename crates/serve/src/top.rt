@@ -7,7 +7,7 @@ ghost use Rattle.outside.specs.Words.{job_in};
 ghost use Rattle.outside.specs.declared.words.Generation.{Generation};
 ghost use Rattle.outside.specs.declared.words.Job.{Job as Asked};
 ghost use Rattle.script_text.specs.Script.{script_of};
-ghost use Rattle.script_text.specs.declared.read.ScriptError.{ScriptError as Refusal};
+ghost use Rattle.json_text.specs.declared.error.ScriptError.{ScriptError as Refusal};
 ghost use Rattle.py_node.specs.Tree.{Tree};
 ghost use Rattle.serve.specs.Headline.{IsRefused, IsTextOf, run_text, generation_text};
 ghost use Rattle.serve.specs.Status.{HasReadAll, IsDoneOrPoor, IsWriteEnd};

@@ -1,7 +1,7 @@
 use Rattle.std.proofs.Common.{◌≡◌, drop}
 use Rattle.serde_json.specs.View.{items_view, members_view}
-use Rattle.script_text.specs.Script.{any_bad, any_bad_member}
-use Rattle.script_text.proofs.read.+numbers.Given as goal
+use Rattle.json_text.specs.Json.{any_bad, any_bad_member}
+use Rattle.json_text.proofs.read.+numbers.Given as goal
 
 abbrev pub invariant-any_bad-loop-item : goal.invariant-any_bad-loop-item
 invariant-any_bad-loop-item l = any_bad (items_view l.items) ≡ any_bad (items_view (drop l.item-index l.items))

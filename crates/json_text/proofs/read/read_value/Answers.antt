@@ -1,8 +1,8 @@
 use Rattle.std.proofs.Common.{◌≡◌, rules}
 use Rattle.serde_json.specs.Errors.{IsMemory}
-use Rattle.script_text.specs.declared.read.ScriptError.TheVariants.{NotJson}
-use Rattle.script_text.proofs.Values.{value-of_text, value-of_none}
-use Rattle.script_text.proofs.read.read_value.Goals as goal
+use Rattle.json_text.specs.declared.error.ScriptError.TheVariants.{NotJson}
+use Rattle.json_text.proofs.Values.{value-of_text, value-of_none}
+use Rattle.json_text.proofs.read.read_value.Goals as goal
 
 pub returns-in-Ok-clause-ok : goal.returns-in-Ok-clause-ok
 returns-in-Ok-clause-ok c = value-of_text c.args.bytes.now _ c.in-Ok.ensures.ok.0 c.in-Ok.ensures.ok.1

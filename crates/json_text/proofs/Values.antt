@@ -4,13 +4,13 @@ use Rattle.std.proofs.lemmas.Str.{is_utf8-from_IsUtf8, IsUtf8-from_is_utf8}
 use Rattle.std.specs.Str.{IsUtf8, is_utf8}
 use Rattle.serde_json.specs.Data.{Data}
 use Rattle.serde_json.specs.Read.{read}
-use Rattle.script_text.specs.declared.parts.Unread.{Unread}
-use Rattle.script_text.specs.declared.parts.Unread.TheVariants as unread
-use Rattle.script_text.specs.declared.read.ScriptError.{ScriptError}
-use Rattle.script_text.specs.declared.read.ScriptError.TheVariants.{Shape}
-use Rattle.script_text.specs.declared.read.ScriptFault.TheVariants.{Script}
-use Rattle.script_text.specs.Fault.{fault_of}
-use Rattle.script_text.specs.Script.{value_of}
+use Rattle.json_text.specs.declared.items.Unread.{Unread}
+use Rattle.json_text.specs.declared.items.Unread.TheVariants as unread
+use Rattle.json_text.specs.declared.error.ScriptError.{ScriptError}
+use Rattle.json_text.specs.declared.error.ScriptError.TheVariants.{Shape}
+use Rattle.json_text.specs.declared.error.ScriptFault.TheVariants.{Script}
+use Rattle.json_text.specs.Fault.{fault_of}
+use Rattle.json_text.specs.Json.{value_of}
 
 pub value-of_text : (bytes : List ℕ) (d : Data) → IsUtf8 bytes → read bytes ≡ Some d → value_of bytes ≡ Some d
 unfolding value_of

@@ -2,20 +2,20 @@
 
 ghost use Rattle.std.specs.Prelude.{◌≡◌, List, [], ◌∷◌, IfOk, IfErr};
 ghost use Rattle.serde_json.specs.declared.value.Value.{Value as JsonValue};
-ghost use Rattle.script_text.specs.Parts.{IsNotOne, IsUnderTwo, IsNotTwo, IsUnderThree, IsNotThree};
+ghost use Rattle.json_text.specs.Items.{IsNotOne, IsUnderTwo, IsNotTwo, IsUnderThree, IsNotThree};
 
 use serde_json::Value;
 use std::alloc::{AllocError, AllocFailed};
 
 /// Why a value gives no expression: it spells none, or memory could not be had.
 #[derive(Clone, Copy, Debug, Drop)]
-pub(crate) enum Unread {
+pub enum Unread {
     Shape,
     OutOfMemory,
 }
 
 impl From<AllocError> for Unread {
-    ghost use Rattle.script_text.specs.declared.parts.Unread.TheVariants.{OutOfMemory};
+    ghost use Rattle.json_text.specs.declared.items.Unread.TheVariants.{OutOfMemory};
     ghost use Rattle.std.specs.Prelude.{◌≡◌};
 
     ghost from_gives = { λ _ e. e ≡ OutOfMemory };
@@ -26,7 +26,7 @@ impl From<AllocError> for Unread {
 }
 
 impl<T: Drop> From<AllocFailed<T>> for Unread {
-    ghost use Rattle.script_text.specs.declared.parts.Unread.TheVariants.{OutOfMemory};
+    ghost use Rattle.json_text.specs.declared.items.Unread.TheVariants.{OutOfMemory};
     ghost use Rattle.std.specs.Prelude.{◌≡◌};
 
     ghost from_gives = { λ _ e. e ≡ OutOfMemory };
@@ -37,7 +37,7 @@ impl<T: Drop> From<AllocFailed<T>> for Unread {
 }
 
 /// The first value of a list, and the rest.
-pub(crate) fn next(items: &[Value]) -> Result<(&Value, &[Value]), Unread>
+pub fn next(items: &[Value]) -> Result<(&Value, &[Value]), Unread>
     ensures ok { IfOk result (λ p. items.now ≡ p.0.now ∷ p.1.now) }
     ensures shape { IfErr result (λ e. items.now ≡ []) }
 {
@@ -45,7 +45,7 @@ pub(crate) fn next(items: &[Value]) -> Result<(&Value, &[Value]), Unread>
 }
 
 /// The end of a list.
-pub(crate) fn no_more(items: &[Value]) -> Result<(), Unread>
+pub fn no_more(items: &[Value]) -> Result<(), Unread>
     ensures ok { IfOk result (λ u. items.now ≡ []) }
     ensures shape { IfErr result (λ e. (v : JsonValue) × (vs : List JsonValue) × (items.now ≡ v ∷ vs)) }
 {
@@ -56,7 +56,7 @@ pub(crate) fn no_more(items: &[Value]) -> Result<(), Unread>
 }
 
 /// The only item of a list.
-pub(crate) fn one(items: &[Value]) -> Result<&Value, Unread>
+pub fn one(items: &[Value]) -> Result<&Value, Unread>
     ensures ok { IfOk result (λ a. items.now ≡ a.now ∷ []) }
     ensures shape { IfErr result (λ e. IsNotOne items.now) }
 {
@@ -66,7 +66,7 @@ pub(crate) fn one(items: &[Value]) -> Result<&Value, Unread>
 }
 
 /// The first two items of a list, and the rest.
-pub(crate) fn two_and_rest(items: &[Value]) -> Result<(&Value, &Value, &[Value]), Unread>
+pub fn two_and_rest(items: &[Value]) -> Result<(&Value, &Value, &[Value]), Unread>
     ensures ok { IfOk result (λ p. items.now ≡ p.0.now ∷ p.1.now ∷ p.2.now) }
     ensures shape { IfErr result (λ e. IsUnderTwo items.now) }
 {
@@ -76,7 +76,7 @@ pub(crate) fn two_and_rest(items: &[Value]) -> Result<(&Value, &Value, &[Value])
 }
 
 /// The only two items of a list.
-pub(crate) fn two(items: &[Value]) -> Result<(&Value, &Value), Unread>
+pub fn two(items: &[Value]) -> Result<(&Value, &Value), Unread>
     ensures ok { IfOk result (λ p. items.now ≡ p.0.now ∷ p.1.now ∷ []) }
     ensures shape { IfErr result (λ e. IsNotTwo items.now) }
 {
@@ -86,7 +86,7 @@ pub(crate) fn two(items: &[Value]) -> Result<(&Value, &Value), Unread>
 }
 
 /// The first three items of a list, and the rest.
-pub(crate) fn three_and_rest(items: &[Value]) -> Result<(&Value, &Value, &Value, &[Value]), Unread>
+pub fn three_and_rest(items: &[Value]) -> Result<(&Value, &Value, &Value, &[Value]), Unread>
     ensures ok { IfOk result (λ p. items.now ≡ p.0.now ∷ p.1.now ∷ p.2.now ∷ p.3.now) }
     ensures shape { IfErr result (λ e. IsUnderThree items.now) }
 {
@@ -96,7 +96,7 @@ pub(crate) fn three_and_rest(items: &[Value]) -> Result<(&Value, &Value, &Value,
 }
 
 /// The only three items of a list.
-pub(crate) fn three(items: &[Value]) -> Result<(&Value, &Value, &Value), Unread>
+pub fn three(items: &[Value]) -> Result<(&Value, &Value, &Value), Unread>
     ensures ok { IfOk result (λ p. items.now ≡ p.0.now ∷ p.1.now ∷ p.2.now ∷ []) }
     ensures shape { IfErr result (λ e. IsNotThree items.now) }
 {

@@ -1,0 +1,4 @@
+pub mod Json
+pub mod Items
+pub mod Texts
+pub mod Fault

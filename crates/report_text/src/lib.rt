@@ -1,0 +1,6 @@
+//! Reports of hierarchies as texts: a line for each class but the first.
+#![tactic(auto)]
+
+pub mod write;
+
+pub use write::write_report;
