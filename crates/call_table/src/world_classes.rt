@@ -9,17 +9,17 @@ use py_node::{
     BuiltIn, Known, NativeEntry, ObjectNative, PyAttributes, PyTypeFlags, PyTypeRef, SlotEntry,
     SlotId,
 };
-use script_text::write_classes;
 use std::marker::Brand;
 use std::sync::ledger::{Blank, Ledger};
 use table_lines::lists::{no_names, one_class};
 use table_lines::{NoValue, Table};
 use world_text::show::show;
+use world_text::write_classes;
 
 pub fn put(table: &mut Table, world: &mut World) {
     table.put_text("World::new_heap", heap_class(world));
     table.put_bytes(
-        "script_text::write_classes",
+        "world_text::write_classes",
         write_classes(world.alloc(), world),
     );
     table.put_text("World::new_simple_heap", simple_class(world));

@@ -9,9 +9,9 @@ ghost use Rattle.json_text.specs.Texts.{texts_in};
 ghost use Rattle.script_text.specs.FormParts.{many_tree, parts_tree, single_tree};
 
 use crate::form_parts::{Many, Parts, Single, pair_items, parts_of};
+use crate::words::read_kind;
 use json_text::Unread;
 use json_text::texts::{read_text, read_texts};
-use crate::words::read_kind;
 use py_node::{Constant, Expr};
 use serde_json::Value;
 use std::alloc::{AllocError, Global};

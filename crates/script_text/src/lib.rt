@@ -6,8 +6,7 @@ mod form_words;
 mod forms;
 pub mod read;
 mod words;
-pub mod write;
 
 pub use json_text::{ScriptError, ScriptFault};
 pub use read::read_script;
-pub use write::{write_classes, write_replies};
+pub use reply_text::write::write_replies;

@@ -15,9 +15,10 @@ use outside::read_all::read_all;
 use outside::write_all::write_all;
 use outside::{ReadEnd, Sink, Source};
 use py_node::{Command, OutOfMemory};
-use script_text::{ScriptFault, read_script, write_classes, write_replies};
+use script_text::{ScriptFault, read_script, write_replies};
 use std::alloc::Global;
 use vm_eval::VirtualMachine;
+use world_text::write_classes;
 
 // Reads a script to the source's end, and runs it: each command has so many units.
 pub(crate) fn run<S: Source, K: Sink>(

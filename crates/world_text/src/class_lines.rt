@@ -1,6 +1,6 @@
 //! The lines of the classes that scripts made.
 
-ghost use Rattle.std.specs.Prelude.{◌≡◌, ◌++◌, ℕ, true, OnOk, codes, map, Some};
+ghost use Rattle.std.specs.Prelude.{◌≡◌, ◌++◌, ℕ, true, IfOk, OnOk, codes, map, Some};
 ghost use Rattle.std.specs.List.{flat_map};
 ghost use Rattle.py_node.specs.Slots.{all_slots};
 ghost use Rattle.plain_machine.specs.Escapes.{escaped};
@@ -18,6 +18,17 @@ use class_world::World;
 use py_node::slots::slots;
 use py_node::{OutOfMemory, PyTypeRef, SlotEntry, SlotId, Sort};
 use reply_text::class::{push_class_head, push_class_member, push_end, push_slot, push_slots_head};
+use std::alloc::Global;
+
+/// The lines of the classes that scripts made in a world, in the order in which they were made: of each the names along
+/// its linearisation, and its filled slots. Nothing else than want of memory is an error.
+pub fn write_classes(alloc: Global, world: &World) -> Result<Vec<u8>, OutOfMemory>
+    ensures { IfOk result (λ v. (t : Reading) → Reads t world.now → v.items ≡ classes_text (plain t world.now)) }
+{
+    let mut text = Vec::new(alloc);
+    push_classes(&mut text, world)?;
+    Ok(text)
+}
 
 /// Adds the lines of each class that a script made.
 pub fn push_classes(out: &mut Vec<u8>, world: &World) -> Result<(), OutOfMemory>

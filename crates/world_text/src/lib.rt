@@ -4,3 +4,5 @@
 pub mod class_lines;
 pub mod expressions;
 pub mod show;
+
+pub use class_lines::write_classes;
