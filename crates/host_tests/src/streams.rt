@@ -3,7 +3,7 @@
 ghost use Rattle.std.specs.Prelude.{◌<◌};
 
 use outside::read_all::{LIMIT, read_all};
-use outside::words::{Job, job_of};
+use outside::words::{Job, Question, job_of};
 use outside::write_all::write_all;
 use outside::{MemorySink, MemorySource, QuietSource, ReadEnd};
 use std::alloc::{AllocError, Global};
@@ -16,7 +16,7 @@ fn units_of_text(alloc: Global, text: &str) -> Result<Option<u64>, AllocError> {
         words.push(String::from_str(alloc, word)?)?;
     }
     match job_of(&words) {
-        Some(Job::Run(units)) => Ok(Some(units)),
+        Some(Job::Answer(Question::Run(units))) => Ok(Some(units)),
         _ => Ok(None),
     }
 }
@@ -35,6 +35,7 @@ fn words_say_units(rt: HostRuntime) -> Result<(), Fail> {
         ("run -5", None),
         ("run 5x", None),
         ("run", None),
+        ("check par 5", None),
         ("", None),
         ("run 5 5", None),
         ("share 5", None),

@@ -23,7 +23,7 @@ use vm_eval::VirtualMachine;
 fn main(rt: HostRuntime) -> io::Result<ExitCode> {
     let mut table = Table::new(rt.alloc());
     put_machine(&mut table, rt.alloc());
-    programs::put(&mut table, rt.alloc());
+    programs::put(&mut table, &rt);
     let text = table.text();
     print!(rt; "{text}")?;
     let status = if table.is_ended() { 1 } else { 0 };

@@ -9,18 +9,16 @@ use serve::top::serve;
 use std::alloc::{AllocError, Global};
 use table_lines::{NoValue, Table};
 
-pub fn put(table: &mut Table, alloc: Global) {
+pub fn put(table: &mut Table, rt: &HostRuntime) {
+    let alloc = rt.alloc();
     table.put("generator::class_command", class(alloc));
     table.put("generator::change_command", change(alloc));
     table.put_bytes("Tally::text", Tally::new().text(alloc));
     table.put_bytes(
         "serve::serve with run",
-        served(alloc, &["run", "1000"], b"[33]"),
+        served(rt, &["run", "1000"], b"[33]"),
     );
-    table.put_bytes(
-        "serve::serve with gen",
-        served(alloc, &["gen", "1", "3"], b""),
-    );
+    table.put_bytes("serve::serve with gen", served(rt, &["gen", "1", "3"], b""));
 }
 
 // The name that the second class is bound to.
@@ -49,11 +47,12 @@ fn words(alloc: Global, texts: &[&str]) -> Result<Vec<String>, AllocError> {
 }
 
 // What is written where all is well.
-fn served(alloc: Global, texts: &[&str], script: &[u8]) -> Result<Vec<u8>, NoValue> {
+fn served(rt: &HostRuntime, texts: &[&str], script: &[u8]) -> Result<Vec<u8>, NoValue> {
+    let alloc = rt.alloc();
     let words = words(alloc, texts)?;
     let mut source = MemorySource::new(script.to_vec(alloc)?, 1, Vec::new(alloc));
     let mut sink = MemorySink::new(alloc, 1, Vec::new(alloc));
-    match serve(alloc, &words, &mut source, &mut sink) {
+    match serve(rt, &words, &mut source, &mut sink) {
         Status::Done => Ok(sink.bytes().to_vec(alloc)?),
         _ => Err(NoValue),
     }

@@ -4,8 +4,11 @@ use Rattle.std.specs.Char.{is_ascii_digit}
 use Rattle.std.specs.List.{list_all}
 use Rattle.std.specs.Str.Parse.{digits_value}
 use Rattle.outside.specs.declared.words.Generation.{Generation}
+use Rattle.outside.specs.declared.words.Pace.TheVariants.{Single, Parallel}
+use Rattle.outside.specs.declared.words.Question.{Question}
+use Rattle.outside.specs.declared.words.Question.TheVariants.{Run, Check}
 use Rattle.outside.specs.declared.words.Job.{Job}
-use Rattle.outside.specs.declared.words.Job.TheVariants.{Run, Generate}
+use Rattle.outside.specs.declared.words.Job.TheVariants.{Answer, Generate}
 
 abbrev pub Text : Type 0
 Text = List ℕ
@@ -26,9 +29,15 @@ is_in_range low high n = nat_le low n && nat_le n high
 abbrev pub number_written : ℕ → ℕ → Text → Option ℕ
 number_written low high text = if is_numeral text && is_in_range low high (digits_value 10 text) then Some (digits_value 10 text) else None
 
--- the units N of the words `run N`
-abbrev pub units_in : Text → Text → Option ℕ
-units_in command number = if bytes_eq command (codes "run") then number_written 1 1000000000 number else None
+-- what a word alone asks of a text
+abbrev pub question_alone : Text → Option Question
+question_alone command = if bytes_eq command (codes "check") then Some (Check Single) else None
+
+-- what two words ask of a text: the units N of `run N`, or the orders by as many threads as there are processors
+abbrev pub question_in : Text → Text → Option Question
+question_in command word =
+    if bytes_eq command (codes "run") then option_map Run (number_written 1 1000000000 word)
+    else (if bytes_eq command (codes "check") && bytes_eq word (codes "par") then Some (Check Parallel) else None)
 
 -- both numbers, where there are both
 abbrev pub generation_by : Option ℕ → Option ℕ → Option Generation
@@ -41,6 +50,7 @@ generation_in command seed count = if bytes_eq command (codes "gen") then genera
 
 -- what the words ask for, if the program knows them
 abbrev pub job_in : List Text → Option Job
-job_in (command ∷ number ∷ []) = option_map Run (units_in command number)
+job_in (command ∷ []) = option_map Answer (question_alone command)
+job_in (command ∷ word ∷ []) = option_map Answer (question_in command word)
 job_in (command ∷ seed ∷ count ∷ []) = option_map Generate (generation_in command seed count)
 job_in words = None

@@ -1,7 +1,7 @@
 //! The words that the program is called with, and what they ask for.
 
 ghost use Rattle.std.specs.Prelude.{◌≡◌, ◌≤◌, map, string_bytes, Some, IfSome};
-ghost use Rattle.outside.specs.Words.{units_in, generation_in, job_in, number_written, is_numeral};
+ghost use Rattle.outside.specs.Words.{question_alone, question_in, generation_in, job_in, number_written, is_numeral};
 ghost use Rattle.std.specs.List.{list_all};
 ghost use Rattle.std.specs.Char.{is_ascii_digit};
 ghost use Rattle.outside.specs.declared.words.Generation.{Generation as Asked};
@@ -13,25 +13,47 @@ pub struct Generation {
     pub count: u64,
 }
 
+/// How many threads find the orders of a hierarchy.
+#[derive(Clone, Copy, PartialEq, Eq, Debug)]
+pub enum Pace {
+    /// The caller's own.
+    Single,
+    /// As many as there are processors.
+    Parallel,
+}
+
+/// What is asked of a text.
+#[derive(Clone, Copy, PartialEq, Eq, Debug)]
+pub enum Question {
+    /// `run N`: the text is a script, and each of its commands has N units.
+    Run(u64),
+    /// `check` or `check par`: the text is a hierarchy, whose report is wanted.
+    Check(Pace),
+}
+
 /// What the program is asked for.
 #[derive(Clone, Copy, PartialEq, Eq, Debug)]
 pub enum Job {
-    /// `run N`: a script is read, and each of its commands has N units.
-    Run(u64),
+    /// A text is read and answered.
+    Answer(Question),
     /// `gen SEED COUNT`: commands are generated.
     Generate(Generation),
 }
 
-/// What the words ask for: `run N` with a decimal numeral from 1 to 1_000_000_000, or `gen SEED COUNT` with decimal
-/// numerals, the seed one of 64 bits, the count at most 100_000; `None` for any other words.
+/// What the words ask for: `run N` with a decimal numeral from 1 to 1_000_000_000, `check`, `check par`, or
+/// `gen SEED COUNT` with decimal numerals, the seed one of 64 bits, the count at most 100_000; `None` for any other words.
 pub fn job_of(words: &[String]) -> Option<Job>
     ensures job { result ≡ job_in (map string_bytes words.now) }
     ensures few { (g : Asked) → result ≡ Some (Job.Generate g) → g.count ≤ 100000 }
 {
     match words {
-        [command, units] => {
-            let units = units_of(command.as_str(), units.as_str())?;
-            Some(Job::Run(units))
+        [command] => {
+            let question = question_alone(command.as_str())?;
+            Some(Job::Answer(question))
+        }
+        [command, word] => {
+            let question = question_of(command.as_str(), word.as_str())?;
+            Some(Job::Answer(question))
         }
         [command, seed, count] => {
             let generation = generation_of(command.as_str(), seed.as_str(), count.as_str())?;
@@ -41,12 +63,26 @@ pub fn job_of(words: &[String]) -> Option<Job>
     }
 }
 
-// The units of two words.
-fn units_of(command: &str, units: &str) -> Option<u64>
-    ensures { result ≡ units_in command.now units.now }
+// What one word asks of a text.
+fn question_alone(command: &str) -> Option<Question>
+    ensures { result ≡ question_alone command.now }
+{
+    if command == "check" {
+        Some(Question::Check(Pace::Single))
+    } else {
+        None
+    }
+}
+
+// What two words ask of a text.
+fn question_of(command: &str, word: &str) -> Option<Question>
+    ensures { result ≡ question_in command.now word.now }
 {
     if command == "run" {
-        number(units, 1, 1_000_000_000)
+        let units = number(word, 1, 1_000_000_000)?;
+        Some(Question::Run(units))
+    } else if command == "check" && word == "par" {
+        Some(Question::Check(Pace::Parallel))
     } else {
         None
     }

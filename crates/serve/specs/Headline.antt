@@ -1,7 +1,7 @@
--- What the program writes: the replies of the plain machine to the script that the input spells, and the classes that the script made; or what the replies to generated commands add up to.
-use Rattle.std.specs.Prelude.{◌≡◌, ℕ, ◌++◌, List, Ok, Err}
-use Rattle.outside.specs.declared.words.Job.{Job}
-use Rattle.outside.specs.declared.words.Job.TheVariants.{Run as RunJob, Generate}
+-- What the program writes: what answers the text that was read, or what the replies to generated commands add up to.
+use Rattle.std.specs.Prelude.{◌≡◌, ℕ, ◌++◌, List, map, Ok, Err}
+use Rattle.outside.specs.declared.words.Question.{Question}
+use Rattle.outside.specs.declared.words.Question.TheVariants.{Run as RunQuestion, Check}
 use Rattle.py_node.specs.Tree.{Text, Tree}
 use Rattle.plain_machine.specs.Lines.{replies_text}
 use Rattle.script_text.specs.Script.{script_of}
@@ -9,6 +9,11 @@ use Rattle.json_text.specs.declared.error.ScriptError.{ScriptError as Refusal}
 use Rattle.plain_machine.specs.Answer.{Run, plain_run}
 use Rattle.plain_machine.specs.ClassText.{classes_text}
 use Rattle.plain_machine.specs.Start.{start}
+use Rattle.order_check.specs.declared.hierarchy.Entry.{Entry}
+use Rattle.order_check.specs.declared.report.Line.{Line}
+use Rattle.order_check.specs.Report.{IsReport, AreFound}
+use Rattle.hierarchy_text.specs.Spelled.{PlainClass, plain_class, hierarchy_of}
+use Rattle.report_text.specs.ReportText.{report_text}
 use Rattle.vm_eval.specs.Say.{say}
 use Rattle.generator.specs.Commands.{generated}
 use Rattle.generator.specs.Summary.{summary}
@@ -25,10 +30,29 @@ run_text commands units = text_of (plain_run say start commands units)
 abbrev pub IsTextOf : Text → ℕ → Text → Type 0
 IsTextOf bytes units text = (commands : List Tree) × (script_of bytes ≡ Ok commands) × (text ≡ run_text commands units)
 
--- the bytes that a job reads give this word of a script
-abbrev pub IsRefused : Job → Text → Refusal → Type 0
-IsRefused (RunJob units) bytes e = script_of bytes ≡ Err e
-IsRefused (Generate g) bytes e = ⊥
+-- bytes spell a hierarchy, and this is the text of its report, whose cycles are those that are found
+pub record IsReportOf (bytes text : Text) : Type 0 where
+  pub classes : List Entry
+  pub spelled : hierarchy_of bytes ≡ Ok (map plain_class classes)
+  pub lines : List Line
+  pub right : IsReport classes lines
+  pub found : AreFound classes lines
+  pub written : text ≡ report_text classes lines
+
+-- bytes spell what the question asks of, and this text answers it
+abbrev pub IsAnswer : Question → Text → Text → Type 0
+IsAnswer (RunQuestion units) bytes text = IsTextOf bytes units text
+IsAnswer (Check pace) bytes text = IsReportOf bytes text
+
+-- bytes spell what the question asks of
+abbrev pub IsSpelled : Question → Text → Type 0
+IsSpelled (RunQuestion units) bytes = (commands : List Tree) × (script_of bytes ≡ Ok commands)
+IsSpelled (Check pace) bytes = (classes : List PlainClass) × (hierarchy_of bytes ≡ Ok classes)
+
+-- bytes don't spell what the question asks of, and this is the word for it
+abbrev pub IsRefused : Question → Text → Refusal → Type 0
+IsRefused (RunQuestion units) bytes e = script_of bytes ≡ Err e
+IsRefused (Check pace) bytes e = hierarchy_of bytes ≡ Err e
 
 -- what the replies to the commands of a seed add up to: a new plain machine runs them, each with 10,000 units
 abbrev pub generation_text : ℕ → ℕ → Text

@@ -5,36 +5,37 @@ ghost use Rattle.std.specs.Option.{ForSome};
 ghost use Rattle.outside.specs.Count.{Rose};
 ghost use Rattle.outside.specs.Words.{job_in};
 ghost use Rattle.outside.specs.declared.words.Generation.{Generation};
-ghost use Rattle.outside.specs.declared.words.Job.{Job as Asked};
-ghost use Rattle.script_text.specs.Script.{script_of};
+ghost use Rattle.outside.specs.declared.words.Question.{Question};
 ghost use Rattle.json_text.specs.declared.error.ScriptError.{ScriptError as Refusal};
-ghost use Rattle.py_node.specs.Tree.{Tree};
-ghost use Rattle.serve.specs.Headline.{IsRefused, IsTextOf, run_text, generation_text};
+ghost use Rattle.serve.specs.Headline.{IsAnswer, IsRefused, IsSpelled, generation_text};
 ghost use Rattle.serve.specs.Status.{HasReadAll, IsDoneOrPoor, IsWriteEnd};
 
+use crate::answer::answer_source;
 use crate::generation::generate;
-use crate::script::run;
 use crate::status::Status;
 use outside::words::{Job, job_of};
 use outside::{Sink, Source};
-use std::alloc::Global;
+use std::thread::Threads;
 
 /// With the words `run N`, reads a script to the source's end, runs each command of it with N units, and writes the
-/// replies and the classes that it made to the sink. With `gen SEED COUNT`, runs the commands that the seed generates,
-/// and writes what their replies add up to. Nothing is written before all was read and run.
-pub fn serve<S: Source, K: Sink>(
-    alloc: Global,
+/// replies and the classes that it made to the sink. With `check`, reads a hierarchy, and writes the report of its
+/// classes' orders; with `check par` as many threads as there are processors find the orders, and what is written is the
+/// same. With `gen SEED COUNT`, runs the commands that the seed generates, and writes what their replies add up to.
+/// Nothing is written before all was read and run.
+pub fn serve<R: AllocGlobal + Threads + Sync, S: Source, K: Sink>(
+    rt: &R,
     words: &[String],
     source: &mut S,
     sink: &mut K,
 ) -> Status
-    // With `run N`, what is written is the text of the plain machine's run, and nothing else.
-    ensures done { (units : ℕ) → job_in (map string_bytes words.now) ≡ Some (Job.Run units) → result ≡ Status.Done
-        → ForSome (S.left source.old) (λ bytes. (length bytes ≤ 2 ^ 24) × (text : List ℕ) × IsTextOf bytes units text
+    // What is written answers the text that was read, and nothing else is: with `run N` it is the text of the plain
+    // machine's run, with `check` and `check par` the report of the hierarchy.
+    ensures done { (q : Question) → job_in (map string_bytes words.now) ≡ Some (Job.Answer q) → result ≡ Status.Done
+        → ForSome (S.left source.old) (λ bytes. (length bytes ≤ 2 ^ 24) × (text : List ℕ) × IsAnswer q bytes text
         × ForSome (K.taken sink.old) (λ old. K.taken sink.new ≡ Some (old ++ text))) }
     // What has a script's answer, or failed in writing it, has read all; whatever comes, at most one byte
     // past the limit is read, and for words that are none nothing.
-    ensures read { (units : ℕ) → job_in (map string_bytes words.now) ≡ Some (Job.Run units) → HasReadAll result
+    ensures read { (q : Question) → job_in (map string_bytes words.now) ≡ Some (Job.Answer q) → HasReadAll result
         → ForSome (S.left source.old) (λ _. S.left source.new ≡ Some []) }
     ensures at_most { ForSome (S.left source.old) (λ bytes. (n : ℕ) × (n ≤ 2 ^ 24 + 1) ×
         (S.left source.new ≡ Some (drop n bytes))) }
@@ -43,36 +44,35 @@ pub fn serve<S: Source, K: Sink>(
     ensures usage { result ≡ Status.Usage → job_in (map string_bytes words.now) ≡ None }
     ensures only_usage { job_in (map string_bytes words.now) ≡ None → result ≡ Status.Usage }
     // A word of a script comes only of a job whose bytes, which are few enough, give it.
-    ensures script { (e : Refusal) → result ≡ Status.Script e → (job : Asked) × (job_in (map string_bytes words.now)
-        ≡ Some job) × ForSome (S.left source.old) (λ bytes. (length bytes ≤ 2 ^ 24) × IsRefused job bytes e) }
+    ensures script { (e : Refusal) → result ≡ Status.Script e → (q : Question) × (job_in (map string_bytes words.now)
+        ≡ Some (Job.Answer q)) × ForSome (S.left source.old) (λ bytes. (length bytes ≤ 2 ^ 24) × IsRefused q bytes e) }
     ensures read_fault { result ≡ Status.ReadFault → Rose (S.faults source.old) (S.faults source.new) }
     ensures too_large { result ≡ Status.TooLarge → ForSome (S.left source.old) (λ bytes. 2 ^ 24 < length bytes) }
     ensures fits { ForSome (S.left source.old) (λ bytes. length bytes ≤ 2 ^ 24 → result ≡ Status.TooLarge → ⊥) }
     ensures write_fault { result ≡ Status.WriteFault → Rose (K.faults sink.old) (K.faults sink.new) }
     // What was taken before a fault is a front of the text.
-    ensures front { (units : ℕ) → job_in (map string_bytes words.now) ≡ Some (Job.Run units) → result ≡ Status.WriteFault
-        → ForSome (S.left source.old) (λ bytes. (length bytes ≤ 2 ^ 24) × (text : List ℕ) × IsTextOf bytes units text
+    ensures front { (q : Question) → job_in (map string_bytes words.now) ≡ Some (Job.Answer q) → result ≡ Status.WriteFault
+        → ForSome (S.left source.old) (λ bytes. (length bytes ≤ 2 ^ 24) × (text : List ℕ) × IsAnswer q bytes text
         × ForSome (K.taken sink.old) (λ old. (n : ℕ) × (n < length text) ×
         (K.taken sink.new ≡ Some (old ++ take n text)))) }
     // With any other end nothing is written.
     ensures nothing { (result ≡ Status.Done → ⊥) → (result ≡ Status.WriteFault → ⊥) → K.taken sink.new ≡
         K.taken sink.old }
-    // The words `run N`, bytes that spell a script and are few enough, and no failure: then all is
-    // written, or memory could not be had.
-    ensures complete { (units : ℕ) → job_in (map string_bytes words.now) ≡ Some (Job.Run units)
-        → ForSome (S.left source.old) (λ bytes. (commands : List Tree) → script_of bytes ≡ Ok commands
-        → length bytes ≤ 2 ^ 24
+    // Bytes that spell what is asked of and are few enough, and no failure: then all is written, or memory could not
+    // be had.
+    ensures complete { (q : Question) → job_in (map string_bytes words.now) ≡ Some (Job.Answer q)
+        → ForSome (S.left source.old) (λ bytes. IsSpelled q bytes → length bytes ≤ 2 ^ 24
         → (Rose (S.faults source.old) (S.faults source.new) → ⊥) → (Rose (K.faults sink.old) (K.faults sink.new) → ⊥)
         → IsDoneOrPoor result) }
     // The same known before the call: a source that never fails, and a sink that is sure of the whole text.
-    ensures ahead { (units : ℕ) → job_in (map string_bytes words.now) ≡ Some (Job.Run units)
-        → ForSome (S.left source.old) (λ bytes. (commands : List Tree) → script_of bytes ≡ Ok commands
-        → length bytes ≤ 2 ^ 24
-        → S.quiet source.old → length (run_text commands units) ≤ K.sure sink.old → IsDoneOrPoor result) }
+    ensures ahead { (q : Question) → job_in (map string_bytes words.now) ≡ Some (Job.Answer q)
+        → ForSome (S.left source.old) (λ bytes. IsSpelled q bytes → length bytes ≤ 2 ^ 24
+        → S.quiet source.old → ((text : List ℕ) → IsAnswer q bytes text → length text ≤ K.sure sink.old)
+        → IsDoneOrPoor result) }
     // A source that never fails, a text that the sink is sure of, and counts that never fall.
     ensures quiet { S.quiet source.old → result ≡ Status.ReadFault → ⊥ }
-    ensures sure { (units : ℕ) → job_in (map string_bytes words.now) ≡ Some (Job.Run units)
-        → ForSome (S.left source.old) (λ bytes. (text : List ℕ) → IsTextOf bytes units text
+    ensures sure { (q : Question) → job_in (map string_bytes words.now) ≡ Some (Job.Answer q)
+        → ForSome (S.left source.old) (λ bytes. (text : List ℕ) → IsAnswer q bytes text
         → length text ≤ K.sure sink.old → result ≡ Status.WriteFault → ⊥) }
     ensures later { S.faults source.old ≤ S.faults source.new }
     ensures later_sink { K.faults sink.old ≤ K.faults sink.new }
@@ -93,8 +93,8 @@ pub fn serve<S: Source, K: Sink>(
         → length (generation_text g.seed g.count) ≤ K.sure sink.old → IsDoneOrPoor result }
 {
     match job_of(words) {
-        Some(Job::Run(units)) => run(alloc, units, source, sink),
-        Some(Job::Generate(generation)) => generate(alloc, generation, sink),
+        Some(Job::Answer(question)) => answer_source(rt, question, source, sink),
+        Some(Job::Generate(generation)) => generate(rt.alloc(), generation, sink),
         None => Status::Usage,
     }
 }

@@ -1,4 +1,4 @@
-//! The program: it reads a script from standard input, runs it and writes the replies.
+//! The program: it reads a script or a hierarchy from standard input and writes what answers it.
 #![tactic(auto)]
 
 use outside::{StdSink, StdSource};
@@ -22,7 +22,7 @@ fn run(rt: &HostRuntime) -> Status {
         Ok(words) => {
             let mut source = StdSource::new(rt.stdin());
             let mut sink = StdSink::new(io::writer(rt));
-            serve(rt.alloc(), &words, &mut source, &mut sink)
+            serve(rt, &words, &mut source, &mut sink)
         }
         Err(error) => match error.kind() {
             io::ErrorKind::OutOfMemory => Status::OutOfMemory,

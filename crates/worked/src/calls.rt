@@ -15,15 +15,16 @@ pub struct Told {
 
 /// A call of which one read or one write may fail.
 pub fn once(
-    alloc: Global,
+    rt: &HostRuntime,
     case: &Case,
     script: &[u8],
     failing_read: Option<u64>,
     failing_write: Option<u64>,
 ) -> Result<Told, AllocError> {
+    let alloc = rt.alloc();
     let mut source = MemorySource::new(script.to_vec(alloc)?, 1, calls(alloc, failing_read)?);
     let mut sink = MemorySink::new(alloc, 1, calls(alloc, failing_write)?);
-    let status = serve(alloc, &case.words, &mut source, &mut sink);
+    let status = serve(rt, &case.words, &mut source, &mut sink);
     Ok(Told {
         status,
         taken: sink.bytes().to_vec(alloc)?,
@@ -40,17 +41,17 @@ fn calls(alloc: Global, call: Option<u64>) -> Result<Vec<u64>, AllocError> {
 
 /// What is written of a call each of whose reads fails in turn, the one that would tell the end too: whether each ended as
 /// it should, and how the call ends whose reads don't reach the failing one.
-pub fn each_read(alloc: Global, case: &Case, script: &[u8]) -> Result<Vec<u8>, AllocError> {
+pub fn each_read(rt: &HostRuntime, case: &Case, script: &[u8]) -> Result<Vec<u8>, AllocError> {
     let reads = (script.len() as u64).saturating_add(1);
     let mut is_well = true;
     for call in 0..reads {
-        let told = once(alloc, case, script, Some(call), None)?;
+        let told = once(rt, case, script, Some(call), None)?;
         is_well = is_well && told.status == Status::ReadFault && told.taken.is_empty();
     }
-    let last = once(alloc, case, script, Some(reads), None)?;
+    let last = once(rt, case, script, Some(reads), None)?;
     let how = how_many(is_well);
     let word = last.status.word().unwrap_or("Done");
-    let text = format!(in alloc;
+    let text = format!(in rt.alloc();
         "## {}\n{how} of {reads} reads fails as ReadFault with nothing written, then {word}\n",
         case.name
     )?;
@@ -58,19 +59,19 @@ pub fn each_read(alloc: Global, case: &Case, script: &[u8]) -> Result<Vec<u8>, A
 }
 
 /// The same of its writes: what was taken then is a front of the text.
-pub fn each_write(alloc: Global, case: &Case, script: &[u8]) -> Result<Vec<u8>, AllocError> {
-    let whole = once(alloc, case, script, None, None)?;
+pub fn each_write(rt: &HostRuntime, case: &Case, script: &[u8]) -> Result<Vec<u8>, AllocError> {
+    let whole = once(rt, case, script, None, None)?;
     let writes = whole.taken.len();
     let mut is_well = true;
     for call in 0..writes {
-        let told = once(alloc, case, script, None, Some(call as u64))?;
+        let told = once(rt, case, script, None, Some(call as u64))?;
         is_well = is_well
             && told.status == Status::WriteFault
             && told.taken.as_slice() == &whole.taken[..call];
     }
     let how = how_many(is_well);
     let word = whole.status.word().unwrap_or("Done");
-    let text = format!(in alloc;
+    let text = format!(in rt.alloc();
         "## {}\n{how} of {writes} writes fails as WriteFault with a front of the text, else {word}\n",
         case.name
     )?;

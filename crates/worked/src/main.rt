@@ -26,7 +26,7 @@ fn main(rt: HostRuntime) -> io::Result<ExitCode> {
                 &rt,
                 path(rt.alloc(), folder.as_str(), case.script.as_str())?,
             )?;
-            if write_all(&mut sink, &told(rt.alloc(), &case, &script)?).is_err() {
+            if write_all(&mut sink, &told(&rt, &case, &script)?).is_err() {
                 return Ok(ExitCode::from(1));
             }
         }
@@ -39,16 +39,16 @@ fn path(alloc: Global, folder: &str, name: &str) -> Result<String, AllocError> {
 }
 
 // What is written of a call.
-fn told(alloc: Global, case: &Case, script: &[u8]) -> Result<Vec<u8>, AllocError> {
+fn told(rt: &HostRuntime, case: &Case, script: &[u8]) -> Result<Vec<u8>, AllocError> {
     let told = match case.failing {
-        Failing::Nothing => once(alloc, case, script, None, None)?,
-        Failing::Read(call) => once(alloc, case, script, Some(call), None)?,
-        Failing::Write(call) => once(alloc, case, script, None, Some(call))?,
-        Failing::EachRead => return each_read(alloc, case, script),
-        Failing::EachWrite => return each_write(alloc, case, script),
+        Failing::Nothing => once(rt, case, script, None, None)?,
+        Failing::Read(call) => once(rt, case, script, Some(call), None)?,
+        Failing::Write(call) => once(rt, case, script, None, Some(call))?,
+        Failing::EachRead => return each_read(rt, case, script),
+        Failing::EachWrite => return each_write(rt, case, script),
     };
     let word = told.status.word().unwrap_or("Done");
-    let mut text = format!(in alloc; "## {}\n{word}\n", case.name)?.into_bytes();
+    let mut text = format!(in rt.alloc(); "## {}\n{word}\n", case.name)?.into_bytes();
     text.extend_from_slice(&told.taken)?;
     Ok(text)
 }

@@ -1,4 +1,4 @@
--- Words that are neither two nor three ask for nothing.
+-- Words that are neither one, two nor three ask for nothing.
 use Rattle.std.proofs.Common.{arith, map, string_bytes}
 use Rattle.std.proofs.lemmas.List.{length-map}
 use Rattle.outside.proofs.NoJob.{no_job}
@@ -6,8 +6,10 @@ use Rattle.outside.proofs.words.job_of.Goals as goal
 
 pub returns-in_default-clause-job : goal.returns-in_default-clause-job
 returns-in_default-clause-job c =
-    no_job (map string_bytes c.args.words.now) (λ two. omega (arith, length-map c.args.words.now string_bytes)) (λ three. omega (arith, length-map c.args.words.now string_bytes))
+    let count = length-map c.args.words.now string_bytes in
+    no_job (map string_bytes c.args.words.now) (λ one. omega (arith, count)) (λ two. omega (arith, count)) (λ three. omega (arith, count))
 
 pub returns-in_default-2-clause-job : goal.returns-in_default-2-clause-job
 returns-in_default-2-clause-job c =
-    no_job (map string_bytes c.args.words.now) (λ two. omega (arith, length-map c.args.words.now string_bytes)) (λ three. omega (arith, length-map c.args.words.now string_bytes))
+    let count = length-map c.args.words.now string_bytes in
+    no_job (map string_bytes c.args.words.now) (λ one. omega (arith, count)) (λ two. omega (arith, count)) (λ three. omega (arith, count))

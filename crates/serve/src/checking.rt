@@ -1,0 +1,51 @@
+//! A hierarchy that is checked.
+
+ghost use Rattle.std.specs.Prelude.{◌≡◌, IfOk, Err};
+ghost use Rattle.order_check.specs.Hierarchy.{AreKeyed};
+ghost use Rattle.order_check.specs.Report.{IsReport, AreFound};
+ghost use Rattle.hierarchy_text.specs.Spelled.{hierarchy_of};
+ghost use Rattle.json_text.specs.declared.error.ScriptError.{ScriptError as Refusal};
+ghost use Rattle.serve.specs.Headline.{IsReportOf};
+
+use hierarchy_text::read_hierarchy;
+use json_text::ScriptFault;
+use order_check::{Hierarchy, Report, check, check_par};
+use outside::words::Pace;
+use py_node::OutOfMemory;
+use report_text::write_report;
+use std::thread::Threads;
+
+// The report of the hierarchy that bytes spell.
+pub(crate) fn check_text<R: AllocGlobal + Threads + Sync>(
+    rt: &R,
+    bytes: &[u8],
+    pace: Pace,
+) -> Result<Vec<u8>, ScriptFault>
+    ensures text { IfOk result (λ v. IsReportOf bytes.now v.items) }
+    ensures script { (e : Refusal) → result ≡ Err (ScriptFault.Script e) → hierarchy_of bytes.now ≡ Err e }
+{
+    let hierarchy = read_hierarchy(rt.alloc(), bytes)?;
+    match report_of(rt, &hierarchy, pace) {
+        Ok(report) => match write_report(rt.alloc(), &hierarchy, &report) {
+            Ok(text) => Ok(text),
+            Err(error) => Err(ScriptFault::OutOfMemory(error)),
+        },
+        Err(error) => Err(ScriptFault::OutOfMemory(error)),
+    }
+}
+
+// The report of a hierarchy, whose orders are found at this pace.
+fn report_of<R: AllocGlobal + Threads + Sync>(
+    rt: &R,
+    hierarchy: &Hierarchy,
+    pace: Pace,
+) -> Result<Report, OutOfMemory>
+    requires { AreKeyed hierarchy.now.entries.items }
+    ensures report { IfOk result (λ r. IsReport hierarchy.now.entries.items r.lines.items) }
+    ensures cycles { IfOk result (λ r. AreFound hierarchy.now.entries.items r.lines.items) }
+{
+    match pace {
+        Pace::Single => check(rt.alloc(), hierarchy),
+        Pace::Parallel => check_par(rt, rt.alloc(), hierarchy),
+    }
+}
