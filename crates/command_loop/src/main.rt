@@ -4,7 +4,7 @@
 
 use outside::StdSource;
 use outside::read_all::read_all;
-use outside::words::{Job, job_of};
+use outside::words::{Job, Question, job_of};
 use script_text::read_script;
 use std::alloc::Global;
 use std::process::ExitCode;
@@ -22,7 +22,7 @@ fn main(rt: HostRuntime) -> io::Result<ExitCode> {
     let mut source = StdSource::new(rt.stdin());
     let bytes = read_all(rt.alloc(), &mut source).unwrap_or(Vec::new(rt.alloc()));
     let times = match job_of(&words) {
-        Some(Job::Run(times)) => times,
+        Some(Job::Answer(Question::Run(times))) => times,
         _ => 0,
     };
     match repeated(rt.alloc(), &bytes, times) {

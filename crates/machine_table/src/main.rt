@@ -6,6 +6,7 @@
 mod asking;
 mod attributes;
 mod changes;
+mod hosts;
 mod machine;
 mod makers;
 mod mappings;
@@ -42,6 +43,7 @@ fn put_machine(table: &mut Table, alloc: Global) {
             questions::put(table, &mut vm);
             sequences::put(table, &mut vm);
             mappings::put(table, &mut vm, alloc);
+            hosts::put(table, &mut vm, alloc);
         }
         Err(_) => table.end(),
     }

@@ -1,0 +1,51 @@
+//! Why the example stops.
+
+use class_table::ClassFault;
+use py_node::{OutOfMemory, Raised};
+use script_text::ScriptFault;
+use std::alloc::AllocError;
+use std::io;
+use vm_eval::RunFault;
+
+/// Why there is no answer.
+#[derive(Clone, Copy, Drop)]
+pub enum Stop {
+    /// A fault of the language, with its kind and its cause.
+    Raised(Raised),
+    /// The units were used up.
+    Budget,
+    /// Memory could not be had.
+    OutOfMemory,
+    /// The script, or what it made, is not as it should be.
+    Other,
+}
+
+impl From<OutOfMemory> for Stop {
+    fn from(_: OutOfMemory) -> Stop {
+        Stop::OutOfMemory
+    }
+}
+
+impl From<AllocError> for Stop {
+    fn from(_: AllocError) -> Stop {
+        Stop::OutOfMemory
+    }
+}
+
+impl From<RunFault> for Stop {
+    fn from(_: RunFault) -> Stop {
+        Stop::OutOfMemory
+    }
+}
+
+impl From<ClassFault> for Stop {
+    fn from(_: ClassFault) -> Stop {
+        Stop::Other
+    }
+}
+
+impl From<ScriptFault> for Stop {
+    fn from(_: ScriptFault) -> Stop {
+        Stop::Other
+    }
+}

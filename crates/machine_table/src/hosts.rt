@@ -1,0 +1,58 @@
+//! What a host hands to a machine and takes from it: values, the orders of its classes, a book, and a machine with seats.
+
+use class_orders::hierarchy_of;
+use order_check::all_orders;
+use py_node::{Command, Constant, Expr, OutOfMemory, PyResult};
+use shared_vm::{Book, SharedVm};
+use std::alloc::Global;
+use table_lines::{NoValue, Table};
+use vm_calls::{int_of, new_int, new_text, text_of};
+use vm_eval::{RunFault, VirtualMachine};
+
+pub fn put(table: &mut Table, vm: &mut VirtualMachine, alloc: Global) {
+    table.put("vm_calls::new_int", number(vm));
+    table.put("vm_calls::new_text", text(vm, alloc));
+    table.put("class_orders::hierarchy_of", ordered(vm, alloc));
+    table.put("Book::step", stepped(alloc));
+    table.put("SharedVm::new", seats(alloc));
+}
+
+fn number(vm: &mut VirtualMachine) -> Result<Option<i128>, RunFault> {
+    let object = new_int(vm, 33)?;
+    Ok(int_of(vm, object))
+}
+
+// How long a text is that went in and came out.
+fn text(vm: &mut VirtualMachine, alloc: Global) -> Result<Option<usize>, NoValue> {
+    match new_text(vm, String::from_str(alloc, "a text")?)? {
+        PyResult::Done(object) => Ok(text_of(vm, object).map(|text| text.len())),
+        _ => Err(NoValue),
+    }
+}
+
+// How many classes there are, and how many of them have an order.
+fn ordered(vm: &VirtualMachine, alloc: Global) -> Result<(usize, usize), OutOfMemory> {
+    let hierarchy = hierarchy_of(alloc, vm.classes())?;
+    let orders = all_orders(alloc, &hierarchy)?;
+    let mut found = 0;
+    for order in &orders {
+        if order.is_some() {
+            found += 1;
+        }
+    }
+    Ok((orders.len(), found))
+}
+
+// The place of a first command's entry, and its number among those of its seat.
+fn stepped(alloc: Global) -> Result<(usize, u32), NoValue> {
+    let mut book = Book::new(alloc)?;
+    let expr = Expr::Const(Constant::Int(7));
+    let receipt = book.step(1, Command { expr }, 10)?;
+    Ok((receipt.place, receipt.seat))
+}
+
+// How many seats there are.
+fn seats(alloc: Global) -> Result<usize, OutOfMemory> {
+    let (_vm, seats) = SharedVm::new(alloc, 3)?;
+    Ok(seats.len())
+}
