@@ -6,13 +6,17 @@ use serve::Status;
 use serve::top::serve;
 use std::alloc::AllocError;
 use std::test::Fail;
+use std::thread::Threads;
 
 // A late attribute of a base, and a sum with an object of the class below it.
 const FIRST_RUN: &str =
     r#"[["bind","A",["class","A",[],[]]],["bind","B",["class","B",[["name","A"]],[]]],["setattr",["name","A"],"__add__",["func","add",["s","o"],42]],["op","+",["call",["name","B"],[]],1]]"#;
 
 // How the words `run 5` end, and what is written. A byte is moved in a call, and none fails.
-fn served(rt: &HostRuntime, script: &[u8]) -> Result<(Status, Vec<u8>), AllocError> {
+fn served<R: AllocGlobal + Threads + Sync>(
+    rt: &R,
+    script: &[u8],
+) -> Result<(Status, Vec<u8>), AllocError> {
     let alloc = rt.alloc();
     let mut words = Vec::new(alloc);
     words.push(String::from_str(alloc, "run")?)?;

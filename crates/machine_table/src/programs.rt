@@ -7,9 +7,10 @@ use py_node::{Expr, OutOfMemory};
 use serve::Status;
 use serve::top::serve;
 use std::alloc::{AllocError, Global};
+use std::thread::Threads;
 use table_lines::{NoValue, Table};
 
-pub fn put(table: &mut Table, rt: &HostRuntime) {
+pub fn put<R: AllocGlobal + Threads + Sync>(table: &mut Table, rt: &R) {
     let alloc = rt.alloc();
     table.put("generator::class_command", class(alloc));
     table.put("generator::change_command", change(alloc));
@@ -47,7 +48,11 @@ fn words(alloc: Global, texts: &[&str]) -> Result<Vec<String>, AllocError> {
 }
 
 // What is written where all is well.
-fn served(rt: &HostRuntime, texts: &[&str], script: &[u8]) -> Result<Vec<u8>, NoValue> {
+fn served<R: AllocGlobal + Threads + Sync>(
+    rt: &R,
+    texts: &[&str],
+    script: &[u8],
+) -> Result<Vec<u8>, NoValue> {
     let alloc = rt.alloc();
     let words = words(alloc, texts)?;
     let mut source = MemorySource::new(script.to_vec(alloc)?, 1, Vec::new(alloc));

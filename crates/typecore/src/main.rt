@@ -5,10 +5,11 @@ use outside::{StdSink, StdSource};
 use serve::Status;
 use serve::top::serve;
 use std::process::ExitCode;
+use std::thread::Threads;
 use std::{env, io};
 
 fn main(rt: HostRuntime) -> ExitCode {
-    let status = run(&rt);
+    let status = run(&rt, &rt);
     if let Some(word) = status.word() {
         // Where standard error can't be told either, the exit status still is.
         let _ = eprintln!(rt; "typecore: {word}");
@@ -16,13 +17,13 @@ fn main(rt: HostRuntime) -> ExitCode {
     ExitCode::from(status.code())
 }
 
-// Serves standard input. Words that are no text are none that the program knows.
-fn run(rt: &HostRuntime) -> Status {
+// Serves standard input, with a handle that may start threads. Words that are no text are none that the program knows.
+fn run<R: AllocGlobal + Threads + Sync>(rt: &HostRuntime, threads: &R) -> Status {
     match words(rt) {
         Ok(words) => {
             let mut source = StdSource::new(rt.stdin());
             let mut sink = StdSink::new(io::writer(rt));
-            serve(rt, &words, &mut source, &mut sink)
+            serve(threads, &words, &mut source, &mut sink)
         }
         Err(error) => match error.kind() {
             io::ErrorKind::OutOfMemory => Status::OutOfMemory,

@@ -5,6 +5,7 @@ use outside::{MemorySink, MemorySource};
 use serve::Status;
 use serve::top::serve;
 use std::alloc::{AllocError, Global};
+use std::thread::Threads;
 
 /// How a call ended, and what the sink has taken.
 #[derive(Drop)]
@@ -14,8 +15,8 @@ pub struct Told {
 }
 
 /// A call of which one read or one write may fail.
-pub fn once(
-    rt: &HostRuntime,
+pub fn once<R: AllocGlobal + Threads + Sync>(
+    rt: &R,
     case: &Case,
     script: &[u8],
     failing_read: Option<u64>,
@@ -41,7 +42,11 @@ fn calls(alloc: Global, call: Option<u64>) -> Result<Vec<u64>, AllocError> {
 
 /// What is written of a call each of whose reads fails in turn, the one that would tell the end too: whether each ended as
 /// it should, and how the call ends whose reads don't reach the failing one.
-pub fn each_read(rt: &HostRuntime, case: &Case, script: &[u8]) -> Result<Vec<u8>, AllocError> {
+pub fn each_read<R: AllocGlobal + Threads + Sync>(
+    rt: &R,
+    case: &Case,
+    script: &[u8],
+) -> Result<Vec<u8>, AllocError> {
     let reads = (script.len() as u64).saturating_add(1);
     let mut is_well = true;
     for call in 0..reads {
@@ -59,7 +64,11 @@ pub fn each_read(rt: &HostRuntime, case: &Case, script: &[u8]) -> Result<Vec<u8>
 }
 
 /// The same of its writes: what was taken then is a front of the text.
-pub fn each_write(rt: &HostRuntime, case: &Case, script: &[u8]) -> Result<Vec<u8>, AllocError> {
+pub fn each_write<R: AllocGlobal + Threads + Sync>(
+    rt: &R,
+    case: &Case,
+    script: &[u8],
+) -> Result<Vec<u8>, AllocError> {
     let whole = once(rt, case, script, None, None)?;
     let writes = whole.taken.len();
     let mut is_well = true;

@@ -12,6 +12,7 @@ use outside::StdSink;
 use outside::write_all::write_all;
 use std::alloc::{AllocError, Global};
 use std::process::ExitCode;
+use std::thread::Threads;
 use std::{env, fs, io};
 
 fn main(rt: HostRuntime) -> io::Result<ExitCode> {
@@ -39,7 +40,11 @@ fn path(alloc: Global, folder: &str, name: &str) -> Result<String, AllocError> {
 }
 
 // What is written of a call.
-fn told(rt: &HostRuntime, case: &Case, script: &[u8]) -> Result<Vec<u8>, AllocError> {
+fn told<R: AllocGlobal + Threads + Sync>(
+    rt: &R,
+    case: &Case,
+    script: &[u8],
+) -> Result<Vec<u8>, AllocError> {
     let told = match case.failing {
         Failing::Nothing => once(rt, case, script, None, None)?,
         Failing::Read(call) => once(rt, case, script, Some(call), None)?,
