@@ -1,5 +1,5 @@
 -- What the program writes: what answers the text that was read, or what the replies to generated commands add up to.
-use Rattle.std.specs.Prelude.{◌≡◌, ℕ, ◌++◌, List, map, Ok, Err}
+use Rattle.std.specs.Prelude.{◌≡◌, ℕ, ◌≤◌, ◌++◌, List, length, map, Ok, Err}
 use Rattle.outside.specs.declared.words.Question.{Question}
 use Rattle.outside.specs.declared.words.Question.TheVariants.{Run as RunQuestion, Check}
 use Rattle.py_node.specs.Tree.{Text, Tree}
@@ -43,6 +43,10 @@ pub record IsReportOf (bytes text : Text) : Type 0 where
 abbrev pub IsAnswer : Question → Text → Text → Type 0
 IsAnswer (RunQuestion units) bytes text = IsTextOf bytes units text
 IsAnswer (Check pace) bytes text = IsReportOf bytes text
+
+-- no text that answers is longer than this
+abbrev pub IsRoomFor : ℕ → Question → Text → Type 0
+IsRoomFor room question bytes = (text : Text) → IsAnswer question bytes text → length text ≤ room
 
 -- bytes spell what the question asks of
 abbrev pub IsSpelled : Question → Text → Type 0

@@ -4,7 +4,7 @@ ghost use Rattle.std.specs.Prelude.{◌≡◌, ◌<◌, ◌≤◌, ◌+◌, ◌^
 ghost use Rattle.std.specs.Option.{ForSome};
 ghost use Rattle.outside.specs.Count.{Rose};
 ghost use Rattle.json_text.specs.declared.error.ScriptError.{ScriptError as Refusal};
-ghost use Rattle.serve.specs.Headline.{IsAnswer, IsRefused, IsSpelled};
+ghost use Rattle.serve.specs.Headline.{IsAnswer, IsRefused, IsRoomFor, IsSpelled};
 ghost use Rattle.serve.specs.Status.{HasReadAll, IsDoneOrPoor};
 
 use crate::checking::check_text;
@@ -47,10 +47,10 @@ pub(crate) fn answer_source<R: AllocGlobal + Threads + Sync, S: Source, K: Sink>
         → (Rose (S.faults source.old) (S.faults source.new) → ⊥) → (Rose (K.faults sink.old) (K.faults sink.new) → ⊥)
         → IsDoneOrPoor result) }
     ensures ahead { ForSome (S.left source.old) (λ bytes. IsSpelled question bytes → length bytes ≤ 2 ^ 24
-        → S.quiet source.old → ((text : List ℕ) → IsAnswer question bytes text → length text ≤ K.sure sink.old) → IsDoneOrPoor result) }
+        → S.quiet source.old → IsRoomFor (K.sure sink.old) question bytes → IsDoneOrPoor result) }
     ensures quiet { S.quiet source.old → result ≡ Status.ReadFault → ⊥ }
-    ensures sure { ForSome (S.left source.old) (λ bytes. (text : List ℕ) → IsAnswer question bytes text
-        → length text ≤ K.sure sink.old → result ≡ Status.WriteFault → ⊥) }
+    ensures sure { ForSome (S.left source.old) (λ bytes. IsRoomFor (K.sure sink.old) question bytes
+        → result ≡ Status.WriteFault → ⊥) }
     ensures later { S.faults source.old ≤ S.faults source.new }
     ensures later_sink { K.faults sink.old ≤ K.faults sink.new }
 {
@@ -82,8 +82,7 @@ fn answer<R: AllocGlobal + Threads + Sync, K: Sink>(
     ensures nothing { (result ≡ Status.Done → ⊥) → (result ≡ Status.WriteFault → ⊥) → K.taken sink.new ≡
         K.taken sink.old }
     ensures complete { IsSpelled question bytes.now → (Rose (K.faults sink.old) (K.faults sink.new) → ⊥) → IsDoneOrPoor result }
-    ensures sure { (text : List ℕ) → IsAnswer question bytes.now text → length text ≤ K.sure sink.old
-        → result ≡ Status.WriteFault → ⊥ }
+    ensures sure { IsRoomFor (K.sure sink.old) question bytes.now → result ≡ Status.WriteFault → ⊥ }
     ensures later { K.faults sink.old ≤ K.faults sink.new }
 {
     match text_of(rt, bytes, question) {

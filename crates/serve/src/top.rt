@@ -7,7 +7,7 @@ ghost use Rattle.outside.specs.Words.{job_in};
 ghost use Rattle.outside.specs.declared.words.Generation.{Generation};
 ghost use Rattle.outside.specs.declared.words.Question.{Question};
 ghost use Rattle.json_text.specs.declared.error.ScriptError.{ScriptError as Refusal};
-ghost use Rattle.serve.specs.Headline.{IsAnswer, IsRefused, IsSpelled, generation_text};
+ghost use Rattle.serve.specs.Headline.{IsAnswer, IsRefused, IsRoomFor, IsSpelled, generation_text};
 ghost use Rattle.serve.specs.Status.{HasReadAll, IsDoneOrPoor, IsWriteEnd};
 
 use crate::answer::answer_source;
@@ -64,16 +64,14 @@ pub fn serve<R: AllocGlobal + Threads + Sync, S: Source, K: Sink>(
         → ForSome (S.left source.old) (λ bytes. IsSpelled q bytes → length bytes ≤ 2 ^ 24
         → (Rose (S.faults source.old) (S.faults source.new) → ⊥) → (Rose (K.faults sink.old) (K.faults sink.new) → ⊥)
         → IsDoneOrPoor result) }
-    // The same known before the call: a source that never fails, and a sink that is sure of the whole text.
+    // The same known before the call: a source that never fails, and a sink that is sure of each text that answers.
     ensures ahead { (q : Question) → job_in (map string_bytes words.now) ≡ Some (Job.Answer q)
         → ForSome (S.left source.old) (λ bytes. IsSpelled q bytes → length bytes ≤ 2 ^ 24
-        → S.quiet source.old → ((text : List ℕ) → IsAnswer q bytes text → length text ≤ K.sure sink.old)
-        → IsDoneOrPoor result) }
+        → S.quiet source.old → IsRoomFor (K.sure sink.old) q bytes → IsDoneOrPoor result) }
     // A source that never fails, a text that the sink is sure of, and counts that never fall.
     ensures quiet { S.quiet source.old → result ≡ Status.ReadFault → ⊥ }
     ensures sure { (q : Question) → job_in (map string_bytes words.now) ≡ Some (Job.Answer q)
-        → ForSome (S.left source.old) (λ bytes. (text : List ℕ) → IsAnswer q bytes text
-        → length text ≤ K.sure sink.old → result ≡ Status.WriteFault → ⊥) }
+        → ForSome (S.left source.old) (λ bytes. IsRoomFor (K.sure sink.old) q bytes → result ≡ Status.WriteFault → ⊥) }
     ensures later { S.faults source.old ≤ S.faults source.new }
     ensures later_sink { K.faults sink.old ≤ K.faults sink.new }
     // With `gen SEED COUNT`, the source is left alone, and what is written is what the replies of the plain machine to
