@@ -1,7 +1,6 @@
 -- Lists that are read item by item.
-use Rattle.std.proofs.Common.{◌≡◌, ℕ, zero, suc, ◌+◌, ◌<◌, ◌≤◌, List, [], ◌∷◌, ◌++◌, length, get_or, drop, map, cond, true, Option, Some, None, Ok, ok_or, option_map, String, string_bytes, Vec, Box, Global, refl, ap, sym, ◌∙◌, append_assoc, add-one, arith, rules}
-use Rattle.std.proofs.Math.Seq.{drop-cons}
-use Rattle.std.proofs.lemmas.List.{map-append, length-map}
+use Rattle.std.proofs.Common.{◌≡◌, ℕ, zero, suc, ◌+◌, ◌<◌, ◌≤◌, List, [], ◌∷◌, ◌++◌, length, get_or, drop, map, cond, true, Option, Some, None, Ok, ok_or, String, string_bytes, Vec, Box, Global, refl, ap, sym, ◌∙◌, arith, rules}
+use Rattle.std.proofs.lemmas.List.{length-map}
 use Rattle.serde_json.specs.Data.{depth, items_depth}
 use Rattle.serde_json.specs.View.{view, items_view}
 use Rattle.serde_json.specs.declared.value.Value.{Value}
@@ -9,8 +8,7 @@ use Rattle.py_node.specs.declared.expr.Expr.{Expr, Call, Class, Op, the_lemmas}
 use Rattle.py_node.specs.declared.expr.Word.{Word}
 use Rattle.py_node.specs.Tree.{TCall, TClass, TOp, entry, entries_of, trees_of, tree_of, pair_of}
 use Rattle.script_text.specs.Forms.{expr_of, exprs_of, pair_in, pairs_in, entry_of, entries_in, named, named_entries, call, class, operation}
-use Rattle.json_text.specs.Texts.{of_two}
-use Rattle.json_text.proofs.Lists.{onto, onto-found, turn}
+use Rattle.json_text.proofs.Lists.{onto, turn}
 use Rattle.script_text.specs.Words.{allows}
 use Rattle.script_text.specs.declared.words.Arity.{Arity}
 

@@ -5,7 +5,6 @@ ghost use Rattle.serde_json.specs.Find.{as_str};
 ghost use Rattle.serde_json.specs.View.{view, items_view};
 ghost use Rattle.py_node.specs.Tree.{TIf, TName, TRaise, TSetAttr, pair_of, texts_of, tree_of};
 ghost use Rattle.script_text.specs.Forms.{all_differ, array_of, call, class, differing, entries_in, entry_of, expr_of, exprs_of, kind_named, named, pair_in, pairs_in, params_of};
-ghost use Rattle.json_text.specs.Texts.{texts_in};
 ghost use Rattle.script_text.specs.FormParts.{many_tree, parts_tree, single_tree};
 
 use crate::form_parts::{Many, Parts, Single, pair_items, parts_of};
