@@ -5,7 +5,7 @@ import tempfile
 import unittest
 from pathlib import Path
 
-from typecore_py import checking, hierarchy
+from typecore_py import checking, hierarchy, making
 from typecore_py.hierarchy import Member
 from typecore_py.telling import Teller
 
@@ -58,6 +58,10 @@ class OfSources(unittest.TestCase):
             found = hierarchy.of_files([str(one), str(two)])
         self.assertEqual([it.bases for it in found], [(), ("one.A",), ("one.A",)])
 
+    def test_no_class_has_the_name_of_the_list_of_bases(self) -> None:
+        found = [(it.name, it.bases) for it in of_source("class A(bases): pass\nclass B(object, bases): pass\n")]
+        self.assertEqual(found, [("bases#2", ()), ("m.A", ("bases#2",)), ("m.B", ("object", "bases#2"))])
+
     def test_what_is_no_source_is_told(self) -> None:
         with self.assertRaises(hierarchy.NoHierarchy):
             of_source("class A(: pass")
@@ -80,7 +84,7 @@ class OfModules(unittest.TestCase):
             hierarchy.of_modules(["no_such_module"])
 
 
-class Answers(unittest.TestCase):
+class Made(unittest.TestCase):
     MEMBERS = [Member("A", ()), Member("B", ("A",)), Member("C", ("A", "B"), "m.py:3"), Member("E", ("object", "C"))]
     TEXT = (
         "= <class 'A'>\n= <class 'B'>\n! TypeError LocalPrecedence\n! NameError Unbound\n"
@@ -89,7 +93,7 @@ class Answers(unittest.TestCase):
 
     def told(self, text: str) -> str:
         stream = io.StringIO()
-        checking.tell(Teller(stream), checking.found_in(text, self.MEMBERS))
+        checking.tell(Teller(stream), making.found_in(text, self.MEMBERS))
         return stream.getvalue()
 
     def test_each_class_is_made_over_its_bases(self) -> None:
@@ -98,7 +102,7 @@ class Answers(unittest.TestCase):
             ' ["bind","c2",["class","C",[["name","c0"],["name","c1"]],[]]],\n'
             ' ["bind","c3",["class","E",[["name","object"],["name","c2"]],[]]]]\n'
         )
-        self.assertEqual(checking.script_of(self.MEMBERS), wanted)
+        self.assertEqual(making.script_of(self.MEMBERS), wanted)
 
     def test_a_conflict_is_told_in_words(self) -> None:
         wanted = (
@@ -112,18 +116,18 @@ class Answers(unittest.TestCase):
 
     def test_pythons_orders_are_those_of_the_machine(self) -> None:
         stream = io.StringIO()
-        self.assertTrue(checking.tell_differences(Teller(stream), checking.found_in(self.TEXT, self.MEMBERS)))
+        self.assertTrue(checking.tell_differences(Teller(stream), making.found_in(self.TEXT, self.MEMBERS)))
         self.assertEqual(stream.getvalue(), "4 classes; each order is Python's\n")
 
     def test_an_order_that_is_not_pythons_is_told(self) -> None:
         text = self.TEXT.replace("class B: B, A,", "class B: B,")
         stream = io.StringIO()
-        self.assertFalse(checking.tell_differences(Teller(stream), checking.found_in(text, self.MEMBERS)))
+        self.assertFalse(checking.tell_differences(Teller(stream), making.found_in(text, self.MEMBERS)))
         self.assertIn("  here    B, object\n  Python  B, A, object\n", stream.getvalue())
 
     def test_too_few_answers_are_refused(self) -> None:
-        with self.assertRaises(checking.MachineFailed):
-            checking.found_in("= <class 'A'>\nclass A: A, object\nslots A:\n", self.MEMBERS)
+        with self.assertRaises(making.MachineFailed):
+            making.found_in("= <class 'A'>\nclass A: A, object\nslots A:\n", self.MEMBERS)
 
 
 if __name__ == "__main__":

@@ -9,8 +9,8 @@ import sys
 from dataclasses import dataclass, replace
 from pathlib import Path
 
-from . import beside, checking, graph, hierarchy, json_telling, machine, manual
-from . import options, page, prompt, source, stopping, tracing, watching
+from . import beside, checking, graph, hierarchy, json_telling, machine, making, manual
+from . import options, page, prompt, reports, source, stopping, tracing, watching
 from .differences import KNOWN, LAST, Comparison, Difference
 from .refusal import Refusals, Refused
 from .source import Program
@@ -82,25 +82,26 @@ def asked_for(asked: argparse.Namespace) -> int:
         return watching.watch(asked.files[0], lambda: all_files(asked))
     if asked.prompt:
         return at_prompt(asked)
-    if asked.check:
+    if asked.check or asked.hierarchy:
         return orders(asked)
     return all_files(asked)
 
 
 def orders(asked: argparse.Namespace) -> int:
-    """Finds the order of each class of the files or modules."""
+    """Finds the order of each class of the files or modules, or tells these classes with their bases."""
     try:
         members = members_of(asked.files)
+        teller = Teller(sys.stdout)
+        if asked.hierarchy:
+            teller.text(reports.text_of(members))
+            return DONE
+        found = making.found_by(machine_program(asked), members)
     except hierarchy.NoHierarchy as error:
         say(str(error))
         return NOT_READ
-    script = checking.script_of(members)
-    if len(script.encode()) > source.LONGEST:
-        say("the hierarchy makes a script of more than 16,777,216 bytes")
+    except hierarchy.TooLong as error:
+        say(str(error))
         return REFUSED
-    text = machine.written(script, [*machine_program(asked), "run", str(checking.UNITS)])
-    found = checking.found_in(text, members)
-    teller = Teller(sys.stdout)
     is_well = checking.tell_differences(teller, found) if asked.against_python else checking.tell(teller, found)
     teller.flush()
     return DONE if is_well else DIFFERS

@@ -13,9 +13,16 @@ from types import ModuleType
 
 OBJECT = "object"
 
+# What stands in a report for a class's list of bases, and so is no class's name.
+LIST_OF_BASES = "bases"
+
 
 class NoHierarchy(Exception):
     """What was named can't be read or imported, or has no class."""
+
+
+class TooLong(Exception):
+    """The classes and their bases make a longer text than is read."""
 
 
 @dataclass(frozen=True)
@@ -32,7 +39,7 @@ class Member:
 class Names:
     """Names that were given, each once."""
 
-    given: set[str] = field(default_factory=lambda: {OBJECT})
+    given: set[str] = field(default_factory=lambda: {OBJECT, LIST_OF_BASES})
 
     def new(self, wanted: str) -> str:
         """The wanted name in plain characters, with a number behind it where it was given before."""

@@ -64,6 +64,11 @@ def parser() -> argparse.ArgumentParser:
     made.add_argument("--where", action="store_true", help="tell of each fault which bodies were open, and where")
     how = made.add_mutually_exclusive_group()
     how.add_argument("--script", action="store_true", help="print the script that the source becomes, and run nothing")
+    how.add_argument(
+        "--hierarchy",
+        action="store_true",
+        help="print the classes of sources or modules with their bases, as ./typecore check reads them",
+    )
     how.add_argument("--against-python", action="store_true", help="tell where Python itself answers otherwise")
     how.add_argument("--quiet", action="store_true", help="tell values, faults and what is printed alone")
     how.add_argument("--json", action="store_true", help="tell all as JSON: lines, sources, bodies, ends and classes")
@@ -97,9 +102,11 @@ def words(given: list[str] | None) -> argparse.Namespace:
     if asked.watch and (asked.text is not None or "-" in asked.files):
         made.error("--watch is of a file")
     if asked.check:
-        ways = ("script", "quiet", "json", "graph", "html", "watch", "prompt", "where")
+        ways = ("script", "hierarchy", "quiet", "json", "graph", "html", "watch", "prompt", "where")
         if asked.text is not None or any(getattr(asked, it) for it in ways):
             made.error("--check is of files or modules, and goes with --against-python alone of the ways to tell")
+    if asked.hierarchy and (asked.text is not None or any(getattr(asked, it) for it in ("watch", "prompt", "where"))):
+        made.error("--hierarchy is of files or modules, and goes with no other way to tell")
     others = ("check", "watch", "script", "json", "graph", "html", "against_python")
     if asked.prompt and any(getattr(asked, it) for it in others):
         made.error("-i goes with --quiet alone of the ways to tell")

@@ -1,15 +1,17 @@
 //! The lines of a report.
 
-ghost use Rattle.std.specs.Prelude.{◌≡◌, IfOk};
+ghost use Rattle.std.specs.Prelude.{◌≡◌, ◌++◌, OnOk, IfOk};
 ghost use Rattle.order_check.specs.Hierarchy.{AreKeyed};
-ghost use Rattle.report_text.specs.ReportText.{report_text};
+ghost use Rattle.report_text.specs.ReportText.{lines_text, report_text};
 
-use order_check::{Hierarchy, Report};
+use crate::line::push_line;
+use order_check::{Entry, Hierarchy, Line, Report};
 use py_node::OutOfMemory;
 use std::alloc::Global;
 
 /// The text of a report, a line for each class but the first: `order NAME: ` and its linearisation, `none NAME: ` and the
 /// first of its bases that has none, or `cycle NAME: ` and each pair of the cycle as `X < Y in LIST`.
+#[tactic(auto, unfolding(crate::specs::ReportText::lines_text))]
 pub fn write_report(
     alloc: Global,
     hierarchy: &Hierarchy,
@@ -18,5 +20,26 @@ pub fn write_report(
     requires { AreKeyed hierarchy.now.entries.items }
     ensures { IfOk result (λ v. v.items ≡ report_text hierarchy.now.entries.items report.now.lines.items) }
 {
-    todo!()
+    let mut out = Vec::new(alloc);
+    let entries = hierarchy.entries.as_slice();
+    if let [_, others @ ..] = entries {
+        push_lines(&mut out, entries, others, &report.lines)?;
+    }
+    Ok(out)
+}
+
+// Each class with its line, as far as there are both.
+fn push_lines(
+    out: &mut Vec<u8>,
+    entries: &[Entry],
+    classes: &[Entry],
+    lines: &[Line],
+) -> Result<(), OutOfMemory>
+    requires { AreKeyed entries.now }
+    ensures { OnOk result (out.new.items ≡ out.old.items ++ lines_text entries.now classes.now lines.now) }
+{
+    for (class, line) in classes.iter().zip(lines) {
+        push_line(out, entries, class, line)?;
+    }
+    Ok(())
 }
