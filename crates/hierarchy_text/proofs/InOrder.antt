@@ -40,7 +40,7 @@ key-below names t k h = by (nat_lt n (length names)) refl h
     by false e s = cc
 
 keys-below : (names bs : List Text) (ks : List ℕ) → keys_of names bs ≡ Some ks → AreBelow ks (length names)
-keys-below names [] ks h b i =
+keys-below names [] ks h = λ b i.
     let none : [] ≡ ks = cc in
     let P : List ℕ → Type 0 = λ l. Includes l b in
     absurd (subst P (sym none) i)
@@ -57,8 +57,7 @@ keys-below names (t ∷ ts) ks h = by (key_of names t) (keys_of names ts) refl h
         elim (subst P (sym same) i) [ inl j ↦ subst Q j (key-below names t k e) | inr j ↦ rest l refl b j ]
 
 first-below : (ks : List ℕ) (n : ℕ) → 0 < n → AreBelow ks n → AreBelow (or_first ks) n
-first-below [] n some below b (inl e) = let Q : ℕ → Type 0 = λ w. w < n in subst Q e some
-first-below [] n some below b (inr j) = absurd j
+first-below [] n some below = λ b i. elim i [ inl e ↦ (let Q : ℕ → Type 0 = λ w. w < n in subst Q e some) | inr j ↦ absurd j ]
 first-below (k ∷ ks) n some below = below
 
 -- a class that comes after some names
@@ -75,28 +74,31 @@ class-numbered names p c some h = by (is_some (key_of names p.0)) (keys_of names
         let same : keyed names p.0 ks ≡ c = cc in
         subst N same (refl, first-below ks (length names) some (keys-below names p.1 ks e))
 
+-- one more class before others
+more-numbered : (names : List Text) (p : Named) (o : Option PlainClass) (os : Option (List PlainClass)) (cs : List PlainClass) → 0 < length names → class_after names p ≡ o → of_two ◌∷◌ o os ≡ Some cs
+    → ((l : List PlainClass) → os ≡ Some l → AreNumbered (length (names ++ p.0 ∷ [])) l) → AreNumbered (length names) cs
+more-numbered names p None os cs some e s rest = absurd cc
+more-numbered names p (Some c) None cs some e s rest = absurd cc
+more-numbered names p (Some c) (Some l) cs some e s rest =
+    let same : c ∷ l ≡ cs = cc in
+    let one = class-numbered names p c some e in
+    let longer : length (names ++ p.0 ∷ []) ≡ suc (length names) = omega (arith, length-append names (p.0 ∷ [])) in
+    let P : ℕ → Type 0 = λ w. AreNumbered w l in
+    subst (AreNumbered (length names)) same (one.0, one.1, subst P longer (rest l refl))
+
 after-numbered : (names : List Text) (ds : Items) (cs : List PlainClass) → 0 < length names → classes_after names ds ≡ Some cs → AreNumbered (length names) cs
 unfolding classes_after
 after-numbered names no_items cs some h =
     let none : [] ≡ cs = cc in
     subst (AreNumbered (length names)) none tt
-after-numbered names (item d ds) cs some h = by (named_of d) h
+after-numbered names (item d ds) cs some h = by (named_of d) h (λ more l some t. after-numbered more ds l some t)
   where
-    two : (p : Named) (o : Option PlainClass) (os : Option (List PlainClass)) → class_after names p ≡ o → of_two ◌∷◌ o os ≡ Some cs
-        → ((l : List PlainClass) → os ≡ Some l → AreNumbered (length (names ++ p.0 ∷ [])) l) → AreNumbered (length names) cs
-    two p None os e s rest = absurd cc
-    two p (Some c) None e s rest = absurd cc
-    two p (Some c) (Some l) e s rest =
-        let same : c ∷ l ≡ cs = cc in
-        let one = class-numbered names p c some e in
-        let longer : length (names ++ p.0 ∷ []) ≡ suc (length names) = omega (arith, length-append names (p.0 ∷ [])) in
-        let P : ℕ → Type 0 = λ w. AreNumbered w l in
-        subst (AreNumbered (length names)) same (one.0, one.1, subst P longer (rest l refl))
-
-    by : (p : Option Named) → and_after names p (λ more. classes_after more ds) ≡ Some cs → AreNumbered (length names) cs
-    by None s = absurd cc
-    by (Some p) s =
-        two p (class_after names p) (classes_after (names ++ p.0 ∷ []) ds) refl s (λ l t. after-numbered (names ++ p.0 ∷ []) ds l (omega (arith, length-append names (p.0 ∷ []))) t)
+    by : (p : Option Named) → and_after names p (λ more. classes_after more ds) ≡ Some cs
+        → ((more : List Text) (l : List PlainClass) → 0 < length more → classes_after more ds ≡ Some l → AreNumbered (length more) l) → AreNumbered (length names) cs
+    by None s rest = absurd cc
+    by (Some p) s rest =
+        let longer : 0 < length (names ++ p.0 ∷ []) = omega (arith, length-append names (p.0 ∷ [])) in
+        more-numbered names p (class_after names p) (classes_after (names ++ p.0 ∷ []) ds) cs some refl s (λ l t. rest (names ++ p.0 ∷ []) l longer t)
 
 in-numbered : (ds : Items) (cs : List PlainClass) → classes_in ds ≡ Ok cs → AreNumbered 0 cs
 unfolding classes_in
