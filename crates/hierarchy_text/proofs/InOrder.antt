@@ -1,5 +1,5 @@
 -- The classes that are spelled have the keys from 0 on, and their bases come before them.
-use Rattle.std.proofs.Common.{◌≡◌, ℕ, zero, suc, ◌+◌, ◌<◌, ◌≤◌, nat_lt, Bool, true, false, cond, if◌then◌else◌, List, [], ◌∷◌, ◌++◌, length, take, map, Option, Some, None, option_map, Ok, Err, ok_or, is_some, inl, inr, refl, ap, sym, subst, ◌∙◌, arith, codes, position}
+use Rattle.std.proofs.Common.{◌≡◌, ℕ, zero, suc, ◌+◌, ◌<◌, ◌≤◌, nat_lt, Bool, true, false, cond, if◌then◌else◌, List, [], ◌∷◌, ◌++◌, length, take, map, Option, Some, None, option_map, Ok, Err, ok_or, is_some, inl, inr, refl, sym, subst, ◌∙◌, arith, codes}
 use Rattle.std.specs.Prelude.{IfOk, Result, bytes_eq, slice_get}
 use Rattle.std.specs.List.{position_or_len}
 use Rattle.std.proofs.lemmas.Bool.{ltb-true}
@@ -16,7 +16,7 @@ use Rattle.order_check.specs.declared.hierarchy.Hierarchy.{Hierarchy}
 use Rattle.order_check.specs.Hierarchy.{IsInOrder}
 use Rattle.order_check.specs.Hierarchy as hierarchy
 use Rattle.order_check.proofs.Paired.{before-or-at}
-use Rattle.hierarchy_text.specs.Spelled.{Named, PlainClass, and_after, class_after, classes_after, classes_in, classes_of, first_class, key_of, keyed, keys_of, named_of, or_first, plain_class, with_first}
+use Rattle.hierarchy_text.specs.Spelled.{Named, PlainClass, and_after, class_after, classes_after, classes_in, classes_of, key_of, keyed, keys_of, named_of, or_first, plain_class, with_first}
 
 -- each of some numbers is below n
 abbrev AreBelow : List ℕ → ℕ → Type 0
@@ -155,9 +155,9 @@ numbered-order : (h : List Entry) → AreNumbered 0 (map plain_class h) → IsIn
 numbered-order h a = record {
   keyed = numbered-keyed 0 h a;
   earlier = λ k e b s i.
-  let within = slice_get_within h k e s in
-  let less = bases-below 0 h k e a s b i in
-  keys-taken 0 h k b a (omega arith) (omega arith) (omega arith);
+      let within = slice_get_within h k e s in
+      let less = bases-below 0 h k e a s b i in
+      keys-taken 0 h k b a (omega arith) (omega arith) (omega arith);
 }
 
 -- the classes of a value are in order

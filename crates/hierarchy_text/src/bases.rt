@@ -46,7 +46,11 @@ fn or_object(mut bases: Vec<u64>) -> Result<Vec<u64>, AllocError>
 }
 
 /// The keys of the bases that some items name. A class that names none derives from `object`.
-pub(crate) fn read_bases(alloc: Global, names: &IndexSet<&str>, items: &[Value]) -> Result<Vec<u64>, Unread>
+pub(crate) fn read_bases(
+    alloc: Global,
+    names: &IndexSet<&str>,
+    items: &[Value],
+) -> Result<Vec<u64>, Unread>
     ensures ok { IfOk result (λ v. option_map or_first (base_keys (texts names.now.keys) (items_view items.now)) ≡ Some v.items) }
     ensures shape { result ≡ Err Unread.Shape → base_keys (texts names.now.keys) (items_view items.now) ≡ None }
 {

@@ -6,10 +6,10 @@ ghost use Rattle.hierarchy_text.specs.Spelled.{classes_after, first_class, key_o
 ghost use Rattle.hierarchy_text.specs.Items.{texts, class_at};
 
 use crate::bases::read_bases;
-use order_check::{Entry, Hierarchy};
 use crate::parts::class_parts;
 use indexmap::IndexSet;
 use json_text::Unread;
+use order_check::{Entry, Hierarchy};
 use serde_json::Value;
 use std::alloc::{AllocError, Global};
 
@@ -31,7 +31,11 @@ fn new_key<'a>(names: &mut IndexSet<&'a str>, name: &'a str) -> Result<u64, Unre
 }
 
 // The class that an item spells. Its name is then the last one.
-fn read_class<'a>(alloc: Global, names: &mut IndexSet<&'a str>, item: &'a Value) -> Result<Entry, Unread>
+fn read_class<'a>(
+    alloc: Global,
+    names: &mut IndexSet<&'a str>,
+    item: &'a Value,
+) -> Result<Entry, Unread>
     ensures ok { IfOk result (λ e. class_at (texts names.old.keys) (view item.now) ≡ Some (plain_class e)) }
     ensures named { IfOk result (λ e. texts names.new.keys ≡ texts names.old.keys ++ string_bytes e.name ∷ []) }
     ensures shape { result ≡ Err Unread.Shape → class_at (texts names.old.keys) (view item.now) ≡ None }

@@ -1,8 +1,7 @@
-use Rattle.std.proofs.Common.{◌≡◌, Some, None, Err, ok_or, position, arith}
+use Rattle.std.proofs.Common.{◌≡◌, Some, None, Err, position, arith}
 use Rattle.std.specs.Prelude.{bytes_eq}
 use Rattle.serde_json.specs.Find.{as_str}
 use Rattle.serde_json.specs.View.{view}
-use Rattle.hierarchy_text.specs.Items.{texts, base_key}
 use Rattle.hierarchy_text.proofs.Errors.{if-err}
 use Rattle.hierarchy_text.proofs.Keys.{base_key-is}
 use Rattle.hierarchy_text.proofs.bases.base_key.Goals as goal

@@ -2,7 +2,7 @@ use Rattle.std.proofs.Common.{◌≡◌, Some, None, option_map, string_bytes, a
 use Rattle.serde_json.specs.View.{view, items_view}
 use Rattle.hierarchy_text.specs.Spelled.{or_first}
 use Rattle.hierarchy_text.specs.Items.{texts, base_keys}
-use Rattle.hierarchy_text.proofs.ClassesAfter.{class-new, class-old, class-without}
+use Rattle.hierarchy_text.proofs.ClassesAfter.{class-new, class-without}
 use Rattle.hierarchy_text.proofs.classes.read_class.Goals as goal
 
 pub returns-in_err-bases-clause-shape : goal.returns-in_err-bases-clause-shape

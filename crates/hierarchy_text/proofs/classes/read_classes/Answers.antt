@@ -1,5 +1,5 @@
 use Rattle.std.proofs.Common.{◌≡◌, None, arith}
-use Rattle.serde_json.specs.View.{view, items_view}
+use Rattle.serde_json.specs.View.{view}
 use Rattle.hierarchy_text.specs.Items.{texts, class_at}
 use Rattle.hierarchy_text.proofs.ClassesAfter.{all-classes, last-class, next-class, none-after}
 use Rattle.hierarchy_text.proofs.classes.read_classes.Goals as goal
