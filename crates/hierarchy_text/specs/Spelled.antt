@@ -1,5 +1,5 @@
 -- The classes that a text spells, each with its bases, or why it spells none.
-use Rattle.std.specs.Prelude.{ℕ, List, [], ◌∷◌, ◌++◌, length, codes, bytes_eq, if◌then◌else◌, Option, Some, None, is_some, option_map, option_and_then, ok_or, Result, Ok, Err, string_bytes}
+use Rattle.std.specs.Prelude.{ℕ, List, [], ◌∷◌, ◌++◌, length, codes, bytes_eq, if◌then◌else◌, Option, Some, None, is_some, option_map, ok_or, Result, Ok, Err, string_bytes}
 use Rattle.std.specs.List.{position}
 use Rattle.serde_json.specs.Data.{Data, null, boolean, number, string, array, object, Items, no_items, item}
 use Rattle.serde_json.specs.Find.{as_str}
@@ -61,16 +61,15 @@ keyed names name bases = record { key = length names; name = name; bases = or_fi
 abbrev pub class_after : List Text → Named → Option PlainClass
 class_after names c = if is_some (key_of names c.0) then None else option_map (keyed names c.0) (keys_of names c.1)
 
--- the classes that are spelled after those with these names
-unfoldable mutual
-  pub classes_after : List Text → Items → Option (List PlainClass)
-  classes_after names no_items = Some []
-  classes_after names (item d ds) = and_after names (named_of d) ds
+-- a class, and those that are spelled after it
+abbrev pub and_after : List Text → Option Named → (List Text → Option (List PlainClass)) → Option (List PlainClass)
+and_after names None rest = None
+and_after names (Some c) rest = of_two ◌∷◌ (class_after names c) (rest (names ++ c.0 ∷ []))
 
-  -- this one and those after it
-  pub and_after : List Text → Option Named → Items → Option (List PlainClass)
-  and_after names None ds = None
-  and_after names (Some c) ds = of_two ◌∷◌ (class_after names c) (classes_after (names ++ c.0 ∷ []) ds)
+-- the classes that are spelled after those with these names
+unfoldable pub classes_after : List Text → Items → Option (List PlainClass)
+classes_after names no_items = Some []
+classes_after names (item d ds) = and_after names (named_of d) (λ more. classes_after more ds)
 
 -- the class that stands first: it alone has no bases
 abbrev pub first_class : PlainClass

@@ -1,0 +1,19 @@
+use Rattle.std.proofs.Common.{◌≡◌, Some, None, option_map, string_bytes, arith}
+use Rattle.serde_json.specs.View.{view, items_view}
+use Rattle.hierarchy_text.specs.Spelled.{or_first}
+use Rattle.hierarchy_text.specs.Items.{texts, base_keys}
+use Rattle.hierarchy_text.proofs.ClassesAfter.{class-new, class-without}
+use Rattle.hierarchy_text.proofs.classes.read_class.Goals as goal
+
+pub returns-in_err-bases-clause-shape : goal.returns-in_err-bases-clause-shape
+returns-in_err-bases-clause-shape c h =
+    let names = texts c.args.names.now.keys in
+    let none : base_keys names (items_view c.in_ok-name.items.now) ≡ None = grind (arith, c.in_err-bases.was, c.read_bases.ensures.shape) in
+    class-without names (view c.args.item.now) c.in_ok-name.name.now (items_view c.in_ok-name.items.now) c.in_ok-name.ensures.ok none
+
+pub returns-clause-ok : goal.returns-clause-ok
+returns-clause-ok c =
+    let names = texts c.args.names.now.keys in
+    let same : string_bytes c.in_ok-name-2.name ≡ c.in_ok-name.name.now = c.in_ok-name-2.ensures.ok in
+    let bases : option_map or_first (base_keys names (items_view c.in_ok-name.items.now)) ≡ Some c.in_ok-bases.bases.items = c.in_ok-bases.ensures.ok in
+    class-new names (view c.args.item.now) c.in_ok-name.name.now (items_view c.in_ok-name.items.now) c.in_ok-name.ensures.ok c.in_ok-key.key (string_bytes c.in_ok-name-2.name) c.in_ok-bases.bases.items c.in_ok-key.ensures.key same c.in_ok-key.ensures.is_new bases
