@@ -2,15 +2,16 @@
 //! class, gives an object of it a text and reads it back, and tells a fault by its kind and its cause.
 #![tactic(auto)]
 
-ghost use Rattle.std.specs.Prelude.{◌≡◌, [], IfOk};
+ghost use Rattle.std.specs.Prelude.{IfOk};
 ghost use Rattle.class_world.specs.Held.{Held};
-ghost use Rattle.class_world.specs.Sound.{AreNodes, Grows, Holds, IsNode};
+ghost use Rattle.class_world.specs.Sound.{AllHold, AreNodes, Grows, Holds, IsNode, of_node_ref};
+ghost use Rattle.vm_eval.specs.Asks.{of_done};
 
 mod stop;
 
-use py_node::{BuiltIn, OutOfMemory, PyObjectRef, PyResult};
+use py_node::{BuiltIn, PyObjectRef, PyResult};
 use script_text::read_script;
-use std::alloc::Global;
+use std::alloc::{AllocError, Global};
 use std::io;
 use stop::Stop;
 use vm_calls::{get_attr, int_of, new_int, new_text, text_of};
@@ -59,7 +60,7 @@ fn twice(vm: &mut VirtualMachine, object: PyObjectRef) -> Result<PyObjectRef, St
 {
     let name = vm.intern("twice")?;
     let function = vm.world().variable(name).ok_or(Stop::Other)?;
-    let args = Vec::from_slice(vm.world().alloc(), &[object])?;
+    let args = one(vm.world().alloc(), object)?;
     call(vm, function, args)
 }
 
@@ -73,7 +74,7 @@ fn labelled(vm: &mut VirtualMachine, text: &str) -> Result<PyObjectRef, Stop>
     let label = done(new_text(vm, text)?)?;
     vm.set_str_attr(class, "label", label)?;
     let class = vm.world().class_node(class);
-    let args = Vec::new(vm.world().alloc());
+    let args = none(vm.world().alloc());
     call(vm, class, args)
 }
 
@@ -106,11 +107,27 @@ fn call(
 
 // The value of a call, or why it has none.
 fn done(told: PyResult<PyObjectRef>) -> Result<PyObjectRef, Stop>
-    ensures { IfOk result (λ r. told ≡ PyResult.Done r) }
+    ensures { IfOk result (λ r. (w : Held) → AllHold w (of_done of_node_ref told) → Holds w (IsNode r)) }
 {
     match told {
         PyResult::Done(value) => Ok(value),
         PyResult::Raised(raised) => Err(Stop::Raised(raised)),
         PyResult::Budget => Err(Stop::Budget),
     }
+}
+
+// No arguments.
+#[tactic(auto, unfolding(class_world::specs::Sound::Holds))]
+fn none(alloc: Global) -> Vec<PyObjectRef>
+    ensures { (w : Held) → Holds w (AreNodes result.items) }
+{
+    Vec::new(alloc)
+}
+
+// One argument.
+#[tactic(auto, unfolding(class_world::specs::Sound::Holds))]
+fn one(alloc: Global, object: PyObjectRef) -> Result<Vec<PyObjectRef>, AllocError>
+    ensures { IfOk result (λ v. (w : Held) → Holds w (IsNode object) → Holds w (AreNodes v.items)) }
+{
+    Vec::from_slice(alloc, &[object])
 }
