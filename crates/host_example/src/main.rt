@@ -3,17 +3,17 @@
 #![tactic(auto)]
 
 ghost use Rattle.std.specs.Prelude.{IfOk};
-ghost use Rattle.class_world.specs.Held.{Held};
-ghost use Rattle.class_world.specs.Sound.{AllHold, AreNodes, Grows, Holds, IsNode, of_node_ref};
-ghost use Rattle.vm_eval.specs.Asks.{of_done};
+ghost use Rattle.class_world.specs.Sound.{AreNodes, Grows, Holds, IsNode};
 
+mod arguments;
 mod stop;
 
-use py_node::{BuiltIn, PyObjectRef, PyResult};
+use arguments::{none, one};
+use py_node::{BuiltIn, PyObjectRef};
 use script_text::read_script;
-use std::alloc::{AllocError, Global};
+use std::alloc::Global;
 use std::io;
-use stop::Stop;
+use stop::{Stop, done};
 use vm_calls::{get_attr, int_of, new_int, new_text, text_of};
 use vm_eval::VirtualMachine;
 
@@ -103,31 +103,4 @@ fn call(
 {
     let keywords = Vec::new(vm.world().alloc());
     done(vm_calls::call(vm, object, args, keywords, UNITS)?)
-}
-
-// The value of a call, or why it has none.
-fn done(told: PyResult<PyObjectRef>) -> Result<PyObjectRef, Stop>
-    ensures { IfOk result (λ r. (w : Held) → AllHold w (of_done of_node_ref told) → Holds w (IsNode r)) }
-{
-    match told {
-        PyResult::Done(value) => Ok(value),
-        PyResult::Raised(raised) => Err(Stop::Raised(raised)),
-        PyResult::Budget => Err(Stop::Budget),
-    }
-}
-
-// No arguments.
-#[tactic(auto, unfolding(class_world::specs::Sound::Holds))]
-fn none(alloc: Global) -> Vec<PyObjectRef>
-    ensures { (w : Held) → Holds w (AreNodes result.items) }
-{
-    Vec::new(alloc)
-}
-
-// One argument.
-#[tactic(auto, unfolding(class_world::specs::Sound::Holds))]
-fn one(alloc: Global, object: PyObjectRef) -> Result<Vec<PyObjectRef>, AllocError>
-    ensures { IfOk result (λ v. (w : Held) → Holds w (IsNode object) → Holds w (AreNodes v.items)) }
-{
-    Vec::from_slice(alloc, &[object])
 }

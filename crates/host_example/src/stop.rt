@@ -1,7 +1,12 @@
 //! Why the example stops.
 
+ghost use Rattle.std.specs.Prelude.{IfOk};
+ghost use Rattle.class_world.specs.Held.{Held};
+ghost use Rattle.class_world.specs.Sound.{AllHold, Holds, IsNode, of_node_ref};
+ghost use Rattle.vm_eval.specs.Asks.{of_done};
+
 use class_table::ClassFault;
-use py_node::{OutOfMemory, Raised};
+use py_node::{OutOfMemory, PyObjectRef, PyResult, Raised};
 use script_text::ScriptFault;
 use std::alloc::AllocError;
 use std::io;
@@ -47,5 +52,16 @@ impl From<ClassFault> for Stop {
 impl From<ScriptFault> for Stop {
     fn from(_: ScriptFault) -> Stop {
         Stop::Other
+    }
+}
+
+/// The value of a call, or why it has none.
+pub fn done(told: PyResult<PyObjectRef>) -> Result<PyObjectRef, Stop>
+    ensures { IfOk result (λ r. (w : Held) → AllHold w (of_done of_node_ref told) → Holds w (IsNode r)) }
+{
+    match told {
+        PyResult::Done(value) => Ok(value),
+        PyResult::Raised(raised) => Err(Stop::Raised(raised)),
+        PyResult::Budget => Err(Stop::Budget),
     }
 }
