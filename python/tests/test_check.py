@@ -1,13 +1,11 @@
-"""Hierarchies from sources and modules, and what is told of their orders."""
+"""Hierarchies from sources and modules."""
 
-import io
 import tempfile
 import unittest
 from pathlib import Path
 
-from typecore_py import checking, hierarchy, making
+from typecore_py import hierarchy
 from typecore_py.hierarchy import Member
-from typecore_py.telling import Teller
 
 SOURCE = """
 from abc import ABC
@@ -82,52 +80,6 @@ class OfModules(unittest.TestCase):
     def test_a_module_that_is_not_there_is_told(self) -> None:
         with self.assertRaises(hierarchy.NoHierarchy):
             hierarchy.of_modules(["no_such_module"])
-
-
-class Made(unittest.TestCase):
-    MEMBERS = [Member("A", ()), Member("B", ("A",)), Member("C", ("A", "B"), "m.py:3"), Member("E", ("object", "C"))]
-    TEXT = (
-        "= <class 'A'>\n= <class 'B'>\n! TypeError LocalPrecedence\n! NameError Unbound\n"
-        "class A: A, object\nslots A:\nclass B: B, A, object\nslots B:\n"
-    )
-
-    def told(self, text: str) -> str:
-        stream = io.StringIO()
-        checking.tell(Teller(stream), making.found_in(text, self.MEMBERS))
-        return stream.getvalue()
-
-    def test_each_class_is_made_over_its_bases(self) -> None:
-        wanted = (
-            '[["bind","c0",["class","A",[],[]]],\n ["bind","c1",["class","B",[["name","c0"]],[]]],\n'
-            ' ["bind","c2",["class","C",[["name","c0"],["name","c1"]],[]]],\n'
-            ' ["bind","c3",["class","E",[["name","object"],["name","c2"]],[]]]]\n'
-        )
-        self.assertEqual(making.script_of(self.MEMBERS), wanted)
-
-    def test_a_conflict_is_told_in_words(self) -> None:
-        wanted = (
-            "A: A, object\n"
-            "B: B, A, object\n"
-            "m.py:3: C has no order: a base stands before a class that derives from it\n"
-            "E has no order: its base C has none\n"
-            "4 classes; 2 without an order\n"
-        )
-        self.assertEqual(self.told(self.TEXT), wanted)
-
-    def test_pythons_orders_are_those_of_the_machine(self) -> None:
-        stream = io.StringIO()
-        self.assertTrue(checking.tell_differences(Teller(stream), making.found_in(self.TEXT, self.MEMBERS)))
-        self.assertEqual(stream.getvalue(), "4 classes; each order is Python's\n")
-
-    def test_an_order_that_is_not_pythons_is_told(self) -> None:
-        text = self.TEXT.replace("class B: B, A,", "class B: B,")
-        stream = io.StringIO()
-        self.assertFalse(checking.tell_differences(Teller(stream), making.found_in(text, self.MEMBERS)))
-        self.assertIn("  here    B, object\n  Python  B, A, object\n", stream.getvalue())
-
-    def test_too_few_answers_are_refused(self) -> None:
-        with self.assertRaises(making.MachineFailed):
-            making.found_in("= <class 'A'>\nclass A: A, object\nslots A:\n", self.MEMBERS)
 
 
 if __name__ == "__main__":

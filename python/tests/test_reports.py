@@ -121,6 +121,21 @@ class Reports(unittest.TestCase):
             with self.assertRaises(reports.MachineFailed):
                 checked(MEMBERS, report)
 
+    def test_the_front_end_tells_it(self) -> None:
+        with tempfile.TemporaryDirectory() as room:
+            source, program = Path(room, "m.py"), Path(room, "checker")
+            source.write_text("class X: pass\nclass A(object, X): pass\n")
+            program.write_text(CHECKER.format(python=sys.executable))
+            program.chmod(0o755)
+            Path(room, "report").write_text(
+                "order m.X: m.X, object\ncycle m.A: object < m.X in bases; m.X < object in m.X\n"
+            )
+            ran = front("--check", "--machine", str(program), str(source))
+        why = "object before m.X in the bases of m.A, m.X before object in m.X"
+        order, cycle = f"{source}:1: m.X: m.X, object", f"{source}:2: m.A has no order: {why}"
+        self.assertEqual(ran.stdout, f"{order}\n{cycle}\n2 classes; 1 without an order\n")
+        self.assertEqual(ran.returncode, 1)
+
     def test_a_program_that_has_no_checker_is_told(self) -> None:
         with self.assertRaises(reports.MachineFailed):
             reports.found_by(["false"], MEMBERS)

@@ -9,7 +9,7 @@ import sys
 from dataclasses import dataclass, replace
 from pathlib import Path
 
-from . import beside, checking, graph, hierarchy, json_telling, machine, making, manual
+from . import beside, checking, graph, hierarchy, json_telling, machine, manual
 from . import options, page, prompt, reports, source, stopping, tracing, watching
 from .differences import KNOWN, LAST, Comparison, Difference
 from .refusal import Refusals, Refused
@@ -95,7 +95,7 @@ def orders(asked: argparse.Namespace) -> int:
         if asked.hierarchy:
             teller.text(reports.text_of(members))
             return DONE
-        found = making.found_by(machine_program(asked), members)
+        found = reports.found_by(machine_program(asked), members)
     except hierarchy.NoHierarchy as error:
         say(str(error))
         return NOT_READ
