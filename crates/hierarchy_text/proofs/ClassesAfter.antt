@@ -1,5 +1,5 @@
 -- Classes that are spelled, one after the other.
-use Rattle.std.proofs.Common.{◌≡◌, ℕ, ◌+◌, ◌<◌, ◌≤◌, Bool, true, false, if◌then◌else◌, List, [], ◌∷◌, ◌++◌, length, get_or, drop, map, Option, Some, None, option_map, is_some, string_bytes, refl, ap, sym, ◌∙◌, add-one, suc}
+use Rattle.std.proofs.Common.{◌≡◌, codes, ℕ, ◌+◌, ◌<◌, ◌≤◌, Bool, true, false, if◌then◌else◌, List, [], ◌∷◌, ◌++◌, length, get_or, drop, map, Option, Some, None, option_map, is_some, string_bytes, refl, ap, sym, ◌∙◌, add-one, suc}
 use Rattle.std.specs.Prelude.{option_and_then}
 use Rattle.std.proofs.Math.Seq.{drop-cons}
 use Rattle.std.proofs.lemmas.List.{append-nil, drop_all, map-append}
@@ -132,6 +132,12 @@ none-after None h = refl
 none-after (Some cs) h = cc
 
 -- nothing is read yet
-pub first-only : (o : Option (List PlainClass)) → option_map with_first o ≡ onto (first_class ∷ []) o
+first-only : (o : Option (List PlainClass)) → option_map with_first o ≡ onto (first_class ∷ []) o
 first-only None = refl
 first-only (Some cs) = refl
+
+pub before-first : (names : List Text) (vs : List Value) (found : List Entry) → names ≡ codes "object" ∷ [] → map plain_class found ≡ first_class ∷ []
+    → option_map with_first (classes_after (codes "object" ∷ []) (items_view vs)) ≡ onto (map plain_class found) (classes_after names (items_view (drop 0 vs)))
+before-first names vs found alone first =
+    first-only (classes_after (codes "object" ∷ []) (items_view vs)) ∙ ap (λ cs. onto cs (classes_after (codes "object" ∷ []) (items_view vs))) (sym first)
+    ∙ ap (λ ns. onto (map plain_class found) (classes_after ns (items_view vs))) (sym alone)

@@ -58,15 +58,32 @@ fn object(alloc: Global) -> Result<Entry, AllocError>
     })
 }
 
+// The names before any item is read, with room for some.
+fn first_names<'a>(alloc: Global, room: usize) -> Result<IndexSet<&'a str>, AllocError>
+    ensures { IfOk result (λ names. texts names.keys ≡ codes "object" ∷ []) }
+{
+    let mut names = IndexSet::with_capacity(alloc, room)?;
+    names.insert(FIRST)?;
+    Ok(names)
+}
+
+// The classes before any item is read, with room for some.
+fn first_entries(alloc: Global, room: usize) -> Result<Vec<Entry>, AllocError>
+    ensures { IfOk result (λ v. map plain_class v.items ≡ first_class ∷ []) }
+{
+    let mut entries = Vec::with_capacity(alloc, room)?;
+    entries.push(object(alloc)?)?;
+    Ok(entries)
+}
+
 /// The classes that some items spell, after the one that stands first.
 pub(crate) fn read_classes(alloc: Global, items: &[Value]) -> Result<Hierarchy, Unread>
     ensures ok { IfOk result (λ h. option_map with_first (classes_after (codes "object" ∷ []) (items_view items.now)) ≡ Some (map plain_class h.entries.items)) }
     ensures shape { result ≡ Err Unread.Shape → classes_after (codes "object" ∷ []) (items_view items.now) ≡ None }
 {
-    let mut names = IndexSet::with_capacity(alloc, items.len() + 1)?;
-    let mut entries = Vec::with_capacity(alloc, items.len() + 1)?;
-    names.insert(FIRST)?;
-    entries.push(object(alloc)?)?;
+    let room = items.len() + 1;
+    let mut names = first_names(alloc, room)?;
+    let mut entries = first_entries(alloc, room)?;
     for item in items {
         entries.push(read_class(alloc, &mut names, item)?)?;
     }

@@ -1,7 +1,7 @@
 use Rattle.std.proofs.Common.{◌≡◌, None, arith}
 use Rattle.serde_json.specs.View.{view}
 use Rattle.hierarchy_text.specs.Items.{texts, class_at}
-use Rattle.hierarchy_text.proofs.ClassesAfter.{all-classes, last-class, next-class, none-after}
+use Rattle.hierarchy_text.proofs.ClassesAfter.{all-classes, before-first, last-class, next-class, none-after}
 use Rattle.hierarchy_text.proofs.classes.read_classes.Goals as goal
 
 pub returns-in_err-read_class-clause-shape : goal.returns-in_err-read_class-clause-shape
@@ -11,11 +11,14 @@ returns-in_err-read_class-clause-shape c h =
     let none : class_at names (view c.item-item.result) ≡ None = grind (arith, c.in_err-read_class.was, c.read_class.ensures.shape) in
     none-after _ (last-class names vs c.loop-item.item-index c.item-item.result _ _ c.loop-item-test.true c.item-item.is none c.loop-item.invariant)
 
+pub loop-item-init : goal.loop-item-init
+loop-item-init c = before-first (texts c.in_ok-names.names.keys) c.args.items.now c.in_ok-entries.entries.items c.in_ok-names.ensures c.in_ok-entries.ensures
+
 pub loop-item-preserved : goal.loop-item-preserved
 loop-item-preserved c =
     let names = texts c.loop-item.names.keys in
     let e = c.in_ok-read_class.field-0 in
-    rw c.in_ok-push-2.ensures.items (
+    rw c.in_ok-push.ensures.items (
     next-class names (texts c.read_class.new.names.keys) c.args.items.now c.loop-item.item-index c.item-item.result c.loop-item.entries.items e _
     c.loop-item-test.true c.item-item.is c.in_ok-read_class.ensures.ok c.in_ok-read_class.ensures.named c.loop-item.invariant
     )
