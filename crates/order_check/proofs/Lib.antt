@@ -1,4 +1,5 @@
 pub mod Merged
+pub mod Single
 pub mod Ordered
 pub mod Stuck
 pub mod Walked

@@ -42,7 +42,17 @@ fn with_first(alloc: Global, key: u64, rest: &[PyTypeRef]) -> Result<Vec<u64>, O
     Ok(order)
 }
 
-// The least order of a class over the linearisations of its bases, where it has an order.
+// A class, and then the linearisation of its one base.
+fn prepended(alloc: Global, key: u64, line: &[u64]) -> Result<Vec<u64>, OutOfMemory>
+    ensures { IfOk result (λ v. v.items ≡ key ∷ line.now) }
+{
+    let mut order = vec![in alloc; key]?;
+    order.extend_from_slice(line)?;
+    Ok(order)
+}
+
+// The least order of a class over the linearisations of its bases, where it has an order. Over one base nothing is
+// merged, so that it takes what the base's linearisation is long.
 pub(crate) fn least_order(
     alloc: Global,
     key: u64,
@@ -53,6 +63,9 @@ pub(crate) fn least_order(
     requires apart { IsApart key (rows lines.now) }
     ensures { IfOk result (λ r. option_map (λ v. v.items) r ≡ least_order key bases.now (rows lines.now)) }
 {
+    if let [line] = lines {
+        return Ok(Some(prepended(alloc, key, line)?));
+    }
     let classes = references(alloc, bases)?;
     let lists = all_references(alloc, lines)?;
     match resolve_mro(alloc, &classes, lists) {
