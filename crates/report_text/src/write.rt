@@ -1,8 +1,11 @@
 //! The lines of a report.
 
-ghost use Rattle.std.specs.Prelude.{◌≡◌, ◌++◌, OnOk, IfOk};
+ghost use Rattle.std.specs.Prelude.{◌≡◌, ◌++◌, map, OnOk, IfOk};
 ghost use Rattle.order_check.specs.Hierarchy.{AreKeyed};
+ghost use Rattle.order_check.specs.Report.{IsReport, AreFound};
+ghost use Rattle.hierarchy_text.specs.Spelled.{plain_class};
 ghost use Rattle.report_text.specs.ReportText.{lines_text, report_text};
+ghost use Rattle.report_text.specs.PlainReport.{plain_report};
 
 use crate::line::push_line;
 use order_check::{Entry, Hierarchy, Line, Report};
@@ -18,7 +21,9 @@ pub fn write_report(
     report: &Report,
 ) -> Result<Vec<u8>, OutOfMemory>
     requires { AreKeyed hierarchy.now.entries.items }
-    ensures { IfOk result (λ v. v.items ≡ report_text hierarchy.now.entries.items report.now.lines.items) }
+    ensures text { IfOk result (λ v. v.items ≡ report_text hierarchy.now.entries.items report.now.lines.items) }
+    ensures plain { let h = hierarchy.now.entries.items in let ls = report.now.lines.items in
+        IsReport h ls → AreFound h ls → IfOk result (λ v. v.items ≡ plain_report (map plain_class h)) }
 {
     let mut out = Vec::new(alloc);
     let entries = hierarchy.entries.as_slice();
