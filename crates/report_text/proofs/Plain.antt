@@ -1,8 +1,7 @@
 -- The text of a right report, whose cycles are those that are found, is what its plain classes tell.
-use Rattle.std.proofs.Common.{◌≡◌, ℕ, zero, suc, cond, eqb, List, [], ◌∷◌, ◌++◌, length, map, drop, Option, Some, None, refl, sym, ap, ◌∙◌}
+use Rattle.std.proofs.Common.{◌≡◌, ℕ, zero, suc, cond, eqb, List, [], ◌∷◌, ◌++◌, length, map, Option, Some, None, refl, sym, ap, ◌∙◌}
 use Rattle.std.specs.Prelude.{codes, is_none, option_and_then, slice_get, string_bytes}
 use Rattle.std.specs.List.{flat_map, filter_map, cons_option}
-use Rattle.py_node.specs.Tree.{Text}
 use Rattle.class_model.specs.Order.{least_order, all_some, Includes}
 use Rattle.class_model.specs.Class.{Class, bases_of, lin}
 use Rattle.class_model.proofs.Arranged.{least_order-order}
@@ -21,7 +20,7 @@ use Rattle.order_check.proofs.ClassFact.{ordered_or_cyclic}
 use Rattle.order_check.proofs.Knowing.{never-below}
 use Rattle.order_check.proofs.Places.{bases-of_entry}
 use Rattle.order_check.proofs.Telling.{first_without-none, based, order-rule}
-use Rattle.hierarchy_text.specs.Spelled.{PlainClass, plain_class}
+use Rattle.hierarchy_text.specs.Spelled.{plain_class}
 use Rattle.report_text.specs.ReportText.{shown, line_of, cycle_shown, line_text, lines_text, report_text}
 use Rattle.report_text.specs.PlainReport.{model_class, order_among, name_among, shown_among, cycle_pairs, line_from, line_by, plain_line, plain_report}
 

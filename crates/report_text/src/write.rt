@@ -13,7 +13,8 @@ use py_node::OutOfMemory;
 use std::alloc::Global;
 
 /// The text of a report, a line for each class but the first: `order NAME: ` and its linearisation, `none NAME: ` and the
-/// first of its bases that has none, or `cycle NAME: ` and each pair of the cycle as `X < Y in LIST`.
+/// first of its bases that has none, or `cycle NAME: ` and each pair of the cycle as `X < Y in LIST`. Of a right report,
+/// whose cycles are those that are found, it is the one text that its plain classes give.
 #[tactic(auto, unfolding(crate::specs::ReportText::lines_text))]
 pub fn write_report(
     alloc: Global,
