@@ -13,13 +13,25 @@ use Rattle.order_check.specs.Hierarchy.{name_in}
 abbrev pub shown : List Entry → ℕ → Text
 shown h c = escaped (name_in h c)
 
--- a list of a class's constraints: the linearisation of a base, or the list of bases
-abbrev pub list_shown : List Entry → Option ℕ → Text
-list_shown h None = codes "bases"
-list_shown h (Some b) = shown h b
+-- what is told with a name for each key
 
-abbrev pub pair_shown : List Entry → Pair → Text
-pair_shown h p = shown h p.first ++ codes " < " ++ shown h p.second ++ codes " in " ++ list_shown h p.list
+-- a list of a class's constraints: the linearisation of a base, or the list of bases
+abbrev pub list_shown : (ℕ → Text) → Option ℕ → Text
+list_shown name None = codes "bases"
+list_shown name (Some b) = name b
+
+abbrev pub pair_shown : (ℕ → Text) → Pair → Text
+pair_shown name p = name p.first ++ codes " < " ++ name p.second ++ codes " in " ++ list_shown name p.list
+
+abbrev pub order_shown : (ℕ → Text) → List ℕ → Text
+order_shown name line = joined (codes ", ") (map name line)
+
+abbrev pub cycle_shown : (ℕ → Text) → List Pair → Text
+cycle_shown name pairs = joined (codes "; ") (map (pair_shown name) pairs)
+
+-- a line: a word, the name of its class, and what is told of that
+abbrev pub line_of : Text → Text → Text → Text
+line_of word name told = word ++ codes " " ++ escaped name ++ codes ": " ++ told ++ end_of_line
 
 -- the word that a line begins with
 abbrev pub line_word : Line → Text
@@ -29,12 +41,12 @@ line_word (Without b) = codes "none"
 
 -- what a line tells of its class
 abbrev pub line_told : List Entry → Line → Text
-line_told h (Order line) = joined (codes ", ") (map (shown h) line.items)
-line_told h (Cycle pairs) = joined (codes "; ") (map (pair_shown h) pairs.items)
+line_told h (Order line) = order_shown (shown h) line.items
+line_told h (Cycle pairs) = cycle_shown (shown h) pairs.items
 line_told h (Without b) = shown h b
 
 abbrev pub line_text : List Entry → Entry → Line → Text
-line_text h e line = line_word line ++ codes " " ++ escaped (string_bytes e.name) ++ codes ": " ++ line_told h line ++ end_of_line
+line_text h e line = line_of (line_word line) (string_bytes e.name) (line_told h line)
 
 -- each class with its line
 unfoldable pub lines_text : List Entry → List Entry → List Line → Text

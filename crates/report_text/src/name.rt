@@ -1,9 +1,8 @@
 //! The names of classes.
 
-ghost use Rattle.std.specs.Prelude.{◌≡◌, ◌++◌, map, codes, OnOk};
-ghost use Rattle.plain_machine.specs.Lines.{joined};
+ghost use Rattle.std.specs.Prelude.{◌≡◌, ◌++◌, OnOk};
 ghost use Rattle.order_check.specs.Hierarchy.{AreKeyed};
-ghost use Rattle.report_text.specs.ReportText.{shown};
+ghost use Rattle.report_text.specs.ReportText.{shown, order_shown};
 
 use order_check::{Entry, name_of};
 use py_node::OutOfMemory;
@@ -24,7 +23,7 @@ pub(crate) fn push_names(
     keys: &[u64],
 ) -> Result<(), OutOfMemory>
     requires { AreKeyed entries.now }
-    ensures { OnOk result (out.new.items ≡ out.old.items ++ joined (codes ", ") (map (shown entries.now) keys.now)) }
+    ensures { OnOk result (out.new.items ≡ out.old.items ++ order_shown (shown entries.now) keys.now) }
 {
     if let [first, rest @ ..] = keys {
         push_name(out, entries, *first)?;

@@ -1,9 +1,8 @@
 //! The pairs of a cycle.
 
-ghost use Rattle.std.specs.Prelude.{◌≡◌, ◌++◌, map, codes, OnOk};
-ghost use Rattle.plain_machine.specs.Lines.{joined};
+ghost use Rattle.std.specs.Prelude.{◌≡◌, ◌++◌, OnOk};
 ghost use Rattle.order_check.specs.Hierarchy.{AreKeyed};
-ghost use Rattle.report_text.specs.ReportText.{list_shown, pair_shown};
+ghost use Rattle.report_text.specs.ReportText.{shown, list_shown, pair_shown, cycle_shown};
 
 use crate::name::push_name;
 use order_check::{Entry, Pair};
@@ -16,7 +15,7 @@ pub(crate) fn push_pairs(
     pairs: &[Pair],
 ) -> Result<(), OutOfMemory>
     requires { AreKeyed entries.now }
-    ensures { OnOk result (out.new.items ≡ out.old.items ++ joined (codes "; ") (map (pair_shown entries.now) pairs.now)) }
+    ensures { OnOk result (out.new.items ≡ out.old.items ++ cycle_shown (shown entries.now) pairs.now) }
 {
     if let [first, rest @ ..] = pairs {
         push_pair(out, entries, first)?;
@@ -31,7 +30,7 @@ pub(crate) fn push_pairs(
 // One class before another, and the list that has them so.
 fn push_pair(out: &mut Vec<u8>, entries: &[Entry], pair: &Pair) -> Result<(), OutOfMemory>
     requires { AreKeyed entries.now }
-    ensures { OnOk result (out.new.items ≡ out.old.items ++ pair_shown entries.now pair.now) }
+    ensures { OnOk result (out.new.items ≡ out.old.items ++ pair_shown (shown entries.now) pair.now) }
 {
     push_name(out, entries, pair.first)?;
     out.extend_from_slice(b" < ")?;
@@ -43,7 +42,7 @@ fn push_pair(out: &mut Vec<u8>, entries: &[Entry], pair: &Pair) -> Result<(), Ou
 // A list of a class's constraints: the linearisation of a base, by its name, or the list of bases.
 fn push_list(out: &mut Vec<u8>, entries: &[Entry], list: Option<u64>) -> Result<(), OutOfMemory>
     requires { AreKeyed entries.now }
-    ensures { OnOk result (out.new.items ≡ out.old.items ++ list_shown entries.now list) }
+    ensures { OnOk result (out.new.items ≡ out.old.items ++ list_shown (shown entries.now) list) }
 {
     match list {
         None => {

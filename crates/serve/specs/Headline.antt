@@ -1,5 +1,5 @@
 -- What the program writes: what answers the text that was read, or what the replies to generated commands add up to.
-use Rattle.std.specs.Prelude.{◌≡◌, ℕ, ◌≤◌, ◌++◌, List, length, map, Ok, Err}
+use Rattle.std.specs.Prelude.{◌≡◌, ℕ, ◌≤◌, ◌++◌, List, length, Ok, Err}
 use Rattle.outside.specs.declared.words.Question.{Question}
 use Rattle.outside.specs.declared.words.Question.TheVariants.{Run as RunQuestion, Check}
 use Rattle.py_node.specs.Tree.{Text, Tree}
@@ -9,11 +9,8 @@ use Rattle.json_text.specs.declared.error.ScriptError.{ScriptError as Refusal}
 use Rattle.plain_machine.specs.Answer.{Run, plain_run}
 use Rattle.plain_machine.specs.ClassText.{classes_text}
 use Rattle.plain_machine.specs.Start.{start}
-use Rattle.order_check.specs.declared.hierarchy.Entry.{Entry}
-use Rattle.order_check.specs.declared.report.Line.{Line}
-use Rattle.order_check.specs.Report.{IsReport, AreFound}
-use Rattle.hierarchy_text.specs.Spelled.{PlainClass, plain_class, hierarchy_of}
-use Rattle.report_text.specs.ReportText.{report_text}
+use Rattle.hierarchy_text.specs.Spelled.{PlainClass, hierarchy_of}
+use Rattle.report_text.specs.PlainReport.{plain_report}
 use Rattle.vm_eval.specs.Say.{say}
 use Rattle.generator.specs.Commands.{generated}
 use Rattle.generator.specs.Summary.{summary}
@@ -30,14 +27,9 @@ run_text commands units = text_of (plain_run say start commands units)
 abbrev pub IsTextOf : Text → ℕ → Text → Type 0
 IsTextOf bytes units text = (commands : List Tree) × (script_of bytes ≡ Ok commands) × (text ≡ run_text commands units)
 
--- bytes spell a hierarchy, and this is the text of its report, whose cycles are those that are found
-pub record IsReportOf (bytes text : Text) : Type 0 where
-  pub classes : List Entry
-  pub spelled : hierarchy_of bytes ≡ Ok (map plain_class classes)
-  pub lines : List Line
-  pub right : IsReport classes lines
-  pub found : AreFound classes lines
-  pub written : text ≡ report_text classes lines
+-- bytes spell a hierarchy, and this is the text of the orders and cycles of its classes
+abbrev pub IsReportOf : Text → Text → Type 0
+IsReportOf bytes text = (classes : List PlainClass) × (hierarchy_of bytes ≡ Ok classes) × (text ≡ plain_report classes)
 
 -- bytes spell what the question asks of, and this text answers it
 abbrev pub IsAnswer : Question → Text → Text → Type 0
