@@ -1,15 +1,20 @@
-use Rattle.std.proofs.Common.{◌≡◌, Some, None, option_map, string_bytes, arith}
+use Rattle.std.proofs.Common.{◌≡◌, Some, Err, option_map, string_bytes, arith}
 use Rattle.serde_json.specs.View.{view, items_view}
+use Rattle.json_text.specs.declared.items.Unread.TheVariants.{Shape}
 use Rattle.hierarchy_text.specs.Spelled.{or_first}
 use Rattle.hierarchy_text.specs.Items.{texts, base_keys}
-use Rattle.hierarchy_text.proofs.ClassesAfter.{class-new, class-without}
+use Rattle.hierarchy_text.proofs.ClassesAfter.{class-new, class-old, class-without}
 use Rattle.hierarchy_text.proofs.classes.read_class.Goals as goal
 
 pub returns-in_err-bases-clause-shape : goal.returns-in_err-bases-clause-shape
 returns-in_err-bases-clause-shape c h =
-    let names = texts c.args.names.now.keys in
-    let none : base_keys names (items_view c.in_ok-name.items.now) ≡ None = grind (arith, c.in_err-bases.was, c.read_bases.ensures.shape) in
-    class-without names (view c.args.item.now) c.in_ok-name.name.now (items_view c.in_ok-name.items.now) c.in_ok-name.ensures.ok none
+    let told : c.read_bases.result ≡ Err Shape = grind (arith, c.in_err-bases.was) in
+    class-without (texts c.args.names.now.keys) (view c.args.item.now) c.in_ok-name.name.now (items_view c.in_ok-name.items.now) c.in_ok-name.ensures.ok (c.read_bases.ensures.shape told)
+
+pub returns-in_err-key-clause-shape : goal.returns-in_err-key-clause-shape
+returns-in_err-key-clause-shape c h =
+    let told : c.new_key.result ≡ Err Shape = grind (arith, c.in_err-key.was) in
+    class-old (texts c.args.names.now.keys) (view c.args.item.now) c.in_ok-name.name.now (items_view c.in_ok-name.items.now) c.in_ok-name.ensures.ok (c.new_key.ensures.shape told)
 
 pub returns-clause-ok : goal.returns-clause-ok
 returns-clause-ok c =
