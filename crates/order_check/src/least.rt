@@ -51,8 +51,8 @@ fn prepended(alloc: Global, key: u64, line: &[u64]) -> Result<Vec<u64>, OutOfMem
     Ok(order)
 }
 
-// The least order of a class over the linearisations of its bases, where it has an order. Over one base nothing is
-// merged, so that it takes what the base's linearisation is long.
+// The least order of a class over the linearisations of its bases, where it has an order. Over one base it is a copy,
+// without a merge.
 pub(crate) fn least_order(
     alloc: Global,
     key: u64,
