@@ -46,9 +46,10 @@ line_from name order c None None = line_of (codes "cycle") c.name (cycle_shown n
 abbrev pub line_by : (ℕ → Text) → (ℕ → Option (List ℕ)) → PlainClass → Text
 line_by name order c = line_from name order c (order c.key) (first_without order c.bases)
 
+-- the same, with the names and the orders of some classes
 unfoldable pub plain_line : List PlainClass → PlainClass → Text
 plain_line cs c = line_by (shown_among cs) (order_among cs) c
 
--- the first class has no line
+-- a line for each class but the first
 unfoldable pub plain_report : List PlainClass → Text
 plain_report cs = flat_map (plain_line cs) (drop 1 cs)

@@ -13,19 +13,22 @@ use Rattle.order_check.specs.Hierarchy.{name_in}
 abbrev pub shown : List Entry → ℕ → Text
 shown h c = escaped (name_in h c)
 
--- what is told with a name for each key
+-- what is told, where each key has its name
 
 -- a list of a class's constraints: the linearisation of a base, or the list of bases
 abbrev pub list_shown : (ℕ → Text) → Option ℕ → Text
 list_shown name None = codes "bases"
 list_shown name (Some b) = name b
 
+-- one class before another, and the list that has them so
 abbrev pub pair_shown : (ℕ → Text) → Pair → Text
 pair_shown name p = name p.first ++ codes " < " ++ name p.second ++ codes " in " ++ list_shown name p.list
 
+-- a linearisation
 abbrev pub order_shown : (ℕ → Text) → List ℕ → Text
 order_shown name line = joined (codes ", ") (map name line)
 
+-- the pairs of a cycle
 abbrev pub cycle_shown : (ℕ → Text) → List Pair → Text
 cycle_shown name pairs = joined (codes "; ") (map (pair_shown name) pairs)
 
