@@ -3,3 +3,4 @@ pub mod Distinct
 pub mod Found
 pub mod Told
 pub mod Nones
+pub mod Rows

@@ -3,3 +3,4 @@ pub mod Forms
 pub mod FormWords
 pub mod FormParts
 pub mod Script
+pub mod Sessions

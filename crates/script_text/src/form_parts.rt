@@ -213,9 +213,9 @@ fn class_parts(items: &[Value]) -> Result<Parts<'_>, Unread>
     Ok(Parts::Class(name, bases, entries, keywords))
 }
 
-// The items of a list, of expressions or of entries.
+/// The items of a list, of expressions or of entries.
 #[tactic(auto, unfolding(crate::specs::Forms::list_of, crate::specs::Forms::body_of))]
-fn list_items(value: &Value) -> Result<&[Value], Unread>
+pub(crate) fn list_items(value: &Value) -> Result<&[Value], Unread>
     ensures list { IfOk result (λ s. list_of (view value.now) ≡ exprs_of (items_view s.now)) }
     ensures body { IfOk result (λ s. body_of (view value.now) ≡ entries_in (items_view s.now)) }
     ensures within { IfOk result (λ s. items_depth (items_view s.now) ≤ depth (view value.now)) }

@@ -47,8 +47,8 @@ fn read_items(alloc: Global, items: &[Value]) -> Result<Vec<Command>, ScriptFaul
     Ok(commands)
 }
 
-// Each expression is a command.
-fn as_commands(alloc: Global, exprs: Vec<Expr>) -> Result<Vec<Command>, AllocError>
+/// Each expression is a command.
+pub(crate) fn as_commands(alloc: Global, exprs: Vec<Expr>) -> Result<Vec<Command>, AllocError>
     ensures { IfOk result (λ v. command_trees v.items ≡ map tree_of exprs.items) }
 {
     let mut commands = Vec::with_capacity(alloc, exprs.len())?;

@@ -1,0 +1,7 @@
+use Rattle.std.proofs.Common.{◌≡◌, drop}
+use Rattle.serde_json.specs.View.{items_view}
+use Rattle.script_text.specs.Sessions.{any_empty}
+use Rattle.script_text.proofs.sessions.any_empty.Given as goal
+
+abbrev pub invariant-loop-item : goal.invariant-loop-item
+invariant-loop-item l = any_empty (items_view l.items) ≡ any_empty (items_view (drop l.item-index l.items))

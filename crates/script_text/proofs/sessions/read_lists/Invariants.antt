@@ -1,0 +1,15 @@
+use Rattle.std.proofs.Common.{◌≡◌, ◌<◌, drop, length}
+use Rattle.std.specs.Prelude.{vec_len}
+use Rattle.std.specs.List.{All}
+use Rattle.serde_json.specs.View.{items_view}
+use Rattle.json_text.proofs.Lists.{onto}
+use Rattle.script_text.specs.declared.sessions.TheConstants.{TOO_MANY}
+use Rattle.script_text.specs.Sessions.{lists_in, session_trees}
+use Rattle.script_text.proofs.sessions.read_lists.Given as goal
+
+abbrev pub invariant-loop-item : goal.invariant-loop-item
+invariant-loop-item l = record {
+  read : lists_in (items_view l.items) ≡ onto (session_trees l.sessions.items) (lists_in (items_view (drop l.item-index l.items)));
+  len : length l.sessions.items ≡ l.item-index;
+  few : All (λ s. vec_len s < TOO_MANY) l.sessions.items;
+}
