@@ -7,7 +7,7 @@ use outside::{MemorySink, MemorySource, QuietSink, StdSink, StdSource};
 use py_node::{BodyCall, Cause, Kind, OutOfMemory, PyObjectRef, Raised, Reply, ReplyAnswer};
 use reply_text::class::push_class_lines;
 use reply_text::escape::{escaped_string, quoted_string};
-use script_text::{read_script, write_replies};
+use script_text::{read_script, read_sessions, write_replies};
 use std::alloc::Global;
 use std::io::sink;
 use table_lines::{NoValue, Table};
@@ -16,6 +16,7 @@ const HELLO: &[u8] = b"hello";
 
 pub fn put(table: &mut Table, alloc: Global) {
     table.put("script_text::read_script", script(alloc));
+    table.put("script_text::read_sessions", sessions(alloc));
     table.put_bytes("script_text::write_replies", replies(alloc));
     table.put_bytes("reply_text::push_class_lines", class_lines(alloc));
     table.put_text(
@@ -44,6 +45,14 @@ fn script(alloc: Global) -> Result<Option<(i64, i64)>, NoValue> {
     match read_script(alloc, b"[[\"op\",\"+\",33,12]]")?.as_slice() {
         [command] => Ok(sum_in(&command.expr)),
         _ => Err(NoValue),
+    }
+}
+
+// How many sessions there are beside the opening.
+fn sessions(alloc: Global) -> Result<usize, NoValue> {
+    match read_sessions(alloc, b"[[],[1],[2,3]]")?.as_slice() {
+        [_, sessions @ ..] => Ok(sessions.len()),
+        [] => Err(NoValue),
     }
 }
 
