@@ -24,21 +24,34 @@ const UNITS: u64 = 1000;
 const SCRIPT: &[u8] =
     br#"[["bind","twice",["func","twice",["n"],["op","+",["name","n"],["name","n"]]]]]"#;
 
+// What three calls answered.
+#[derive(Drop)]
+struct Told {
+    number: i128,
+    label: String,
+    stop: Stop,
+}
+
 fn main(rt: HostRuntime) -> io::Result<()> {
-    match answers(rt.alloc()) {
-        Ok((number, label, Stop::Raised(raised))) => {
-            println!(rt; "twice 21: {number}")?;
-            println!(rt; "its label: {label}")?;
+    let Ok(told) = answers(rt.alloc()) else {
+        return println!(rt; "no answers");
+    };
+    let number = told.number;
+    println!(rt; "twice 21: {number}")?;
+    let label = told.label.as_str();
+    println!(rt; "its label: {label}")?;
+    match told.stop {
+        Stop::Raised(raised) => {
             let kind = raised.kind.word();
             let cause = raised.cause.word();
             println!(rt; "twice the order: {kind} {cause}")
         }
-        _ => println!(rt; "no answer"),
+        _ => println!(rt; "twice the order: no fault"),
     }
 }
 
-// The answers of three calls: a number, a text, and why the third has none.
-fn answers(alloc: Global) -> Result<(i128, String, Stop), Stop> {
+// A number and a text from the machine, and why a third call has no value.
+fn answers(alloc: Global) -> Result<Told, Stop> {
     let mut vm = VirtualMachine::new(alloc)?;
     vm.run(&read_script(alloc, SCRIPT)?, UNITS)?;
     let number = new_int(&mut vm, 21)?;
@@ -48,7 +61,11 @@ fn answers(alloc: Global) -> Result<(i128, String, Stop), Stop> {
     let label = label_of(&mut vm, order)?;
     match twice(&mut vm, order) {
         Ok(_) => Err(Stop::Other),
-        Err(stop) => Ok((number, label, stop)),
+        Err(stop) => Ok(Told {
+            number,
+            label,
+            stop,
+        }),
     }
 }
 

@@ -30,17 +30,12 @@ fn text(vm: &mut VirtualMachine, alloc: Global) -> Result<Option<usize>, NoValue
     }
 }
 
-// How many classes there are, and how many of them have an order.
-fn ordered(vm: &VirtualMachine, alloc: Global) -> Result<(usize, usize), OutOfMemory> {
+// How many classes there are, and whether each has an order.
+fn ordered(vm: &VirtualMachine, alloc: Global) -> Result<(usize, bool), OutOfMemory> {
     let hierarchy = hierarchy_of(alloc, vm.classes())?;
     let orders = all_orders(alloc, &hierarchy)?;
-    let mut found = 0;
-    for order in &orders {
-        if order.is_some() {
-            found += 1;
-        }
-    }
-    Ok((orders.len(), found))
+    let are_found = orders.iter().all(|order| order.is_some());
+    Ok((orders.len(), are_found))
 }
 
 // The place of a first command's entry, and its number among those of its seat.
