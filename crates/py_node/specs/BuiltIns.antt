@@ -1,5 +1,5 @@
 -- The built-in classes: their places, names, bases and flags. The fixed objects, and how many there are of both.
-use Rattle.std.specs.Prelude.{ℕ, ◌+◌, ◌^◌, List, [], map, Option, None, option_map, slice_index_or}
+use Rattle.std.specs.Prelude.{ℕ, ◌+◌, ◌^◌, Bool, true, false, List, [], map, Option, None, option_map, slice_index_or}
 use denote.Enum.Declared.{tag_of}
 use Rattle.py_node.specs.contracts.built_in.BuiltIn.{the_type}
 use Rattle.py_node.specs.declared.built_in.BuiltIn.{BuiltIn}
@@ -57,9 +57,10 @@ method_descriptor = 2 ^ 17
 abbrev pub has_dict : ℕ
 has_dict = 2 ^ 40
 
--- the flags of a class that a script makes
-abbrev pub heap_flags : ℕ
-heap_flags = heap_type + base_type + has_dict
+-- the flags of a class that a script makes: its objects have a dict or not
+abbrev pub heap_flags : Bool → ℕ
+heap_flags false = heap_type + base_type
+heap_flags true = heap_type + base_type + has_dict
 
 -- the fixed objects: None, NotImplemented, False and True stand behind the classes
 abbrev pub fixed_none : ℕ

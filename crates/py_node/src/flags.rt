@@ -53,12 +53,17 @@ impl PyTypeFlags {
         PyTypeFlags::HEAPTYPE.union(PyTypeFlags::BASETYPE)
     }
 
-    /// The flags of a class that a script makes: it is on the heap, may have subclasses, and gives
-    /// its objects a dict.
-    pub fn of_script_class() -> PyTypeFlags
-        ensures { result.0 ≡ heap_flags }
+    /// The flags of a class that a script makes: it is on the heap and may have subclasses, and gives its objects a dict
+    /// or not.
+    pub fn of_script_class(dict: bool) -> PyTypeFlags
+        ensures { result.0 ≡ heap_flags dict }
     {
-        PyTypeFlags::heap_type_flags().union(PyTypeFlags::HAS_DICT)
+        let flags = PyTypeFlags::heap_type_flags();
+        if dict {
+            flags.union(PyTypeFlags::HAS_DICT)
+        } else {
+            flags
+        }
     }
 
     /// Whether all flags of `flag` are among these.
