@@ -1,10 +1,10 @@
 -- The linearisations of small tables, computed.
-use Rattle.std.proofs.Common.{◌≡◌, ℕ, List, [], ◌∷◌, Some, None, refl}
+use Rattle.std.proofs.Common.{◌≡◌, ℕ, false, List, [], ◌∷◌, Some, None, refl}
 use Rattle.class_model.specs.Order.{arrangements, all_arrangements, least_order, linear}
 use Rattle.class_model.specs.Class.{Class, Classes, lin}
 
 class : ℕ → List ℕ → Class ℕ
-class number bases = record { name = []; number = number; bases = bases; attrs = []; members = []; flags = 0 }
+class number bases = record { name = []; number = number; bases = bases; attrs = []; members = []; flags = 0; brings = false }
 
 -- object, A, B(A), C(A), D(B, C)
 diamond : Classes ℕ

@@ -1,13 +1,17 @@
--- Classes stay sound, and their places stay, where one class is changed and keeps its number, bases and members.
-use Rattle.std.proofs.Common.{◌≡◌, ℕ, cond, not, ◌&&◌, ◌||◌, List, [], ◌∷◌, ◌++◌, length, Some, inl, inr, refl, sym, ap, ◌∙◌}
-use Rattle.std.specs.Prelude.{nat_lt, is_some, option_map}
+-- Classes stay sound, and their places stay, where one class is changed and keeps its number, bases, members and flags, and what it brings.
+use Rattle.std.proofs.Common.{◌≡◌, ℕ, Bool, cond, not, ◌&&◌, ◌||◌, List, [], ◌∷◌, ◌++◌, length, Option, Some, None, inl, inr, refl, sym, ap, ◌∙◌}
+use Rattle.std.specs.Prelude.{◌==◌, nat_lt, is_some, option_map}
+use Rattle.std.specs.Int.RustNames.{bit_and}
+use Rattle.py_node.specs.BuiltIns.{has_dict as dict_flag}
 use Rattle.class_model.specs.Order.{Includes}
 use Rattle.class_model.specs.Class.{Class, Classes, class_at, is_class, bases_of, lin, is_along}
 use Rattle.class_model.specs.Numbers.{ascend_from}
 use Rattle.class_model.specs.Change.{with_changed}
 use Rattle.class_model.specs.Layout.{built_ins, is_empty, has_members, is_solid, solid_within, solid, base, layout_along, layout, member_count, is_place}
+use Rattle.class_model.specs.Dict.{says_dict, has_dict, has_its_dict}
 use Rattle.class_model.specs.Sound.{AreSound}
 use Rattle.class_model.proofs.Agreed.{bind-agrees}
+use Rattle.class_model.proofs.Dict.{any_has_dict-agrees}
 use Rattle.class_model.proofs.Numbers.{numbers-changed, at-changed, length-changed}
 use Rattle.class_model.proofs.Changed.{lin-changed}
 use Rattle.class_model.proofs.Solid.{solid_within-same, base-agrees}
@@ -59,13 +63,28 @@ module _ {K : Type 0} (f : Class K → Class K) (numbers : (k : Class K) → (f 
     is_place-kept x d i =
         is_place-agrees (with_changed f t c) t x d i (layout-agrees (with_changed f t c) t x (lin-kept x) (λ line y e h. is_solid-kept y)) (member_count-kept members d)
 
-    pub sound-kept : AreSound t → AreSound (with_changed f t c)
-    sound-kept ok = record {
-      ascending = ap (ascend_from 0) (numbers-changed f numbers t c) ∙ ok.ascending;
-      root = λ x bs e. ok.root x bs (sym (bases_of-kept x) ∙ e);
-      there = λ x b bs e h. is_class-kept b ∙ ok.there x b bs (sym (bases_of-kept x) ∙ e) h;
-      apart = λ x b bs e h. ap (is_along x) (lin-kept b) ∙ ok.apart x b bs (sym (bases_of-kept x) ∙ e) h;
-      order = λ x l. ap is_some (lin-kept x) ∙ ok.order x (sym (is_class-kept x) ∙ l);
-      solid = λ x l. ap is_some (solid-kept x) ∙ ok.solid x (sym (is_class-kept x) ∙ l);
-      best = λ x l. ap is_some (base-kept x) ∙ ok.best x (sym (is_class-kept x) ∙ l);
-    }
+    module _ (flags : (k : Class K) → (f k).flags ≡ k.flags) (brings : (k : Class K) → (f k).brings ≡ k.brings) where
+      pub has_dict-kept : (x : ℕ) → has_dict (with_changed f t c) x ≡ has_dict t x
+      has_dict-kept x = at-changed f numbers says_dict (λ k. ap (λ n. bit_and n dict_flag == dict_flag) (flags k)) t c x
+
+      abbrev dict_in : Option (Class K) → Bool
+      dict_in = has_its_dict (with_changed f t c)
+
+      its-kept : (x : ℕ) → has_its_dict (with_changed f t c) (class_at (with_changed f t c) x) ≡ has_its_dict t (class_at t x)
+      its-kept x = at-changed f numbers dict_in (λ k. let a = brings k in let b = bases k in cc (a, b)) t c x ∙ same (class_at t x)
+        where
+          same : (o : Option (Class K)) → dict_in o ≡ has_its_dict t o
+          same None = refl
+          same (Some k) = ap (λ b. k.brings || b) (any_has_dict-agrees (with_changed f t c) t k.bases (λ b h. has_dict-kept b))
+
+      pub sound-kept : AreSound t → AreSound (with_changed f t c)
+      sound-kept ok = record {
+        ascending = ap (ascend_from 0) (numbers-changed f numbers t c) ∙ ok.ascending;
+        root = λ x bs e. ok.root x bs (sym (bases_of-kept x) ∙ e);
+        there = λ x b bs e h. is_class-kept b ∙ ok.there x b bs (sym (bases_of-kept x) ∙ e) h;
+        apart = λ x b bs e h. ap (is_along x) (lin-kept b) ∙ ok.apart x b bs (sym (bases_of-kept x) ∙ e) h;
+        order = λ x l. ap is_some (lin-kept x) ∙ ok.order x (sym (is_class-kept x) ∙ l);
+        solid = λ x l. ap is_some (solid-kept x) ∙ ok.solid x (sym (is_class-kept x) ∙ l);
+        best = λ x l. ap is_some (base-kept x) ∙ ok.best x (sym (is_class-kept x) ∙ l);
+        dicts = λ x. has_dict-kept x ∙ ok.dicts x ∙ sym (its-kept x);
+      }

@@ -14,6 +14,7 @@ pub mod Slots
 pub mod Solid
 pub mod Chain
 pub mod Names
+pub mod Dict
 pub mod Renamed
 pub mod Sound
 pub mod Kept

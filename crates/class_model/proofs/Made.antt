@@ -1,15 +1,17 @@
 -- Classes stay sound where one more is made, whatever its bases, and those that were there keep their places.
-use Rattle.std.proofs.Common.{◌≡◌, ℕ, suc, ◌<◌, ◌≤◌, Bool, true, false, cond, not, eqb, List, [], ◌∷◌, map, length, Option, Some, None, inl, inr, refl, sym, ap, subst, ◌∙◌, arith, length-append}
-use Rattle.std.specs.Prelude.{nat_lt, is_some, option_and_then}
+use Rattle.std.proofs.Common.{◌≡◌, ℕ, suc, ◌<◌, ◌≤◌, ◌⊎◌, Bool, true, false, cond, not, ◌||◌, eqb, List, [], ◌∷◌, map, length, Option, Some, None, inl, inr, refl, sym, ap, subst, ◌∙◌, arith, length-append}
+use Rattle.std.specs.Prelude.{nat_lt, is_some, option_map, option_and_then}
 use Rattle.std.proofs.lemmas.Bool.{false_from_ne_true, ltb-true, and_parts}
 use Rattle.class_model.specs.Order.{has, Includes}
 use Rattle.class_model.specs.Class.{Class, Classes, class_at, is_class, bases_of, lin, is_sub, is_along}
 use Rattle.class_model.specs.Numbers.{numbers_of, past_all, limit}
 use Rattle.class_model.specs.Change.{with_class}
 use Rattle.class_model.specs.Layout.{is_empty, is_solid, derives_all, first_best, solid_within, solid, best_of, base, layout, member_count, is_place}
+use Rattle.class_model.specs.Dict.{says_dict, has_dict, any_has_dict, has_its_dict}
 use Rattle.class_model.specs.Sound.{AreSound}
-use Rattle.class_model.proofs.Numbers.{some-of, at-here, at-before, old-or-last, ascending-push}
+use Rattle.class_model.proofs.Numbers.{some-of, at-here, at-before, at-last, old-or-last, ascending-push}
 use Rattle.class_model.proofs.Tests.{Decides-has}
+use Rattle.class_model.proofs.Dict.{any_has_dict-agrees}
 use Rattle.class_model.proofs.Rule.{bases_of-get, lin-below, lin-classes}
 use Rattle.class_model.proofs.Changed.{bases_of-before, bases_of-last, lin-push}
 use Rattle.class_model.proofs.Solid.{is_solid-push, solid_within-grows, base-push}
@@ -147,9 +149,37 @@ module _ {K : Type 0} (t : Classes K) (k : Class K) (ok : AreSound t) where
         let r = lined b l in
         is_sub-made b k.number l ∙ ap (is_along k.number) r.1 ∙ has-no r.0 k.number (λ h. let q = lin-below t b r.0 k.number r.1 h in omega arith)
 
+    -- its flags say whether it gives a dict, and those of the others stay
+    dict-old : (c : ℕ) → is_class t c ≡ true → has_dict more c ≡ has_dict t c
+    dict-old c l = ap says_dict (at-before t k c l)
+
+    any-old : (bs : List ℕ) → ((b : ℕ) → Includes bs b → is_class t b ≡ true) → any_has_dict more bs ≡ any_has_dict t bs
+    any-old bs held = any_has_dict-agrees more t bs (λ b h. dict-old b (held b h))
+
+    dicts-made : says_dict (Some k) ≡ has_its_dict t (Some k) → (c : ℕ) → has_dict more c ≡ has_its_dict more (class_at more c)
+    dicts-made dict c = go (class_at more c) refl
+      where
+        both : (j : Class K) → class_at more c ≡ Some j → says_dict (Some j) ≡ has_its_dict t (Some j) → ((b : ℕ) → Includes j.bases b → is_class t b ≡ true) → says_dict (Some j) ≡ has_its_dict more (Some j)
+        both j e says held = says ∙ ap (λ w. j.brings || w) (sym (any-old j.bases held))
+
+        here : (j : Class K) → class_at more c ≡ Some j → (is_class t c ≡ true) ⊎ (c ≡ k.number) → says_dict (Some j) ≡ has_its_dict more (Some j)
+        here j e (inl l) =
+            let q : class_at t c ≡ Some j = sym (at-before t k c l) ∙ e in
+            both j e (ap says_dict (sym q) ∙ ok.dicts c ∙ ap (has_its_dict t) q) (λ b h. ok.there c b j.bases (ap (option_map (λ (j : Class K). j.bases)) q) h)
+        here j e (inr same) =
+            let q : Some k ≡ Some j = sym (at-last t k fresh) ∙ sym (ap (class_at more) same) ∙ e in
+            let r : k ≡ j = cc in
+            let P : Class K → Type 0 = λ j. says_dict (Some j) ≡ has_its_dict t (Some j) in
+            let Q : Class K → Type 0 = λ j. (b : ℕ) → Includes j.bases b → is_class t b ≡ true in
+            both j e (subst P r dict) (subst Q r bases)
+
+        go : (o : Option (Class K)) → class_at more c ≡ o → says_dict o ≡ has_its_dict more o
+        go None e = refl
+        go (Some j) e = here j e (old-or-last t k c (ap is_some e))
+
     -- with bases that are there, an order and a best base. Only a class with the number 0 has no base
-    pub sound-made : is_empty k.bases ≡ eqb k.number 0 → is_some (lin more k.number) ≡ true → is_some (solid more k.number) ≡ true → is_some (base more k.number) ≡ not (eqb k.number 0) → AreSound more
-    sound-made root order solids best = record {
+    pub sound-made : is_empty k.bases ≡ eqb k.number 0 → is_some (lin more k.number) ≡ true → is_some (solid more k.number) ≡ true → is_some (base more k.number) ≡ not (eqb k.number 0) → says_dict (Some k) ≡ has_its_dict t (Some k) → AreSound more
+    sound-made root order solids best dict = record {
       ascending = ascending-push t k ok.ascending fresh;
       root = λ c bs e.
           each (λ c. bases_of more c ≡ Some bs → is_empty bs ≡ eqb c 0) (λ c l e. ok.root c bs (sym (bases_of-before t k c l) ∙ e)) (λ e. ap is_empty (sym (last-bases bs e)) ∙ root) c (inside c bs e) e;
@@ -159,6 +189,7 @@ module _ {K : Type 0} (t : Classes K) (k : Class K) (ok : AreSound t) where
       order = each (λ c. is_some (lin more c) ≡ true) (λ c l. ap is_some (lin-made c l) ∙ ok.order c l) order;
       solid = each (λ c. is_some (solid more c) ≡ true) (λ c l. ap is_some (solid-old c l) ∙ ok.solid c l) solids;
       best = each (λ c. is_some (base more c) ≡ not (eqb c 0)) (λ c l. ap is_some (base-old c l) ∙ ok.best c l) best;
+      dicts = dicts-made dict;
     }
       where
         -- a base of any class was there

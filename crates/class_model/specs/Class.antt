@@ -7,7 +7,7 @@ use Rattle.py_node.specs.BuiltIns.{heap_type}
 use Rattle.py_node.specs.Tree.{Text}
 use Rattle.class_model.specs.Order.{has, linear, IsLeastOrder}
 
--- a class: its name, the number of the object that stands for it, its bases, its own attributes in order, the names of its members, and its flags. A class is known by its number, and so are its bases
+-- a class: its name, the number of the object that stands for it, its bases, its own attributes in order, the names of its members, its flags, and whether it brings its objects a dict itself. A class is known by its number, and so are its bases
 pub record Class (K : Type 0) : Type 0 where
   pub name : Text
   pub number : ℕ
@@ -15,6 +15,7 @@ pub record Class (K : Type 0) : Type 0 where
   pub attrs : List (K × PyObjectRef)
   pub members : List K
   pub flags : ℕ
+  pub brings : Bool
 
 abbrev pub Classes : Type 0 → Type 0
 Classes K = List (Class K)
@@ -99,7 +100,7 @@ subclasses (k ∷ ks) c = cond (has k.bases c) (k.number ∷ subclasses ks c) (s
 
 -- the same classes, under other keys
 abbrev pub rekeyed : {K L : Type 0} → (K → L) → Class K → Class L
-rekeyed f k = record { name = k.name; number = k.number; bases = k.bases; attrs = map (λ a. (f a.0, a.1)) k.attrs; members = map f k.members; flags = k.flags }
+rekeyed f k = record { name = k.name; number = k.number; bases = k.bases; attrs = map (λ a. (f a.0, a.1)) k.attrs; members = map f k.members; flags = k.flags; brings = k.brings }
 
 abbrev pub renamed : {K L : Type 0} → (K → L) → Classes K → Classes L
 renamed f t = map (rekeyed f) t

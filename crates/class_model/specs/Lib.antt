@@ -3,6 +3,7 @@ pub mod Class
 pub mod Numbers
 pub mod Layout
 pub mod Slot
+pub mod Dict
 pub mod Change
 pub mod Failing
 pub mod BuiltIn

@@ -1,9 +1,10 @@
 -- What the classes of a machine keep to.
 use Rattle.std.specs.Prelude.{◌≡◌, ℕ, true, false, not, eqb, List, Some, is_some}
 use Rattle.class_model.specs.Order.{Includes}
-use Rattle.class_model.specs.Class.{Classes, is_class, bases_of, is_sub, lin}
+use Rattle.class_model.specs.Class.{Classes, class_at, is_class, bases_of, is_sub, lin}
 use Rattle.class_model.specs.Numbers.{is_ascending}
 use Rattle.class_model.specs.Layout.{is_empty, base, solid}
+use Rattle.class_model.specs.Dict.{has_dict, has_its_dict}
 
 pub record AreSound {K : Type 0} (t : Classes K) : Type 0 where
   -- the numbers ascend
@@ -19,3 +20,5 @@ pub record AreSound {K : Type 0} (t : Classes K) : Type 0 where
   -- each class has a solid class, and each but `object` a best base
   pub solid : (c : ℕ) → is_class t c ≡ true → is_some (solid t c) ≡ true
   pub best : (c : ℕ) → is_class t c ≡ true → is_some (base t c) ≡ not (eqb c 0)
+  -- its flags say that its objects have a dict exactly where it brings one or the flags of one of its bases say so
+  pub dicts : (c : ℕ) → has_dict t c ≡ has_its_dict t (class_at t c)

@@ -149,7 +149,7 @@ module _ (g : Attrs → Attrs) (t : Classes PyStrInterned) (c : ℕ) where
       base-agrees (with_changed (edited g) t c) t (λ x. Unit {0}) (λ x bs b p e h. tt) (λ x p. bases-edited x) (λ x p. lin-edited x) (λ x p. is_solid-edited x) x tt (λ b p. solid-edited b)
 
   pub sound-edited : AreSound t → AreSound (with_changed (edited g) t c)
-  sound-edited ok = sound-kept (edited g) (λ k. refl) t c (λ k. refl) (λ k. refl) ok
+  sound-edited ok = sound-kept (edited g) (λ k. refl) t c (λ k. refl) (λ k. refl) (λ k. refl) (λ k. refl) ok
 
   pub count-edited : (x : ℕ) (line : List ℕ) → lin t x ≡ Some line → place_count (with_changed (edited g) t c) x ≡ place_count t x
   count-edited x line e =

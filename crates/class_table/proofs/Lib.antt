@@ -30,3 +30,4 @@ pub mod Chains
 pub mod Collected
 pub mod Heaps
 pub mod StartParts
+pub mod Dicts

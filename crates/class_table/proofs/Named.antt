@@ -102,4 +102,4 @@ module _ (kept : List StoredClass) (ok : IsCoherent kept) (i : ℕ) (k : StoredC
             let Q : StoredClass → Type 0 = λ z. IsSoOf v z in
             subst Q r.1 s
         | inr r ↦ so-named x (classes_of kept) k.number y (each-of kept ok d y r.1)
-      ])) (subst AreSound (sym plain-named) (sound-kept (named x) (λ j. refl) (classes_of kept) k.number (λ j. refl) (λ j. refl) ok.sound)) (subst (λ t. All (λ j. AreNamesDistinct j.attrs) t) (sym plain-named) (all-changed (λ j. AreNamesDistinct j.attrs) (named x) (λ j d. d) (classes_of kept) k.number ok.attrs))
+      ])) (subst AreSound (sym plain-named) (sound-kept (named x) (λ j. refl) (classes_of kept) k.number (λ j. refl) (λ j. refl) (λ j. refl) (λ j. refl) ok.sound)) (subst (λ t. All (λ j. AreNamesDistinct j.attrs) t) (sym plain-named) (all-changed (λ j. AreNamesDistinct j.attrs) (named x) (λ j d. d) (classes_of kept) k.number ok.attrs))

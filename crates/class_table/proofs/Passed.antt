@@ -10,6 +10,7 @@ use Rattle.class_model.specs.Class.{Classes, is_class, bases_of, lin, is_sub}
 use Rattle.class_model.specs.Failing.{NoneIsBlamed}
 use Rattle.class_model.specs.Change.{with_bases, failing}
 use Rattle.class_model.specs.Layout.{is_empty, solid, best_of, base}
+use Rattle.class_model.specs.Dict.{keeps_dict}
 use Rattle.class_model.specs.Sound.{AreSound}
 use Rattle.class_model.proofs.Numbers.{some-of}
 use Rattle.class_model.proofs.Tests.{Decides-distinct}
@@ -56,6 +57,7 @@ pub record Passed {K : Type 0} (t : Classes K) (c : ℕ) (bs : List ℕ) : Type 
   apart : any_derives t bs c ≡ false
   layout : refused_layout t bs ≡ None
   same : is_same (most_derived t bs) (option_and_then (solid t) (base t c)) ≡ true
+  dict : keeps_dict t c bs ≡ true
   orders : failing t c bs ≡ None
 
 pub passed-all : {K : Type 0} (t : Classes K) (c : ℕ) (bs : List ℕ) → refused_rebase t c bs ≡ None → Passed t c bs
@@ -69,10 +71,12 @@ passed-all t c bs e =
     let d = either-none (cond (any_derives t bs c) (Some InheritanceCycle) None) _ b.1 in
     let f = either-none (refused_layout t bs) _ d.1 in
     let g = either-none (unless (is_same (most_derived t bs) (option_and_then (solid t) (base t c))) LayoutDiffers) _ f.1 in
+    let m = either-none (unless (keeps_dict t c bs) LayoutDiffers) _ g.1 in
     record {
       apart = not-told (any_derives t bs c) InheritanceCycle d.0;
       layout = f.0;
       same = passed (is_same (most_derived t bs) (option_and_then (solid t) (base t c))) LayoutDiffers g.0;
+      dict = passed (keeps_dict t c bs) LayoutDiffers m.0;
       orders = map-none {B = Refusal} (λ (r : ℕ × Cause). (r.1, Some r.0)) (failing t c bs) both.1;
     }
 
@@ -84,7 +88,8 @@ early-passed t c bs e =
     let d = either-none (cond (any_derives t bs c) (Some InheritanceCycle) None) _ b.1 in
     let f = either-none (refused_layout t bs) _ d.1 in
     let g = either-none (unless (is_same (most_derived t bs) (option_and_then (solid t) (base t c))) LayoutDiffers) _ f.1 in
-    (not-told (any_derives t bs c) InheritanceCycle d.0, (Decides-distinct bs).0 (passed (is_distinct bs) DuplicateBase g.1))
+    let m = either-none (unless (keeps_dict t c bs) LayoutDiffers) _ g.1 in
+    (not-told (any_derives t bs c) InheritanceCycle d.0, (Decides-distinct bs).0 (passed (is_distinct bs) DuplicateBase m.1))
 
 -- what follows of bases that passed them
 pub record Facts {K : Type 0} (t : Classes K) (c : ℕ) (bs : List ℕ) : Type 0 where
@@ -98,6 +103,7 @@ pub record Facts {K : Type 0} (t : Classes K) (c : ℕ) (bs : List ℕ) : Type 0
   pub is_old : base t c ≡ Some old_best
   pub top_new : solid t new_best ≡ Some top
   pub top_old : solid t old_best ≡ Some top
+  pub dict : keeps_dict t c bs ≡ true
 
 module _ {K : Type 0} (t : Classes K) (ok : AreSound t) (c : ℕ) (bs : List ℕ) (here : is_class t c ≡ true) (held : AreThere t bs) (e : refused_rebase t c bs ≡ None) where
   pub facts : Facts t c bs
@@ -116,10 +122,10 @@ module _ {K : Type 0} (t : Classes K) (ok : AreSound t) (c : ℕ) (bs : List ℕ
       let tops : is_same (Some s.0) (Some r.0) ≡ true =
       sym (ap (λ o. is_same o (option_and_then (solid t) (base t c))) (ap (option_and_then (solid t)) d.1 ∙ s.1) ∙ ap (is_same (Some s.0)) (ap (option_and_then (solid t)) old.1 ∙ r.1)) ∙ p.same in
       let same : s.0 ≡ r.0 = eqb-true s.0 r.0 tops in
-      record { none = none; there = there; apart = apart; new_best = d.0; old_best = old.0; top = s.0; is_new = d.1; is_old = old.1; top_new = s.1; top_old = r.1 ∙ ap Some (sym same) }
+      record { none = none; there = there; apart = apart; new_best = d.0; old_best = old.0; top = s.0; is_new = d.1; is_old = old.1; top_new = s.1; top_old = r.1 ∙ ap Some (sym same); dict = p.dict }
 
   pub sound-passed : AreSound (with_bases t c bs)
-  sound-passed = let f = facts in sound-rebased t c bs f.none ok here f.there f.apart f.new_best f.old_best f.top f.is_new f.is_old f.top_new f.top_old
+  sound-passed = let f = facts in sound-rebased t c bs f.none ok here f.there f.apart f.new_best f.old_best f.top f.is_new f.is_old f.top_new f.top_old f.dict
 
   pub order-passed : (x : ℕ) → is_class t x ≡ true → is_some (lin (with_bases t c bs) x) ≡ true
   order-passed x l = let f = facts in order-rebased t c bs f.none ok here f.there f.apart x l

@@ -12,6 +12,7 @@ use Rattle.class_model.specs.Class.{Class, Classes, is_class, lin, subclasses}
 use Rattle.class_model.specs.Numbers.{is_ascending, limit}
 use Rattle.class_model.specs.Layout.{built_ins, is_empty, base, solid, best_of, members_in, place_count}
 use Rattle.class_model.specs.Slot.{entries}
+use Rattle.class_model.specs.Dict.{says_dict, has_its_dict}
 use Rattle.class_model.specs.Sound.{AreSound}
 use Rattle.class_model.specs.BuiltIn.{natives_of}
 use Rattle.class_model.specs.Change.{with_class}
@@ -112,10 +113,10 @@ module _ (kept : List StoredClass) (ok : IsCoherent kept) (new : Class PyStrInte
     above : stored.bases ≡ new.bases
     above = ap (λ (c : Class PyStrInterned). c.bases) fresh.class
 
-    sound-given : AreSound (with_class (classes_of kept) new)
-    sound-given =
+    sound-given : says_dict (Some new) ≡ has_its_dict (classes_of kept) (Some new) → AreSound (with_class (classes_of kept) new)
+    sound-given dict =
         let root = root-of (classes_of kept) new.number new.bases below room in
-        sound-made (classes_of kept) new ok.sound room held root (ap is_some fresh.mro) (has-solid new.bases refl) (has-base ∙ ap not root)
+        sound-made (classes_of kept) new ok.sound room held root (ap is_some fresh.mro) (has-solid new.bases refl) (has-base ∙ ap not root) dict
 
     pub plain-attached : classes_of (noted stored.bases stored.number kept ++ stored ∷ []) ≡ with_class (classes_of kept) new
     plain-attached =
@@ -223,16 +224,16 @@ module _ (kept : List StoredClass) (ok : IsCoherent kept) (new : Class PyStrInte
             ]
       ]
 
-      pub coherent-added : IsCoherent final
+      pub coherent-added : says_dict (Some new) ≡ has_its_dict (classes_of kept) (Some new) → IsCoherent final
       unfolding grown
-      coherent-added = record {
+      coherent-added dict = record {
         mro = λ i x e. ap (λ t. lin t x.number) plain-added ∙ (now i x e).mro;
         slots = λ i x e. (now i x e).slots ∙ ap (λ t. entries table_keys natives_of t x.number) (sym plain-added);
         base = λ i x e. ap (λ t. base t x.number) plain-added ∙ (now i x e).base;
         solid = λ i x e. ap (λ t. solid t x.number) plain-added ∙ (now i x e).solid;
         subclasses = λ i x e. (now i x e).subclasses ∙ ap (λ t. subclasses t x.number) (sym plain-added);
         places = λ i x e. ap (λ t. place_count t x.number) plain-added ∙ (now i x e).places;
-        sound = subst AreSound (sym plain-added) sound-given;
+        sound = subst AreSound (sym plain-added) (sound-given dict);
         attrs = subst (λ t. All (λ k. AreNamesDistinct k.attrs) t) (sym plain-added) (all-added (classes_of kept) new ok.attrs fresh.attrs);
       }
 
@@ -274,9 +275,9 @@ module _ (kept : List StoredClass) (ok : IsCoherent kept) (new : Class PyStrInte
       )
       ∙ fresh.full
 
-  pub step-done : (final done : List StoredClass) → ((x : StoredClass) → done ≡ set cur n (settled (classes_of cur) (get_or cur n x))) → final ≡ done → IsCoherent final × (classes_of final ≡ with_class (classes_of kept) new)
-  step-done final done says e =
+  pub step-done : says_dict (Some new) ≡ has_its_dict (classes_of kept) (Some new) → (final done : List StoredClass) → ((x : StoredClass) → done ≡ set cur n (settled (classes_of cur) (get_or cur n x))) → final ≡ done → IsCoherent final × (classes_of final ≡ with_class (classes_of kept) new)
+  step-done dict final done says e =
       let all = e ∙ settled-at kept ok new room below best is_best stored fresh stored cur done n attached size says in (
-        coherent-added kept ok new room below best is_best stored fresh stored final all,
+        coherent-added kept ok new room below best is_best stored fresh stored final all dict,
         plain-added kept ok new room below best is_best stored fresh stored final all,
       )

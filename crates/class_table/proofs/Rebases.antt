@@ -8,6 +8,7 @@ use Rattle.class_model.specs.Change.{with_bases}
 use Rattle.class_model.specs.Failing.{NoneIsBlamed}
 use Rattle.class_model.specs.Layout.{built_ins, is_empty, has_members, is_solid, derives_all, first_best, solid_within, solid, best_of, base}
 use Rattle.class_model.specs.Numbers.{ascend_from}
+use Rattle.class_model.specs.Dict.{has_dict, dict_with, keeps_dict}
 use Rattle.class_model.specs.Sound.{AreSound}
 use Rattle.class_model.proofs.Held.{Includes-equal, from_flat_map}
 use Rattle.class_model.proofs.Tests.{Decides-has}
@@ -16,6 +17,7 @@ use Rattle.class_model.proofs.Numbers.{some-of, numbers-changed, at-changed}
 use Rattle.class_model.proofs.Agreed.{bind-agrees}
 use Rattle.class_model.proofs.Rule.{lin-from, lin-held, lin-member, lin-inside, lin-bases, lin-classes, lin-within, lin-least}
 use Rattle.class_model.proofs.Lines.{all_some-some}
+use Rattle.class_model.proofs.Dict.{alike-same, dicts-rebased}
 use Rattle.class_model.proofs.Layouts.{top, best-along, solid-rule}
 use Rattle.class_model.proofs.Solid.{first_best-held, solid-held}
 use Rattle.class_table.proofs.Rebased.{base-apart, bases-away, bases-here, classes-kept, line-base, order-rebased, not-root}
@@ -268,8 +270,8 @@ module _ {K : Type 0} (t : Classes K) (c : ℕ) (bs : List ℕ) (none : NoneIsBl
       ∙ best
 
   -- the classes stay sound
-  pub sound-rebased : AreSound (with_bases t c bs)
-  sound-rebased =
+  pub sound-rebased : keeps_dict t c bs ≡ true → AreSound (with_bases t c bs)
+  sound-rebased keeps =
       let u = with_bases t c bs in
       let first = first_best-held t (solid t) bs bs d best in
       let away : c ≡ 0 → ⊥ = not-root t c bs none ok here there apart d first in
@@ -298,4 +300,5 @@ module _ {K : Type 0} (t : Classes K) (c : ℕ) (bs : List ℕ) (none : NoneIsBl
           | inl i ↦ ap (λ z. is_some (base u z)) i ∙ ap is_some base-here ∙ sym (ap not (ne_eqb x 0 (λ z. away (sym i ∙ z))))
           | inr n ↦ ap is_some (base-away x n) ∙ ok.best x (sym (classes-kept t c bs x) ∙ l)
         ];
+        dicts = dicts-rebased t c bs ok (alike-same (dict_with t (class_at t c) bs) (has_dict t c) keeps);
       }

@@ -1,6 +1,6 @@
 -- The parts of a new machine's world: loops over the built-in classes and the names that are known.
 use Rattle.std.proofs.Common.{◌≡◌, ℕ, zero, suc, ◌+◌, ◌<◌, ◌≤◌, Bool, true, false, cond, List, [], ◌∷◌, ◌++◌, length, Option, Some, None, refl, sym, ap, ◌∙◌, subst, arith, get_or, take, map, fold, true≢false}
-use Rattle.std.specs.Prelude.{◌&&◌, not, slice_get, ltb, eqb, nat_lt, is_some}
+use Rattle.std.specs.Prelude.{◌&&◌, ◌||◌, not, slice_get, ltb, eqb, nat_lt, is_some}
 use Rattle.std.specs.Borrow.{Bor}
 use Rattle.std.specs.Str.{bytes_eq}
 use Rattle.std.proofs.lemmas.Bool.{ltb-true, eqb-true, eqb-false}
@@ -8,14 +8,17 @@ use Rattle.std.proofs.lemmas.Slice.Eq.{bytes_eq-Decides}
 use Rattle.py_node.specs.declared.built_in.BuiltIn.{BuiltIn}
 use Rattle.py_node.specs.declared.built_in.BuiltIn.TheVariants.{Object}
 use Rattle.py_node.specs.declared.flags.PyTypeFlags.{PyTypeFlags}
-use Rattle.py_node.specs.BuiltIns.{place_of, base_of, built_in_bases, all_built_ins}
+use Rattle.py_node.specs.BuiltIns.{place_of, base_of, flags_of, built_in_bases, built_in_flags, all_built_ins}
 use Rattle.py_node.specs.Known.{known_texts}
 use Rattle.py_node.specs.Texts.{AreDistinct}
 use Rattle.class_model.specs.Start.{bases_from, built_class}
 use Rattle.py_node.specs.declared.refs.PyStrInterned.{PyStrInterned}
 use Rattle.class_model.specs.Class.{Classes, class_at, is_class}
 use Rattle.class_model.specs.Numbers.{limit}
+use Rattle.class_model.specs.Dict.{says_dict, has_dict, any_has_dict, has_its_dict}
 use Rattle.class_table.specs.New.{IsBelow}
+use Rattle.class_table.specs.OneBase.{says_so}
+use Rattle.class_table.proofs.Dicts.{or-no}
 
 module _ {A B : Type 0} (f : A → B) where
   pub map-step : (xs : List A) (i : ℕ) (d : A) → i < length xs → map f (take (suc i) xs) ≡ map f (take i xs) ++ f (get_or xs i d) ∷ []
@@ -167,6 +170,57 @@ place-from n (b ∷ bs) (suc i) d h l = let r = place-from (suc n) bs i d (split
 pub made-place : (i : ℕ) (d : BuiltIn) → i < 23 → place_of (get_or all_built_ins i d) ≡ i
 unfolding all_built_ins place_of places_at
 made-place i d l = let r = place-from 0 all_built_ins i d refl l in omega arith
+
+-- no built-in class that gives its objects a dict is a base of another
+gives_none : ℕ → List BuiltIn → Bool
+gives_none c [] = true
+gives_none c (b ∷ bs) = not (eqb (place_of b) c && says_so (flags_of b)) && gives_none c bs
+
+base_plain : Option ℕ → Bool
+base_plain None = true
+base_plain (Some c) = gives_none c all_built_ins
+
+bases_plain : List BuiltIn → Bool
+bases_plain [] = true
+bases_plain (b ∷ bs) = base_plain (base_of b) && bases_plain bs
+
+none-early : (c : ℕ) (bs : List BuiltIn) (i : ℕ) → gives_none c bs ≡ true → has_dict (map (built_class {K = PyStrInterned}) (take i bs)) c ≡ false
+unfolding gives_none
+none-early c bs zero h = refl
+none-early c [] (suc i) h = refl
+none-early c (b ∷ bs) (suc i) h =
+    let both = split (not (eqb (place_of b) c && says_so (flags_of b))) (gives_none c bs) h in
+    go (eqb (place_of b) c) both.0 (none-early c bs i both.1)
+  where
+    go : (v : Bool) → not (v && says_so (flags_of b)) ≡ true → has_dict (map (built_class {K = PyStrInterned}) (take i bs)) c ≡ false → says_dict (cond v (Some (built_class {K = PyStrInterned} b)) (class_at (map (built_class {K = PyStrInterned}) (take i bs)) c)) ≡ false
+    go true e more = no (says_so (flags_of b)) e
+      where
+        no : (v : Bool) → not v ≡ true → v ≡ false
+        no true e = cc
+        no false e = refl
+    go false e more = more
+
+plain-at : (bs : List BuiltIn) (i : ℕ) (d : BuiltIn) → bases_plain bs ≡ true → i < length bs → base_plain (base_of (get_or bs i d)) ≡ true
+unfolding bases_plain
+plain-at [] i d h l = absurd (omega arith)
+plain-at (b ∷ bs) zero d h l = (split (base_plain (base_of b)) (bases_plain bs) h).0
+plain-at (b ∷ bs) (suc i) d h l = plain-at bs i d (split (base_plain (base_of b)) (bases_plain bs) h).1 (omega arith)
+
+built-plain : (i : ℕ) (d : BuiltIn) → i < 23 → base_plain (base_of (get_or all_built_ins i d)) ≡ true
+unfolding all_built_ins base_of built_in_bases flags_of built_in_flags place_of gives_none base_plain bases_plain
+built-plain i d h = plain-at all_built_ins i d refl h
+
+-- each built-in class brings a dict where its flags say that it gives one
+pub built-dict : (i j : ℕ) (d : BuiltIn) → j < 23 → says_dict (Some (built_class {K = PyStrInterned} (get_or all_built_ins j d))) ≡ has_its_dict (map (built_class {K = PyStrInterned}) (take i all_built_ins)) (Some (built_class (get_or all_built_ins j d)))
+unfolding base_plain
+built-dict i j d l = go (base_of (get_or all_built_ins j d)) (built-plain j d l)
+  where
+    brings : Bool
+    brings = says_so (flags_of (get_or all_built_ins j d))
+
+    go : (o : Option ℕ) → base_plain o ≡ true → brings ≡ (brings || any_has_dict (map (built_class {K = PyStrInterned}) (take i all_built_ins)) (bases_from o))
+    go None h = sym (or-no brings)
+    go (Some c) h = sym (ap (λ v. brings || (v || false)) (none-early c all_built_ins i h) ∙ or-no brings)
 
 pub built-count : length all_built_ins ≡ 23
 unfolding all_built_ins

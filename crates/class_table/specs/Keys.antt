@@ -1,5 +1,6 @@
 -- How the table names attributes, and the numbers of classes.
 use Rattle.std.specs.Prelude.{ℕ, List, map, Option, option_map}
+use Rattle.std.specs.Global.{Vec}
 use Rattle.py_node.specs.declared.refs.PyStrInterned.{PyStrInterned}
 use Rattle.py_node.specs.declared.refs.PyTypeRef.{PyTypeRef}
 use Rattle.py_node.specs.Attributes.{is_same_name}
@@ -9,6 +10,10 @@ use Rattle.class_model.specs.Slot.{Keys}
 -- the names that are known have the first numbers
 abbrev pub table_keys : Keys PyStrInterned
 table_keys = record { same = is_same_name; special = λ x. record { 0 = number_of_name x } }
+
+-- what `__slots__` name, where a class has some
+abbrev pub slot_names : Option (Vec PyStrInterned) → Option (List PyStrInterned)
+slot_names slots = option_map (λ v. v.items) slots
 
 -- the numbers of some classes
 abbrev pub numbers : List PyTypeRef → List ℕ

@@ -22,4 +22,4 @@ IsBest t (b ∷ bs) (Some d) = best_of t (b ∷ bs) ≡ Some d.0
 
 -- the class that it stands for
 abbrev pub class_of_new : NewClass → Class PyStrInterned
-class_of_new n = record { name = string_bytes n.name; number = n.number.0; bases = numbers n.bases.items; attrs = n.attrs; members = n.members.items; flags = n.flags.0 }
+class_of_new n = record { name = string_bytes n.name; number = n.number.0; bases = numbers n.bases.items; attrs = n.attrs; members = n.members.items; flags = n.flags.0; brings = n.brings }

@@ -1,10 +1,10 @@
 -- Classes with one base and no members, which no script makes.
-use Rattle.std.specs.Prelude.{ℕ, ◌-◌, ◌^◌, cond, List, [], ◌∷◌, Option, Some, None, option_map}
+use Rattle.std.specs.Prelude.{ℕ, ◌-◌, ◌^◌, ◌==◌, Bool, true, false, cond, List, [], ◌∷◌, Option, Some, None}
 use Rattle.std.specs.Int.RustNames.{bit_and, bit_or}
 use Rattle.py_node.specs.declared.raised.Cause.{Cause}
 use Rattle.py_node.specs.declared.raised.Cause.TheVariants.{NotBaseType}
 use Rattle.py_node.specs.declared.refs.PyObjectRef.{PyObjectRef}
-use Rattle.py_node.specs.BuiltIns.{heap_type, has_dict}
+use Rattle.py_node.specs.BuiltIns.{heap_type, has_dict as dict_flag}
 use Rattle.py_node.specs.Tree.{Text}
 use Rattle.class_model.specs.Class.{Class, Classes, class_at}
 use Rattle.class_table.specs.Refused.{is_base_at}
@@ -14,13 +14,14 @@ abbrev pub refused_single : {K : Type 0} → Classes K → ℕ → Option Cause
 refused_single t b = cond (is_base_at (class_at t b)) None (Some NotBaseType)
 
 -- a class with one base
-abbrev pub single_class : {K : Type 0} → Text → ℕ → ℕ → List (K × PyObjectRef) → ℕ → Class K
-single_class name number base attrs flags = record { name = name; number = number; bases = base ∷ []; attrs = attrs; members = []; flags = flags }
+abbrev pub single_class : {K : Type 0} → Text → ℕ → ℕ → List (K × PyObjectRef) → ℕ → Bool → Class K
+single_class name number base attrs flags brings = record { name = name; number = number; bases = base ∷ []; attrs = attrs; members = []; flags = flags; brings = brings }
 
-abbrev pub flags_at : {K : Type 0} → Classes K → ℕ → Option ℕ
-flags_at t c = option_map (λ k. k.flags) (class_at t c)
+-- whether flags say that a class gives its objects a dict. A static class brings one where those that are given say so
+abbrev pub says_so : ℕ → Bool
+says_so flags = bit_and flags dict_flag == dict_flag
 
 -- the flags of a static class: those that are given, but that no script makes it, and that it gives its objects a dict where its base does
-abbrev pub static_flags : ℕ → Option ℕ → ℕ
-static_flags flags None = bit_and flags (2 ^ 64 - 1 - heap_type)
-static_flags flags (Some base) = bit_or (bit_and flags (2 ^ 64 - 1 - heap_type)) (bit_and base has_dict)
+abbrev pub static_flags : ℕ → Bool → ℕ
+static_flags flags false = bit_and flags (2 ^ 64 - 1 - heap_type)
+static_flags flags true = bit_or (bit_and flags (2 ^ 64 - 1 - heap_type)) dict_flag

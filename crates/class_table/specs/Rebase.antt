@@ -6,6 +6,7 @@ use Rattle.py_node.specs.declared.raised.Cause.TheVariants.{EmptyBases, Immutabl
 use Rattle.class_model.specs.Order.{is_distinct}
 use Rattle.class_model.specs.Class.{Classes, class_at, is_sub}
 use Rattle.class_model.specs.Layout.{is_empty, solid, base}
+use Rattle.class_model.specs.Dict.{alike, has_dict, keeps_dict}
 use Rattle.class_model.specs.Change.{failing}
 use Rattle.class_model.specs.Slot.{is_heap_at}
 use Rattle.class_table.specs.Refused.{refused_attr, refused_layout, most_derived}
@@ -27,11 +28,12 @@ is_same (Some a) (Some b) = eqb a b
 abbrev pub unless : Bool → Cause → Option Cause
 unless passed cause = cond passed None (Some cause)
 
--- the tests of the bases together: base by base, it may have subclasses and its layout goes with those before it; the solid class of the best of them is that of the best base of now; none stands twice
+-- the tests of the bases together: base by base, it may have subclasses and its layout goes with those before it; the solid class of the best of them is that of the best base of now; the class gives its objects a dict as before; none stands twice
 abbrev pub refused_shape : {K : Type 0} → Classes K → ℕ → List ℕ → Option Cause
 refused_shape t c bs =
     option_or (refused_layout t bs) (
-    option_or (unless (is_same (most_derived t bs) (option_and_then (solid t) (base t c))) LayoutDiffers) (unless (is_distinct bs) DuplicateBase))
+    option_or (unless (is_same (most_derived t bs) (option_and_then (solid t) (base t c))) LayoutDiffers) (
+    option_or (unless (keeps_dict t c bs) LayoutDiffers) (unless (is_distinct bs) DuplicateBase)))
 
 -- the tests that need no order, one after the other: a script made the class; it gets bases; none of them is the class or derives from it; and those of the bases together
 abbrev pub refused_change : {K : Type 0} → Classes K → ℕ → List ℕ → Option Cause
@@ -60,8 +62,8 @@ told (Err OutOfMemory) = None
 abbrev pub IsToldFirst : {K : Type 0} → Classes K → ℕ → List ℕ → Option Refusal → Type 0
 IsToldFirst t c bs answer = (cause : Cause) → refused_change t c bs ≡ Some cause → answer ≡ Some (cause, None)
 
--- why the objects of a class may not become those of another one: scripts made both, and their solid class is the same
+-- why the objects of a class may not become those of another one: scripts made both, and their solid class is the same, and so is whether they give a dict
 abbrev pub refused_class : {K : Type 0} → Classes K → ℕ → ℕ → Option Cause
 refused_class t c d =
     option_or (unless (is_heap_at (class_at t c) && is_heap_at (class_at t d)) ImmutableType)
-    (unless (is_same (solid t c) (solid t d)) LayoutDiffers)
+    (unless (is_same (solid t c) (solid t d) && alike (has_dict t c) (has_dict t d)) LayoutDiffers)

@@ -3,10 +3,7 @@ use Rattle.std.specs.Prelude.{◌≡◌, ℕ, Bool, true, false, not, cond, ◌|
 use Rattle.std.specs.Option.{option_or}
 use Rattle.py_node.specs.declared.raised.Cause.{Cause}
 use Rattle.py_node.specs.declared.raised.Cause.TheVariants.{EmptyBases, NotBaseType, LayoutConflict, DuplicateBase, ImmutableType}
-use Rattle.py_node.specs.declared.refs.PyObjectRef.{PyObjectRef}
-use Rattle.py_node.specs.declared.refs.PyStrInterned.{PyStrInterned}
-use Rattle.py_node.specs.BuiltIns.{base_type, heap_flags}
-use Rattle.py_node.specs.Tree.{Text}
+use Rattle.py_node.specs.BuiltIns.{base_type}
 use Rattle.class_model.specs.Order.{is_distinct, least_order, all_some}
 use Rattle.class_model.specs.Class.{Class, Classes, class_at, is_class, has_flag, lin, is_sub}
 use Rattle.class_model.specs.Numbers.{limit}
@@ -103,7 +100,3 @@ refused_attr t c = cond (is_heap_at (class_at t c)) None (Some ImmutableType)
 abbrev pub AreThere : {K : Type 0} → Classes K → List ℕ → Type 0
 AreThere t [] = Unit {0}
 AreThere t (c ∷ cs) = (is_class t c ≡ true) × AreThere t cs
-
--- a class that a script makes
-abbrev pub heap_class : Text → ℕ → List ℕ → List (PyStrInterned × PyObjectRef) → List PyStrInterned → Class PyStrInterned
-heap_class name number bases attrs members = record { name = name; number = number; bases = bases; attrs = attrs; members = members; flags = heap_flags }

@@ -1,5 +1,5 @@
 -- What the table keeps of a class.
-use Rattle.std.specs.Prelude.{◌≡◌, ℕ, List, Option, Some, map, slice_get, option_map}
+use Rattle.std.specs.Prelude.{◌≡◌, ℕ, Bool, List, Option, Some, map, slice_get, option_map}
 use Rattle.py_node.specs.declared.refs.PyStrInterned.{PyStrInterned}
 use Rattle.py_node.specs.declared.refs.PyObjectRef.{PyObjectRef}
 use Rattle.py_node.specs.declared.entry.SlotEntry.{SlotEntry}
@@ -13,6 +13,7 @@ pub record StoredClass : Type 0 where
   pub attrs : List (PyStrInterned × PyObjectRef)
   pub members : List PyStrInterned
   pub flags : ℕ
+  pub brings : Bool
   pub mro : List ℕ
   pub slots : List (Option SlotEntry)
   pub base : Option ℕ
@@ -22,7 +23,7 @@ pub record StoredClass : Type 0 where
 
 -- the class itself, without what follows from it
 abbrev pub class_of : StoredClass → Class PyStrInterned
-class_of k = record { name = k.name; number = k.number; bases = k.bases; attrs = k.attrs; members = k.members; flags = k.flags }
+class_of k = record { name = k.name; number = k.number; bases = k.bases; attrs = k.attrs; members = k.members; flags = k.flags; brings = k.brings }
 
 abbrev pub classes_of : List StoredClass → Classes PyStrInterned
 classes_of kept = map class_of kept

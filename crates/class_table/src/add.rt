@@ -7,6 +7,7 @@ ghost use Rattle.class_model.specs.Order.{Distinct};
 ghost use Rattle.class_model.specs.Class.{is_class};
 ghost use Rattle.class_model.specs.Numbers.{is_ascending, limit};
 ghost use Rattle.class_model.specs.Layout.{built_ins, is_empty};
+ghost use Rattle.class_model.specs.Dict.{says_dict, has_its_dict};
 ghost use Rattle.class_model.specs.Change.{with_class};
 ghost use Rattle.class_table.specs.Stored.{StoredClass, classes_of};
 ghost use Rattle.class_table.specs.Keys.{numbers, number_of};
@@ -101,6 +102,7 @@ fn with_line(
         attrs: new.attrs,
         members: new.members,
         flags: new.flags,
+        brings: new.brings,
         mro,
         near,
         slots,
@@ -222,6 +224,8 @@ pub(crate) fn add(
     requires below { IsBelow (classes_of classes.old.items) new.number.0 (numbers new.bases.items) }
     requires fresh { limit (classes_of classes.old.items) ≤ new.number.0 }
     requires best { IsBest (classes_of classes.old.items) (numbers new.bases.items) best }
+    requires dict { says_dict (Some (class_of_new new)) ≡
+        has_its_dict (classes_of classes.old.items) (Some (class_of_new new)) }
     ensures number { IfOk result (λ c. c ≡ new.number) }
     ensures coherent { OnOk result (IsCoherent classes.new.items) }
     ensures added { OnOk result (classes_of classes.new.items ≡

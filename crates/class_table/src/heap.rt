@@ -6,13 +6,15 @@ ghost use Rattle.class_model.specs.Class.{class_at, is_class, own_of};
 ghost use Rattle.class_model.specs.Numbers.{is_ascending, limit};
 ghost use Rattle.class_model.specs.Change.{with_class, with_class_attr, without_class_attr};
 ghost use Rattle.class_model.specs.Slot.{is_heap_at};
-ghost use Rattle.class_table.specs.Keys.{numbers};
+ghost use Rattle.class_model.specs.Dict.{heap_class};
+ghost use Rattle.class_table.specs.Keys.{numbers, table_keys, slot_names};
 ghost use Rattle.class_table.specs.New.{class_of_new};
 ghost use Rattle.class_table.specs.Stored.{classes_of};
 ghost use Rattle.class_table.specs.Coherent.{IsCoherent};
-ghost use Rattle.class_table.specs.Refused.{refusal, WithMemory, NeedsNoMemory, IsEarly, refused_bases, refused_attr, AreThere, heap_class, NamesNoClass};
+ghost use Rattle.class_table.specs.Refused.{refusal, WithMemory, NeedsNoMemory, IsEarly, refused_bases, refused_attr, AreThere, NamesNoClass};
 
 use crate::add::add;
+use crate::dict::{any_has_dict, slot_members, slots_bring};
 use crate::fault::ClassFault;
 use crate::inherit::best_base;
 use crate::place::find;
@@ -37,24 +39,29 @@ pub(crate) fn is_heap(classes: &[Stored], class: PyTypeRef) -> bool
 
 // A class that a script makes, named by a text.
 fn heap_parts(
+    classes: &[Stored],
     alloc: Global,
     number: PyTypeRef,
     name: &str,
     bases: Vec<PyTypeRef>,
     attrs: PyAttributes,
-    members: Vec<PyStrInterned>,
+    slots: Option<Vec<PyStrInterned>>,
 ) -> Result<NewClass, OutOfMemory>
-    ensures class { IfOk result (λ n.
-        class_of_new n ≡ heap_class name.now number.0 (numbers bases.items) attrs members.items) }
+    requires { is_ascending (classes_of classes.now) ≡ true }
+    ensures class { IfOk result (λ n. class_of_new n ≡
+        heap_class table_keys (classes_of classes.now) name.now number.0 (numbers bases.items) attrs (slot_names slots)) }
     ensures number { IfOk result (λ n. n.number ≡ number) }
 {
+    let brings = slots_bring(&slots);
+    let dict = brings || any_has_dict(classes, &bases);
     Ok(NewClass {
         name: String::from_str(alloc, name)?,
         number,
         bases,
         attrs,
-        members,
-        flags: PyTypeFlags::of_script_class(),
+        members: slot_members(alloc, slots),
+        flags: PyTypeFlags::of_script_class(dict),
+        brings,
     })
 }
 
@@ -66,7 +73,7 @@ pub(crate) fn add_heap(
     name: &str,
     bases: Vec<PyTypeRef>,
     attrs: PyAttributes,
-    members: Vec<PyStrInterned>,
+    slots: Option<Vec<PyStrInterned>>,
 ) -> Result<PyTypeRef, ClassFault>
     requires coherent { IsCoherent classes.old.items }
     requires bases { AreThere (classes_of classes.old.items) (numbers bases.items) }
@@ -75,7 +82,8 @@ pub(crate) fn add_heap(
     ensures coherent { OnOk result (IsCoherent classes.new.items) }
     ensures added { OnOk result (classes_of classes.new.items ≡
         with_class (classes_of classes.old.items)
-        (heap_class name.now number.0 (numbers bases.items) attrs members.items)) }
+        (heap_class table_keys (classes_of classes.old.items) name.now number.0 (numbers bases.items) attrs
+        (slot_names slots))) }
     ensures early { IsEarly (classes_of classes.old.items) (numbers bases.items) (refusal result) }
     ensures refused { WithMemory result (refusal result ≡
         refused_bases (classes_of classes.old.items) (numbers bases.items)) }
@@ -86,7 +94,7 @@ pub(crate) fn add_heap(
         Ok(best) => best,
         Err(cause) => return Err(ClassFault::Refused(cause)),
     };
-    let new = match heap_parts(alloc, number, name, bases, attrs, members) {
+    let new = match heap_parts(classes, alloc, number, name, bases, attrs, slots) {
         Ok(new) => new,
         Err(_) => return Err(ClassFault::OutOfMemory),
     };

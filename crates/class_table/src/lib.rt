@@ -7,6 +7,7 @@ pub mod candidates;
 pub mod chain;
 pub mod collect;
 pub mod count;
+pub mod dict;
 pub mod entries;
 pub mod fault;
 pub mod heap;

@@ -15,6 +15,7 @@ ghost use Rattle.class_table.specs.Renewed.{AreRenewed};
 
 use crate::blame::blamed;
 use crate::chain::base_of;
+use crate::dict::keeps_dict;
 use crate::fault::ClassFault;
 use crate::heap::is_heap;
 use crate::inherit::{best_base, inherited};
@@ -106,6 +107,9 @@ fn test_shape(classes: &[Stored], class: PyTypeRef, bases: &[PyTypeRef]) -> Resu
     let solid = inherited(classes, Some(best));
     let old = inherited(classes, base_of(classes, class));
     if !is_same(solid, old) {
+        return Err(Cause::LayoutDiffers);
+    }
+    if !keeps_dict(classes, class, bases) {
         return Err(Cause::LayoutDiffers);
     }
     if !is_distinct(bases) {

@@ -7,6 +7,7 @@ ghost use Rattle.class_table.specs.Rebase.{refused_class};
 ghost use Rattle.class_table.specs.Refused.{cause_of};
 ghost use Rattle.class_table.specs.Stored.{classes_of};
 
+use crate::dict::agree;
 use crate::heap::is_heap;
 use crate::inherit::solid_class;
 use crate::stored::Stored;
@@ -15,7 +16,7 @@ use py_node::{Cause, PyTypeRef};
 
 impl ClassTable {
     /// Why the objects of a class may not become those of another one, if they may not: scripts must have made both, and
-    /// their solid classes must be the same.
+    /// their solid classes must be the same, and both give their objects a dict or neither does.
     pub fn may_become(&self, class: PyTypeRef, other: PyTypeRef) -> Result<(), Cause>
         requires class { is_class self.now class.0 ≡ true }
         requires other { is_class self.now other.0 ≡ true }
@@ -40,7 +41,7 @@ pub(crate) fn may_become(
         return Err(Cause::ImmutableType);
     }
     let solid = solid_class(classes, class);
-    if solid.0 != solid_class(classes, other).0 {
+    if solid.0 != solid_class(classes, other).0 || !agree(classes, class, other) {
         return Err(Cause::LayoutDiffers);
     }
     Ok(())

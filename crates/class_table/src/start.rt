@@ -8,7 +8,7 @@ ghost use Rattle.class_table.specs.New.{class_of_new};
 
 use crate::stored::NewClass;
 use py_node::known::all_known;
-use py_node::{BuiltIn, Known, Names, OutOfMemory, PyAttributes};
+use py_node::{BuiltIn, Known, Names, OutOfMemory, PyAttributes, PyTypeFlags};
 use std::alloc::Global;
 
 /// The table of names of a new world: those that every world knows, so that each has its number.
@@ -39,12 +39,14 @@ pub(crate) fn new_class(alloc: Global, class: BuiltIn) -> Result<NewClass, OutOf
     if let Some(base) = class.base() {
         bases.push(base)?;
     }
+    let flags = class.flags();
     Ok(NewClass {
         name,
         number: class.class(),
         bases,
         attrs: PyAttributes::new(alloc),
         members: Vec::new(alloc),
-        flags: class.flags(),
+        flags,
+        brings: flags.has_feature(PyTypeFlags::HAS_DICT),
     })
 }

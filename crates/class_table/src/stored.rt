@@ -1,10 +1,11 @@
 //! What the table keeps of a class.
 
-ghost use Rattle.std.specs.Prelude.{◌≡◌, ℕ, List, ◌++◌, ◌∷◌, [], OnOk, OnErr, is_some, option_and_then, length, slice_get, slice_set, string_bytes};
+ghost use Rattle.std.specs.Prelude.{◌≡◌, ℕ, List, ◌++◌, ◌∷◌, [], OnOk, OnErr, is_some, Some, option_and_then, length, slice_get, slice_set, string_bytes};
 ghost use Rattle.py_node.specs.Attributes.{value_of, with_value, without_key, is_same_name};
 ghost use Rattle.py_node.specs.Slots.{place_of};
 ghost use Rattle.class_model.specs.Order.{has};
 ghost use Rattle.class_model.specs.Class.{is_heap};
+ghost use Rattle.class_model.specs.Dict.{says_dict};
 ghost use Rattle.class_table.specs.Stored.{StoredClass, class_of};
 ghost use Rattle.class_table.specs.Keys.{numbers, number_of};
 ghost use Rattle.class_table.specs.Renewed.{with_renewed};
@@ -29,6 +30,8 @@ pub(crate) struct NewClass {
     pub(crate) attrs: PyAttributes,
     pub(crate) members: Vec<PyStrInterned>,
     pub(crate) flags: PyTypeFlags,
+    // Whether the class brings its objects a dict itself.
+    pub(crate) brings: bool,
 }
 
 /// A class, and what is kept of it.
@@ -40,6 +43,8 @@ pub(crate) struct Stored {
     pub(crate) attrs: PyAttributes,
     pub(crate) members: Vec<PyStrInterned>,
     pub(crate) flags: PyTypeFlags,
+    // Whether the class brings its objects a dict itself.
+    pub(crate) brings: bool,
     pub(crate) mro: Vec<PyTypeRef>,
     // Where each class of the linearisation is likely kept. Any number will do: each is tested.
     pub(crate) near: Vec<usize>,
@@ -65,6 +70,7 @@ impl Model for Stored {
       attrs = a.attrs;
       members = a.members.items;
       flags = a.flags.0;
+      brings = a.brings;
       mro = numbers a.mro.items;
       slots = a.slots.items;
       base = number_of a.base;
@@ -87,6 +93,20 @@ impl Stored {
         ensures { result ≡ is_heap (class_of self.now) }
     {
         self.flags.has_feature(PyTypeFlags::HEAPTYPE)
+    }
+
+    // Whether the class gives its objects a dict.
+    pub(crate) fn has_dict(&self) -> bool
+        ensures { result ≡ says_dict (Some (class_of self.now)) }
+    {
+        self.flags.has_feature(PyTypeFlags::HAS_DICT)
+    }
+
+    // Whether the class brings its objects a dict itself, whatever its bases do.
+    pub(crate) fn brings(&self) -> bool
+        ensures { result ≡ self.now.brings }
+    {
+        self.brings
     }
 
     // Whether the class has a class along its linearisation.

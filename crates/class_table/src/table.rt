@@ -8,16 +8,17 @@ ghost use Rattle.class_model.specs.Class.{class_at, is_class, bases_of, lin, IsL
 ghost use Rattle.class_model.specs.Numbers.{limit, numbers_of};
 ghost use Rattle.class_model.specs.Layout.{base, best_of, solid, built_ins, place_count};
 ghost use Rattle.class_model.specs.Chain.{base_chain, IsChain};
+ghost use Rattle.class_model.specs.Dict.{gives_dict, says_dict, has_dict, has_its_dict, heap_class};
 ghost use Rattle.class_model.specs.Collect.{all_attributes};
 ghost use Rattle.class_model.specs.Sound.{AreSound};
 ghost use Rattle.class_model.specs.Slot.{entry, slot as slot_read, is_heap_at};
 ghost use Rattle.class_model.specs.BuiltIn.{natives_of};
 ghost use Rattle.class_model.specs.Start.{built_in_classes};
 ghost use Rattle.class_model.specs.Change.{with_class, with_class_attr, without_class_attr, with_class_name, with_bases};
-ghost use Rattle.class_table.specs.Keys.{numbers, number_of, table_keys};
+ghost use Rattle.class_table.specs.Keys.{numbers, number_of, table_keys, slot_names};
 ghost use Rattle.class_table.specs.Stored.{classes_of};
 ghost use Rattle.class_table.specs.New.{IsBelow, class_of_new};
-ghost use Rattle.class_table.specs.Refused.{refusal, cause_of, refused_layout, refused_bases, refused_attr, WithMemory, NeedsNoMemory, IsEarly, AreThere, heap_class, NamesNoClass};
+ghost use Rattle.class_table.specs.Refused.{refusal, cause_of, refused_layout, refused_bases, refused_attr, WithMemory, NeedsNoMemory, IsEarly, AreThere, NamesNoClass};
 ghost use Rattle.class_table.specs.Rebase.{refused_change, refused_rebase, told, IsToldFirst};
 ghost use Rattle.class_table.specs.Causes.{LacksBase, HasLayoutConflict, HasDuplicate, BreaksOrder, HasNoLine};
 ghost use Rattle.class_table.specs.Given.{AreGiven};
@@ -140,6 +141,7 @@ impl ClassTable {
         requires below { IsBelow self.old new.number.0 (numbers new.bases.items) }
         requires one { length new.bases.items ≤ 1 }
         requires fresh { limit self.old ≤ new.number.0 }
+        requires dict { says_dict (Some (class_of_new new)) ≡ has_its_dict self.old (Some (class_of_new new)) }
         ensures number { IfOk result (λ c. c ≡ new.number) }
         ensures added { OnOk result (self.new ≡ with_class self.old (class_of_new new)) }
         ensures err { OnErr result (self.new ≡ self.old) }
@@ -176,23 +178,26 @@ impl ClassTable {
         may_derive(&self.classes, alloc, bases)
     }
 
-    /// A class that a script makes: with the name, the bases, the attributes and the members. It is
+    /// A class that a script makes: with the name, the bases, the attributes and what `__slots__` name, where it has
+    /// some. All of these names but `__dict__` are its members. It brings its objects a dict where it has no `__slots__`
+    /// or `__dict__` is among them. It is
     /// refused for the first of these causes: it has no base; base by base, one may have no subclasses or
     /// its layout conflicts with those before it; a base stands twice; the bases have no order. Where it is
     /// refused or memory runs out, the table stays as it was.
-    pub fn new_heap(
+    pub fn new_heap_slots(
         &mut self,
         number: PyTypeRef,
         name: &str,
         bases: Vec<PyTypeRef>,
         attrs: PyAttributes,
-        members: Vec<PyStrInterned>,
+        slots: Option<Vec<PyStrInterned>>,
     ) -> Result<PyTypeRef, ClassFault>
         requires bases { AreThere self.old (numbers bases.items) }
         requires fresh { limit self.old ≤ number.0 }
         ensures number { IfOk result (λ c. c ≡ number) }
         ensures added { OnOk result (self.new ≡
-            with_class self.old (heap_class name.now number.0 (numbers bases.items) attrs members.items)) }
+            with_class self.old (heap_class table_keys self.old name.now number.0 (numbers bases.items) attrs
+            (slot_names slots))) }
         ensures early { IsEarly self.old (numbers bases.items) (refusal result) }
         ensures refused { WithMemory result (refusal result ≡ refused_bases self.old (numbers bases.items)) }
         ensures empty { (refusal result ≡ Some EmptyBases) ↔ (numbers bases.items ≡ []) }
@@ -208,15 +213,7 @@ impl ClassTable {
         ensures names { NamesNoClass result }
     {
         let alloc = self.alloc;
-        add_heap(
-            &mut self.classes,
-            alloc,
-            number,
-            name,
-            bases,
-            attrs,
-            members,
-        )
+        add_heap(&mut self.classes, alloc, number, name, bases, attrs, slots)
     }
 
     /// Gives an own attribute of a class that a script made a value. Where it is refused or memory
@@ -268,8 +265,8 @@ impl ClassTable {
 
     /// Other bases for a class that a script made. They are refused for the first of these causes: no script made
     /// the class; there are none; one is the class or derives from it; base by base, one may have no subclasses or its
-    /// layout conflicts with those before it; the solid class of the best of them is not that of the best base of now;
-    /// one stands twice; and then at the least-numbered class that they leave without an order while all its bases have
+    /// layout conflicts with those before it; the solid class of the best of them is not that of the best base of now, or
+    /// the class gives its objects a dict and would not, or the other way round; one stands twice; and then at the least-numbered class that they leave without an order while all its bases have
     /// one. Where they are refused or memory runs out, the table stays as it was. `steps` counts the merges and the
     /// classes whose slots are found anew; where they are refused before any order is looked at, it counts nothing.
     pub fn set_bases<L: Ledger>(
@@ -479,6 +476,15 @@ impl ClassTable {
         ensures { result ≡ is_heap_at (class_at self.now class.0) }
     {
         stored_at(&self.classes, class).is_heap()
+    }
+
+    /// Whether a class gives its objects a dict: it brings one, or one of its bases gives one. Its flags say so too.
+    pub fn has_dict(&self, class: PyTypeRef) -> bool
+        requires { is_class self.now class.0 ≡ true }
+        ensures gives { result ≡ gives_dict self.now class.0 }
+        ensures says { result ≡ has_dict self.now class.0 }
+    {
+        stored_at(&self.classes, class).has_dict()
     }
 
     /// The flags of a class.

@@ -1,5 +1,5 @@
 -- The classes of a hierarchy, and their linearisations.
-use Rattle.std.specs.Prelude.{◌≡◌, ℕ, cond, eqb, List, [], ◌∷◌, map, take, Option, Some, option_map, slice_get, string_bytes}
+use Rattle.std.specs.Prelude.{◌≡◌, ℕ, false, cond, eqb, List, [], ◌∷◌, map, take, Option, Some, option_map, slice_get, string_bytes}
 use Rattle.std.specs.Global.{Vec}
 use Rattle.class_model.specs.Order.{Includes, Distinct}
 use Rattle.class_model.specs.Class.{Class, Classes, lin}
@@ -7,7 +7,7 @@ use Rattle.order_check.specs.declared.hierarchy.Entry.{Entry}
 
 -- an entry as a class. Of a class its number and its bases alone make its linearisation
 abbrev pub class_of : Entry → Class ℕ
-class_of e = record { name = []; number = e.key; bases = e.bases.items; attrs = []; members = []; flags = 0 }
+class_of e = record { name = []; number = e.key; bases = e.bases.items; attrs = []; members = []; flags = 0; brings = false }
 
 abbrev pub classes : List Entry → Classes ℕ
 classes h = map class_of h

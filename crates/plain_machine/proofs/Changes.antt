@@ -1,5 +1,5 @@
 -- The changes of a plain world, computed on a small one: two objects of one class.
-use Rattle.std.proofs.Common.{◌≡◌, [], ◌∷◌, map, codes, Some, None, refl}
+use Rattle.std.proofs.Common.{◌≡◌, false, [], ◌∷◌, map, codes, Some, None, refl}
 use Rattle.py_node.specs.Tree.{Text}
 use Rattle.class_model.specs.Class.{Class}
 use Rattle.plain_machine.specs.Plain.{AnObject, AText, no_members, Node, PlainWorld}
@@ -10,7 +10,7 @@ abbrev object : Node
 object = record { class = 0; dict = None; members = no_members; datum = AnObject }
 
 abbrev class : Class Text
-class = record { name = codes "A"; number = 0; bases = []; attrs = (codes "y", ref 0) ∷ []; members = []; flags = 0 }
+class = record { name = codes "A"; number = 0; bases = []; attrs = (codes "y", ref 0) ∷ []; members = []; flags = 0; brings = false }
 
 abbrev small : PlainWorld
 small = record { nodes = object ∷ object ∷ []; classes = class ∷ []; vars = []; scopes = []; calls = [] }

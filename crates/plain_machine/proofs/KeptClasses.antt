@@ -16,11 +16,13 @@ use Rattle.class_model.specs.Class.{Class, Classes, is_class, lin}
 use Rattle.class_model.specs.Numbers.{limit}
 use Rattle.class_model.specs.Change.{with_class, with_changed, with_bases}
 use Rattle.class_model.specs.Layout.{built_ins, is_empty}
+use Rattle.class_model.specs.Dict.{says_dict}
 use Rattle.class_model.specs.Slot.{first_with}
 use Rattle.class_model.specs.Sound.{AreSound}
-use Rattle.class_model.proofs.Numbers.{at-last, old-or-last}
+use Rattle.class_model.proofs.Numbers.{at-before, at-last, old-or-last}
 use Rattle.class_model.proofs.Changed.{lin-push}
-use Rattle.class_model.proofs.Kept.{is_place-agrees, is_class-kept, member_count-kept, lin-kept, is_place-kept, sound-kept}
+use Rattle.class_model.proofs.Kept.{is_place-agrees, is_class-kept, member_count-kept, lin-kept, is_place-kept, has_dict-kept, sound-kept}
+use Rattle.class_model.proofs.Dict.{has_dict-rebased}
 use Rattle.class_model.proofs.Made.{limit-within, there-made, place-made, solid-made, sound-made}
 use Rattle.plain_machine.specs.Plain.{AClass, no_members, Node, PlainWorld}
 use Rattle.plain_machine.specs.World.{is_text, ref, datum_at}
@@ -67,29 +69,30 @@ changed-each P f (k ∷ t) c h a =
     elim (eqb k.number c) as (λ b. All P (cond b (f k ∷ t) (k ∷ with_changed f t c))) [ true ↦ All-cons P (f k) t (h k here) rest | false ↦ All-cons P k (with_changed f t c) here more ]
 
 -- one class changed, that keeps its number, bases and members
-module _ (w : PlainWorld) (f : Class Text → Class Text) (numbers : (k : Class Text) → (f k).number ≡ k.number) (bases : (k : Class Text) → (f k).bases ≡ k.bases) (members : (k : Class Text) → (f k).members ≡ k.members) (attrs : (k : Class Text) → HasAttrs w k → HasAttrs w (f k)) (c : ℕ) where
+module _ (w : PlainWorld) (f : Class Text → Class Text) (numbers : (k : Class Text) → (f k).number ≡ k.number) (bases : (k : Class Text) → (f k).bases ≡ k.bases) (members : (k : Class Text) → (f k).members ≡ k.members) (flags : (k : Class Text) → (f k).flags ≡ k.flags) (brings : (k : Class Text) → (f k).brings ≡ k.brings) (attrs : (k : Class Text) → HasAttrs w k → HasAttrs w (f k)) (c : ℕ) where
   like-kept : Like w.classes (with_changed f w.classes c)
   like-kept = record {
     there = λ x e. is_class-kept f numbers w.classes c x ∙ e;
     held = λ x b e. ap by_line (lin-kept f numbers w.classes c bases members x) ∙ e;
     places = λ x d i l e. is_place-kept f numbers w.classes c bases members x d i ∙ e;
     offsets = λ x o e. offset-kept f numbers w.classes c bases members x o ∙ e;
+    dicts = λ x e. has_dict-kept f numbers w.classes c bases members flags brings x;
   }
 
   changed-kept : IsSound w → IsSound (record w { classes = with_changed f w.classes c })
   changed-kept s =
-      classes-kept w (with_changed f w.classes c) s like-kept (sound-kept f numbers w.classes c bases members s.classes) (λ x e. sym (is_class-kept f numbers w.classes c x) ∙ e) (changed-each (HasAttrs w) f w.classes c attrs s.attrs)
+      classes-kept w (with_changed f w.classes c) s like-kept (sound-kept f numbers w.classes c bases members flags brings s.classes) (λ x e. sym (is_class-kept f numbers w.classes c x) ∙ e) (changed-each (HasAttrs w) f w.classes c attrs s.attrs)
 
 pub own-kept : (w : PlainWorld) (c : ℕ) (x : Text) (r : PyObjectRef) → r.0 < length w.nodes → IsSound w → IsSound (apply w (SetOwn c x (Some r)))
 own-kept w c x r there s =
-    changed-kept w (λ k. record k { attrs = with_value is_text k.attrs x r }) (λ k. refl) (λ k. refl) (λ k. refl) (λ k h. (values-set is_text x (λ (o : PyObjectRef). o.0 < length w.nodes) k.attrs r h.0 there, apart-set is_text x k.attrs r h.1)) c s
+    changed-kept w (λ k. record k { attrs = with_value is_text k.attrs x r }) (λ k. refl) (λ k. refl) (λ k. refl) (λ k. refl) (λ k. refl) (λ k h. (values-set is_text x (λ (o : PyObjectRef). o.0 < length w.nodes) k.attrs r h.0 there, apart-set is_text x k.attrs r h.1)) c s
 
 pub own_out-kept : (w : PlainWorld) (c : ℕ) (x : Text) → IsSound w → IsSound (apply w (SetOwn c x None))
 own_out-kept w c x s =
-    changed-kept w (λ k. record k { attrs = without_key is_text k.attrs x }) (λ k. refl) (λ k. refl) (λ k. refl) (λ k h. (values-without is_text x (λ (o : PyObjectRef). o.0 < length w.nodes) k.attrs h.0, apart-without is_text x k.attrs h.1)) c s
+    changed-kept w (λ k. record k { attrs = without_key is_text k.attrs x }) (λ k. refl) (λ k. refl) (λ k. refl) (λ k. refl) (λ k. refl) (λ k h. (values-without is_text x (λ (o : PyObjectRef). o.0 < length w.nodes) k.attrs h.0, apart-without is_text x k.attrs h.1)) c s
 
 pub name-kept : (w : PlainWorld) (c : ℕ) (x : Text) → IsSound w → IsSound (apply w (SetName c x))
-name-kept w c x s = changed-kept w (λ k. record k { name = x }) (λ k. refl) (λ k. refl) (λ k. refl) (λ k h. h) c s
+name-kept w c x s = changed-kept w (λ k. record k { name = x }) (λ k. refl) (λ k. refl) (λ k. refl) (λ k. refl) (λ k. refl) (λ k h. h) c s
 
 pub bases-kept : (w : PlainWorld) (c : ℕ) (bs : List ℕ) → CanSetBases w c bs → IsSound w → IsSound (apply w (SetBases c bs))
 bases-kept w c bs a s =
@@ -100,6 +103,7 @@ bases-kept w c bs a s =
       held = λ x b e. ap (λ o. option_map holds_as (option_and_then (slice_get all_built_ins) o)) (nearest-by_layout (with_bases w.classes c bs) w.classes x x (a.layouts x)) ∙ e;
       places = λ x d i l e. is_place-agrees t w.classes x d i (a.layouts x) (member_count-kept f (λ k. refl) w.classes c (λ k. refl) d) ∙ e;
       offsets = λ x o e. offset-agrees t w.classes x o (a.layouts x) (member_count-kept f (λ k. refl) w.classes c (λ k. refl)) ∙ e;
+      dicts = λ x e. has_dict-rebased w.classes c bs x;
     } in
     classes-kept w t s l a.sound (λ x e. sym (is_class-kept f (λ k. refl) w.classes c x) ∙ e) (changed-each (HasAttrs w) f w.classes c (λ k h. h) s.attrs)
 
@@ -151,10 +155,10 @@ module _ (w : PlainWorld) (meta : ℕ) (k : Class Text) (a : CanMakeClass w meta
 
   more-sound : AreSound more
   more-sound =
-      sound-made w.classes k s.classes fresh bases (a.some ∙ sym positive) a.order (solid-made w.classes k s.classes fresh bases a.best) (a.best ∙ sym (ap not positive))
+      sound-made w.classes k s.classes fresh bases (a.some ∙ sym positive) a.order (solid-made w.classes k s.classes fresh bases a.best) (a.best ∙ sym (ap not positive)) a.dict
 
   like-more : Like w.classes more
-  like-more = record { there = there-made w.classes k s.classes; held = held-push w.classes k; places = place-made w.classes k s.classes; offsets = offset-push w.classes k }
+  like-more = record { there = there-made w.classes k s.classes; held = held-push w.classes k; places = place-made w.classes k s.classes; offsets = offset-push w.classes k; dicts = λ c l. ap says_dict (at-before w.classes k c l) }
 
   g : Lasts w new
   g = push-lasts w node more like-more
@@ -163,6 +167,7 @@ module _ (w : PlainWorld) (meta : ℕ) (k : Class Text) (a : CanMakeClass w meta
   node-sound = record {
     class = like-more.there meta a.class;
     like = like-more.held meta TypeType a.like;
+    given = refl;
     dict = λ r e. cc;
     members = λ c i r e. cc;
     nodes = All-nil (λ (r : PyObjectRef). r.0 < length new.nodes);

@@ -1,6 +1,6 @@
 -- A new node and each change of a node keep a sound world sound.
 use Rattle.std.proofs.Common.{◌≡◌, ℕ, zero, suc, ◌<◌, ◌⊎◌, Bool, true, false, cond, ◌&&◌, eqb, List, [], ◌∷◌, length, Option, Some, None, inl, inr, refl, sym, ap, subst, ◌∙◌}
-use Rattle.std.specs.Prelude.{nat_lt, slice_get, option_map}
+use Rattle.std.specs.Prelude.{nat_lt, slice_get, is_some, is_none, option_map}
 use Rattle.std.proofs.lemmas.Bool.{eqb-true, and_parts}
 use Rattle.std.proofs.lemmas.List.Elements.{All-nil}
 use Rattle.py_node.specs.declared.refs.PyObjectRef.{PyObjectRef}
@@ -103,13 +103,14 @@ module _ (w : PlainWorld) (r : PyObjectRef) (p : ℕ × ℕ) (x : Node) (e : nod
 
 pub member-kept : (w : PlainWorld) (r : PyObjectRef) (p : ℕ × ℕ) (v : Option PyObjectRef) → CanSetMember w r p v → IsSound w → IsSound (apply w (SetMember r p v))
 member-kept w r p v a s =
-    changed-kept w (λ n. record n { members = with_place n.members p.0 p.1 v }) r s (λ x e. refl) (λ x e h. record { class = h.class; like = h.like; dict = h.dict; members = set-members w r p x e v a h; nodes = h.nodes; keys = h.keys; classes = h.classes; offsets = h.offsets })
+    changed-kept w (λ n. record n { members = with_place n.members p.0 p.1 v }) r s (λ x e. refl) (λ x e h. record { class = h.class; like = h.like; given = h.given; dict = h.dict; members = set-members w r p x e v a h; nodes = h.nodes; keys = h.keys; classes = h.classes; offsets = h.offsets })
 
 pub dict-kept : (w : PlainWorld) (r d : PyObjectRef) → CanSetDict w r d → IsSound w → IsSound (apply w (SetDict r d))
 dict-kept w r d a s =
     changed-kept w (λ n. record n { dict = Some d }) r s (λ x e. refl) (λ x e h. record {
       class = h.class;
       like = h.like;
+      given = sym (had x e) ∙ h.given;
       dict = λ o q. let same : d ≡ o = cc in subst (λ o. option_map home (datum_at w o) ≡ Some Dict) same a.dict;
       members = h.members;
       nodes = h.nodes;
@@ -117,6 +118,9 @@ dict-kept w r d a s =
       classes = h.classes;
       offsets = h.offsets;
     })
+  where
+    had : (x : Node) → node_at w r ≡ Some x → is_some x.dict ≡ true
+    had x e = let q : Some (is_some x.dict) ≡ Some true = ap (option_map (λ (n : Node). is_some n.dict)) (sym e) ∙ a.had in cc
 
 -- a class with the same layout has the same places
 pub class-kept : (w : PlainWorld) (r : PyObjectRef) (c : ℕ) → CanSetClass w r c → IsSound w → IsSound (apply w (SetClass r c))
@@ -124,6 +128,7 @@ class-kept w r c a s =
     changed-kept w (λ n. record n { class = c }) r s (λ x e. refl) (λ x e h. record {
       class = a.class;
       like = sym (held-by_layout w.classes w.classes x.class c (of-class w r x (layout w.classes) (layout w.classes c) e a.layout)) ∙ h.like;
+      given = h.given ∙ ap (λ b. is_none (class_number (Some x.datum)) && b) (of-class w r x (has_dict w) (has_dict w c) e a.dict);
       dict = h.dict;
       members = λ d i o q. let m = h.members d i o q in (ap (λ l. is_along d l && nat_lt i (member_count (class_numbered w.classes d))) (sym (of-class w r x (layout w.classes) (layout w.classes c) e a.layout)) ∙ m.0, m.1);
       nodes = h.nodes;
@@ -198,6 +203,7 @@ datum-kept w r d a s =
     changed-kept w (λ n. record n { datum = d }) r s (set-tells w r d a) (λ x e h. record {
       class = h.class;
       like = h.like ∙ ap Some (same-home w r d a x e);
+      given = h.given ∙ sym (ap (λ o. is_none o && has_dict w x.class) (ap (λ (l : Lasting). l.class) (set-tells w r d a x e)));
       dict = h.dict;
       members = h.members;
       nodes = a.holds.nodes;
@@ -214,10 +220,11 @@ module _ (w : PlainWorld) (c : ℕ) (d : Datum) (a : CanMakeNode w c d) (s : IsS
   abbrev made : Option PyObjectRef → Node
   made dict = record { class = c; dict = dict; members = no_members; datum = d }
 
-  made-sound : (u : PlainWorld) → Lasts w u → (dict : Option PyObjectRef) → ((r : PyObjectRef) → dict ≡ Some r → option_map home (datum_at u r) ≡ Some Dict) → IsSoundNode u (made dict)
-  made-sound u g dict h = record {
+  made-sound : (u : PlainWorld) → Lasts w u → (dict : Option PyObjectRef) → has_dict w c ≡ is_some dict → ((r : PyObjectRef) → dict ≡ Some r → option_map home (datum_at u r) ≡ Some Dict) → IsSoundNode u (made dict)
+  made-sound u g dict gives h = record {
     class = g.like.there c a.class;
     like = g.like.held c (home d) a.like;
+    given = sym (ap (λ o. is_none o && has_dict u c) (no-class d a.holds.class) ∙ g.like.dicts c a.class ∙ gives);
     dict = h;
     members = λ e i r q. cc;
     nodes = nodes-still w u g (nodes_in d) a.holds.nodes;
@@ -233,10 +240,10 @@ module _ (w : PlainWorld) (c : ℕ) (d : Datum) (a : CanMakeNode w c d) (s : IsS
   abbrev alone : PlainWorld
   alone = pushed w (made None) w.classes
 
-  alone-kept : IsSound alone
-  alone-kept =
+  alone-kept : has_dict w c ≡ false → IsSound alone
+  alone-kept none =
       let g = push-lasts w (made None) w.classes (like-itself w.classes) in
-      push-kept w (made None) w.classes s (like-itself w.classes) s.classes (made-sound alone g None (λ r q. cc)) (λ k l. standing-still w alone g k (s.standing k l)) (plain (length w.nodes)) (attrs-still w alone g w.classes s.attrs)
+      push-kept w (made None) w.classes s (like-itself w.classes) s.classes (made-sound alone g None none (λ r q. cc)) (λ k l. standing-still w alone g k (s.standing k l)) (plain (length w.nodes)) (attrs-still w alone g w.classes s.attrs)
 
   -- the dict that comes first
   abbrev empty : Node
@@ -245,7 +252,7 @@ module _ (w : PlainWorld) (c : ℕ) (d : Datum) (a : CanMakeNode w c d) (s : IsS
   abbrev dicted : PlainWorld
   dicted = pushed w empty w.classes
 
-  module _ (dicts : (is_class w.classes the_dict ≡ true) × (held_by w.classes the_dict ≡ Some Dict)) where
+  module _ (gives : has_dict w c ≡ true) (dicts : (is_class w.classes the_dict ≡ true) × (held_by w.classes the_dict ≡ Some Dict) × (has_dict w the_dict ≡ false)) where
     first : Lasts w dicted
     first = push-lasts w empty w.classes (like-itself w.classes)
 
@@ -253,6 +260,7 @@ module _ (w : PlainWorld) (c : ℕ) (d : Datum) (a : CanMakeNode w c d) (s : IsS
     empty-sound = record {
       class = dicts.0;
       like = dicts.1;
+      given = sym dicts.2;
       dict = λ r q. cc;
       members = λ e i r q. cc;
       nodes = All-nil (λ (r : PyObjectRef). r.0 < length dicted.nodes);
@@ -283,11 +291,11 @@ module _ (w : PlainWorld) (c : ℕ) (d : Datum) (a : CanMakeNode w c d) (s : IsS
     both-kept : IsSound both
     both-kept =
         let t = dicted-kept in
-        push-kept dicted owner w.classes t (like-itself w.classes) t.classes (made-sound both (lasts-on w dicted both first second) (Some (ref (length w.nodes))) its-dict) (λ k l. standing-still dicted both second k (t.standing k l)) (plain (length dicted.nodes)) (attrs-still dicted both second w.classes t.attrs)
+        push-kept dicted owner w.classes t (like-itself w.classes) t.classes (made-sound both (lasts-on w dicted both first second) (Some (ref (length w.nodes))) gives its-dict) (λ k l. standing-still dicted both second k (t.standing k l)) (plain (length dicted.nodes)) (attrs-still dicted both second w.classes t.attrs)
 
 pub made-kept : (w : PlainWorld) (c : ℕ) (d : Datum) → CanMakeNode w c d → IsSound w → IsSound (apply w (MakeNode c d))
 made-kept w c d a s = go (has_dict w c) refl
   where
     go : (b : Bool) → has_dict w c ≡ b → IsSound (cond b (push_node (push_node w the_dict None (ADict [])) c (Some (ref (length w.nodes))) d) (push_node w c None d))
-    go true e = both-kept w c d a s (a.dicts e)
-    go false e = alone-kept w c d a s
+    go true e = both-kept w c d a s e (a.dicts e)
+    go false e = alone-kept w c d a s e

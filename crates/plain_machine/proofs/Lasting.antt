@@ -1,6 +1,6 @@
 -- Worlds of which the second keeps what the first has: what was sound in the first is sound in the second.
 use Rattle.std.proofs.Common.{◌≡◌, ℕ, zero, suc, ◌<◌, true, List, [], ◌∷◌, length, Option, Some, None, refl, sym, ap, subst, ◌∙◌, arith}
-use Rattle.std.specs.Prelude.{slice_get, is_some, option_map, option_and_then}
+use Rattle.std.specs.Prelude.{◌&&◌, slice_get, is_some, is_none, option_map, option_and_then}
 use Rattle.std.specs.List.{All}
 use Rattle.std.proofs.lemmas.List.Elements.{All-weaker}
 use Rattle.std.proofs.lemmas.Option.{slice_get_within}
@@ -11,6 +11,7 @@ use Rattle.py_node.specs.Attributes.{value_of}
 use Rattle.py_node.specs.Tree.{Text}
 use Rattle.class_model.specs.Class.{Class, Classes, is_class}
 use Rattle.class_model.specs.Layout.{is_place}
+use Rattle.class_model.specs.Dict.{has_dict}
 use Rattle.plain_machine.specs.Plain.{Datum, AnObject, AClass, ANumber, AText, ATuple, AList, ADict, AFunction, AMethod, ANativeFunction, ABuiltinMethod, AMethodDescriptor, AGetSet, AClassMethod, AStaticMethod, AMember, AProperty, ASuper, AnIterator, ASlice, Node, Bindings, Scope, PlainWorld}
 use Rattle.plain_machine.specs.World.{is_text, ref, datum_at}
 use Rattle.plain_machine.specs.Objects.{class_number}
@@ -26,12 +27,13 @@ pub record Lasting : Type 0 where
 abbrev pub lasting : Datum → Lasting
 lasting d = record { home = home d; key = key_of d; class = class_number (Some d); params = params_in (Some d) }
 
--- each class is there still, holds the like and has its places, which offsets stand for
+-- each class is there still, holds the like, has its places, which offsets stand for, and gives a dict as before
 pub record Like (old new : Classes Text) : Type 0 where
   pub there : (c : ℕ) → is_class old c ≡ true → is_class new c ≡ true
   pub held : (c : ℕ) (b : BuiltIn) → held_by old c ≡ Some b → held_by new c ≡ Some b
   pub places : (c d i : ℕ) → is_class old c ≡ true → is_place old c d i ≡ true → is_place new c d i ≡ true
   pub offsets : (c : ℕ) (o : Option ℕ) → is_offset old c o ≡ true → is_offset new c o ≡ true
+  pub dicts : (c : ℕ) → is_class old c ≡ true → has_dict new c ≡ has_dict old c
 
 -- and each node is there still and tells what it told
 pub record Lasts (old new : PlainWorld) : Type 0 where
@@ -39,7 +41,7 @@ pub record Lasts (old new : PlainWorld) : Type 0 where
   pub like : Like old.classes new.classes
 
 pub like-itself : (t : Classes Text) → Like t t
-like-itself t = record { there = λ c h. h; held = λ c b h. h; places = λ c d i l h. h; offsets = λ c o h. h }
+like-itself t = record { there = λ c h. h; held = λ c b h. h; places = λ c d i l h. h; offsets = λ c o h. h; dicts = λ c h. refl }
 
 pub lasts-on : (a b c : PlainWorld) → Lasts a b → Lasts b c → Lasts a c
 lasts-on a b c g h = record {
@@ -49,6 +51,7 @@ lasts-on a b c g h = record {
     held = λ k q e. h.like.held k q (g.like.held k q e);
     places = λ k d i l e. h.like.places k d i (g.like.there k l) (g.like.places k d i l e);
     offsets = λ k o e. h.like.offsets k o (g.like.offsets k o e);
+    dicts = λ k l. h.like.dicts k (g.like.there k l) ∙ g.like.dicts k l;
   };
 }
 
@@ -153,6 +156,7 @@ module _ (old new : PlainWorld) (g : Lasts old new) where
   sound_node-still n h = record {
     class = g.like.there n.class h.class;
     like = g.like.held n.class (home n.datum) h.like;
+    given = h.given ∙ sym (ap (λ b. is_none (class_number (Some n.datum)) && b) (g.like.dicts n.class h.class));
     dict = λ r e. home-still r Dict (h.dict r e);
     members = λ c i r e. let m = h.members c i r e in (g.like.places n.class c i h.class m.0, node-still r.0 m.1);
     nodes = nodes-still (nodes_in n.datum) h.nodes;

@@ -8,6 +8,7 @@ use Rattle.class_model.specs.Class.{Class, class_at as class_numbered, is_class,
 use Rattle.class_model.specs.Change.{with_class, with_bases}
 use Rattle.class_model.specs.Layout.{base, layout, is_empty, is_place}
 use Rattle.class_model.specs.Slot.{is_heap_at}
+use Rattle.class_model.specs.Dict.{says_dict, has_its_dict, keeps_dict}
 use Rattle.class_model.specs.Sound.{AreSound}
 use Rattle.plain_machine.specs.Known.{the_dict}
 use Rattle.plain_machine.specs.Plain.{Datum, PlainWorld}
@@ -28,8 +29,8 @@ pub record CanMakeNode (w : PlainWorld) (c : ℕ) (d : Datum) : Type 0 where
   pub class : is_class w.classes c ≡ true
   pub like : held_by w.classes c ≡ Some (home d)
   pub holds : CanHold w d
-  -- where it gets a dict, the class of dicts is there
-  pub dicts : has_dict w c ≡ true → (is_class w.classes the_dict ≡ true) × (held_by w.classes the_dict ≡ Some built_in.Dict)
+  -- where it gets a dict, the class of dicts is there, whose objects have none
+  pub dicts : has_dict w c ≡ true → (is_class w.classes the_dict ≡ true) × (held_by w.classes the_dict ≡ Some built_in.Dict) × (has_dict w the_dict ≡ false)
 
 -- a new class of a metaclass, whose number is the next node's. Its bases are there; it has an order and a best base
 pub record CanMakeClass (w : PlainWorld) (meta : ℕ) (k : Class Text) : Type 0 where
@@ -42,17 +43,21 @@ pub record CanMakeClass (w : PlainWorld) (meta : ℕ) (k : Class Text) : Type 0 
   pub best : is_some (base (with_class w.classes k) k.number) ≡ true
   pub attrs : AreBound w k.attrs
   pub apart : AreApart k.attrs
+  -- its flags say that it gives its objects a dict exactly where it brings one or one of its bases gives one
+  pub dict : says_dict (Some k) ≡ has_its_dict w.classes (Some k)
 
--- the classes stay sound, and each keeps its layout
+-- the classes stay sound, each keeps its layout, and the class gives its objects a dict as before
 pub record CanSetBases (w : PlainWorld) (c : ℕ) (bs : List ℕ) : Type 0 where
   pub heap : is_heap_at (class_numbered w.classes c) ≡ true
   pub sound : AreSound (with_bases w.classes c bs)
   pub layouts : (d : ℕ) → layout (with_bases w.classes c bs) d ≡ layout w.classes d
+  pub dict : keeps_dict w.classes c bs ≡ true
 
--- another class whose objects have the same layout, and so hold the like
+-- another class whose objects have the same layout, and so hold the like, and have a dict or none as before
 pub record CanSetClass (w : PlainWorld) (r : PyObjectRef) (c : ℕ) : Type 0 where
   pub class : is_class w.classes c ≡ true
   pub layout : option_map (layout w.classes) (class_at w r) ≡ Some (layout w.classes c)
+  pub dict : option_map (has_dict w) (class_at w r) ≡ Some (has_dict w c)
 
 -- a place of the object's class is set to an object that is there. Any can be emptied
 abbrev pub CanSetMember : PlainWorld → PyObjectRef → ℕ × ℕ → Option PyObjectRef → Type 0

@@ -1,7 +1,7 @@
 -- What a plain world keeps to, before and after each of its changes.
 use Rattle.std.specs.List.{All, IsDistinct}
 use Rattle.std.specs.Map.{keys_of}
-use Rattle.std.specs.Prelude.{◌≡◌, ℕ, ℤ, ◌<◌, Bool, true, false, nat_lt, is_some, List, [], ◌∷◌, ◌++◌, map, length, Option, Some, None, slice_get, option_map, option_and_then}
+use Rattle.std.specs.Prelude.{◌≡◌, ℕ, ℤ, ◌<◌, Bool, true, false, ◌&&◌, nat_lt, is_some, is_none, List, [], ◌∷◌, ◌++◌, map, length, Option, Some, None, slice_get, option_map, option_and_then}
 use Rattle.py_node.specs.declared.refs.PyObjectRef.{PyObjectRef}
 use Rattle.py_node.specs.declared.payload.MemberGetter.{MemberGetter}
 use Rattle.py_node.specs.declared.payload.MemberGetter.TheVariants as getter
@@ -16,8 +16,8 @@ use Rattle.class_model.specs.Class.{Classes, is_class}
 use Rattle.class_model.specs.Layout.{is_place, place_count}
 use Rattle.class_model.specs.Sound.{AreSound}
 use Rattle.plain_machine.specs.Plain.{Datum, AnObject, AClass, ANumber, AText, ATuple, AList, ADict, AFunction, AMethod, ANativeFunction, ABuiltinMethod, AMethodDescriptor, AGetSet, AClassMethod, AStaticMethod, AMember, AProperty, ASuper, AnIterator, ASlice, Node, Bindings, Scope, PlainWorld}
-use Rattle.plain_machine.specs.World.{is_text, ref, datum_at}
-use Rattle.plain_machine.specs.Objects.{nearest_built_in}
+use Rattle.plain_machine.specs.World.{is_text, ref, datum_at, has_dict}
+use Rattle.plain_machine.specs.Objects.{nearest_built_in, class_number}
 
 -- the built-in class whose objects hold such
 abbrev pub home : Datum → BuiltIn
@@ -173,10 +173,15 @@ AreOffsets w ps = All (λ p. is_offset w.classes p.0 p.1 ≡ true) ps
 abbrev pub AreBound : PlainWorld → Bindings → Type 0
 AreBound w bs = All (λ b. b.1.0 < length w.nodes) bs
 
--- its class is there, and it holds what the objects of such a class hold. Its dict is one, its members are nodes that stand in places of its class's layout, what it names is there, its offsets are those of places, and the keys of a dict differ
+-- whether a node has a dict: one that is no class has one exactly where its class gives it one
+abbrev pub gets_dict : PlainWorld → Node → Bool
+gets_dict w n = is_none (class_number (Some n.datum)) && has_dict w n.class
+
+-- its class is there, and it holds what the objects of such a class hold. It has a dict where it gets one, and its dict is one, its members are nodes that stand in places of its class's layout, what it names is there, its offsets are those of places, and the keys of a dict differ
 pub record IsSoundNode (w : PlainWorld) (n : Node) : Type 0 where
   pub class : is_class w.classes n.class ≡ true
   pub like : held_by w.classes n.class ≡ Some (home n.datum)
+  pub given : is_some n.dict ≡ gets_dict w n
   pub dict : (r : PyObjectRef) → n.dict ≡ Some r → option_map home (datum_at w r) ≡ Some built_in.Dict
   pub members : (c i : ℕ) (r : PyObjectRef) → n.members c i ≡ Some r → (is_place w.classes n.class c i ≡ true) × (r.0 < length w.nodes)
   pub nodes : AreThere w (nodes_in n.datum)

@@ -1,5 +1,5 @@
 -- What a native takes: so many arguments and no keyword, in the one order in which that is tested.
-use Rattle.std.specs.Prelude.{List, [], ◌∷◌, Option, Some, None, Ok}
+use Rattle.std.specs.Prelude.{List, [], ◌∷◌, Option, Some, Ok}
 use Rattle.py_node.specs.declared.refs.PyObjectRef.{PyObjectRef}
 use Rattle.py_node.specs.declared.raised.Cause.TheVariants.{ArgCount, SelfType, UnexpectedKeyword}
 use Rattle.py_node.specs.Tree.{Text}

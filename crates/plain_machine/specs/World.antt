@@ -5,11 +5,11 @@ use Rattle.py_node.specs.declared.refs.PyObjectRef.{PyObjectRef}
 use Rattle.py_node.specs.declared.entry.SlotId.{SlotId}
 use Rattle.py_node.specs.declared.entry.SlotEntry.{SlotEntry}
 use Rattle.py_node.specs.Attributes.{value_of, with_value}
-use Rattle.py_node.specs.BuiltIns.{has_dict as dict_flag}
 use Rattle.py_node.specs.Known.{known_text}
 use Rattle.py_node.specs.Tree.{Text}
 use Rattle.py_node.specs.Replies.{Started}
-use Rattle.class_model.specs.Class.{class_at as class_numbered, Class, has_flag}
+use Rattle.class_model.specs.Class.{Class}
+use Rattle.class_model.specs.Dict.{has_dict as class_has_dict}
 use Rattle.class_model.specs.Change.{with_class, with_class_attr}
 use Rattle.class_model.specs.Slot.{Keys, slot, candidates_of, goes_first}
 use Rattle.class_model.specs.BuiltIn.{natives_of}
@@ -64,13 +64,9 @@ goes_first_at w right (Some c) (Some d) = goes_first text_keys w.classes right c
 
 -- how it is changed
 
-abbrev pub flag_in : Option (Class Text) → Bool
-flag_in None = false
-flag_in (Some k) = has_flag dict_flag k
-
--- whether a class gives its objects a dict
+-- whether a class gives its objects a dict, which its flags say
 abbrev pub has_dict : PlainWorld → ℕ → Bool
-has_dict w c = flag_in (class_numbered w.classes c)
+has_dict w c = class_has_dict w.classes c
 
 abbrev pub push_node : PlainWorld → ℕ → Option PyObjectRef → Datum → PlainWorld
 push_node w c dict d = record w { nodes = w.nodes ++ record { class = c; dict = dict; members = no_members; datum = d } ∷ [] }

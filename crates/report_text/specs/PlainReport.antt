@@ -1,5 +1,5 @@
 -- What is written of a hierarchy: of each class but the first its linearisation, or else why it has none.
-use Rattle.std.specs.Prelude.{ℕ, cond, eqb, List, [], ◌∷◌, drop, map, codes, Option, Some, None}
+use Rattle.std.specs.Prelude.{ℕ, false, cond, eqb, List, [], ◌∷◌, drop, map, codes, Option, Some, None}
 use Rattle.std.specs.List.{flat_map, filter_map}
 use Rattle.py_node.specs.Tree.{Text}
 use Rattle.class_model.specs.Class.{Class, lin}
@@ -13,7 +13,7 @@ use Rattle.report_text.specs.ReportText.{order_shown, cycle_shown, line_of}
 
 -- a class as the model has it. Of a class its key and its bases alone make its linearisation
 abbrev pub model_class : PlainClass → Class ℕ
-model_class c = record { name = []; number = c.key; bases = c.bases; attrs = []; members = []; flags = 0 }
+model_class c = record { name = []; number = c.key; bases = c.bases; attrs = []; members = []; flags = 0; brings = false }
 
 -- the linearisation of the class with a key. There is none where a base is missing, where bases go round, or where no order exists
 abbrev pub order_among : List PlainClass → ℕ → Option (List ℕ)

@@ -35,7 +35,7 @@ both : (c : After-classes-1) → IsCoherent (take c.attach.new.classes.len (c.se
 both c =
     let same : length c.settle.new.classes ≡ c.attach.new.classes.len = let a = c.settle.auto.classes in let b = c.deref_mut.ensures.len in omega (arith, a, b) in
     let size : c.len-at.result ≡ length c.args.classes.now.items = let h = c.len-at.ensures in omega (arith, h) in
-    step-done c.args.classes.now.items c.requires.coherent (class_of_new c.args.new) c.requires.fresh c.requires.below c.args.best c.requires.best c.in-Ok.stored c.len-at.result c.deref.result.now c.attach.new.classes.items c.deref_mut.result.now size c.deref.ensures.value c.in-Ok.ensures.fresh c.in-Ok-attach.ensures.ok c.deref_mut.ensures.value _ c.settle.new.classes c.settle.ensures (take_at c.settle.new.classes (drop (length c.settle.new.classes) c.attach.new.classes.items) c.attach.new.classes.len same)
+    step-done c.args.classes.now.items c.requires.coherent (class_of_new c.args.new) c.requires.fresh c.requires.below c.args.best c.requires.best c.in-Ok.stored c.len-at.result c.deref.result.now c.attach.new.classes.items c.deref_mut.result.now size c.deref.ensures.value c.in-Ok.ensures.fresh c.in-Ok-attach.ensures.ok c.deref_mut.ensures.value c.requires.dict _ c.settle.new.classes c.settle.ensures (take_at c.settle.new.classes (drop (length c.settle.new.classes) c.attach.new.classes.items) c.attach.new.classes.len same)
 
 pub returns-clause-coherent : goal.returns-clause-coherent
 returns-clause-coherent c = (both c).0

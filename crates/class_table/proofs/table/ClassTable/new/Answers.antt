@@ -1,4 +1,4 @@
-use Rattle.std.proofs.Common.{◌≡◌, ◌<◌, add-one, ap, sym, subst, ◌∙◌, arith, true}
+use Rattle.std.proofs.Common.{◌≡◌, ◌<◌, Some, map, take, add-one, ap, sym, subst, ◌∙◌, arith, true}
 use Rattle.py_node.specs.declared.built_in.BuiltIn.TheVariants.{Object}
 use Rattle.py_node.specs.declared.refs.PyStrInterned.{PyStrInterned}
 use Rattle.std.proofs.lemmas.List.{length-map}
@@ -7,7 +7,8 @@ use Rattle.class_table.specs.Keys.{numbers}
 use Rattle.class_model.specs.Class.{Class}
 use Rattle.py_node.specs.BuiltIns.{place_of, base_of, all_built_ins}
 use Rattle.class_model.specs.Start.{built_class}
-use Rattle.class_table.proofs.StartParts.{base_below, map-step, map-end, built-below, built-count, in-row, one-below, one-long, made-place, made-there, made-limit}
+use Rattle.class_model.specs.Dict.{says_dict, has_its_dict}
+use Rattle.class_table.proofs.StartParts.{base_below, map-step, map-end, built-below, built-count, in-row, one-below, one-long, made-place, made-there, made-limit, built-dict}
 use Rattle.class_table.proofs.table.ClassTable.new.Goals as goal
 
 pub loop-row-preserved : goal.loop-row-preserved
@@ -42,4 +43,7 @@ add_class-requires c =
     let below = ap (λ (k : Class PyStrInterned). k.bases) made in
     let few = one-long (numbers c.in_ok-new.new.bases.items) _ below in
     let long = length-map c.in_ok-new.new.bases.items (λ (r : PyTypeRef). r.0) in
-    rw (called, c.loop-row.invariant) (record { below = one-below _ i (numbers c.in_ok-new.new.bases.items) _ below (subst (λ b. base_below i (base_of b) ≡ true) here (built-below i Object l)) (made-there i (omega arith)); one = omega (arith, few, long); fresh = made-limit i (omega arith) })
+    let class = made ∙ ap built_class (sym here) in
+    let P : Class PyStrInterned → Type 0 = λ k. says_dict (Some k) ≡ has_its_dict (map (built_class {K = PyStrInterned}) (take i all_built_ins)) (Some k) in
+    let dict = subst P (sym class) (built-dict i i Object l) in
+    rw (called, c.loop-row.invariant) (record { below = one-below _ i (numbers c.in_ok-new.new.bases.items) _ below (subst (λ b. base_below i (base_of b) ≡ true) here (built-below i Object l)) (made-there i (omega arith)); one = omega (arith, few, long); fresh = made-limit i (omega arith); dict = dict })

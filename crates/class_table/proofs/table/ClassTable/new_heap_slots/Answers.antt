@@ -3,7 +3,7 @@ use Rattle.class_table.specs.Keys.{numbers}
 use Rattle.class_table.specs.Stored.{classes_of}
 use Rattle.class_table.specs.Causes.{AreTold}
 use Rattle.class_table.proofs.InWords.{told}
-use Rattle.class_table.proofs.table.ClassTable.new_heap.Goals as goal
+use Rattle.class_table.proofs.table.ClassTable.new_heap_slots.Goals as goal
 
 pub returns-clause-empty : goal.returns-clause-empty
 returns-clause-empty c =

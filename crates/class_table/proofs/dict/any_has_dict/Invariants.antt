@@ -1,0 +1,9 @@
+use Rattle.std.proofs.Common.{◌≡◌, drop}
+use Rattle.class_model.specs.Dict.{any_has_dict}
+use Rattle.class_table.specs.Keys.{numbers}
+use Rattle.class_table.specs.Stored.{classes_of}
+use Rattle.class_table.proofs.dict.any_has_dict.Given as goal
+
+abbrev pub invariant-loop-base : goal.invariant-loop-base
+invariant-loop-base l =
+    any_has_dict (classes_of l.classes) (numbers (drop l.base-index l.bases)) ≡ any_has_dict (classes_of l.classes) (numbers l.bases)

@@ -1,0 +1,10 @@
+use Rattle.std.proofs.Common.{rules, ◌≡◌, subst, ◌∙◌}
+use Rattle.class_model.specs.Dict.{has_dict}
+use Rattle.class_model.specs.Sound.{AreSound}
+use Rattle.class_model.proofs.Dict.{has-gives}
+use Rattle.class_table.proofs.table.ClassTable.has_dict.Goals as goal
+
+pub returns-clause-gives : goal.returns-clause-gives
+returns-clause-gives c =
+    let says : c.has_dict.result ≡ has_dict c.args.self.now c.args.class.0 = search rules in
+    says ∙ has-gives c.args.self.now (subst AreSound c.self.view_is c.self.invariant.sound) c.args.class.0 c.requires

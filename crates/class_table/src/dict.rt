@@ -1,0 +1,105 @@
+//! Which classes give their objects a dict, and what `__slots__` say of it.
+
+ghost use Rattle.std.specs.Prelude.{◌≡◌, true, filter, not};
+ghost use Rattle.std.specs.List.{list_any};
+ghost use Rattle.class_model.specs.Class.{class_at, is_class};
+ghost use Rattle.class_model.specs.Dict.{alike, has_dict, any_has_dict, keeps_dict, is_dict, slot_members, slots_bring};
+ghost use Rattle.class_model.specs.Numbers.{is_ascending};
+ghost use Rattle.class_table.specs.Keys.{numbers, table_keys, slot_names};
+ghost use Rattle.class_table.specs.Stored.{classes_of};
+
+use crate::place::{find, stored_at};
+use crate::stored::Stored;
+use py_node::{Known, PyStrInterned, PyTypeRef};
+use std::alloc::Global;
+
+// Whether a class gives its objects a dict.
+fn has_dict(classes: &[Stored], class: PyTypeRef) -> bool
+    requires { is_ascending (classes_of classes.now) ≡ true }
+    ensures { result ≡ has_dict (classes_of classes.now) class.0 }
+{
+    match find(classes, class) {
+        None => false,
+        Some(stored) => stored.has_dict(),
+    }
+}
+
+// Whether one of some classes gives its objects a dict.
+pub(crate) fn any_has_dict(classes: &[Stored], bases: &[PyTypeRef]) -> bool
+    requires { is_ascending (classes_of classes.now) ≡ true }
+    ensures { result ≡ any_has_dict (classes_of classes.now) (numbers bases.now) }
+{
+    for base in bases {
+        if has_dict(classes, *base) {
+            return true;
+        }
+    }
+    false
+}
+
+// Whether a class gives its objects a dict under other bases exactly where it does now.
+pub(crate) fn keeps_dict(classes: &[Stored], class: PyTypeRef, bases: &[PyTypeRef]) -> bool
+    requires ascending { is_ascending (classes_of classes.now) ≡ true }
+    requires there { is_class (classes_of classes.now) class.0 ≡ true }
+    ensures { result ≡ keeps_dict (classes_of classes.now) class.0 (numbers bases.now) }
+{
+    let stored = stored_at(classes, class);
+    let dict = stored.brings() || any_has_dict(classes, bases);
+    dict == stored.has_dict()
+}
+
+// Whether two classes give both their objects a dict, or neither of them does.
+pub(crate) fn agree(classes: &[Stored], class: PyTypeRef, other: PyTypeRef) -> bool
+    requires { is_ascending (classes_of classes.now) ≡ true }
+    ensures { result ≡ alike (has_dict (classes_of classes.now) class.0) (has_dict (classes_of classes.now) other.0) }
+{
+    has_dict(classes, class) == has_dict(classes, other)
+}
+
+// Whether a name is `__dict__`, which is no member's.
+fn is_dict(name: PyStrInterned) -> bool
+    ensures { result ≡ is_dict table_keys name }
+{
+    name.0 == Known::Dict.number()
+}
+
+// Whether one of some names is `__dict__`.
+fn any_is_dict(names: &[PyStrInterned]) -> bool
+    ensures { result ≡ list_any (is_dict table_keys) names.now }
+{
+    for name in names {
+        if is_dict(*name) {
+            return true;
+        }
+    }
+    false
+}
+
+// Whether a class with these `__slots__`, or with none, brings its objects a dict.
+pub(crate) fn slots_bring(slots: &Option<Vec<PyStrInterned>>) -> bool
+    ensures { result ≡ slots_bring table_keys (slot_names slots.now) }
+{
+    match slots {
+        None => true,
+        Some(names) => any_is_dict(names),
+    }
+}
+
+// The members of a class with these `__slots__`, or with none.
+pub(crate) fn slot_members(alloc: Global, slots: Option<Vec<PyStrInterned>>) -> Vec<PyStrInterned>
+    ensures { result.items ≡ slot_members table_keys (slot_names slots) }
+{
+    match slots {
+        None => Vec::new(alloc),
+        Some(names) => without_dict(names),
+    }
+}
+
+// Some names but `__dict__`.
+fn without_dict(names: Vec<PyStrInterned>) -> Vec<PyStrInterned>
+    ensures { result.items ≡ filter (λ n. not (is_dict table_keys n)) names.items }
+{
+    let mut members = names;
+    members.retain(|name| !is_dict(*name));
+    members
+}
