@@ -75,8 +75,9 @@ fn any_is_dict(names: &[PyStrInterned]) -> bool
     false
 }
 
-// Whether a class with these `__slots__`, or with none, brings its objects a dict.
-pub(crate) fn slots_bring(slots: &Option<Vec<PyStrInterned>>) -> bool
+/// Whether a class with these `__slots__`, or with none, brings its objects a dict: it has none, or `__dict__` is among
+/// them.
+pub fn slots_bring(slots: &Option<Vec<PyStrInterned>>) -> bool
     ensures { result ≡ slots_bring table_keys (slot_names slots.now) }
 {
     match slots {
@@ -85,8 +86,8 @@ pub(crate) fn slots_bring(slots: &Option<Vec<PyStrInterned>>) -> bool
     }
 }
 
-// The members of a class with these `__slots__`, or with none.
-pub(crate) fn slot_members(alloc: Global, slots: Option<Vec<PyStrInterned>>) -> Vec<PyStrInterned>
+/// The members of a class with these `__slots__`, or with none: all names but `__dict__`, in order.
+pub fn slot_members(alloc: Global, slots: Option<Vec<PyStrInterned>>) -> Vec<PyStrInterned>
     ensures { result.items ≡ slot_members table_keys (slot_names slots) }
 {
     match slots {

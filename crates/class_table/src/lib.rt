@@ -34,6 +34,7 @@ pub mod trial;
 
 pub use candidates::Candidates;
 pub use chain::BaseChain;
+pub use dict::{slot_members, slots_bring};
 pub use fault::ClassFault;
 pub use name::last_part;
 pub use steps::Steps;

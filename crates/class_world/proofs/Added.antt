@@ -1,6 +1,6 @@
 -- Objects that are put into a world with their dicts.
 use Rattle.std.proofs.Common.{◌≡◌, ◌+◌, cond, List, [], ◌∷◌, ◌++◌, length, map, Option, Some, None, Result, Ok, Err, IfOk, IfSome, OnOk, OnErr, refl, sym, ap, ◌∙◌, subst, arith, length-append}
-use Rattle.std.specs.Prelude.{is_some, option_map}
+use Rattle.std.specs.Prelude.{◌&&◌, true, is_some, is_none, option_map}
 use Rattle.std.proofs.lemmas.List.{length-map}
 use Rattle.py_node.specs.declared.refs.PyObjectRef.{PyObjectRef}
 use Rattle.py_node.specs.declared.refs.PyTypeRef.{PyTypeRef}
@@ -10,11 +10,12 @@ use Rattle.py_node.specs.declared.payload.Payload.{Payload}
 use Rattle.py_node.specs.declared.payload.Payload.TheVariants as payload
 use Rattle.plain_machine.specs.Known.{the_dict}
 use Rattle.plain_machine.specs.Plain.{ADict, no_members, Node as PlainNode}
-use Rattle.plain_machine.specs.World.{ref, has_dict, push_node, with_node, next_node}
+use Rattle.class_model.specs.Dict.{has_dict}
+use Rattle.plain_machine.specs.World.{ref, has_dict as plain_has_dict, push_node, with_node, next_node}
 use Rattle.class_world.specs.Held.{Held}
 use Rattle.class_world.specs.Added.{with_object, number_of_object, HasNoEntries, IsEmptyDict}
 use Rattle.class_world.specs.Reading.{Reading, places_of, datum, node_of, plain}
-use Rattle.class_world.specs.Sound.{IsNode, IsClass, IsOf, Holding, Holds, AllHold, Grows, Sound, home_of, home_at, class_in, of_node, of_option, of_payload}
+use Rattle.class_world.specs.Sound.{IsNode, IsClass, IsOf, Holding, GetsDict, Holds, AllHold, Grows, Sound, home_of, home_at, class_in, of_node, of_option, of_payload}
 use Rattle.class_world.proofs.Claims.{all-grow, get-end}
 use Rattle.class_world.proofs.Growth.{grows-itself, grows-on, node-grows}
 use Rattle.class_world.proofs.Changes.{node-sound}
@@ -107,14 +108,18 @@ module _ (w : Held) (c : PyTypeRef) (p : Payload) where
   dict-holding : (d : Node) → HasNoEntries d.payload → home_at (w.nodes ++ d ∷ []) (length w.nodes) ≡ Some Dict
   dict-holding d e = ap (option_map (λ (x : Node). home_of x.payload)) (get-end w.nodes d) ∙ ap Some (dict-home d.payload e)
 
-  object-sound : (o : Option Node) → IfSome o IsEmptyDict → AllHold w (of_option of_node o) → Holds w (IsClass c.0) → Holds w (IsOf c.0 (home_of p)) → class_in p ≡ None → AllHold w (of_payload p) → Sound w → Sound (made o)
+  gets : (o : Option Node) → has_dict w.classes c.0 ≡ is_some o → Holds w (IsClass c.0) → class_in p ≡ None → Holds w (GetsDict (class_in p) c.0 (is_some o))
   unfolding Holds
-  object-sound None e h class of q held s = node-sound w s (stored None) q (class, (of, (tt, held)))
-  object-sound (Some d) e h class of q held s =
+  gets o g class q = (class, sym (ap (λ k. is_none k && has_dict w.classes c.0) q ∙ g))
+
+  object-sound : (o : Option Node) → has_dict w.classes c.0 ≡ is_some o → IfSome o IsEmptyDict → AllHold w (of_option of_node o) → Holds w (IsClass c.0) → Holds w (IsOf c.0 (home_of p)) → class_in p ≡ None → AllHold w (of_payload p) → Sound w → Sound (made o)
+  unfolding Holds
+  object-sound None g e h class of q held s = node-sound w s (stored None) q (class, (of, (tt, (gets None g class q, held))))
+  object-sound (Some d) g e h class of q held s =
       let more = node-grows w d in
       let l = length-append w.nodes (d ∷ []) in
       node-sound (after d) (node-sound w s d (dict-other d.payload e.3) h) (stored (Some (ref (length w.nodes)))) q
-      (more.still (IsClass c.0) class, (more.still (IsOf c.0 (home_of p)) of, (tt, (omega (arith, l), (dict-holding d e.3, all-grow w (after d) more (of_payload p) held)))))
+      (more.still (IsClass c.0) class, (more.still (IsOf c.0 (home_of p)) of, (tt, (more.still (GetsDict (class_in p) c.0 true) (gets (Some d) g class q), (omega (arith, l), (dict-holding d e.3, all-grow w (after d) more (of_payload p) held))))))
 
   pub object-there : (o : Option Node) (r : PyObjectRef) → r ≡ number_of_object w.nodes o → Holds (made o) (IsNode r)
   unfolding Holds
@@ -134,7 +139,7 @@ module _ (w : Held) (c : PyTypeRef) (p : Payload) where
       let n : r.0 ≡ length (w.nodes ++ d ∷ []) = let k : r.0 ≡ length w.nodes + 1 = ap (λ (r : PyObjectRef). r.0) e in omega (arith, l, k) in
       ap (home_at ((w.nodes ++ d ∷ []) ++ new ∷ [])) n ∙ ap (option_map (λ (x : Node). home_of x.payload)) (get-end (w.nodes ++ d ∷ []) new)
 
-  object-read : (t : Reading) (o : Option Node) → IfSome o IsEmptyDict → has_dict (plain t w) c.0 ≡ is_some o → plain t (made o) ≡ with_node (plain t w) c.0 (datum t p)
+  object-read : (t : Reading) (o : Option Node) → IfSome o IsEmptyDict → plain_has_dict (plain t w) c.0 ≡ is_some o → plain t (made o) ≡ with_node (plain t w) c.0 (datum t p)
   unfolding plain
   object-read t None e h =
       ap (λ (ns : List PlainNode). record (plain t w) { nodes = ns }) (map-push (node_of t) w.nodes (stored None))
@@ -149,7 +154,7 @@ module _ (w : Held) (c : PyTypeRef) (p : Payload) where
       ∙ ap (λ n. push_node (push_node (plain t w) the_dict None (ADict [])) c.0 (Some (ref n)) (datum t p)) (sym (length-map w.nodes (node_of t)))
       ∙ sym (ap (λ b. cond b (push_node (push_node (plain t w) the_dict None (ADict [])) c.0 (Some (ref (length (plain t w).nodes))) (datum t p)) (push_node (plain t w) c.0 None (datum t p))) h)
 
-  object-number : (t : Reading) (o : Option Node) (r : PyObjectRef) → has_dict (plain t w) c.0 ≡ is_some o → r ≡ number_of_object w.nodes o → r ≡ next_node (plain t w) c.0
+  object-number : (t : Reading) (o : Option Node) (r : PyObjectRef) → plain_has_dict (plain t w) c.0 ≡ is_some o → r ≡ number_of_object w.nodes o → r ≡ next_node (plain t w) c.0
   unfolding plain
   object-number t None r h e =
       e ∙ ap ref (sym (length-map w.nodes (node_of t))) ∙ sym (ap (λ b. ref (cond b (length (plain t w).nodes + 1) (length (plain t w).nodes))) h)
@@ -158,23 +163,23 @@ module _ (w : Held) (c : PyTypeRef) (p : Payload) where
 
   -- an object is added, or memory ran out and nothing changed
   module _ {E : Type 0} (o : Option Node) (ns : List Node) where
-    pub added-sound : (r : Result PyObjectRef E) → OnOk r (ns ≡ with_object w.nodes o c p) → OnErr r (ns ≡ w.nodes) → IfSome o IsEmptyDict → AllHold w (of_option of_node o) → Holds w (IsClass c.0) → Holds w (IsOf c.0 (home_of p)) → class_in p ≡ None → AllHold w (of_payload p) → Sound w → Sound (record w { nodes = ns })
-    added-sound (Ok a) q f e h class of k held s = subst (λ ns. Sound (record w { nodes = ns })) (sym q) (object-sound o e h class of k held s)
-    added-sound (Err a) q f e h class of k held s = subst (λ ns. Sound (record w { nodes = ns })) (sym f) s
+    pub added-sound : (r : Result PyObjectRef E) → has_dict w.classes c.0 ≡ is_some o → OnOk r (ns ≡ with_object w.nodes o c p) → OnErr r (ns ≡ w.nodes) → IfSome o IsEmptyDict → AllHold w (of_option of_node o) → Holds w (IsClass c.0) → Holds w (IsOf c.0 (home_of p)) → class_in p ≡ None → AllHold w (of_payload p) → Sound w → Sound (record w { nodes = ns })
+    added-sound (Ok a) g q f e h class of k held s = subst (λ ns. Sound (record w { nodes = ns })) (sym q) (object-sound o g e h class of k held s)
+    added-sound (Err a) g q f e h class of k held s = subst (λ ns. Sound (record w { nodes = ns })) (sym f) s
 
     pub added-grows : (r : Result PyObjectRef E) → OnOk r (ns ≡ with_object w.nodes o c p) → OnErr r (ns ≡ w.nodes) → Grows w (record w { nodes = ns })
     added-grows (Ok a) q f = subst (λ ns. Grows w (record w { nodes = ns })) (sym q) (object-grows o)
     added-grows (Err a) q f = subst (λ ns. Grows w (record w { nodes = ns })) (sym f) (grows-itself w)
 
-    pub added-read : (now : Held) (r : Result PyObjectRef E) → w ≡ now → OnOk r (ns ≡ with_object w.nodes o c p) → IfSome o IsEmptyDict → ((t : Reading) → has_dict (plain t now) c.0 ≡ is_some o) → OnOk r ((t : Reading) → plain t (record w { nodes = ns }) ≡ with_node (plain t now) c.0 (datum t p))
+    pub added-read : (now : Held) (r : Result PyObjectRef E) → w ≡ now → OnOk r (ns ≡ with_object w.nodes o c p) → IfSome o IsEmptyDict → ((t : Reading) → plain_has_dict (plain t now) c.0 ≡ is_some o) → OnOk r ((t : Reading) → plain t (record w { nodes = ns }) ≡ with_node (plain t now) c.0 (datum t p))
     added-read now (Ok a) v q e h = λ t.
         ap (λ (ns : List Node). plain t (record w { nodes = ns })) q
-        ∙ object-read t o e (ap (λ u. has_dict (plain t u) c.0) v ∙ h t)
+        ∙ object-read t o e (ap (λ u. plain_has_dict (plain t u) c.0) v ∙ h t)
         ∙ ap (λ u. with_node (plain t u) c.0 (datum t p)) v
     added-read now (Err a) v q e h = tt
 
-    pub added-number : (now : Held) (r : Result PyObjectRef E) → w ≡ now → IfOk r (λ n. n ≡ number_of_object w.nodes o) → ((t : Reading) → has_dict (plain t now) c.0 ≡ is_some o) → IfOk r (λ n. (t : Reading) → n ≡ next_node (plain t now) c.0)
-    added-number now (Ok n) v q h = λ t. object-number t o n (ap (λ u. has_dict (plain t u) c.0) v ∙ h t) q ∙ ap (λ u. next_node (plain t u) c.0) v
+    pub added-number : (now : Held) (r : Result PyObjectRef E) → w ≡ now → IfOk r (λ n. n ≡ number_of_object w.nodes o) → ((t : Reading) → plain_has_dict (plain t now) c.0 ≡ is_some o) → IfOk r (λ n. (t : Reading) → n ≡ next_node (plain t now) c.0)
+    added-number now (Ok n) v q h = λ t. object-number t o n (ap (λ u. plain_has_dict (plain t u) c.0) v ∙ h t) q ∙ ap (λ u. next_node (plain t u) c.0) v
     added-number now (Err a) v q h = tt
 
     pub added-there : (r : Result PyObjectRef E) → OnOk r (ns ≡ with_object w.nodes o c p) → IfOk r (λ n. n ≡ number_of_object w.nodes o) → IfOk r (λ n. Holds (record w { nodes = ns }) (IsNode n))

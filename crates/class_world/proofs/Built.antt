@@ -1,13 +1,16 @@
 -- The fixed objects and the built-in classes are there.
-use Rattle.std.proofs.Common.{◌≡◌, ℕ, true, ◌<◌, length, Some, refl, sym, subst, arith, lit<}
+use Rattle.std.proofs.Common.{◌≡◌, ℕ, true, false, ◌<◌, length, Some, None, refl, sym, ap, subst, ◌∙◌, arith, lit<}
 use Rattle.std.specs.Prelude.{slice_get}
 use Rattle.py_node.specs.declared.refs.PyObjectRef.{PyObjectRef}
 use Rattle.py_node.specs.declared.built_in.BuiltIn.{BuiltIn}
-use Rattle.py_node.specs.BuiltIns.{place_of, all_built_ins}
+use Rattle.py_node.specs.declared.refs.PyTypeRef.{PyTypeRef}
+use Rattle.py_node.specs.BuiltIns.{place_of, flags_of, built_in_flags, all_built_ins}
 use Rattle.plain_machine.specs.Sound.{holds_as}
 use Rattle.class_model.specs.Class.{is_class}
+use Rattle.class_model.specs.Dict.{has_dict}
 use Rattle.class_world.specs.Held.{Held}
-use Rattle.class_world.specs.Sound.{IsNode, IsClass, IsOf, Holds, Sound}
+use Rattle.class_world.specs.Sound.{IsNode, IsClass, IsOf, GetsDict, Holds, Sound}
+use Rattle.class_world.proofs.Growth.{says, says-dict}
 use Rattle.class_world.specs.declared.built_ins.Fixed.{Fixed}
 use Rattle.class_world.specs.declared.built_ins.Fixed.TheVariants as fixed
 use Rattle.py_node.specs.declared.built_in.BuiltIn.TheVariants as built_in
@@ -85,3 +88,16 @@ built_in_node-holds w now b r v s e = let l = place-low b in let m = s.fixed in 
 
 pub built_in-of : (w now : Held) (b : BuiltIn) (c : ℕ) → w ≡ now → Sound w → c ≡ place_of b → Holds now (IsOf c (holds_as b))
 built_in-of w now b c v s e = subst (λ w. Holds w (IsOf c (holds_as b))) v (subst (λ c. Holds w (IsOf c (holds_as b))) (sym e) (s.own b))
+
+-- the dicts have none themselves
+plain-dict : says (Some (flags_of built_in.Dict)) ≡ false
+unfolding flags_of built_in_flags place_of says
+plain-dict = refl
+
+pub dict-none : (w now : Held) (c : PyTypeRef) → w ≡ now → Sound w → c.0 ≡ place_of built_in.Dict → Holds now (GetsDict None c.0 false)
+unfolding Holds
+dict-none w now c v s e =
+    let l = place-low built_in.Dict in
+    let none : has_dict w.classes (place_of built_in.Dict) ≡ false = says-dict w.classes (place_of built_in.Dict) ∙ ap says (s.flags built_in.Dict) ∙ plain-dict in
+    let there : is_class w.classes c.0 ≡ true = s.built_in c.0 (omega (arith, l, e)) in
+    subst (λ w. Holds w (GetsDict None c.0 false)) v (there, sym (ap (has_dict w.classes) e ∙ none))

@@ -1,11 +1,12 @@
 -- One class that is changed, and keeps its number, its bases and its members.
 use Rattle.std.proofs.Common.{◌≡◌, ℕ, ◌^◌, true, false, cond, eqb, List, [], ◌∷◌, Result, Ok, Err, OnOk, OnErr, IfOk, refl, sym, ap, ◌∙◌, subst}
-use Rattle.std.specs.Prelude.{Bool, is_some}
+use Rattle.std.specs.Prelude.{Bool, is_some, option_map}
 use Rattle.py_node.specs.declared.refs.PyStrInterned.{PyStrInterned}
 use Rattle.py_node.specs.Attributes.{without_key, is_same_name}
 use Rattle.py_node.specs.Tree.{Text}
 use Rattle.class_model.specs.Class.{Class, Classes, class_at, own_of, has_flag, rekeyed, renamed}
 use Rattle.class_model.specs.Change.{with_changed, without_class_attr, with_class_name}
+use Rattle.class_model.proofs.Numbers.{at-changed}
 use Rattle.class_model.proofs.Kept.{is_class-kept, lin-kept, is_place-kept}
 use Rattle.plain_machine.specs.World.{is_text}
 use Rattle.plain_machine.specs.Change.{SetName, apply, without_own_attr}
@@ -50,13 +51,14 @@ changed-holds w f keep (k ∷ ks) c h =
       | false ↦ all-append w (of_class k) _ here (changed-holds w f keep ks c rest)
     ]
 
-module _ (f : HeldClass → HeldClass) (number : (k : HeldClass) → (f k).number ≡ k.number) (bases : (k : HeldClass) → (f k).bases ≡ k.bases) (members : (k : HeldClass) → (f k).members ≡ k.members) where
+module _ (f : HeldClass → HeldClass) (number : (k : HeldClass) → (f k).number ≡ k.number) (bases : (k : HeldClass) → (f k).bases ≡ k.bases) (members : (k : HeldClass) → (f k).members ≡ k.members) (flags : (k : HeldClass) → (f k).flags ≡ k.flags) where
   changed-like : (ks : List HeldClass) (c : ℕ) → Like ks (with_changed f ks c)
   changed-like ks c = record {
     held = λ d b h. ap by_line (lin-kept f number ks c bases members d) ∙ h;
     there = λ d h. is_class-kept f number ks c d ∙ h;
     places = λ d y i h. is_place-kept f number ks c bases members d y i ∙ h;
     offsets = λ d o h. offset-kept f number ks c bases members d o ∙ h;
+    flags = λ d h. at-changed f number (option_map (λ (k : HeldClass). k.flags)) (λ k. ap Some (flags k)) ks c d;
   }
 
   -- it was changed, or the change was refused

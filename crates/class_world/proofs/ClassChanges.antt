@@ -1,6 +1,6 @@
 -- Classes that are changed or made.
 use Rattle.std.proofs.Common.{◌≡◌, ℕ, suc, ◌^◌, ◌<◌, ◌≤◌, Bool, true, false, cond, eqb, inl, inr, List, [], ◌∷◌, ◌++◌, length, Some, None, Result, Ok, Err, OnOk, OnErr, refl, sym, ap, ◌∙◌, subst, arith, length-append}
-use Rattle.std.specs.Prelude.{is_some, nat_lt, option_and_then}
+use Rattle.std.specs.Prelude.{is_some, nat_lt, option_map, option_and_then}
 use Rattle.py_node.specs.declared.payload.Node.{Node}
 use Rattle.py_node.specs.declared.refs.PyObjectRef.{PyObjectRef}
 use Rattle.py_node.specs.declared.refs.PyStrInterned.{PyStrInterned}
@@ -21,7 +21,7 @@ use Rattle.class_table.specs.Keys.{numbers}
 use Rattle.plain_machine.specs.World.{is_text, with_own_attr, with_new_class}
 use Rattle.class_world.specs.Held.{Held}
 use Rattle.class_world.specs.Reading.{Reading, spelled, node_of, plain}
-use Rattle.class_world.specs.Sound.{IsName, IsNode, IsClass, IsOf, Standing, AreNames, class_in, held_class, Holds, AllHold, Grows, Sound, of_binding, of_class, of_class_ref, of_dict, of_node, of_each}
+use Rattle.class_world.specs.Sound.{IsName, IsNode, IsClass, IsOf, GetsDict, Standing, AreNames, class_in, held_class, Holds, AllHold, Grows, Sound, of_binding, of_class, of_class_ref, of_dict, of_node, of_each}
 use Rattle.class_world.proofs.Claims.{all-grow, all-append, all-first, all-rest, each-push, get-end}
 use Rattle.class_world.proofs.MemberPlaces.{no-members}
 use Rattle.py_node.specs.declared.built_in.BuiltIn.{BuiltIn}
@@ -75,7 +75,7 @@ classes-sound w ks k h a s =
     let new = record w { classes = ks } in
     let more = classes-grow w ks k in
     let go = all-grow w new more in
-    record { forms = go _ s.forms; below = s.below; nodes = go _ s.nodes; classes = go _ h; vars = go _ s.vars; scopes = go _ s.scopes; fixed = fixed-grow w new s.fixed (grows-lasts w new more); built_in = built_in-grow w new s.built_in (grows-lasts w new more); own = λ b. more.still _ (s.own b); standing = λ d e. more.still _ (a d e); itself = s.itself; apart = s.apart; scopes_apart = s.scopes_apart; known = s.known }
+    record { forms = go _ s.forms; below = s.below; nodes = go _ s.nodes; classes = go _ h; vars = go _ s.vars; scopes = go _ s.scopes; fixed = fixed-grow w new s.fixed (grows-lasts w new more); built_in = built_in-grow w new s.built_in (grows-lasts w new more); own = λ b. more.still _ (s.own b); flags = λ b. more.still _ (s.flags b); standing = λ d e. more.still _ (a d e); itself = s.itself; apart = s.apart; scopes_apart = s.scopes_apart; known = s.known }
 
 -- an attribute is set, or memory ran out and nothing changed
 module _ {A E : Type 0} (w : Held) (c : ℕ) (x : PyStrInterned) (r : PyObjectRef) (ks : HeldClasses) where
@@ -85,6 +85,7 @@ module _ {A E : Type 0} (w : Held) (c : ℕ) (x : PyStrInterned) (r : PyObjectRe
     there = λ d h. attr-there w.classes c d x r ∙ h;
     places = λ d y i h. is_place-kept (λ (k : Class PyStrInterned). record k { attrs = with_value is_same_name k.attrs x r }) (λ k. refl) w.classes c (λ k. refl) (λ k. refl) d y i ∙ h;
     offsets = λ d o h. offset-kept (λ (k : Class PyStrInterned). record k { attrs = with_value is_same_name k.attrs x r }) (λ k. refl) w.classes c (λ k. refl) (λ k. refl) d o ∙ h;
+    flags = λ d h. at-changed (λ (k : Class PyStrInterned). record k { attrs = with_value is_same_name k.attrs x r }) (λ k. refl) (option_map (λ (k : Class PyStrInterned). k.flags)) (λ k. refl) w.classes c d;
   })
   set-like (Err e) p f = subst (Like w.classes) (sym f) (like-itself w.classes)
 
@@ -115,6 +116,11 @@ pub bases-there : (w : Held) (bs : List PyTypeRef) → AllHold w (of_each of_cla
 unfolding Holds
 bases-there w [] h = tt
 bases-there w (b ∷ bs) h = (h.0, bases-there w bs h.1)
+
+-- a class has no dict, whatever its metaclass
+no-dict : (w : Held) (meta c : ℕ) → Holds w (IsClass meta) → Holds w (GetsDict (Some c) meta false)
+unfolding Holds
+no-dict w meta c h = (h, refl)
 
 -- a class with its node
 module _ (w : Held) (meta : PyTypeRef) (k : Class PyStrInterned) where
@@ -176,13 +182,13 @@ module _ (w : Held) (meta : PyTypeRef) (k : Class PyStrInterned) where
         record {
           forms = go _ s.forms;
           below = s.below;
-          nodes = each-push new of_node w.nodes (record { class = meta; dict = None; members = []; payload = payload.Class c }) (go _ s.nodes) (more.still (IsClass meta.0) m, (more.still (IsOf meta.0 TypeType) p, (no-members new meta.0, (class-made, tt))));
+          nodes = each-push new of_node w.nodes (record { class = meta; dict = None; members = []; payload = payload.Class c }) (go _ s.nodes) (more.still (IsClass meta.0) m, (more.still (IsOf meta.0 TypeType) p, (no-members new meta.0, (no-dict new meta.0 c.0 (more.still (IsClass meta.0) m), (class-made, tt)))));
           classes = each-push new of_class w.classes k (go _ s.classes) (node, (members, rest));
           vars = go _ s.vars;
           scopes = go _ s.scopes;
           fixed = fixed-grow w new s.fixed (grows-lasts w new more);
           built_in = many;
-          own = λ b. more.still _ (s.own b);
+          own = λ b. more.still _ (s.own b); flags = λ b. more.still _ (s.flags b);
           standing = stands;
           itself = itself;
           apart = s.apart;

@@ -78,7 +78,7 @@ lasting-stays c (payload.Slice s) = refl
 node-holds : (w : Held) (c : PyTypeRef) (n : StoredNode) → Holds w (IsClass c.0) → AllHold w (of_node n) → AllHold w (of_node (defined_node c n))
 node-holds w c n k h =
     let dict = of_option of_dict_ref n.dict in
-    (h.0, (subst (λ b. Holds w (IsOf n.class.0 b)) (ap (λ (l : Lasting). l.home) (sym (lasting-stays c n.payload))) h.1.0, (h.1.1.0, all-append w dict _ (all-first w dict _ h.1.1.1) (payload-holds w c n.payload k (all-rest w dict _ h.1.1.1)))))
+    (h.0, (subst (λ b. Holds w (IsOf n.class.0 b)) (ap (λ (l : Lasting). l.home) (sym (lasting-stays c n.payload))) h.1.0, (h.1.1.0, (subst (λ o. Holds w (GetsDict o n.class.0 (is_some n.dict))) (ap (λ (l : Lasting). l.class) (sym (lasting-stays c n.payload))) h.1.1.1.0, all-append w dict _ (all-first w dict _ h.1.1.1.1) (payload-holds w c n.payload k (all-rest w dict _ h.1.1.1.1))))))
 
 payload-read : (t : Reading) (c : PyTypeRef) (p : Payload) → datum t (defined_payload c p) ≡ defined_by c.0 (datum t p)
 payload-read t c payload.Object = refl
@@ -146,7 +146,7 @@ module _ (w : Held) (c : PyTypeRef) (r : PyObjectRef) (n new : StoredNode) where
       let here = each-get w of_node w.nodes r.0 n (got w.nodes r.0 n l e) s.nodes in
       let there = subst (λ m. AllHold w (of_node m)) (sym k) (node-holds w c n h here) in
       let same : class_in new.payload ≡ class_in n.payload = ap (λ (x : StoredNode). class_in x.payload) k ∙ ap (λ (l : Lasting). l.class) (lasting-stays c n.payload) in
-      record { forms = go _ s.forms; below = s.below; nodes = go _ (each-set w of_node w.nodes r.0 new s.nodes there); classes = go _ s.classes; vars = go _ s.vars; scopes = go _ s.scopes; fixed = fixed-grow w defined s.fixed (grows-lasts w defined more); built_in = built_in-grow w defined s.built_in (grows-lasts w defined more); own = λ b. more.still _ (s.own b); standing = λ d e. more.still _ (s.standing d e); itself = λ m d q. s.itself m d (class-set w.nodes r.0 n new e same m d q); apart = s.apart; scopes_apart = s.scopes_apart; known = s.known }
+      record { forms = go _ s.forms; below = s.below; nodes = go _ (each-set w of_node w.nodes r.0 new s.nodes there); classes = go _ s.classes; vars = go _ s.vars; scopes = go _ s.scopes; fixed = fixed-grow w defined s.fixed (grows-lasts w defined more); built_in = built_in-grow w defined s.built_in (grows-lasts w defined more); own = λ b. more.still _ (s.own b); flags = λ b. more.still _ (s.flags b); standing = λ d e. more.still _ (s.standing d e); itself = λ m d q. s.itself m d (class-set w.nodes r.0 n new e same m d q); apart = s.apart; scopes_apart = s.scopes_apart; known = s.known }
 
   pub define-read : (now : Held) → w ≡ now → r.0 < length w.nodes → n ≡ get_or w.nodes r.0 n → new ≡ defined_node c n → (t : Reading) → plain t defined ≡ with_definer (plain t now) c.0 r
   unfolding plain

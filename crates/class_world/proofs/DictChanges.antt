@@ -171,7 +171,7 @@ module _ (w now : Held) (r : PyObjectRef) (n : StoredNode) (v : w ≡ now) where
   pub held-hold : slice_get w.nodes r.0 ≡ Some n → Sound w → AllHold now (of_entries (held_entries now.nodes r))
   held-hold e s =
       let all = each-get w of_node w.nodes r.0 n e s.nodes in
-      let here = payload-entries w n.payload (all-rest w (of_option of_dict_ref n.dict) _ all.1.1.1) in
+      let here = payload-entries w n.payload (all-rest w (of_option of_dict_ref n.dict) _ all.1.1.1.1) in
       subst (λ es. AllHold now (of_entries es)) (sym (entries-seen e)) (seen w now (of_entries (entries_of n.payload)) v here)
 
   -- a dict by its number
@@ -192,7 +192,7 @@ module _ (w now : Held) (r : PyObjectRef) (n : StoredNode) (v : w ≡ now) where
         below = here;
         home = cc;
         same = entries-seen at;
-        holds = payload-entries w n.payload (all-rest w (of_option of_dict_ref n.dict) _ all.1.1.1);
+        holds = payload-entries w n.payload (all-rest w (of_option of_dict_ref n.dict) _ all.1.1.1.1);
       }
 
 module _ (w : Held) (r : PyObjectRef) (n new : StoredNode) where
@@ -216,11 +216,12 @@ module _ (w : Held) (r : PyObjectRef) (n new : StoredNode) where
       let class : AllHold w (of_class_ref new.class) = subst (λ c. AllHold w (of_class_ref c)) (sym o.0) (all.0, tt) in
       let of = subst (λ c. Holds w (IsOf c.0 (home_of n.payload))) (sym o.0) all.1.0 in
       let like = subst (λ b. Holds w (IsOf new.class.0 b)) (ap (λ (l : Lasting). l.home) (sym q)) of in
-      let dict = subst (λ d. AllHold w (of_option of_dict_ref d)) (sym o.1) (all-first w (of_option of_dict_ref n.dict) _ all.1.1.1) in
+      let dict = subst (λ d. AllHold w (of_option of_dict_ref d)) (sym o.1) (all-first w (of_option of_dict_ref n.dict) _ all.1.1.1.1) in
       let members : Holds w (AreMembers new.class.0 new.members) = subst (λ c. Holds w (AreMembers c.0 new.members)) (sym o.0) (subst (λ ms. Holds w (AreMembers n.class.0 ms)) (sym o.2) all.1.1.0) in
-      let there : AllHold w (of_node new) = (class.0, (like, (members, all-append w (of_option of_dict_ref new.dict) _ dict (has-holds es w new.payload o.3 h)))) in
+      let gets : Holds w (GetsDict (class_in new.payload) new.class.0 (is_some new.dict)) = subst (λ o. Holds w (GetsDict o new.class.0 (is_some new.dict))) (ap (λ (l : Lasting). l.class) (sym q)) (subst (λ d. Holds w (GetsDict (class_in n.payload) new.class.0 (is_some d))) (sym o.1) (subst (λ c. Holds w (GetsDict (class_in n.payload) c.0 (is_some n.dict))) (sym o.0) all.1.1.1.0)) in
+      let there : AllHold w (of_node new) = (class.0, (like, (members, (gets, all-append w (of_option of_dict_ref new.dict) _ dict (has-holds es w new.payload o.3 h))))) in
       let same : class_in new.payload ≡ class_in n.payload = ap (λ (l : Lasting). l.class) q in
-      record { forms = go _ s.forms; below = s.below; nodes = go _ (each-set w of_node w.nodes r.0 new s.nodes there); classes = go _ s.classes; vars = go _ s.vars; scopes = go _ s.scopes; fixed = fixed-grow w changed s.fixed (grows-lasts w changed more); built_in = built_in-grow w changed s.built_in (grows-lasts w changed more); own = λ b. more.still _ (s.own b); standing = λ c e. more.still _ (s.standing c e); itself = λ m c q. s.itself m c (class-set w.nodes r.0 n new e same m c q); apart = s.apart; scopes_apart = s.scopes_apart; known = s.known }
+      record { forms = go _ s.forms; below = s.below; nodes = go _ (each-set w of_node w.nodes r.0 new s.nodes there); classes = go _ s.classes; vars = go _ s.vars; scopes = go _ s.scopes; fixed = fixed-grow w changed s.fixed (grows-lasts w changed more); built_in = built_in-grow w changed s.built_in (grows-lasts w changed more); own = λ b. more.still _ (s.own b); flags = λ b. more.still _ (s.flags b); standing = λ c e. more.still _ (s.standing c e); itself = λ m c q. s.itself m c (class-set w.nodes r.0 n new e same m c q); apart = s.apart; scopes_apart = s.scopes_apart; known = s.known }
 
   node-read : (t : Reading) (es : Entries) → HasOther n new es → node_of t new ≡ record (node_of t n) { datum = ADict es }
   node-read t es o =

@@ -1,10 +1,12 @@
 -- Worlds that have grown, and claims that hold still.
 use Rattle.std.proofs.Common.{◌≡◌, ℕ, suc, ◌≤◌, List, [], ◌∷◌, ◌++◌, length, Option, Some, None, refl, sym, ap, ◌∙◌, subst, arith, length-append}
-use Rattle.std.specs.Prelude.{nat_lt, slice_get, is_some, true, option_map, option_and_then}
+use Rattle.std.specs.Prelude.{nat_lt, slice_get, is_some, is_none, Bool, true, false, ◌&&◌, option_map, option_and_then}
 use Rattle.py_node.specs.declared.built_in.BuiltIn.{BuiltIn}
 use Rattle.py_node.specs.declared.refs.PyStrInterned.{PyStrInterned}
 use Rattle.class_model.specs.Class.{Class, class_at, is_class, is_along, lin}
 use Rattle.class_model.specs.Layout.{is_place, layout, layout_along, member_count}
+use Rattle.class_model.specs.Dict.{says_dict, has_dict}
+use Rattle.class_table.specs.OneBase.{says_so}
 use Rattle.class_model.proofs.Numbers.{at-before}
 use Rattle.std.proofs.lemmas.Bool.{and_parts, ltb-true}
 use Rattle.class_model.proofs.Rule.{lin-classes}
@@ -20,7 +22,7 @@ use Rattle.py_node.specs.declared.payload.Node.{Node}
 use Rattle.py_node.specs.declared.payload.Payload.{Payload}
 use Rattle.py_node.specs.declared.payload.Form.{Form}
 use Rattle.class_world.specs.Held.{Held}
-use Rattle.class_world.specs.Sound.{Claim, IsNode, AreNodes, IsExpression, AreExpressions, IsName, AreNames, IsClass, IsOf, Holding, Standing, CanBeKeys, KeysDiffer, HasForm, HasParams, HasValues, AreMembers, IsOffset, StandsThere, IsMember, params_in, held_params, AreFilled, home_of, home_at, key_in, held_key, class_in, held_class, Holds, Lasts, Grows}
+use Rattle.class_world.specs.Sound.{Claim, IsNode, AreNodes, IsExpression, AreExpressions, IsName, AreNames, IsClass, IsOf, Holding, Standing, CanBeKeys, KeysDiffer, HasForm, HasParams, HasValues, AreMembers, IsOffset, HasFlags, GetsDict, flags_at, StandsThere, IsMember, params_in, held_params, AreFilled, home_of, home_at, key_in, held_key, class_in, held_class, Holds, Lasts, Grows}
 use Rattle.class_world.proofs.Claims.{get-pushed}
 use Rattle.class_world.proofs.Homes.{held_by-push}
 
@@ -47,9 +49,31 @@ pub record Like (old new : List (Class PyStrInterned)) : Type 0 where
   pub there : (c : ℕ) → is_class old c ≡ true → is_class new c ≡ true
   pub places : (c d i : ℕ) → is_place old c d i ≡ true → is_place new c d i ≡ true
   pub offsets : (c : ℕ) (o : Option ℕ) → is_offset old c o ≡ true → is_offset new c o ≡ true
+  pub flags : (c : ℕ) → is_class old c ≡ true → flags_at new c ≡ flags_at old c
+
+-- what the flags say of dicts
+pub says : Option ℕ → Bool
+says None = false
+says (Some n) = says_so n
+
+pub says-dict : (t : List (Class PyStrInterned)) (c : ℕ) → has_dict t c ≡ says (flags_at t c)
+unfolding says
+says-dict t c = go (class_at t c)
+  where
+    go : (o : Option (Class PyStrInterned)) → says_dict o ≡ says (option_map (λ (k : Class PyStrInterned). k.flags) o)
+    go None = refl
+    go (Some k) = refl
+
+pub dict-still : (old new : List (Class PyStrInterned)) → Like old new → (c : ℕ) → is_class old c ≡ true → has_dict new c ≡ has_dict old c
+dict-still old new l c h = says-dict new c ∙ ap says (l.flags c h) ∙ sym (says-dict old c)
+
+-- a class with flags is there
+flagged : (o : Option (Class PyStrInterned)) (n : ℕ) → option_map (λ (k : Class PyStrInterned). k.flags) o ≡ Some n → is_some o ≡ true
+flagged None n e = cc
+flagged (Some k) n e = refl
 
 pub like-itself : (ks : List (Class PyStrInterned)) → Like ks ks
-like-itself ks = record { held = λ c b h. h; there = λ c h. h; places = λ c d i h. h; offsets = λ c o h. h }
+like-itself ks = record { held = λ c b h. h; there = λ c h. h; places = λ c d i h. h; offsets = λ c o h. h; flags = λ c h. refl }
 
 pub keep-itself : (ns : List Node) → Keep ns ns
 keep-itself ns = record { stays = λ n x e. (x, e, refl) }
@@ -74,7 +98,7 @@ place-push ks k c d i h =
         sym (layout-agrees ks (ks ++ k ∷ []) c (e ∙ sym (lin-push ks k c line e)) (λ ls x q m. sym (is_solid-push ks k x (lin-classes ks c ls x q m))))
 
 pub like-push : (ks : List (Class PyStrInterned)) (k : Class PyStrInterned) → Like ks (ks ++ k ∷ [])
-like-push ks k = record { held = held_by-push ks k; there = there-push ks k; places = place-push ks k; offsets = offset-push ks k }
+like-push ks k = record { held = held_by-push ks k; there = there-push ks k; places = place-push ks k; offsets = offset-push ks k; flags = λ c h. ap (option_map (λ (k : Class PyStrInterned). k.flags)) (at-before ks k c h) }
 
 pub keep-push : (ns : List Node) (x : Node) → Keep ns (ns ++ x ∷ [])
 keep-push ns x = record { stays = λ n y e. (y, get-pushed ns x n y e, refl) }
@@ -151,6 +175,8 @@ grows-at old new x e s n p l (HasParams r ps) h = params-still old.nodes new.nod
 grows-at old new x e s n p l (HasValues r vars) h = values-still old.nodes new.nodes p r vars h
 grows-at old new x e s n p l (AreMembers c ms) h = members-still old new n l c ms h
 grows-at old new x e s n p l (IsOffset c o) h = l.offsets c o h
+grows-at old new x e s n p l (HasFlags c m) h = l.flags c (flagged (class_at old.classes c) m h) ∙ h
+grows-at old new x e s n p l (GetsDict o c b) h = (l.there c h.0, h.1 ∙ sym (ap (λ v. is_none o && v) (dict-still old.classes new.classes l c h.0)))
 
 -- where no table is shorter
 lasts : (old new : Held) → length old.names ≤ length new.names → length old.forms ≤ length new.forms → Stays old.forms new.forms → length old.nodes ≤ length new.nodes → Keep old.nodes new.nodes → Like old.classes new.classes → Lasts old new

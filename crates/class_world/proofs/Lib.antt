@@ -36,4 +36,5 @@ pub mod SameLayout
 pub mod NewBases
 pub mod NodeMembers
 pub mod Reclassed
-pub mod MadeClass
+pub mod HeapClass
+mod MadeClass

@@ -13,11 +13,12 @@ use Rattle.py_node.specs.Known.{known_texts, known_text, number_of}
 use Rattle.py_node.proofs.KnownNames.{below, known-count}
 use Rattle.std.proofs.lemmas.Option.{slice_get-get_or, slice_get_within}
 use Rattle.class_model.specs.Class.{Class, class_at, has_flag, renamed}
+use Rattle.class_model.specs.Dict.{says_dict}
 use Rattle.class_model.specs.Slot.{entry, slot, candidates_of, goes_first}
 use Rattle.class_model.specs.BuiltIn.{natives_of}
 use Rattle.class_model.proofs.Renamed.{at-renamed, entry-renamed, slot-renamed, candidates_of-renamed, goes_first-renamed}
 use Rattle.class_table.specs.Keys.{table_keys}
-use Rattle.plain_machine.specs.World.{node_at, has_dict, flag_in, text_keys}
+use Rattle.plain_machine.specs.World.{node_at, has_dict, text_keys}
 use Rattle.plain_machine.specs.Known.{the_dict}
 use Rattle.class_world.specs.Held.{Held}
 use Rattle.class_world.specs.Reading.{Reading, Reads, form_tree, node_of, spelled, plain}
@@ -44,27 +45,19 @@ abbrev pub flag_at : {K : Type 0} → ℕ → Option (Class K) → Bool
 flag_at flag None = false
 flag_at flag (Some k) = has_flag flag k
 
--- whether a class gives dicts is a flag of the class
-pub dict-read : (w now : Held) (c : ℕ) → w ≡ now → (t : Reading) → has_dict (plain t now) c ≡ flag_at (2 ^ 40) (class_at w.classes c)
-unfolding plain
-dict-read w now c v t = subst (λ n. has_dict (plain t n) c ≡ flag_at (2 ^ 40) (class_at w.classes c)) v (go w.classes c)
-  where
-    go : (ks : List (Class PyStrInterned)) (c : ℕ) → flag_in (class_at (renamed (spelled t) ks) c) ≡ flag_at (2 ^ 40) (class_at ks c)
-    go ks c = at-renamed (spelled t) flag_in (flag_at (2 ^ 40)) refl (λ k. refl) ks c
-
--- then the class of dicts is there
-pub dict-there : (w now : Held) (c : ℕ) → w ≡ now → Sound w → IsTrue (flag_at (2 ^ 40) (class_at w.classes c)) → Holds now (IsClass the_dict)
+-- where a class gives dicts, the class of dicts is there
+pub dict-there : (w now : Held) (c : ℕ) → w ≡ now → Sound w → IsTrue (says_dict (class_at w.classes c)) → Holds now (IsClass the_dict)
 dict-there w now c v s h = subst (λ w. Holds w (IsClass the_dict)) v (go w.classes c s.classes h)
   where
     of : (b : Bool) → IsTrue b → AllHold w (of_dict b) → Holds w (IsClass the_dict)
     of true h p = p.0
     of false h p = cc
 
-    go : (ks : List (Class PyStrInterned)) (c : ℕ) → AllHold w (of_each of_class ks) → IsTrue (flag_at (2 ^ 40) (class_at ks c)) → Holds w (IsClass the_dict)
+    go : (ks : List (Class PyStrInterned)) (c : ℕ) → AllHold w (of_each of_class ks) → IsTrue (says_dict (class_at ks c)) → Holds w (IsClass the_dict)
     go [] c p h = cc
     go (k ∷ ks) c p h = pick (eqb k.number c) (go ks c (all-rest w (of_class k) _ p)) h
       where
-        pick : (b : Bool) → (IsTrue (flag_at (2 ^ 40) (class_at ks c)) → Holds w (IsClass the_dict)) → IsTrue (flag_at (2 ^ 40) (cond b (Some k) (class_at ks c))) → Holds w (IsClass the_dict)
+        pick : (b : Bool) → (IsTrue (says_dict (class_at ks c)) → Holds w (IsClass the_dict)) → IsTrue (says_dict (cond b (Some k) (class_at ks c))) → Holds w (IsClass the_dict)
         pick true more h = of (has_flag (2 ^ 40) k) h (all-first w (of_dict (has_flag (2 ^ 40) k)) _ (all-first w (of_class k) (of_each of_class ks) p).1.1)
         pick false more h = more h
 

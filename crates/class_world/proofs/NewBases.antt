@@ -6,12 +6,16 @@ use Rattle.py_node.specs.declared.raised.Cause.{Cause}
 use Rattle.py_node.specs.declared.raised.Cause.TheVariants.{EmptyBases, ImmutableType, InheritanceCycle, LayoutDiffers, DuplicateBase}
 use Rattle.py_node.specs.declared.refs.PyStrInterned.{PyStrInterned}
 use Rattle.class_model.specs.Order.{all_some, is_distinct}
-use Rattle.class_model.specs.Class.{Class, Classes, is_class, bases_of, lin, is_sub, renamed}
+use Rattle.class_model.specs.Class.{Class, Classes, class_at, is_class, bases_of, lin, is_sub, renamed}
 use Rattle.class_model.specs.Change.{with_bases, order_cause, blamed_along, caused, failing}
 use Rattle.class_model.specs.Layout.{is_empty, solid, best_of, base}
 use Rattle.class_model.specs.Slot.{is_heap_at}
 use Rattle.class_model.specs.Sound.{AreSound}
+use Rattle.class_model.specs.Dict.{alike, has_dict, dict_with, keeps_dict}
 use Rattle.class_model.proofs.Agreed.{bind-agrees}
+use Rattle.class_model.proofs.Numbers.{at-changed}
+use Rattle.class_model.proofs.Dict.{any_has_dict-agrees}
+use Rattle.class_model.proofs.Sound.{has_dict-renamed}
 use Rattle.class_model.proofs.Kept.{is_class-kept, is_place-agrees, member_count-kept}
 use Rattle.class_model.proofs.Renamed.{at-renamed, bases_of-renamed, lin-renamed, is_sub-renamed, solid-renamed, base-renamed, best_of-renamed}
 use Rattle.class_table.specs.declared.fault.ClassFault.{ClassFault}
@@ -40,15 +44,23 @@ module _ {K L : Type 0} (f : K → L) (t : Classes K) where
   derives-alike (b ∷ bs) c =
       ap (λ v. v || any_derives (renamed f t) bs c) (is_sub-renamed f t b c) ∙ ap (λ v. is_sub t b c || v) (derives-alike bs c)
 
+  keeps-alike : (c : ℕ) (bs : List ℕ) → keeps_dict (renamed f t) c bs ≡ keeps_dict t c bs
+  keeps-alike c bs =
+      let u = renamed f t in
+      let any = any_has_dict-agrees u t bs (λ b h. has_dict-renamed f t b) in
+      let own : dict_with u (class_at u c) bs ≡ dict_with t (class_at t c) bs = at-renamed f (λ o. dict_with u o bs) (λ o. dict_with t o bs) refl (λ k. ap (λ b. k.brings || b) any) t c in
+      ap (λ b. alike b (has_dict u c)) own ∙ ap (alike (dict_with t (class_at t c) bs)) (has_dict-renamed f t c)
+
   shape-alike : (c : ℕ) (bs : List ℕ) → refused_shape (renamed f t) c bs ≡ refused_shape t c bs
   shape-alike c bs =
       let u = renamed f t in
       let new : most_derived u bs ≡ most_derived t bs = bind-agrees (solid u) (solid t) (best_of u bs) (best_of t bs) (best_of-renamed f t bs) (λ x e. solid-renamed f t x) in
       let old : option_and_then (solid u) (base u c) ≡ option_and_then (solid t) (base t c) = bind-agrees (solid u) (solid t) (base u c) (base t c) (base-renamed f t c) (λ x e. solid-renamed f t x) in
-      let rest : Option ℕ → Option ℕ → Option Cause = λ o p. option_or (unless (is_same o p) LayoutDiffers) (unless (is_distinct bs) DuplicateBase) in
-      ap (λ o. option_or o (rest (most_derived u bs) (option_and_then (solid u) (base u c)))) (layout-alike f t bs)
-      ∙ ap (λ o. option_or (refused_layout t bs) (rest o (option_and_then (solid u) (base u c)))) new
-      ∙ ap (λ o. option_or (refused_layout t bs) (rest (most_derived t bs) o)) old
+      let rest : Option ℕ → Option ℕ → Bool → Option Cause = λ o p b. option_or (unless (is_same o p) LayoutDiffers) (option_or (unless b LayoutDiffers) (unless (is_distinct bs) DuplicateBase)) in
+      ap (λ o. option_or o (rest (most_derived u bs) (option_and_then (solid u) (base u c)) (keeps_dict u c bs))) (layout-alike f t bs)
+      ∙ ap (λ o. option_or (refused_layout t bs) (rest o (option_and_then (solid u) (base u c)) (keeps_dict u c bs))) new
+      ∙ ap (λ o. option_or (refused_layout t bs) (rest (most_derived t bs) o (keeps_dict u c bs))) old
+      ∙ ap (λ b. option_or (refused_layout t bs) (rest (most_derived t bs) (option_and_then (solid t) (base t c)) b)) (keeps-alike c bs)
 
   change-alike : (c : ℕ) (bs : List ℕ) → refused_change (renamed f t) c bs ≡ refused_change t c bs
   change-alike c bs =
@@ -118,6 +130,7 @@ module _ (w : Held) (c : ℕ) (bs : List ℕ) (ok : AreSound w.classes) (here : 
         there = λ d h. is_class-kept f (λ k. refl) w.classes c d ∙ h;
         places = λ d x i h. is_place-agrees u w.classes d x i (same d) (member_count-kept f (λ k. refl) w.classes c (λ k. refl) x) ∙ h;
         offsets = λ d o h. offset-agrees u w.classes d o (same d) (member_count-kept f (λ k. refl) w.classes c (λ k. refl)) ∙ h;
+        flags = λ d h. at-changed f (λ k. refl) (option_map (λ (k : HeldClass). k.flags)) (λ k. refl) w.classes c d;
       }
 
   pub bases-like : {T : Type 0} (ks : List HeldClass) (o : Result T ClassFault) → OnOk o (ks ≡ with_bases w.classes c bs) → OnErr o (ks ≡ w.classes) → WithMemory o (told o ≡ refused_rebase w.classes c bs) → Like w.classes ks

@@ -1,6 +1,6 @@
 -- An object that gets another class, or another dict.
 use Rattle.std.proofs.Common.{◌≡◌, ℕ, Bool, true, false, List, [], ◌∷◌, Option, Some, None, refl, sym, ap, ◌∙◌, subst}
-use Rattle.std.specs.Prelude.{◌&&◌, nat_lt, slice_get, option_map, option_and_then}
+use Rattle.std.specs.Prelude.{◌&&◌, nat_lt, is_some, is_none, slice_get, option_map, option_and_then}
 use Rattle.std.specs.List.{AllByRecursion}
 use Rattle.std.specs.Option.{option_or}
 use Rattle.std.proofs.lemmas.Bool.{eqb-true}
@@ -10,12 +10,15 @@ use Rattle.py_node.specs.declared.payload.Node.{Node as StoredNode}
 use Rattle.py_node.specs.declared.raised.Cause.TheVariants.{ImmutableType, LayoutDiffers}
 use Rattle.py_node.specs.declared.refs.PyObjectRef.{PyObjectRef}
 use Rattle.py_node.specs.declared.refs.PyTypeRef.{PyTypeRef}
-use Rattle.class_model.specs.Class.{Classes, class_at, is_class, is_along}
+use Rattle.class_model.specs.Class.{Classes, class_at, is_class, is_along, renamed}
 use Rattle.class_model.specs.Layout.{layout, member_count, solid}
 use Rattle.class_model.specs.Slot.{is_heap_at}
+use Rattle.class_model.specs.Dict.{alike, gives_dict, has_dict}
 use Rattle.class_model.specs.Sound.{AreSound}
 use Rattle.class_model.proofs.Numbers.{some-of}
-use Rattle.class_model.proofs.Renamed.{solid-renamed}
+use Rattle.class_model.proofs.Renamed.{at-renamed, solid-renamed}
+use Rattle.class_model.proofs.Dict.{alike-same, has-gives}
+use Rattle.class_model.proofs.Sound.{has_dict-renamed, sound-renamed}
 use Rattle.class_table.specs.Rebase.{is_same, refused_class, unless}
 use Rattle.class_table.proofs.KeptLayouts.{layout-solid}
 use Rattle.plain_machine.specs.Plain.{Node}
@@ -23,7 +26,7 @@ use Rattle.plain_machine.specs.Sound.{held_by}
 use Rattle.plain_machine.specs.World.{class_at as node_class}
 use Rattle.class_world.specs.Held.{Held}
 use Rattle.class_world.specs.Reading.{Reading, spelled, plain}
-use Rattle.class_world.specs.Sound.{IsNode, IsClass, Holding, IsMember, Holds, AllHold, of_node, of_option, of_dict_ref, with_class_ref, with_dict_ref}
+use Rattle.class_world.specs.Sound.{IsNode, IsClass, Holding, IsMember, class_in, Holds, AllHold, of_node, of_option, of_dict_ref, with_class_ref, with_dict_ref}
 use Rattle.class_world.proofs.Claims.{all-rest}
 use Rattle.class_world.proofs.Look.{node-read}
 use Rattle.class_world.proofs.OfClasses.{heap-seen}
@@ -33,6 +36,16 @@ solid-seen : (w now : Held) → w ≡ now → (t : Reading) (x : ℕ) → solid 
 unfolding plain
 solid-seen w now v t x = subst (λ u. solid (plain t u).classes x ≡ solid w.classes x) v (solid-renamed (spelled t) w.classes x)
 
+pub dict-seen : (w now : Held) → w ≡ now → (t : Reading) (x : ℕ) → has_dict (plain t now).classes x ≡ has_dict w.classes x
+unfolding plain
+dict-seen w now v t x = subst (λ u. has_dict (plain t u).classes x ≡ has_dict w.classes x) v (has_dict-renamed (spelled t) w.classes x)
+
+pub gives-seen : (w now : Held) → w ≡ now → AreSound w.classes → (t : Reading) (x : ℕ) → is_class w.classes x ≡ true → gives_dict (plain t now).classes x ≡ has_dict w.classes x
+unfolding plain
+gives-seen w now v ok t x l =
+    let there : is_class (renamed (spelled t) w.classes) x ≡ true = at-renamed (spelled t) is_some is_some refl (λ k. refl) w.classes x ∙ l in
+    subst (λ u. gives_dict (plain t u).classes x ≡ has_dict w.classes x) v (sym (has-gives (renamed (spelled t) w.classes) (sound-renamed (spelled t) w.classes ok) x there) ∙ has_dict-renamed (spelled t) w.classes x)
+
 -- what is refused is so under the texts too
 pub reclass-seen : (w now : Held) → w ≡ now → (t : Reading) (c d : ℕ) → refused_class (plain t now).classes c d ≡ refused_class w.classes c d
 reclass-seen w now v t c d =
@@ -40,21 +53,32 @@ reclass-seen w now v t c d =
     let b = heap-seen w now v t d in
     let s = solid-seen w now v t c in
     let r = solid-seen w now v t d in
-    λ i. option_or (unless (a i && b i) ImmutableType) (unless (is_same (s i) (r i)) LayoutDiffers)
+    let e = dict-seen w now v t c in
+    let f = dict-seen w now v t d in
+    λ i. option_or (unless (a i && b i) ImmutableType) (unless (is_same (s i) (r i) && alike (e i) (f i)) LayoutDiffers)
 
 module _ {K : Type 0} (t : Classes K) (ok : AreSound t) (c d : ℕ) (there : is_class t c ≡ true) (other : is_class t d ≡ true) (passed : refused_class t c d ≡ None) where
+  -- both tests were passed
+  tests : (is_same (solid t c) (solid t d) ≡ true) × (alike (has_dict t c) (has_dict t d) ≡ true)
+  tests = go (is_heap_at (class_at t c) && is_heap_at (class_at t d)) (is_same (solid t c) (solid t d)) (alike (has_dict t c) (has_dict t d)) passed
+    where
+      go : (x y z : Bool) → option_or (unless x ImmutableType) (unless (y && z) LayoutDiffers) ≡ None → (y ≡ true) × (z ≡ true)
+      go true true true e = (refl, refl)
+      go true true false e = cc
+      go true false z e = cc
+      go false true true e = cc
+      go false true false e = cc
+      go false false z e = cc
+
+  pub same-dict : has_dict t c ≡ has_dict t d
+  same-dict = alike-same (has_dict t c) (has_dict t d) tests.1
+
   same : solid t c ≡ solid t d
   same =
       let a = some-of (solid t c) (ok.solid c there) in
       let b = some-of (solid t d) (ok.solid d other) in
-      let e : is_same (Some a.0) (Some b.0) ≡ true = sym (λ i. is_same (a.1 i) (b.1 i)) ∙ go (is_heap_at (class_at t c) && is_heap_at (class_at t d)) (is_same (solid t c) (solid t d)) passed in
+      let e : is_same (Some a.0) (Some b.0) ≡ true = sym (λ i. is_same (a.1 i) (b.1 i)) ∙ tests.0 in
       a.1 ∙ ap Some (eqb-true a.0 b.0 e) ∙ sym b.1
-    where
-      go : (x y : Bool) → option_or (unless x ImmutableType) (unless y LayoutDiffers) ≡ None → y ≡ true
-      go true true e = refl
-      go true false e = cc
-      go false true e = cc
-      go false false e = cc
 
   pub same-layout : layout t c ≡ layout t d
   same-layout =
@@ -73,11 +97,12 @@ members-moved w c d e (m ∷ ms) h =
 pub class-set-holds : (w : Held) (n : StoredNode) (class : PyTypeRef) → AreSound w.classes → AllHold w (of_node n) → Holds w (IsClass class.0) → refused_class w.classes n.class.0 class.0 ≡ None → AllHold w (of_node (with_class_ref n class))
 unfolding Holds
 class-set-holds w n class ok h there passed =
-    (there, (sym (same-held w.classes ok n.class.0 class.0 h.0 there passed) ∙ h.1.0, (members-moved w n.class.0 class.0 (same-layout w.classes ok n.class.0 class.0 h.0 there passed) n.members h.1.1.0, h.1.1.1)))
+    (there, (sym (same-held w.classes ok n.class.0 class.0 h.0 there passed) ∙ h.1.0, (members-moved w n.class.0 class.0 (same-layout w.classes ok n.class.0 class.0 h.0 there passed) n.members h.1.1.0, ((there, h.1.1.1.0.1 ∙ ap (λ b. is_none (class_in n.payload) && b) (same-dict w.classes ok n.class.0 class.0 h.0 there passed)), h.1.1.1.1))))
 
-pub dict-set-holds : (w : Held) (n : StoredNode) (dict : PyObjectRef) → AllHold w (of_node n) → Holds w (IsNode dict) → Holds w (Holding dict Dict) → AllHold w (of_node (with_dict_ref n dict))
-dict-set-holds w n dict h there holding =
-    (h.0, (h.1.0, (h.1.1.0, (there, (holding, all-rest w (of_option of_dict_ref n.dict) _ h.1.1.1)))))
+pub dict-set-holds : (w : Held) (n : StoredNode) (dict : PyObjectRef) → is_some n.dict ≡ true → AllHold w (of_node n) → Holds w (IsNode dict) → Holds w (Holding dict Dict) → AllHold w (of_node (with_dict_ref n dict))
+unfolding Holds
+dict-set-holds w n dict had h there holding =
+    (h.0, (h.1.0, (h.1.1.0, ((h.1.1.1.0.0, sym had ∙ h.1.1.1.0.1), (there, (holding, all-rest w (of_option of_dict_ref n.dict) _ h.1.1.1.1))))))
 
 -- what is told of an object's class
 pub class-told : (w now : Held) → w ≡ now → (t : Reading) (r : PyObjectRef) (n : StoredNode) → slice_get w.nodes r.0 ≡ Some n → (d : ℕ) → option_and_then (λ c. refused_class (plain t now).classes c d) (node_class (plain t now) r) ≡ refused_class w.classes n.class.0 d

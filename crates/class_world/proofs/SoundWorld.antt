@@ -1,6 +1,6 @@
 -- A world whose claims hold stands for a sound plain world.
 use Rattle.std.proofs.Common.{◌≡◌, ℕ, zero, suc, ◌<◌, ◌^◌, List, [], ◌∷◌, ◌++◌, length, get_or, map, Option, Some, None, refl, sym, ap, ◌∙◌, subst, arith}
-use Rattle.std.specs.Prelude.{slice_get, true, is_some, option_map, option_and_then}
+use Rattle.std.specs.Prelude.{◌&&◌, slice_get, true, is_some, is_none, option_map, option_and_then}
 use Rattle.std.specs.List.{All}
 use Rattle.std.proofs.lemmas.List.{length-map}
 use Rattle.py_node.specs.declared.refs.PyObjectRef.{PyObjectRef}
@@ -13,10 +13,12 @@ use Rattle.py_node.specs.declared.payload.Payload.TheVariants as payload
 use Rattle.py_node.specs.Attributes.{value_of, AreNamesDistinct}
 use Rattle.class_model.specs.Class.{Classes, is_class, has_flag, rekeyed, renamed}
 use Rattle.class_model.specs.Sound.{AreSound}
-use Rattle.class_model.proofs.Sound.{sound-renamed}
+use Rattle.class_model.specs.Dict.{has_dict}
+use Rattle.class_model.proofs.Sound.{has_dict-renamed, sound-renamed}
 use Rattle.class_model.proofs.Renamed.{at-renamed, lin-renamed, is_place-renamed}
 use Rattle.plain_machine.specs.Plain.{AClass, Node}
 use Rattle.plain_machine.specs.World.{is_text, datum_at}
+use Rattle.plain_machine.specs.Objects.{class_number}
 use Rattle.plain_machine.specs.Sound.{home, optional_class, optional, all_optional, super_object, super_start, nodes_in, classes_in, is_offset, read_offset, set_offset, offsets_in, Key, key_of, key_at, keys_in, AreKeys, AreApart, params_in as params_of, IsSoundNode, IsSoundScope, IsSound}
 use Rattle.class_world.specs.declared.scope.Scope.{Scope as HeldScope}
 use Rattle.class_world.specs.Held.{Held}
@@ -419,6 +421,28 @@ module _ (w : Held) (t : Reading) where
   class-back (payload.Iterator i) c e = cc
   class-back (payload.Slice s) c e = cc
 
+  no-class-read : (p : Payload) → is_none (class_number (Some (datum t p))) ≡ is_none (class_in p)
+  no-class-read payload.Object = refl
+  no-class-read (payload.Class d) = refl
+  no-class-read (payload.Number z) = refl
+  no-class-read (payload.Text s) = refl
+  no-class-read (payload.Tuple rs) = refl
+  no-class-read (payload.List rs) = refl
+  no-class-read (payload.Dict es) = refl
+  no-class-read (payload.Function f) = refl
+  no-class-read (payload.Method m) = refl
+  no-class-read (payload.NativeFunction f) = refl
+  no-class-read (payload.BuiltinMethod m) = refl
+  no-class-read (payload.MethodDescriptor m) = refl
+  no-class-read (payload.GetSet g) = refl
+  no-class-read (payload.ClassMethod r) = refl
+  no-class-read (payload.StaticMethod r) = refl
+  no-class-read (payload.Member m) = refl
+  no-class-read (payload.Property p) = refl
+  no-class-read (payload.Super s) = refl
+  no-class-read (payload.Iterator i) = refl
+  no-class-read (payload.Slice s) = refl
+
   held-back : (ns : List StoredNode) (n c : ℕ) → option_map (λ (x : Node). x.datum) (slice_get (map (node_of t) ns) n) ≡ Some (AClass c) → held_class ns (record { 0 = n }) ≡ Some c
   held-back [] n c e = cc
   held-back (x ∷ ns) zero c e = class-back x.payload c e
@@ -458,11 +482,12 @@ module _ (w : Held) (t : Reading) where
   unfolding Holds plain
   node-is x h =
       let dict = of_option of_dict_ref x.dict in
-      let held = all-rest w dict (of_payload x.payload) h.1.1.1 in
+      let held = all-rest w dict (of_payload x.payload) h.1.1.1.1 in
       record {
         class = there-read x.class.0 ∙ h.0;
         like = ap by_line (lin-renamed (spelled t) w.classes x.class.0) ∙ h.1.0 ∙ ap Some (sym (home-read t x.payload));
-        dict = λ r e. dict-is x r (all-first w dict (of_payload x.payload) h.1.1.1) e;
+        given = h.1.1.1.0.1 ∙ ap (λ b. b && has_dict w.classes x.class.0) (sym (no-class-read x.payload)) ∙ ap (λ b. is_none (class_number (Some (datum t x.payload))) && b) (sym (has_dict-renamed (spelled t) w.classes x.class.0));
+        dict = λ r e. dict-is x r (all-first w dict (of_payload x.payload) h.1.1.1.1) e;
         members = λ c i r e. let m = member-is w x.class.0 (record { class = record { 0 = c }; index = i }) r x.members h.1.1.0 e in (is_place-renamed (spelled t) w.classes x.class.0 c i ∙ m.0, subst (λ n. r.0 < n) (sym (length-map w.nodes (node_of t))) m.1);
         nodes = subst (λ n. Below n (nodes_in (datum t x.payload))) (sym (length-map w.nodes (node_of t))) (nodes-there x.payload held);
         keys = keys-there x.payload held;

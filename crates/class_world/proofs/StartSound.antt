@@ -1,5 +1,5 @@
 -- The world of a new machine is sound, and is the plain machine's.
-use Rattle.std.proofs.Common.{◌≡◌, ℕ, zero, suc, ◌+◌, ◌^◌, ◌<◌, ◌≤◌, Bool, true, false, cond, List, [], ◌∷◌, ◌++◌, length, Some, refl, ap, subst, arith, map}
+use Rattle.std.proofs.Common.{◌≡◌, ℕ, zero, suc, ◌+◌, ◌^◌, ◌<◌, ◌≤◌, Bool, true, false, cond, List, [], ◌∷◌, ◌++◌, length, Some, None, refl, sym, ap, subst, arith, map}
 use Rattle.std.specs.Prelude.{◌&&◌, eqb, ltb, is_some}
 use Rattle.std.specs.List.{IsDistinct}
 use Rattle.std.proofs.lemmas.Bool.{eqb-true, eqb-false, ltb-true}
@@ -7,7 +7,8 @@ use Rattle.py_node.specs.declared.refs.PyStrInterned.{PyStrInterned}
 use Rattle.py_node.specs.declared.built_in.BuiltIn.{BuiltIn}
 use Rattle.py_node.specs.declared.built_in.BuiltIn.TheVariants as built_in
 use Rattle.plain_machine.specs.Sound.{holds_as, held_by}
-use Rattle.py_node.specs.BuiltIns.{place_of, base_of, built_in_bases, all_built_ins}
+use Rattle.py_node.specs.BuiltIns.{place_of, base_of, flags_of, built_in_bases, built_in_flags, all_built_ins}
+use Rattle.class_model.specs.Dict.{has_dict}
 use Rattle.class_model.specs.Order.{linear, least_order, arrangements, all_arrangements}
 use Rattle.py_node.specs.Known.{known_texts}
 use Rattle.class_model.specs.Class.{Class, class_at, is_class, has_flag, renamed}
@@ -17,7 +18,7 @@ use Rattle.plain_machine.specs.Known.{the_dict}
 use Rattle.class_world.specs.Held.{Held}
 use Rattle.class_world.specs.StartNodes.{class_node, fixed_nodes, start_nodes}
 use Rattle.class_world.specs.Reading.{Reading, node_of, spelled, plain}
-use Rattle.class_world.specs.Sound.{Standing, held_class, Holds, AllHold, Sound, of_node, of_dict, of_class, of_each}
+use Rattle.class_world.specs.Sound.{Standing, HasFlags, GetsDict, held_class, Holds, AllHold, Sound, of_node, of_dict, of_class, of_each}
 use Rattle.class_world.proofs.Claims.{each-append, all-append}
 use Rattle.class_table.proofs.StartParts.{split}
 
@@ -36,11 +37,13 @@ module _ (w : Held) where
   nodes-hold n (b ∷ bs) h l o m =
       let both = split (ltb (place_of b) n) (places_below n bs) h in
       let below = ltb-true (place_of b) n both.0 in
-      (l 1 o, (m, (tt, (l (place_of b) below, nodes-hold n bs both.1 l o m))))
+      (l 1 o, (m, (tt, ((l 1 o, refl), (l (place_of b) below, nodes-hold n bs both.1 l o m)))))
 
-  fixed-hold : ((c : ℕ) → c < 23 → is_class w.classes c ≡ true) → held_by w.classes 2 ≡ Some built_in.Object → held_by w.classes 3 ≡ Some built_in.Object → held_by w.classes 5 ≡ Some built_in.Int → AllHold w (of_each of_node fixed_nodes)
+  fixed-hold : ((c : ℕ) → c < 23 → is_class w.classes c ≡ true) → held_by w.classes 2 ≡ Some built_in.Object → held_by w.classes 3 ≡ Some built_in.Object → held_by w.classes 5 ≡ Some built_in.Int → has_dict w.classes 2 ≡ false → has_dict w.classes 3 ≡ false → has_dict w.classes 5 ≡ false → AllHold w (of_each of_node fixed_nodes)
   unfolding Holds
-  fixed-hold l a b c = (l 2 (omega arith), (a, (tt, (l 3 (omega arith), (b, (tt, (l 5 (omega arith), (c, (tt, (l 5 (omega arith), (c, (tt, tt))))))))))))
+  fixed-hold l a b c d e f =
+      let at : (n : ℕ) → n < 23 → has_dict w.classes n ≡ false → Holds w (GetsDict None n false) = λ n k g. (l n k, sym g) in
+      (l 2 (omega arith), (a, (tt, (at 2 (omega arith) d, (l 3 (omega arith), (b, (tt, (at 3 (omega arith) e, (l 5 (omega arith), (c, (tt, (at 5 (omega arith) f, (l 5 (omega arith), (c, (tt, (at 5 (omega arith) f, tt))))))))))))))))
 
   dict-holds : (b : Bool) → is_class w.classes the_dict ≡ true → AllHold w (of_dict b)
   unfolding Holds
@@ -85,6 +88,45 @@ started-own built_in.StaticMethod = refl
 started-own built_in.Super = refl
 started-own built_in.Iterator = refl
 started-own built_in.Slice = refl
+
+-- the flags of each class, by computing
+started-flags : (b : BuiltIn) → Holds started (HasFlags (place_of b) (flags_of b))
+unfolding all_built_ins place_of flags_of built_in_flags Holds
+started-flags built_in.Object = refl
+started-flags built_in.TypeType = refl
+started-flags built_in.NoneType = refl
+started-flags built_in.NotImplementedType = refl
+started-flags built_in.Int = refl
+started-flags built_in.Bool = refl
+started-flags built_in.Str = refl
+started-flags built_in.Tuple = refl
+started-flags built_in.List = refl
+started-flags built_in.Dict = refl
+started-flags built_in.Function = refl
+started-flags built_in.Method = refl
+started-flags built_in.BuiltinFunctionOrMethod = refl
+started-flags built_in.BuiltinMethod = refl
+started-flags built_in.MethodDescriptor = refl
+started-flags built_in.GetSetDescriptor = refl
+started-flags built_in.MemberDescriptor = refl
+started-flags built_in.Property = refl
+started-flags built_in.ClassMethod = refl
+started-flags built_in.StaticMethod = refl
+started-flags built_in.Super = refl
+started-flags built_in.Iterator = refl
+started-flags built_in.Slice = refl
+
+started-plain_2 : has_dict started.classes 2 ≡ false
+unfolding all_built_ins place_of flags_of built_in_flags
+started-plain_2 = refl
+
+started-plain_3 : has_dict started.classes 3 ≡ false
+unfolding all_built_ins place_of flags_of built_in_flags
+started-plain_3 = refl
+
+started-plain_5 : has_dict started.classes 5 ≡ false
+unfolding all_built_ins place_of flags_of built_in_flags
+started-plain_5 = refl
 
 -- the node of each class, by computing
 started-stands : (b : BuiltIn) → Holds started (Standing (place_of b) (record { 0 = place_of b }))
@@ -164,13 +206,14 @@ unfolding all_built_ins place_of Holds IsDistinct
 started-sound = record {
   forms = tt;
   below = λ n x e. cc;
-  nodes = each-append started of_node (map class_node all_built_ins) fixed_nodes (nodes-hold started 23 all_built_ins refl started-there (omega arith) (started-own built_in.TypeType)) (fixed-hold started started-there (started-own built_in.NoneType) (started-own built_in.NotImplementedType) (started-own built_in.Bool));
+  nodes = each-append started of_node (map class_node all_built_ins) fixed_nodes (nodes-hold started 23 all_built_ins refl started-there (omega arith) (started-own built_in.TypeType)) (fixed-hold started started-there (started-own built_in.NoneType) (started-own built_in.NotImplementedType) (started-own built_in.Bool) started-plain_2 started-plain_3 started-plain_5);
   classes = classes-hold started 23 all_built_ins refl (started-there the_dict (omega arith)) (omega arith);
   vars = tt;
   scopes = tt;
   fixed = omega arith;
   built_in = started-there;
   own = started-own;
+  flags = started-flags;
   apart = tt;
   scopes_apart = λ i d l. absurd (omega arith);
   standing = λ c e. places-stand 0 all_built_ins refl c e;

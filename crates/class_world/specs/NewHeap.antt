@@ -1,6 +1,7 @@
 -- Classes that scripts make.
 use Rattle.std.specs.Option.{option_or}
-use Rattle.std.specs.Prelude.{ℕ, Bool, true, false, cond, List, [], map, Option, Some, None}
+use Rattle.std.specs.Prelude.{ℕ, Bool, true, false, cond, List, [], ◌∷◌, map, Option, Some, None, option_map}
+use Rattle.std.specs.Global.{Vec}
 use Rattle.py_node.specs.declared.raised.Cause.{Cause}
 use Rattle.py_node.specs.declared.raised.Cause.TheVariants.{QualnameType}
 use Rattle.py_node.specs.declared.refs.PyObjectRef.{PyObjectRef}
@@ -9,16 +10,14 @@ use Rattle.py_node.specs.declared.refs.PyTypeRef.{PyTypeRef}
 use Rattle.py_node.specs.Attributes.{value_of}
 use Rattle.py_node.specs.declared.payload.Node.{Node}
 use Rattle.py_node.specs.declared.payload.Payload.TheVariants as payload
-use Rattle.py_node.specs.BuiltIns.{heap_flags}
 use Rattle.py_node.specs.Tree.{Text}
-use Rattle.class_model.specs.Class.{Class}
-use Rattle.class_table.specs.Keys.{numbers}
 use Rattle.class_table.specs.Refused.{refused_bases}
 use Rattle.py_node.specs.declared.known.Known.TheVariants.{Qualname}
 use Rattle.py_node.specs.Known.{known_text}
 use Rattle.plain_machine.specs.Plain.{Datum, AText, Bindings, PlainWorld}
 use Rattle.plain_machine.specs.World.{is_text, datum_at}
-use Rattle.class_world.specs.Reading.{Reading, spelled, bindings}
+use Rattle.class_world.specs.Reading.{Reading, spelled}
+use Rattle.class_world.specs.Sound.{Claim, AreNames}
 
 -- whether an object holds a text
 abbrev pub holds_text : Option Datum → Bool
@@ -38,16 +37,14 @@ refused_name w (Some r) = cond (holds_text (datum_at w r)) None (Some QualnameTy
 abbrev pub refused_heap : PlainWorld → List ℕ → Bindings → Option Cause
 refused_heap w bases attrs = option_or (refused_bases w.classes bases) (refused_name w (qualified attrs))
 
--- the class that a script makes
-abbrev pub heap_class_of : Reading → Text → ℕ → List PyTypeRef → List (PyStrInterned × PyObjectRef) → List PyStrInterned → Class Text
-heap_class_of t name number bases attrs members = record {
-  name = name;
-  number = number;
-  bases = numbers bases;
-  attrs = bindings t attrs;
-  members = map (spelled t) members;
-  flags = heap_flags;
-}
+-- what `__slots__` name, read as texts, where a class has some
+abbrev pub slot_texts : Reading → Option (Vec PyStrInterned) → Option (List Text)
+slot_texts t slots = option_map (λ v. map (spelled t) v.items) slots
+
+-- they are names
+abbrev pub of_slots : Option (Vec PyStrInterned) → List Claim
+of_slots None = []
+of_slots (Some v) = AreNames v.items ∷ []
 
 -- the node that stands for a class, by its metaclass and its number
 abbrev pub class_node : PyTypeRef → PyTypeRef → Node

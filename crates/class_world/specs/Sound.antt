@@ -1,5 +1,5 @@
 -- What is said of numbers, and that all that a world says of them is so.
-use Rattle.std.specs.Prelude.{◌≡◌, ℕ, ◌<◌, ◌≤◌, Bool, true, false, List, [], ◌∷◌, ◌++◌, Option, Some, None, is_some, length, map, slice_get, option_map, option_and_then, string_bytes}
+use Rattle.std.specs.Prelude.{◌≡◌, ℕ, ◌<◌, ◌≤◌, Bool, true, false, ◌&&◌, List, [], ◌∷◌, ◌++◌, Option, Some, None, is_some, is_none, length, map, slice_get, option_map, option_and_then, string_bytes}
 use Rattle.std.specs.List.{All, AllByRecursion}
 use Rattle.py_node.specs.declared.refs.PyObjectRef.{PyObjectRef}
 use Rattle.py_node.specs.declared.refs.PyStrInterned.{PyStrInterned}
@@ -14,8 +14,9 @@ use Rattle.py_node.specs.Attributes.{value_of, is_same_name, AreNamesDistinct}
 use Rattle.py_node.specs.Known.{known_texts}
 use Rattle.py_node.specs.declared.built_in.BuiltIn.{BuiltIn}
 use Rattle.py_node.specs.declared.built_in.BuiltIn.TheVariants as built_in
-use Rattle.py_node.specs.BuiltIns.{place_of, built_in_count, fixed_node_count, has_dict as dict_flag}
-use Rattle.class_model.specs.Class.{Class, is_class, has_flag}
+use Rattle.py_node.specs.BuiltIns.{place_of, flags_of, built_in_count, fixed_node_count, has_dict as dict_flag}
+use Rattle.class_model.specs.Class.{Class, Classes, class_at, is_class, has_flag}
+use Rattle.class_model.specs.Dict.{has_dict}
 use Rattle.class_model.specs.Layout.{is_place}
 use Rattle.plain_machine.specs.Known.{the_dict}
 use Rattle.plain_machine.specs.Sound.{holds_as, held_by, is_offset, read_offset, set_offset, Key, NumberKey, TextKey, AreKeys}
@@ -52,6 +53,10 @@ pub data Claim : Type 0 where
   AreMembers : ℕ → List (MemberPlace × Option PyObjectRef) → Claim
   -- the offset, if there is one, is that of a place of the class's objects
   IsOffset : ℕ → Option ℕ → Claim
+  -- the class has these flags
+  HasFlags : ℕ → ℕ → Claim
+  -- whether an object of the class has a dict: it has one exactly where it stands for no class and its own class gives it one
+  GetsDict : Option ℕ → ℕ → Bool → Claim
 
 -- the built-in class whose objects hold such
 abbrev pub home_of : Payload → BuiltIn
@@ -144,6 +149,10 @@ StandsThere n (Some r) = r.0 < n
 abbrev pub IsMember : Held → ℕ → MemberPlace × Option PyObjectRef → Type 0
 IsMember w c m = (is_place w.classes c m.0.class.0 m.0.index ≡ true) × StandsThere (length w.nodes) m.1
 
+-- the flags of a class
+abbrev pub flags_at : {K : Type 0} → Classes K → ℕ → Option ℕ
+flags_at t c = option_map (λ k. k.flags) (class_at t c)
+
 unfoldable pub Holds : Held → Claim → Type 0
 Holds w (IsNode r) = r.0 < length w.nodes
 Holds w (AreNodes rs) = All (λ r. r.0 < length w.nodes) rs
@@ -162,6 +171,8 @@ Holds w (HasParams r ps) = held_params w.nodes r ≡ Some ps
 Holds w (HasValues r vars) = AreFilled vars (held_params w.nodes r)
 Holds w (AreMembers c ms) = AllByRecursion (IsMember w c) ms
 Holds w (IsOffset c o) = is_offset w.classes c o ≡ true
+Holds w (HasFlags c n) = flags_at w.classes c ≡ Some n
+Holds w (GetsDict o c b) = (is_class w.classes c ≡ true) × (b ≡ (is_none o && has_dict w.classes c))
 
 abbrev pub AllHold : Held → List Claim → Type 0
 AllHold w [] = Unit {0}
@@ -227,7 +238,7 @@ abbrev pub of_dict_ref : PyObjectRef → List Claim
 of_dict_ref r = IsNode r ∷ Holding r built_in.Dict ∷ []
 
 abbrev pub of_node : Node → List Claim
-of_node n = IsClass n.class.0 ∷ IsOf n.class.0 (home_of n.payload) ∷ AreMembers n.class.0 n.members ∷ of_option of_dict_ref n.dict ++ of_payload n.payload
+of_node n = IsClass n.class.0 ∷ IsOf n.class.0 (home_of n.payload) ∷ AreMembers n.class.0 n.members ∷ GetsDict (class_in n.payload) n.class.0 (is_some n.dict) ∷ of_option of_dict_ref n.dict ++ of_payload n.payload
 
 -- names with expressions
 abbrev pub of_stored : List (PyStrInterned × ℕ) → List Claim
@@ -288,6 +299,7 @@ pub record Sound (w : Held) : Type 0 where
   -- the fixed nodes and the built-in classes are there
   pub fixed : fixed_node_count ≤ length w.nodes
   pub built_in : (c : ℕ) → c < built_in_count → is_class w.classes c ≡ true
-  -- and the objects of each hold what they should
+  -- the objects of each hold what they should, and each has the flags of its row
   pub own : (b : BuiltIn) → Holds w (IsOf (place_of b) (holds_as b))
+  pub flags : (b : BuiltIn) → Holds w (HasFlags (place_of b) (flags_of b))
   pub known : (n : ℕ) (x : List ℕ) → slice_get known_texts n ≡ Some x → slice_get w.names n ≡ Some x

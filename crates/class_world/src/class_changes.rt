@@ -29,7 +29,8 @@ impl World {
 
     /// Gives a class other bases. The tests that need no order are told first, and also where memory is short: a script
     /// made the class; it gets bases; none of them is the class or derives from it; each may have subclasses and its
-    /// layout goes with those before it; the class keeps its solid class; none stands twice. Then the least-numbered
+    /// layout goes with those before it; the class keeps its solid class and gives its
+    /// objects a dict as before; none stands twice. Then the least-numbered
     /// class is told that would have no order while all its bases have one. Where it is refused, and where memory runs
     /// out, the world stays as it was. Each class keeps its layout, and no count of steps falls.
     pub fn set_bases<L: Ledger>(

@@ -7,13 +7,14 @@ ghost use Rattle.py_node.specs.declared.built_in.BuiltIn.TheVariants.{TypeType};
 ghost use Rattle.class_model.specs.Change.{with_class};
 ghost use Rattle.class_model.specs.Layout.{built_ins, best_of};
 ghost use Rattle.class_model.specs.Numbers.{limit};
-ghost use Rattle.class_table.specs.Keys.{numbers};
-ghost use Rattle.class_table.specs.Refused.{refusal, WithMemory, IsEarly, AreThere, heap_class, refused_attr, refused_layout, refused_bases, NamesNoClass};
+ghost use Rattle.class_model.specs.Dict.{heap_class};
+ghost use Rattle.class_table.specs.Keys.{numbers, table_keys, slot_names};
+ghost use Rattle.class_table.specs.Refused.{refusal, WithMemory, IsEarly, AreThere, refused_attr, refused_layout, refused_bases, NamesNoClass};
 ghost use Rattle.plain_machine.specs.Objects.{with_definer};
-ghost use Rattle.plain_machine.specs.World.{ref, datum_at, with_new_class, with_own_attr};
-ghost use Rattle.class_world.specs.NewHeap.{class_node, holds_text, qualified, refused_name, refused_heap, heap_class_of};
+ghost use Rattle.plain_machine.specs.World.{ref, text_keys, datum_at, with_new_class, with_own_attr};
+ghost use Rattle.class_world.specs.NewHeap.{class_node, holds_text, qualified, refused_name, refused_heap, slot_texts, of_slots};
 ghost use Rattle.class_world.specs.Reading.{Reading, Reads, bindings, plain};
-ghost use Rattle.class_world.specs.Sound.{IsNode, IsClass, IsOf, IsName, AreNames, Holds, AllHold, Grows, of_binding, of_class_ref, of_each};
+ghost use Rattle.class_world.specs.Sound.{IsNode, IsClass, IsOf, IsName, Holds, AllHold, Grows, of_binding, of_class_ref, of_each};
 
 use crate::definer::define;
 use crate::world::World;
@@ -68,26 +69,28 @@ impl World {
         self.classes.put_attr(class, name, value)
     }
 
-    /// A class that a script makes, and the node that stands for it: with the name, the bases, the
-    /// attributes and the members. Its objects hold what those of its best base do. A qualified name that is
+    /// A class that a script makes, and the node that stands for it: with the name, the bases, the attributes and what
+    /// `__slots__` name, where it has some. All of these names but `__dict__` are its members, and it brings its objects a
+    /// dict where it has no `__slots__` or `__dict__` is among them. Its objects hold what those of its best base do. A qualified name that is
     /// no text is told after all that the bases are refused for. Where it is refused or memory runs out, the
     /// world stays as it was.
-    pub fn new_heap(
+    pub fn new_heap_slots(
         &mut self,
         name: &str,
         bases: Vec<PyTypeRef>,
         attrs: PyAttributes,
-        members: Vec<PyStrInterned>,
+        slots: Option<Vec<PyStrInterned>>,
         metaclass: PyTypeRef,
     ) -> Result<PyTypeRef, ClassFault>
         requires bases { AllHold self.old (of_each of_class_ref bases.items) }
         requires attrs { AllHold self.old (of_each of_binding attrs) }
-        requires members { Holds self.old (AreNames members.items) }
+        requires slots { AllHold self.old (of_slots slots) }
         requires metaclass { Holds self.old (IsClass metaclass.0) }
         requires of_classes { Holds self.old (IsOf metaclass.0 TypeType) }
-        ensures made { OnOk result ((t : Reading) → plain t self.new ≡
+        ensures made { OnOk result ((t : Reading) → Reads t self.old → plain t self.new ≡
             with_new_class (plain t self.old) metaclass.0
-            (heap_class_of t name.now (length (plain t self.old).nodes) bases.items attrs members.items)) }
+            (heap_class text_keys (plain t self.old).classes name.now (length (plain t self.old).nodes)
+            (numbers bases.items) (bindings t attrs) (slot_texts t slots))) }
         ensures number { IfOk result (λ c. (t : Reading) → c.0 ≡ length (plain t self.old).nodes) }
         ensures early { (t : Reading) → IsEarly (plain t self.old).classes (numbers bases.items) (refusal result) }
         ensures refused { (t : Reading) → Reads t self.old → WithMemory result (refusal result ≡
@@ -107,7 +110,7 @@ impl World {
         }
         match self.name_refusal(&attrs) {
             Some(cause) => self.refuse_name(&bases, cause),
-            None => self.add_heap(name, bases, attrs, members, metaclass),
+            None => self.add_heap(name, bases, attrs, slots, metaclass),
         }
     }
 
@@ -180,17 +183,18 @@ impl World {
         name: &str,
         bases: Vec<PyTypeRef>,
         attrs: PyAttributes,
-        members: Vec<PyStrInterned>,
+        slots: Option<Vec<PyStrInterned>>,
         metaclass: PyTypeRef,
     ) -> Result<PyTypeRef, ClassFault>
         requires bases { AllHold self.old (of_each of_class_ref bases.items) }
         requires attrs { AllHold self.old (of_each of_binding attrs) }
-        requires members { Holds self.old (AreNames members.items) }
+        requires slots { AllHold self.old (of_slots slots) }
         requires metaclass { Holds self.old (IsClass metaclass.0) }
         requires of_classes { Holds self.old (IsOf metaclass.0 TypeType) }
-        ensures made { OnOk result ((t : Reading) → plain t self.new ≡
+        ensures made { OnOk result ((t : Reading) → Reads t self.old → plain t self.new ≡
             with_new_class (plain t self.old) metaclass.0
-            (heap_class_of t name.now (length (plain t self.old).nodes) bases.items attrs members.items)) }
+            (heap_class text_keys (plain t self.old).classes name.now (length (plain t self.old).nodes)
+            (numbers bases.items) (bindings t attrs) (slot_texts t slots))) }
         ensures number { IfOk result (λ c. (t : Reading) → c.0 ≡ length (plain t self.old).nodes) }
         ensures refused { WithMemory result (refusal result ≡ refused_bases self.old.classes (numbers bases.items)) }
         ensures err { OnErr result (self.new ≡ self.old) }
@@ -211,7 +215,7 @@ impl World {
             name,
             bases,
             attrs,
-            members,
+            slots,
             metaclass,
         );
         self.classes.sound();
@@ -238,13 +242,14 @@ fn heap_with_node(
     name: &str,
     bases: Vec<PyTypeRef>,
     attrs: PyAttributes,
-    members: Vec<PyStrInterned>,
+    slots: Option<Vec<PyStrInterned>>,
     metaclass: PyTypeRef,
 ) -> Result<PyTypeRef, ClassFault>
     requires bases { AreThere classes.old (numbers bases.items) }
     requires fresh { limit classes.old ≤ length nodes.old.items }
     ensures added { OnOk result (classes.new ≡ with_class classes.old
-        (heap_class name.now (length nodes.old.items) (numbers bases.items) attrs members.items)) }
+        (heap_class table_keys classes.old name.now (length nodes.old.items) (numbers bases.items) attrs
+        (slot_names slots))) }
     ensures node { IfOk result (λ c. nodes.new.items ≡ nodes.old.items ++ class_node metaclass c ∷ []) }
     ensures number { IfOk result (λ c. c.0 ≡ length nodes.old.items) }
     ensures refused { WithMemory result (refusal result ≡ refused_bases classes.old (numbers bases.items)) }
@@ -257,7 +262,7 @@ fn heap_with_node(
         Err(_) => return Err(ClassFault::OutOfMemory),
     }
     let number = PyTypeRef(nodes.len() as u64);
-    match classes.new_heap(number, name, bases, attrs, members) {
+    match classes.new_heap_slots(number, name, bases, attrs, slots) {
         Err(fault) => Err(fault),
         Ok(class) => {
             push_class_node(nodes, alloc, class, metaclass);

@@ -1,18 +1,17 @@
 //! Objects: what is read of one, how one is made, and how what it holds is changed.
 
-ghost use Rattle.std.specs.Prelude.{◌≡◌, is_some, Some, None, IfOk, OnOk, OnErr, IfSome, IsTrue, ◌<◌, ◌∷◌, [], ◌++◌, length, vec_len, vec_capacity, false};
+ghost use Rattle.std.specs.Prelude.{◌≡◌, is_some, Some, None, IfOk, OnOk, OnErr, IfSome, ◌<◌, ◌∷◌, [], ◌++◌, length, vec_len, vec_capacity, false};
 ghost use Rattle.plain_machine.specs.World.{with_node, next_node, has_dict, class_at, datum_at, number_of, ref};
+ghost use Rattle.class_model.specs.Dict.{has_dict as class_has_dict};
 ghost use Rattle.plain_machine.specs.Known.{the_dict};
 ghost use Rattle.py_node.specs.declared.built_in.BuiltIn.TheVariants.{Dict, TypeType};
 ghost use Rattle.class_world.specs.Reading.{Reading, Reads, datum, plain};
-ghost use Rattle.class_world.specs.Sound.{IsNode, IsClass, IsOf, Holding, HasParams, Holds, AllHold, Grows, home_of, class_in, params_in, of_option, of_node, of_payload, is_lasting, with_payload};
+ghost use Rattle.class_world.specs.Sound.{IsNode, IsClass, IsOf, Holding, HasParams, GetsDict, Holds, AllHold, Grows, home_of, class_in, params_in, of_option, of_node, of_payload, is_lasting, with_payload};
 ghost use Rattle.class_world.specs.Added.{IsEmptyDict, with_object, number_of_object};
 ghost use Rattle.plain_machine.specs.Objects.{with_datum};
 
 use crate::world::World;
-use py_node::{
-    BuiltIn, Node, OutOfMemory, Payload, PyMembers, PyObjectRef, PyTypeFlags, PyTypeRef,
-};
+use py_node::{BuiltIn, Node, OutOfMemory, Payload, PyMembers, PyObjectRef, PyTypeRef};
 use std::alloc::Global;
 
 #[tactic(auto, unfolding(crate::specs::Reading::plain))]
@@ -87,11 +86,12 @@ impl World {
     fn new_dict(&self, class: PyTypeRef) -> Option<Node>
         requires { Holds self.now (IsClass class.0) }
         ensures gives { (t : Reading) → has_dict (plain t self.now) class.0 ≡ is_some result }
+        ensures given { class_has_dict self.now.classes class.0 ≡ is_some result }
         ensures empty { IfSome result (λ d. IsEmptyDict d) }
         ensures holds { AllHold self.now (of_option of_node result) }
     {
         let alloc = self.alloc;
-        if self.gives_dict(class) {
+        if self.has_dict(class) {
             Some(Node {
                 class: self.class_of_dicts(),
                 dict: None,
@@ -109,17 +109,9 @@ impl World {
         ensures place { result.0 ≡ the_dict }
         ensures class { Holds self.now (IsClass result.0) }
         ensures of { Holds self.now (IsOf result.0 Dict) }
+        ensures none { Holds self.now (GetsDict None result.0 false) }
     {
         self.built_in(BuiltIn::Dict)
-    }
-
-    // Whether a class gives its objects a dict.
-    fn gives_dict(&self, class: PyTypeRef) -> bool
-        requires { Holds self.now (IsClass class.0) }
-        ensures gives { (t : Reading) → has_dict (plain t self.now) class.0 ≡ result }
-        ensures dict { IsTrue result → Holds self.now (IsClass the_dict) }
-    {
-        self.classes.flags(class).has_feature(PyTypeFlags::HAS_DICT)
     }
 
     /// Gives an object other contents of the kind that it has. A class, a function, a number and a text keep theirs.

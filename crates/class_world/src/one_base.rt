@@ -1,18 +1,20 @@
-//! Classes with one base and no members: simple ones as scripts make them, and static ones, which scripts can't change.
+//! Classes with one base and no members: simple ones as scripts make them, and static ones, which scripts can't change. And
+//! whether a class gives its objects a dict.
 
-ghost use Rattle.std.specs.Prelude.{◌≡◌, ◌≤◌, true, ◌∷◌, [], ◌++◌, length, IfOk, OnOk, OnErr, Some, option_map};
+ghost use Rattle.std.specs.Prelude.{◌≡◌, ◌≤◌, ◌||◌, true, ◌∷◌, [], ◌++◌, length, IfOk, OnOk, OnErr, IsTrue, Some, None};
 ghost use Rattle.py_node.specs.declared.built_in.BuiltIn.{BuiltIn as Home};
 ghost use Rattle.py_node.specs.declared.built_in.BuiltIn.TheVariants.{TypeType};
 ghost use Rattle.class_model.specs.Change.{with_class};
 ghost use Rattle.class_model.specs.Class.{class_at, is_class};
 ghost use Rattle.class_model.specs.Numbers.{limit};
 ghost use Rattle.class_table.specs.Refused.{refusal, refused_attr, NamesNoClass};
-ghost use Rattle.class_table.specs.OneBase.{refused_single, single_class, flags_at, static_flags};
-ghost use Rattle.plain_machine.specs.Known.{the_type};
-ghost use Rattle.plain_machine.specs.World.{ref, with_new_class, with_own_attr};
-ghost use Rattle.class_world.specs.NewHeap.{class_node, heap_class_of};
+ghost use Rattle.class_model.specs.Dict.{gives_dict, has_dict as class_has_dict, heap_class};
+ghost use Rattle.class_table.specs.OneBase.{refused_single, single_class, says_so, static_flags};
+ghost use Rattle.plain_machine.specs.Known.{the_type, the_dict};
+ghost use Rattle.plain_machine.specs.World.{ref, text_keys, has_dict, with_new_class, with_own_attr};
+ghost use Rattle.class_world.specs.NewHeap.{class_node};
 ghost use Rattle.class_world.specs.Reading.{Reading, Reads, bindings, plain};
-ghost use Rattle.class_world.specs.Sound.{IsNode, IsClass, IsOf, Holds, AllHold, Grows, of_binding, of_each};
+ghost use Rattle.class_world.specs.Sound.{IsNode, IsClass, IsOf, Holds, AllHold, Grows, flags_at, of_binding, of_each};
 
 use crate::heap::push_class_node;
 use crate::world::World;
@@ -30,15 +32,17 @@ impl World {
         base: PyTypeRef,
         attrs: PyAttributes,
         flags: PyTypeFlags,
+        brings: bool,
         metaclass: PyTypeRef,
     ) -> Result<PyTypeRef, ClassFault>
         requires base { Holds self.old (IsClass base.0) }
         requires attrs { AllHold self.old (of_each of_binding attrs) }
+        requires dict { says_so flags.0 ≡ (brings || class_has_dict self.old.classes base.0) }
         requires metaclass { Holds self.old (IsClass metaclass.0) }
         requires of_classes { Holds self.old (IsOf metaclass.0 TypeType) }
         ensures made { OnOk result ((t : Reading) → plain t self.new ≡
             with_new_class (plain t self.old) metaclass.0
-            (single_class name.now (length (plain t self.old).nodes) base.0 (bindings t attrs) flags.0)) }
+            (single_class name.now (length (plain t self.old).nodes) base.0 (bindings t attrs) flags.0 brings)) }
         ensures number { IfOk result (λ c. (t : Reading) → c.0 ≡ length (plain t self.old).nodes) }
         ensures refused { refusal result ≡ refused_single self.old.classes base.0 }
         ensures err { OnErr result (self.new ≡ self.old) }
@@ -59,6 +63,7 @@ impl World {
             base,
             attrs,
             flags,
+            brings,
             metaclass,
         );
         self.classes.sound();
@@ -70,7 +75,7 @@ impl World {
     pub fn new_simple_heap(&mut self, name: &str, base: PyTypeRef) -> Result<PyTypeRef, ClassFault>
         requires base { Holds self.old (IsClass base.0) }
         ensures made { OnOk result ((t : Reading) → plain t self.new ≡ with_new_class (plain t self.old) the_type
-            (heap_class_of t name.now (length (plain t self.old).nodes) (base ∷ []) [] [])) }
+            (heap_class text_keys (plain t self.old).classes name.now (length (plain t self.old).nodes) (base.0 ∷ []) [] None)) }
         ensures number { IfOk result (λ c. (t : Reading) → c.0 ≡ length (plain t self.old).nodes) }
         ensures refused { (t : Reading) → refusal result ≡ refused_single (plain t self.old).classes base.0 }
         ensures err { OnErr result (self.new ≡ self.old) }
@@ -83,7 +88,8 @@ impl World {
     {
         let attrs = PyAttributes::new(self.alloc());
         let metaclass = self.class_of_classes();
-        self.add_single(name, base, attrs, PyTypeFlags::of_script_class(), metaclass)
+        let flags = PyTypeFlags::of_script_class(true);
+        self.add_single(name, base, attrs, flags, true, metaclass)
     }
 
     // The class of classes.
@@ -113,7 +119,7 @@ impl World {
         requires of_classes { Holds self.old (IsOf metaclass.0 TypeType) }
         ensures made { OnOk result ((t : Reading) → plain t self.new ≡
             with_new_class (plain t self.old) metaclass.0 (single_class name.now (length (plain t self.old).nodes)
-            base.0 (bindings t attrs) (static_flags flags.0 (flags_at (plain t self.old).classes base.0)))) }
+            base.0 (bindings t attrs) (static_flags flags.0 (has_dict (plain t self.old) base.0)) (says_so flags.0))) }
         ensures number { IfOk result (λ c. (t : Reading) → c.0 ≡ length (plain t self.old).nodes) }
         ensures refused { (t : Reading) → refusal result ≡ refused_single (plain t self.old).classes base.0 }
         ensures err { OnErr result (self.new ≡ self.old) }
@@ -124,8 +130,21 @@ impl World {
         ensures node { IfOk result (λ c. Holds self.new (IsNode (ref c.0))) }
         ensures names { NamesNoClass result }
     {
-        let flags = flags_of_static(flags, self.class_flags(base));
-        self.add_single(name, base, attrs, flags, metaclass)
+        let brings = flags.has_feature(PyTypeFlags::HAS_DICT);
+        let flags = flags_of_static(flags, self.has_dict(base));
+        self.add_single(name, base, attrs, flags, brings, metaclass)
+    }
+
+    /// Whether a class gives its objects a dict: it brings one, or one of its bases gives one. Its flags say so too.
+    pub fn has_dict(&self, class: PyTypeRef) -> bool
+        requires { Holds self.now (IsClass class.0) }
+        ensures says { (t : Reading) → has_dict (plain t self.now) class.0 ≡ result }
+        ensures gives { (t : Reading) → gives_dict (plain t self.now).classes class.0 ≡ result }
+        ensures given { class_has_dict self.now.classes class.0 ≡ result }
+        ensures dict { IsTrue result → Holds self.now (IsClass the_dict) }
+    {
+        self.classes.sound();
+        self.classes.has_dict(class)
     }
 
     /// The flags of a class.
@@ -174,12 +193,14 @@ fn single_with_node(
     base: PyTypeRef,
     attrs: PyAttributes,
     flags: PyTypeFlags,
+    brings: bool,
     metaclass: PyTypeRef,
 ) -> Result<PyTypeRef, ClassFault>
     requires base { is_class classes.old base.0 ≡ true }
     requires fresh { limit classes.old ≤ length nodes.old.items }
+    requires dict { says_so flags.0 ≡ (brings || class_has_dict classes.old base.0) }
     ensures added { OnOk result (classes.new ≡ with_class classes.old
-        (single_class name.now (length nodes.old.items) base.0 attrs flags.0)) }
+        (single_class name.now (length nodes.old.items) base.0 attrs flags.0 brings)) }
     ensures node { IfOk result (λ c. nodes.new.items ≡ nodes.old.items ++ class_node metaclass c ∷ []) }
     ensures number { IfOk result (λ c. c.0 ≡ length nodes.old.items) }
     ensures refused { refusal result ≡ refused_single classes.old base.0 }
@@ -195,7 +216,7 @@ fn single_with_node(
         Err(_) => return Err(ClassFault::OutOfMemory),
     }
     let number = PyTypeRef(nodes.len() as u64);
-    match classes.new_single(number, name, base, attrs, flags) {
+    match classes.new_single(number, name, base, attrs, flags, brings) {
         Err(fault) => Err(fault),
         Ok(class) => {
             push_class_node(nodes, alloc, class, metaclass);

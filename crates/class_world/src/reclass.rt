@@ -15,7 +15,8 @@ use py_node::{Cause, Node, PyObjectRef, PyTypeRef};
 
 #[tactic(auto, unfolding(crate::specs::Reading::plain))]
 impl World {
-    /// Gives an object another class. Scripts must have made both classes, and their solid classes must be the same; where
+    /// Gives an object another class. Scripts must have made both classes, their solid classes must be the same, and both must
+    /// give their objects a dict or neither; where
     /// it is refused, the world stays as it was.
     pub fn set_class(&mut self, object: PyObjectRef, class: PyTypeRef) -> Result<(), Cause>
         requires object { Holds self.old (IsNode object) }
@@ -49,6 +50,7 @@ impl World {
         ensures reads { (t : Reading) → Reads t self.new → Reads t self.old }
         ensures grows { Grows self.old self.new }
     {
+        self.readable();
         set_dict(&mut self.nodes[object.0 as usize], dict);
     }
 }

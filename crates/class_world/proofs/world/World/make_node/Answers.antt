@@ -1,3 +1,7 @@
+use Rattle.std.proofs.Common.{◌≡◌, sym, subst}
+use Rattle.std.specs.Prelude.{is_some}
+use Rattle.class_model.specs.Dict.{has_dict}
+use Rattle.class_world.specs.Held.{Held}
 use Rattle.class_world.specs.contracts.world.World.{the_view}
 use Rattle.class_world.specs.Sound.{IsClass, IsOf, home_of, of_node, of_option, of_payload}
 use Rattle.class_world.proofs.Claims.{opened, opened-one}
@@ -14,7 +18,8 @@ invariant_of-self c =
     let class = opened-one w now (IsClass c.args.class.0) c.self.view_is c.requires.class in
     let of = opened-one w now (IsOf c.args.class.0 (home_of c.args.payload)) c.self.view_is c.requires.of in
     let held = opened w now (of_payload c.args.payload) c.self.view_is c.requires.payload in
-    added-sound w c.args.class c.args.payload c.new_dict-dict.result c.add_object.new.nodes.items c.add_object.result e.added e.err c.new_dict-dict.ensures.empty dict class of c.requires.other held c.self.invariant
+    let given = subst (λ (u : Held). has_dict u.classes c.args.class.0 ≡ is_some c.new_dict-dict.result) (sym c.self.view_is) c.new_dict-dict.ensures.given in
+    added-sound w c.args.class c.args.payload c.new_dict-dict.result c.add_object.new.nodes.items c.add_object.result given e.added e.err c.new_dict-dict.ensures.empty dict class of c.requires.other held c.self.invariant
 
 pub returns-clause-made : goal.returns-clause-made
 returns-clause-made c =

@@ -3,7 +3,7 @@ use Rattle.class_world.specs.Sound.{Holds}
 use Rattle.class_world.proofs.SoundWorld.{no-keys-differ}
 use Rattle.class_world.proofs.world.World.new_dict.Goals as goal
 
-pub returns-then-gives_dict-clause-holds : goal.returns-then-gives_dict-clause-holds
+pub returns-then-has_dict-clause-holds : goal.returns-then-has_dict-clause-holds
 unfolding Holds
-returns-then-gives_dict-clause-holds c =
-    rw c.new-then-gives_dict.ensures.items (rw c.new.ensures (c.class_of_dicts.ensures.class, (c.class_of_dicts.ensures.of, (tt, ((λ i d l. absurd (omega arith)), ((λ i d l. absurd (omega arith)), (no-keys-differ c.args.self.now, tt)))))))
+returns-then-has_dict-clause-holds c =
+    rw c.new-then-has_dict.ensures.items (rw c.new.ensures (c.class_of_dicts.ensures.class, (c.class_of_dicts.ensures.of, (tt, (c.class_of_dicts.ensures.none, ((λ i d l. absurd (omega arith)), ((λ i d l. absurd (omega arith)), (no-keys-differ c.args.self.now, tt))))))))

@@ -1,9 +1,12 @@
-use Rattle.std.proofs.Common.{Some, refl}
+use Rattle.std.proofs.Common.{Some, refl, sym, ap, ◌∙◌}
+use Rattle.std.specs.Prelude.{is_some, option_and_then}
+use Rattle.plain_machine.specs.Plain.{Node}
 use Rattle.py_node.specs.declared.built_in.BuiltIn.TheVariants.{Dict}
 use Rattle.class_world.specs.contracts.world.World.{the_view}
 use Rattle.class_world.specs.Sound.{Holds, Holding, IsNode, of_node, with_dict_ref}
 use Rattle.class_world.proofs.Claims.{got, opened-one, each-get}
 use Rattle.class_world.proofs.Growth.{grows-seen}
+use Rattle.class_world.proofs.Look.{node-read}
 use Rattle.class_world.proofs.NodeChanges.{change-grows, change-sound, change-read}
 use Rattle.class_world.proofs.Reclassed.{dict-set-holds}
 use Rattle.class_world.proofs.world.World.set_dict.Goals as goal
@@ -22,7 +25,9 @@ invariant_of-self c =
     let holding = opened-one w now (Holding c.args.dict Dict) c.self.view_is c.requires.holding in
     let n = c.index_mut.result.now in
     let at = got w.nodes c.args.object.0 n here c.index_mut.ensures.value in
-    rw c.set_dict.ensures (change-sound w c.args.object n (with_dict_ref n c.args.dict) c.index_mut.ensures.value refl (dict-set-holds w n c.args.dict (each-get w of_node w.nodes c.args.object.0 n at c.self.invariant.nodes) dict holding) c.self.invariant)
+    let t = c.readable.ensures.0 in
+    let had = sym (ap (λ o. is_some (option_and_then (λ (x : Node). x.dict) o)) (node-read w now c.args.object n c.self.view_is at t)) ∙ c.requires.had t in
+    rw c.set_dict.ensures (change-sound w c.args.object n (with_dict_ref n c.args.dict) c.index_mut.ensures.value refl (dict-set-holds w n c.args.dict had (each-get w of_node w.nodes c.args.object.0 n at c.self.invariant.nodes) dict holding) c.self.invariant)
 
 pub returns-clause-set : goal.returns-clause-set
 unfolding Holds

@@ -13,7 +13,7 @@ set_name-requires c = class-there _ _ (opened-one (the_view c.self.inside) c.arg
 
 pub invariant_of-self : goal.invariant_of-self
 invariant_of-self c =
-    change-sound (called c.args.name.now) (λ k. refl) (λ k. refl) (λ k. refl) (the_view c.self.inside) c.args.class.0 c.set_name.new.self c.set_name.result c.set_name.ensures.named c.set_name.ensures.err (λ k h. h) c.self.invariant
+    change-sound (called c.args.name.now) (λ k. refl) (λ k. refl) (λ k. refl) (λ k. refl) (the_view c.self.inside) c.args.class.0 c.set_name.new.self c.set_name.result c.set_name.ensures.named c.set_name.ensures.err (λ k h. h) c.self.invariant
 
 pub returns-clause-named : goal.returns-clause-named
 returns-clause-named c = called-read (the_view c.self.inside) c.args.self.now c.args.class.0 c.args.name.now c.set_name.new.self c.set_name.result c.set_name.ensures.named c.self.view_is
@@ -21,4 +21,4 @@ returns-clause-named c = called-read (the_view c.self.inside) c.args.self.now c.
 pub returns-clause-grows : goal.returns-clause-grows
 returns-clause-grows c =
     let w = the_view c.self.inside in
-    grows-seen w _ _ c.self.view_is (classes-grow w c.set_name.new.self (change-like (called c.args.name.now) (λ k. refl) (λ k. refl) (λ k. refl) w c.args.class.0 c.set_name.new.self c.set_name.result c.set_name.ensures.named c.set_name.ensures.err))
+    grows-seen w _ _ c.self.view_is (classes-grow w c.set_name.new.self (change-like (called c.args.name.now) (λ k. refl) (λ k. refl) (λ k. refl) (λ k. refl) w c.args.class.0 c.set_name.new.self c.set_name.result c.set_name.ensures.named c.set_name.ensures.err))

@@ -5,7 +5,7 @@ use Rattle.class_table.specs.Keys.{numbers}
 use Rattle.class_table.specs.Refused.{refusal, WithMemory, refused_layout, refused_bases}
 use Rattle.class_world.specs.Reading.{bindings, plain}
 use Rattle.class_world.proofs.Refusals.{layout-first, layout-told, layout-none, name-next, no-name}
-use Rattle.class_world.proofs.world.World.new_heap.Goals as goal
+use Rattle.class_world.proofs.world.World.new_heap_slots.Goals as goal
 
 pub returns-in-Some-clause-early : goal.returns-in-Some-clause-early
 returns-in-Some-clause-early c = λ t told f.

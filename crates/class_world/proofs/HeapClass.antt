@@ -1,0 +1,68 @@
+-- A class that a script makes, read by texts.
+use Rattle.std.proofs.Common.{◌≡◌, ℕ, Bool, true, false, cond, not, ◌||◌, List, [], ◌∷◌, map, filter, Option, Some, None, refl, sym, ap, ◌∙◌, subst}
+use Rattle.std.specs.Global.{Vec}
+use Rattle.std.specs.List.{list_any}
+use Rattle.std.proofs.lemmas.List.Elements.{All-filter}
+use Rattle.py_node.specs.declared.known.Known.TheVariants.{Dict}
+use Rattle.py_node.specs.declared.refs.PyObjectRef.{PyObjectRef}
+use Rattle.py_node.specs.declared.refs.PyStrInterned.{PyStrInterned}
+use Rattle.py_node.specs.BuiltIns.{heap_flags}
+use Rattle.py_node.specs.Known.{known_text, number_of}
+use Rattle.py_node.specs.Tree.{Text}
+use Rattle.class_model.specs.Class.{Class, Classes, rekeyed, renamed}
+use Rattle.class_model.specs.Dict.{any_has_dict, is_dict, slot_members, slots_bring, heap_class}
+use Rattle.class_model.proofs.Dict.{any_has_dict-agrees}
+use Rattle.class_model.proofs.Sound.{has_dict-renamed}
+use Rattle.class_table.specs.Keys.{table_keys, slot_names}
+use Rattle.plain_machine.specs.World.{is_text, text_keys}
+use Rattle.class_world.specs.Held.{Held}
+use Rattle.class_world.specs.NewHeap.{slot_texts, of_slots}
+use Rattle.class_world.specs.Reading.{Reading, Reads, spelled, bindings, plain}
+use Rattle.class_world.specs.Sound.{AreNames, Holds, AllHold, Sound}
+use Rattle.class_world.proofs.Look.{known-read}
+
+-- the members are among the names
+pub members-named : (w : Held) (slots : Option (Vec PyStrInterned)) → AllHold w (of_slots slots) → Holds w (AreNames (slot_members table_keys (slot_names slots)))
+unfolding Holds
+members-named w None h = λ i d l. absurd (omega l)
+members-named w (Some v) h = All-filter (λ n. not (is_dict table_keys n)) _ v.items h.0
+
+module _ (w old : Held) (v : w ≡ old) (s : Sound w) (t : Reading) (r : Reads t old) where
+  is_dict-read : (n : PyStrInterned) → is_dict text_keys (spelled t n) ≡ is_dict table_keys n
+  is_dict-read n =
+      ap (is_text (t.text n.0)) (known-read w t s.known (subst (Reads t) (sym v) r) Dict) ∙ t.same n.0 (number_of Dict)
+
+  kept-read : (ns : List PyStrInterned) → map (spelled t) (filter (λ n. not (is_dict table_keys n)) ns) ≡ filter (λ x. not (is_dict text_keys x)) (map (spelled t) ns)
+  kept-read [] = refl
+  kept-read (n ∷ ns) =
+      go (not (is_dict table_keys n)) (kept-read ns)
+      ∙ ap (λ b. cond (not b) (spelled t n ∷ filter (λ x. not (is_dict text_keys x)) (map (spelled t) ns)) (filter (λ x. not (is_dict text_keys x)) (map (spelled t) ns))) (sym (is_dict-read n))
+    where
+      go : (b : Bool) → map (spelled t) (filter (λ n. not (is_dict table_keys n)) ns) ≡ filter (λ x. not (is_dict text_keys x)) (map (spelled t) ns) → map (spelled t) (cond b (n ∷ filter (λ n. not (is_dict table_keys n)) ns) (filter (λ n. not (is_dict table_keys n)) ns)) ≡ cond b (spelled t n ∷ filter (λ x. not (is_dict text_keys x)) (map (spelled t) ns)) (filter (λ x. not (is_dict text_keys x)) (map (spelled t) ns))
+      go true e = ap (λ xs. spelled t n ∷ xs) e
+      go false e = e
+
+  any-read : (ns : List PyStrInterned) → list_any (is_dict table_keys) ns ≡ list_any (is_dict text_keys) (map (spelled t) ns)
+  any-read [] = refl
+  any-read (n ∷ ns) =
+      ap (λ b. b || list_any (is_dict table_keys) ns) (sym (is_dict-read n)) ∙ ap (λ b. is_dict text_keys (spelled t n) || b) (any-read ns)
+
+  members-read : (slots : Option (Vec PyStrInterned)) → map (spelled t) (slot_members table_keys (slot_names slots)) ≡ slot_members text_keys (slot_texts t slots)
+  members-read None = refl
+  members-read (Some ns) = kept-read ns.items
+
+  bring-read : (slots : Option (Vec PyStrInterned)) → slots_bring table_keys (slot_names slots) ≡ slots_bring text_keys (slot_texts t slots)
+  bring-read None = refl
+  bring-read (Some ns) = any-read ns.items
+
+  dicts-read : (bs : List ℕ) → any_has_dict w.classes bs ≡ any_has_dict (plain t old).classes bs
+  unfolding plain
+  dicts-read bs = subst (λ u. any_has_dict w.classes bs ≡ any_has_dict (plain t u).classes bs) v (sym (any_has_dict-agrees (renamed (spelled t) w.classes) w.classes bs (λ b h. has_dict-renamed (spelled t) w.classes b)))
+
+  -- the class is the same but for its number, which is given anew
+  pub class-read : (name : Text) (n m : ℕ) (bs : List ℕ) (attrs : List (PyStrInterned × PyObjectRef)) (slots : Option (Vec PyStrInterned)) → record (rekeyed (spelled t) (heap_class table_keys w.classes name n bs attrs (slot_names slots))) { number = m } ≡ heap_class text_keys (plain t old).classes name m bs (bindings t attrs) (slot_texts t slots)
+  class-read name n m bs attrs slots =
+      let members = members-read slots in
+      let brings = bring-read slots in
+      let dicts = dicts-read bs in
+      λ i. record { name = name; number = m; bases = bs; attrs = bindings t attrs; members = members i; flags = heap_flags (brings i || dicts i); brings = brings i }
