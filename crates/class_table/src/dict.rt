@@ -1,6 +1,6 @@
 //! Which classes give their objects a dict, and what `__slots__` say of it.
 
-ghost use Rattle.std.specs.Prelude.{◌≡◌, true, filter, not};
+ghost use Rattle.std.specs.Prelude.{◌≡◌, ◌||◌, true, filter, not};
 ghost use Rattle.std.specs.List.{list_any};
 ghost use Rattle.class_model.specs.Class.{class_at, is_class};
 ghost use Rattle.class_model.specs.Dict.{alike, has_dict, any_has_dict, keeps_dict, is_dict, slot_members, slots_bring};
@@ -10,6 +10,7 @@ ghost use Rattle.class_table.specs.Stored.{classes_of};
 
 use crate::place::{find, stored_at};
 use crate::stored::Stored;
+use crate::table::ClassTable;
 use py_node::{Known, PyStrInterned, PyTypeRef};
 use std::alloc::Global;
 
@@ -54,6 +55,15 @@ pub(crate) fn agree(classes: &[Stored], class: PyTypeRef, other: PyTypeRef) -> b
     ensures { result ≡ alike (has_dict (classes_of classes.now) class.0) (has_dict (classes_of classes.now) other.0) }
 {
     has_dict(classes, class) == has_dict(classes, other)
+}
+
+impl ClassTable {
+    /// Whether a class with these bases and these `__slots__`, or with none, gives its objects a dict.
+    pub fn would_have_dict(&self, bases: &[PyTypeRef], slots: &Option<Vec<PyStrInterned>>) -> bool
+        ensures { result ≡ (slots_bring table_keys (slot_names slots.now) || any_has_dict self.now (numbers bases.now)) }
+    {
+        slots_bring(slots) || any_has_dict(&self.classes, bases)
+    }
 }
 
 // Whether a name is `__dict__`, which is no member's.
