@@ -9,7 +9,6 @@ use Rattle.py_node.specs.declared.refs.PyStrInterned.{PyStrInterned}
 use Rattle.py_node.specs.declared.refs.PyTypeRef.{PyTypeRef}
 use Rattle.py_node.specs.declared.task.Step.{Step}
 use Rattle.py_node.specs.Attributes.{is_same_name, value_of}
-use Rattle.py_node.specs.BuiltIns.{heap_flags}
 use Rattle.py_node.specs.Tree.{Text}
 use Rattle.py_node.specs.declared.known.Known.TheVariants as known
 use Rattle.py_node.specs.Known.{known_text}
@@ -17,7 +16,8 @@ use Rattle.class_model.specs.Class.{Class}
 use Rattle.class_table.specs.Refused.{refused_layout, refused_order}
 use Rattle.plain_machine.specs.Plain.{PlainWorld, Bindings, DoMakeClass, Made, Said, Ends}
 use Rattle.plain_machine.specs.Row.{fault, noting}
-use Rattle.plain_machine.specs.World.{ref, is_text, with_new_class}
+use Rattle.class_model.specs.Dict.{heap_class, slot_members}
+use Rattle.plain_machine.specs.World.{ref, is_text, text_keys, with_new_class}
 use Rattle.class_world.specs.Held.{Held}
 use Rattle.class_world.specs.declared.world.World.{World}
 use Rattle.class_world.specs.Reading.{Reading, Reads, bindings, plain}
@@ -28,7 +28,7 @@ use Rattle.class_world.specs.Claims.{Leaves}
 use Rattle.class_world.proofs.Claims.{no-nodes}
 use Rattle.class_world.proofs.Growth.{grows-on}
 use Rattle.class_make.specs.declared.ClassKept.{ClassKept}
-use Rattle.class_make.specs.Say.{Space, attrs_in, class_job_say, made, made_unless, member_names, new_class, refusal, tell, values_of, whole_class, with_functions, with_names, with_own_members}
+use Rattle.class_make.specs.Say.{Space, attrs_in, class_job_say, by_slots, made, made_unless, new_class, refusal, tell, values_of, whole_class, with_functions, with_own_members}
 use Rattle.class_make.specs.Rows.{Bound, Makes, class_stands, of_class_kept}
 
 -- functions are defined by a class, one after another
@@ -118,20 +118,20 @@ pub refused-next : (u : PlainWorld) (bases : List ℕ) (bs : Bindings) (o : Opti
 refused-next u bases bs o e f =
     sym (ap (λ l. option_or (option_or l (refused_order u.classes bases)) (refused_name u (qualified bs))) e) ∙ sym f
 
--- the names of the members of a class to be
-pub made-names : (meta : ℕ) (name : Text) (bases : List ℕ) (kw : Bindings) (s : Space) (o : Option (List Text)) → member_names s.0 (value_of (λ y. is_text y (known_text known.Slots)) s.1) ≡ o → with_names o meta name bases kw s ≡ made meta name bases kw s
+-- what `__slots__` is of a class to be
+pub made-slots : (meta : ℕ) (name : Text) (bases : List ℕ) (kw : Bindings) (s : Space) (o : Option PyObjectRef) → value_of (λ y. is_text y (known_text known.Slots)) s.1 ≡ o → by_slots o meta name bases kw s ≡ made meta name bases kw s
 unfolding made
-made-names meta name bases kw s o e = ap (λ o. with_names o meta name bases kw s) (sym e)
+made-slots meta name bases kw s o e = ap (λ o. by_slots o meta name bases kw s) (sym e)
 
-pub made-refused : (u : PlainWorld) (cause : Cause) (why : Option Cause) (meta : ℕ) (name : Text) (bases : List ℕ) (names : List Text) (kw bs : Bindings) → why ≡ Some cause → Ends u (fault cause) ≡ made_unless why meta name bases names kw (u, bs)
+pub made-refused : (u : PlainWorld) (cause : Cause) (why : Option Cause) (meta : ℕ) (name : Text) (bases : List ℕ) (slots : Option (List Text)) (kw bs : Bindings) → why ≡ Some cause → Ends u (fault cause) ≡ made_unless why meta name bases slots kw (u, bs)
 unfolding made_unless
-made-refused u cause why meta name bases names kw bs e = ap (λ o. made_unless o meta name bases names kw (u, bs)) (sym e)
+made-refused u cause why meta name bases slots kw bs e = ap (λ o. made_unless o meta name bases slots kw (u, bs)) (sym e)
 
 -- a class that is made and told of
-pub made-new : (u v f w : PlainWorld) (why : Option Cause) (meta : ℕ) (name : Text) (bases : List ℕ) (names : List Text) (kw bs : Bindings) (c : ℕ) (vs : List PyObjectRef) → why ≡ None → v ≡ with_new_class u meta (record { name = name; number = length u.nodes; bases = bases; attrs = bs; members = names; flags = heap_flags }) → f ≡ with_functions c v vs → w ≡ with_own_members c names f → vs ≡ values_of bs → c ≡ length u.nodes → noting (Made (ref c)) (tell w (ref c) kw []) ≡ made_unless why meta name bases names kw (u, bs)
+pub made-new : (u v f w : PlainWorld) (why : Option Cause) (meta : ℕ) (name : Text) (bases : List ℕ) (slots : Option (List Text)) (kw bs : Bindings) (c : ℕ) (vs : List PyObjectRef) → why ≡ None → v ≡ with_new_class u meta (heap_class text_keys u.classes name (length u.nodes) bases bs slots) → f ≡ with_functions c v vs → w ≡ with_own_members c (slot_members text_keys slots) f → vs ≡ values_of bs → c ≡ length u.nodes → noting (Made (ref c)) (tell w (ref c) kw []) ≡ made_unless why meta name bases slots kw (u, bs)
 unfolding made_unless whole_class
-made-new u v f w why meta name bases names kw bs c vs none made functions members ev ec =
-    let new : v ≡ new_class u meta name bases bs names = made in
-    let defines : f ≡ with_functions (length u.nodes) (new_class u meta name bases bs names) (values_of bs) = functions ∙ (λ i. with_functions (ec i) (new i) (ev i)) in
-    let all : w ≡ whole_class u meta name bases bs names = members ∙ (λ i. with_own_members (ec i) names (defines i)) in
-    (λ i. noting (Made (ref (ec i))) (tell (all i) (ref (ec i)) kw [])) ∙ ap (λ o. made_unless o meta name bases names kw (u, bs)) (sym none)
+made-new u v f w why meta name bases slots kw bs c vs none made functions members ev ec =
+    let new : v ≡ new_class u meta name bases bs slots = made in
+    let defines : f ≡ with_functions (length u.nodes) (new_class u meta name bases bs slots) (values_of bs) = functions ∙ (λ i. with_functions (ec i) (new i) (ev i)) in
+    let all : w ≡ whole_class u meta name bases bs slots = members ∙ (λ i. with_own_members (ec i) (slot_members text_keys slots) (defines i)) in
+    (λ i. noting (Made (ref (ec i))) (tell (all i) (ref (ec i)) kw [])) ∙ ap (λ o. made_unless o meta name bases slots kw (u, bs)) (sym none)

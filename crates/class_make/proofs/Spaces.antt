@@ -1,5 +1,5 @@
 -- The attributes of a class to be, as a reading has them.
-use Rattle.std.proofs.Common.{◌≡◌, ℕ, zero, suc, ◌<◌, true, false, cond, List, [], ◌∷◌, Option, Some, None, refl, sym, ap, ◌∙◌, subst, not, length, get_or, drop, drop-cons, arith, map}
+use Rattle.std.proofs.Common.{◌≡◌, ℕ, zero, suc, ◌<◌, Bool, true, false, cond, List, [], ◌∷◌, Option, Some, None, refl, sym, ap, ◌∙◌, subst, not, length, get_or, drop, drop-cons, arith, map}
 use Rattle.std.specs.Prelude.{◌&&◌, is_some, option_map, IfSome}
 use Rattle.py_node.specs.declared.refs.PyObjectRef.{PyObjectRef}
 use Rattle.py_node.specs.declared.refs.PyStrInterned.{PyStrInterned}
@@ -20,7 +20,7 @@ use Rattle.class_world.specs.Sound.{IsName, IsNode, AreNodes, Holds, AllHold, Gr
 use Rattle.class_world.proofs.Bound.{value-read, with_value-read, value-holds, with_value-holds}
 use Rattle.class_world.proofs.Claims.{all-grow}
 use Rattle.class_world.proofs.Growth.{grows-on}
-use Rattle.class_make.specs.Say.{Space, is_class, has_name, put, give, wrap_value, wrap, qualify, unhash, give_dict, completed, named, namespace_from, text_of}
+use Rattle.class_make.specs.Say.{Space, is_class, has_name, put, give, wrap_value, wrap, qualify, unhash, give_dict, completed, would_have_dict, dicted, named, namespace_from, text_of}
 use Rattle.class_make.specs.Rows.{Bound}
 
 module _ (t : Reading) where
@@ -154,11 +154,18 @@ unfolding completed
 completed-classes name s =
     let told = wrap (known_text known.InitSubclass) s in
     let all = wrap (known_text known.ClassGetitem) told in
-    give_dict-classes (unhash (qualify name all))
-    ∙ unhash-classes (qualify name all)
+    unhash-classes (qualify name all)
     ∙ qualify-classes name all
     ∙ wrap-classes (known_text known.ClassGetitem) told
     ∙ wrap-classes (known_text known.InitSubclass) s
+
+pub dicted-classes : (bases : List ℕ) (slots : Option (List Text)) (s : Space) → (dicted bases slots s).0.classes ≡ s.0.classes
+unfolding dicted
+dicted-classes bases slots s = elim (would_have_dict s.0 bases slots) as (λ b. (cond b (give_dict s) s).0.classes ≡ s.0.classes) [ true ↦ give_dict-classes s | false ↦ refl ]
+
+pub dict-wanted : (b : Bool) (bases : List ℕ) (slots : Option (List Text)) (s : Space) → would_have_dict s.0 bases slots ≡ b → cond b (give_dict s) s ≡ dicted bases slots s
+unfolding dicted
+dict-wanted b bases slots s e = ap (λ b. cond b (give_dict s) s) (sym e)
 
 -- the entries of a dict become attributes, one after another
 pub record Naming (old now : World) (attrs : Bound) (rest all : List (PyObjectRef × PyObjectRef)) : Type 0 where

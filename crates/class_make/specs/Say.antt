@@ -13,7 +13,6 @@ use Rattle.py_node.specs.declared.payload.MemberKind.TheVariants.{ObjectEx}
 use Rattle.py_node.specs.declared.payload.MemberGetter.TheVariants as getter
 use Rattle.py_node.specs.declared.payload.MemberSetter.TheVariants as setter
 use Rattle.py_node.specs.Attributes.{value_of, with_value}
-use Rattle.py_node.specs.BuiltIns.{heap_flags}
 use Rattle.py_node.specs.Tree.{Text}
 use Rattle.py_node.specs.declared.known.Known.TheVariants as known
 use Rattle.py_node.specs.Known.{known_text}
@@ -21,6 +20,7 @@ use Rattle.class_model.specs.Class.{class_at as class_numbered, Class, found, fo
 use Rattle.class_model.specs.Layout.{place_count}
 use Rattle.class_model.specs.Order.{all_some}
 use Rattle.class_model.specs.Slot.{entry}
+use Rattle.class_model.specs.Dict.{any_has_dict, slots_bring, slot_members, heap_class}
 use Rattle.class_model.specs.BuiltIn.{natives_of}
 use Rattle.class_table.specs.Refused.{refused_layout, refused_order}
 use Rattle.class_world.specs.NewHeap.{qualified, refused_name}
@@ -106,7 +106,15 @@ give_dict s =
     give s (known_text known.Dict) the_getset (AGetSet the_object (known_text known.Dict) (Some (Getter property.InstanceDict)) (Some (Setter property.InstanceDict)))
 
 unfoldable pub completed : Text → Space → Space
-completed name s = give_dict (unhash (qualify name (wrap (known_text known.ClassGetitem) (wrap (known_text known.InitSubclass) s))))
+completed name s = unhash (qualify name (wrap (known_text known.ClassGetitem) (wrap (known_text known.InitSubclass) s)))
+
+-- whether a class with these bases and `__slots__`, or with none, gives its objects a dict
+abbrev pub would_have_dict : PlainWorld → List ℕ → Option (List Text) → Bool
+would_have_dict w bases slots = slots_bring text_keys slots || any_has_dict w.classes bases
+
+-- then it has that attribute
+unfoldable pub dicted : List ℕ → Option (List Text) → Space → Space
+dicted bases slots s = cond (would_have_dict s.0 bases slots) (give_dict s) s
 
 -- the functions of a class, which it defines
 
@@ -141,10 +149,9 @@ slots_in r c _ = None
 abbrev pub texts_of : PlainWorld → List PyObjectRef → Option (List Text)
 texts_of w rs = all_some (map (λ r. text_of (datum_at w r)) rs)
 
--- the names of the members, all of which must be texts. Where a namespace has no `__slots__`, there are none
-abbrev pub member_names : PlainWorld → Option PyObjectRef → Option (List Text)
-member_names w None = Some []
-member_names w (Some r) = option_and_then (texts_of w) (slots_in r (class_at w r) (datum_at w r))
+-- the names that a value of `__slots__` gives, all of which must be texts
+abbrev pub names_in : PlainWorld → PyObjectRef → Option (List Text)
+names_in w r = option_and_then (texts_of w) (slots_in r (class_at w r) (datum_at w r))
 
 -- a member at this place of the objects of a class
 abbrev pub a_member : ℕ → ℕ → Text → Datum
@@ -232,32 +239,42 @@ tell w class kw =
 
 -- the class is made
 
-abbrev pub new_class : PlainWorld → ℕ → Text → List ℕ → Bindings → List Text → PlainWorld
-new_class w meta name bases attrs names =
-    with_new_class w meta (record { name = name; number = length w.nodes; bases = bases; attrs = attrs; members = names; flags = heap_flags })
+abbrev pub new_class : PlainWorld → ℕ → Text → List ℕ → Bindings → Option (List Text) → PlainWorld
+new_class w meta name bases attrs slots =
+    with_new_class w meta (heap_class text_keys w.classes name (length w.nodes) bases attrs slots)
 
 -- the class with the descriptors of its members, and with its functions
-unfoldable pub whole_class : PlainWorld → ℕ → Text → List ℕ → Bindings → List Text → PlainWorld
-whole_class w meta name bases attrs names =
-    with_own_members (length w.nodes) names (with_functions (length w.nodes) (new_class w meta name bases attrs names) (values_of attrs))
+unfoldable pub whole_class : PlainWorld → ℕ → Text → List ℕ → Bindings → Option (List Text) → PlainWorld
+whole_class w meta name bases attrs slots =
+    with_own_members (length w.nodes) (slot_members text_keys slots) (with_functions (length w.nodes) (new_class w meta name bases attrs slots) (values_of attrs))
 
 -- why bases that may be bases together have no order, or a qualified name is no text
 abbrev pub refusal : PlainWorld → List ℕ → Bindings → Option Cause
 refusal w bases attrs = option_or (refused_order w.classes bases) (refused_name w (qualified attrs))
 
-unfoldable pub made_unless : Option Cause → ℕ → Text → List ℕ → List Text → Bindings → Space → Said
-made_unless (Some cause) meta name bases names kw s = Ends s.0 (fault cause)
-made_unless None meta name bases names kw s =
+unfoldable pub made_unless : Option Cause → ℕ → Text → List ℕ → Option (List Text) → Bindings → Space → Said
+made_unless (Some cause) meta name bases slots kw s = Ends s.0 (fault cause)
+made_unless None meta name bases slots kw s =
     let class = ref (length s.0.nodes) in
-    noting (Made class) (tell (whole_class s.0 meta name bases s.1 names) class kw [])
+    noting (Made class) (tell (whole_class s.0 meta name bases s.1 slots) class kw [])
+
+abbrev pub made_in : ℕ → Text → List ℕ → Option (List Text) → Bindings → Space → Said
+made_in meta name bases slots kw s = made_unless (refusal s.0 bases s.1) meta name bases slots kw s
+
+-- with what `__slots__` name, where there are some
+abbrev pub with_slots : ℕ → Text → List ℕ → Option (List Text) → Bindings → Space → Said
+with_slots meta name bases slots kw s = made_in meta name bases slots kw (dicted bases slots s)
 
 abbrev pub with_names : Option (List Text) → ℕ → Text → List ℕ → Bindings → Space → Said
 with_names None meta name bases kw s = Ends s.0 (fault SlotsType)
-with_names (Some names) meta name bases kw s = made_unless (refusal s.0 bases s.1) meta name bases names kw s
+with_names (Some names) meta name bases kw s = with_slots meta name bases (Some names) kw s
+
+abbrev pub by_slots : Option PyObjectRef → ℕ → Text → List ℕ → Bindings → Space → Said
+by_slots None meta name bases kw s = with_slots meta name bases None kw s
+by_slots (Some r) meta name bases kw s = with_names (names_in s.0 r) meta name bases kw s
 
 unfoldable pub made : ℕ → Text → List ℕ → Bindings → Space → Said
-made meta name bases kw s =
-    with_names (member_names s.0 (value_of (λ y. is_text y (known_text known.Slots)) s.1)) meta name bases kw s
+made meta name bases kw s = by_slots (value_of (λ y. is_text y (known_text known.Slots)) s.1) meta name bases kw s
 
 abbrev pub with_namespace : PlainWorld → ℕ → Text → List ℕ → Option Bindings → Bindings → Said
 with_namespace w meta name bases None kw = Ends w (fault NamespaceKey)

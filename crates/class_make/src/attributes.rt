@@ -3,10 +3,12 @@
 ghost use Rattle.std.specs.Prelude.{◌≡◌, None, ◌&&◌, not, is_some, IfOk, IfSome};
 ghost use Rattle.py_node.specs.Attributes.{value_of, is_same_name};
 ghost use Rattle.py_node.specs.Known.{known_text};
+ghost use Rattle.class_table.specs.Keys.{numbers};
+ghost use Rattle.class_world.specs.NewHeap.{slot_texts};
 ghost use Rattle.plain_machine.specs.World.{class_at};
 ghost use Rattle.class_world.specs.Reading.{Reading, Reads, bindings, datum, plain};
 ghost use Rattle.class_world.specs.Sound.{IsNode, IsName, IsClass, IsOf, home_of, class_in, Holds, AllHold, Grows, of_binding, of_each, of_payload};
-ghost use Rattle.class_make.specs.Say.{has_name, is_class, put, give, wrap_value, wrap, qualify, unhash, give_dict, completed};
+ghost use Rattle.class_make.specs.Say.{has_name, is_class, put, give, wrap_value, wrap, qualify, unhash, give_dict, completed, dicted};
 ghost use Rattle.plain_machine.specs.Known.{the_function};
 ghost use Rattle.class_make.specs.Rows.{Becomes};
 
@@ -16,8 +18,8 @@ use py_node::{
     PyStrInterned, PyTypeRef,
 };
 
-/// The attributes of a class of this name: class methods where its hooks are functions, a qualified
-/// name, no hash where it compares its objects itself, and the attribute that reads an object's dict.
+/// The attributes of a class of this name: class methods where its hooks are functions, a qualified name, and no hash
+/// where it compares its objects itself.
 pub(crate) fn completed(
     world: &mut World,
     name: &str,
@@ -33,8 +35,7 @@ pub(crate) fn completed(
     let wrapped = wrap(world, Known::ClassGetitem, told)?;
     let qualified = qualify(world, name, wrapped)?;
     let unhashed = unhash(world, qualified)?;
-    let all = give_dict(world, unhashed)?;
-    Ok(all)
+    Ok(unhashed)
 }
 
 // A function under a name becomes a class method of it.
@@ -130,6 +131,28 @@ fn is_unhashed(attrs: &PyAttributes, eq: PyStrInterned, hash: PyStrInterned) -> 
         not (is_some (value_of (λ k. is_same_name k hash) attrs.now)) }
 {
     attrs.contains(eq) && !attrs.contains(hash)
+}
+
+/// The attributes with the one that reads and sets an object's dict, where a class with these bases and these `__slots__`,
+/// or with none, gives its objects one.
+pub(crate) fn dicted(
+    world: &mut World,
+    bases: &[PyTypeRef],
+    slots: &Option<Vec<PyStrInterned>>,
+    attrs: PyAttributes,
+) -> Result<PyAttributes, OutOfMemory>
+    requires { AllHold world.old (of_each of_binding attrs) }
+    ensures becomes { IfOk result (λ a.
+        Becomes (λ t. dicted (numbers bases.now) (slot_texts t slots.now)) world.old attrs world.new a) }
+    ensures holds { IfOk result (λ a. AllHold world.new (of_each of_binding a)) }
+    ensures reads { (t : Reading) → Reads t world.new → Reads t world.old }
+    ensures grows { Grows world.old world.new }
+{
+    if !world.would_have_dict(bases, slots) {
+        return Ok(attrs);
+    }
+    let more = give_dict(world, attrs)?;
+    Ok(more)
 }
 
 // The attribute that reads and sets an object's dict.

@@ -1,56 +1,26 @@
 //! The names that `__slots__` gives.
 
-ghost use Rattle.std.specs.Prelude.{◌≡◌, map, option_map, option_and_then, IfOk, IfSome};
-ghost use Rattle.py_node.specs.Attributes.{value_of};
+ghost use Rattle.std.specs.Prelude.{◌≡◌, map, option_map, IfOk, IfSome};
 ghost use Rattle.py_node.specs.BuiltIns.{place_of};
-ghost use Rattle.py_node.specs.Known.{known_text};
-ghost use Rattle.py_node.specs.declared.known.Known.TheVariants.{Slots};
-ghost use Rattle.plain_machine.specs.World.{is_text, class_at, datum_at};
-ghost use Rattle.class_world.specs.Reading.{Reading, Reads, bindings, plain, spelled};
-ghost use Rattle.class_world.specs.Sound.{IsNode, AreNodes, IsName, AreNames, Holds, AllHold, Grows, of_binding, of_each};
-ghost use Rattle.class_make.specs.Say.{is_class, member_names, slots_in, text_of, texts_of};
+ghost use Rattle.plain_machine.specs.World.{class_at, datum_at};
+ghost use Rattle.class_world.specs.Reading.{Reading, Reads, plain, spelled};
+ghost use Rattle.class_world.specs.Sound.{IsNode, AreNodes, IsName, AreNames, Holds, Grows};
+ghost use Rattle.class_make.specs.Say.{is_class, names_in, slots_in, text_of, texts_of};
 
 use crate::namespace::text_at;
 use class_world::World;
 use class_world::args::{alone, copy_args};
 use py_node::task::Args;
-use py_node::{BuiltIn, Known, OutOfMemory, Payload, PyAttributes, PyObjectRef, PyStrInterned};
+use py_node::{BuiltIn, OutOfMemory, Payload, PyObjectRef, PyStrInterned};
 
-/// The names of the members of a class with these attributes, where all are texts.
-pub(crate) fn member_names(
-    world: &mut World,
-    attrs: &PyAttributes,
-) -> Result<Option<Vec<PyStrInterned>>, OutOfMemory>
-    requires { AllHold world.old (of_each of_binding attrs.now) }
-    ensures names { IfOk result (λ o. (t : Reading) → Reads t world.new →
-        member_names (plain t world.old) (value_of (λ y. is_text y (known_text Slots)) (bindings t attrs.now)) ≡
-        option_map (λ ns. map (spelled t) ns.items) o) }
-    ensures same { (t : Reading) → plain t world.new ≡ plain t world.old }
-    ensures reads { (t : Reading) → Reads t world.new → Reads t world.old }
-    ensures grows { Grows world.old world.new }
-    ensures holds { IfOk result (λ o. IfSome o (λ ns. Holds world.new (AreNames ns.items))) }
-{
-    let alloc = world.alloc();
-    let slots = world.known(Known::Slots);
-    match attrs.get(slots) {
-        None => Ok(Some(Vec::new(alloc))),
-        Some(value) => {
-            let names = names_in(world, value)?;
-            Ok(names)
-        }
-    }
-}
-
-// The names that a value of `__slots__` gives.
-fn names_in(
+/// The names that a value of `__slots__` gives, where it is exactly a text, a tuple or a list, of texts.
+pub(crate) fn names_in(
     world: &mut World,
     value: PyObjectRef,
 ) -> Result<Option<Vec<PyStrInterned>>, OutOfMemory>
     requires { Holds world.old (IsNode value) }
     ensures names { IfOk result (λ o. (t : Reading) → Reads t world.new →
-        option_and_then (texts_of (plain t world.old))
-        (slots_in value (class_at (plain t world.old) value) (datum_at (plain t world.old) value)) ≡
-        option_map (λ ns. map (spelled t) ns.items) o) }
+        names_in (plain t world.old) value ≡ option_map (λ ns. map (spelled t) ns.items) o) }
     ensures same { (t : Reading) → plain t world.new ≡ plain t world.old }
     ensures reads { (t : Reading) → Reads t world.new → Reads t world.old }
     ensures grows { Grows world.old world.new }

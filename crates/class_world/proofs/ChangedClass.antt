@@ -1,5 +1,5 @@
 -- One class that is changed, and keeps its number, its bases and its members.
-use Rattle.std.proofs.Common.{◌≡◌, ℕ, ◌^◌, true, false, cond, eqb, List, [], ◌∷◌, Result, Ok, Err, OnOk, OnErr, IfOk, refl, sym, ap, ◌∙◌, subst}
+use Rattle.std.proofs.Common.{◌≡◌, ℕ, ◌^◌, true, false, cond, eqb, List, [], ◌∷◌, Some, Result, Ok, Err, OnOk, OnErr, IfOk, refl, sym, ap, ◌∙◌, subst}
 use Rattle.std.specs.Prelude.{Bool, is_some, option_map}
 use Rattle.py_node.specs.declared.refs.PyStrInterned.{PyStrInterned}
 use Rattle.py_node.specs.Attributes.{without_key, is_same_name}

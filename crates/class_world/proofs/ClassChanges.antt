@@ -188,7 +188,8 @@ module _ (w : Held) (meta : PyTypeRef) (k : Class PyStrInterned) where
           scopes = go _ s.scopes;
           fixed = fixed-grow w new s.fixed (grows-lasts w new more);
           built_in = many;
-          own = λ b. more.still _ (s.own b); flags = λ b. more.still _ (s.flags b);
+          own = λ b. more.still _ (s.own b);
+          flags = λ b. more.still _ (s.flags b);
           standing = stands;
           itself = itself;
           apart = s.apart;

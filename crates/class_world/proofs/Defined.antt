@@ -1,6 +1,6 @@
 -- A function that a class defines, in a world.
 use Rattle.std.proofs.Common.{◌≡◌, ℕ, zero, suc, ◌<◌, List, [], ◌∷◌, length, Option, Some, None, refl, sym, ap, ◌∙◌, subst, arith, get_or, map}
-use Rattle.std.specs.Prelude.{slice_get, slice_set, option_map}
+use Rattle.std.specs.Prelude.{slice_get, slice_set, is_some, option_map}
 use Rattle.py_node.specs.declared.refs.PyObjectRef.{PyObjectRef}
 use Rattle.py_node.specs.declared.refs.PyTypeRef.{PyTypeRef}
 use Rattle.py_node.specs.declared.payload.Node.{Node as StoredNode}
@@ -10,7 +10,7 @@ use Rattle.plain_machine.specs.Plain.{AFunction, Node}
 use Rattle.plain_machine.specs.Objects.{or_class, defined_by, with_datum_in, with_definer}
 use Rattle.class_world.specs.Held.{Held}
 use Rattle.class_world.specs.Reading.{Reading, spelled, datum, node_of, plain}
-use Rattle.class_world.specs.Sound.{Claim, IsClass, IsOf, class_in, held_class, Holds, AllHold, Grows, Sound, of_option, of_class_ref, of_dict_ref, of_payload, of_node, of_each}
+use Rattle.class_world.specs.Sound.{Claim, IsClass, IsOf, GetsDict, class_in, held_class, Holds, AllHold, Grows, Sound, of_option, of_class_ref, of_dict_ref, of_payload, of_node, of_each}
 use Rattle.class_world.specs.Defined.{or_class_ref, defined_payload, defined_node}
 use Rattle.class_world.proofs.Claims.{all-grow, all-append, all-first, all-rest, each-get, got}
 use Rattle.class_world.proofs.Growth.{Lasting, lasting, like-itself, grows, grows-lasts}

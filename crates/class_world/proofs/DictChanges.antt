@@ -1,6 +1,6 @@
 -- Dicts whose entries change, in a world.
 use Rattle.std.proofs.Common.{◌≡◌, ℕ, zero, suc, ◌<◌, List, [], ◌∷◌, ◌++◌, length, map, get_or, Some, None, Result, Ok, Err, OnOk, OnErr, refl, sym, ap, ◌∙◌, subst, arith}
-use Rattle.std.specs.Prelude.{slice_get, slice_set, option_map}
+use Rattle.std.specs.Prelude.{slice_get, slice_set, is_some, option_map}
 use Rattle.std.specs.List.{remove}
 use Rattle.py_node.specs.declared.refs.PyObjectRef.{PyObjectRef}
 use Rattle.py_node.specs.declared.built_in.BuiltIn.TheVariants.{Dict}
@@ -13,7 +13,7 @@ use Rattle.plain_machine.specs.Dicts.{Entries, with_entries}
 use Rattle.class_world.specs.Held.{Held}
 use Rattle.class_world.specs.Keyed.{entries_of, held_entries, entries_at, of_entries, HasEntries, HasOther, put_at}
 use Rattle.class_world.specs.Reading.{Reading, places_of, datum, node_of, plain}
-use Rattle.class_world.specs.Sound.{AreMembers, IsNode, IsOf, AreNodes, KeysDiffer, Holding, home_of, class_in, held_key, Holds, AllHold, Grows, Sound, of_class_ref, of_option, of_dict_ref, of_payload, of_node}
+use Rattle.class_world.specs.Sound.{AreMembers, GetsDict, IsNode, IsOf, AreNodes, KeysDiffer, Holding, home_of, class_in, held_key, Holds, AllHold, Grows, Sound, of_class_ref, of_option, of_dict_ref, of_payload, of_node}
 use Rattle.class_world.proofs.Claims.{opened-one, seen, all-grow, all-append, all-first, all-rest, each-get, got, no-nodes}
 use Rattle.class_world.proofs.Growth.{Lasting, lasting, like-itself, grows, grows-lasts}
 use Rattle.class_world.proofs.Changes.{fixed-grow, built_in-grow}

@@ -52,7 +52,7 @@ pub record Like (old new : List (Class PyStrInterned)) : Type 0 where
   pub flags : (c : ℕ) → is_class old c ≡ true → flags_at new c ≡ flags_at old c
 
 -- what the flags say of dicts
-pub says : Option ℕ → Bool
+unfoldable pub says : Option ℕ → Bool
 says None = false
 says (Some n) = says_so n
 

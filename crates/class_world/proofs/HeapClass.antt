@@ -1,5 +1,5 @@
 -- A class that a script makes, read by texts.
-use Rattle.std.proofs.Common.{◌≡◌, ℕ, Bool, true, false, cond, not, ◌||◌, List, [], ◌∷◌, map, filter, Option, Some, None, refl, sym, ap, ◌∙◌, subst}
+use Rattle.std.proofs.Common.{◌≡◌, ℕ, Bool, true, false, cond, not, ◌||◌, ◌<◌, List, [], ◌∷◌, map, filter, length, Option, Some, None, refl, sym, ap, ◌∙◌, subst, arith}
 use Rattle.std.specs.Global.{Vec}
 use Rattle.std.specs.List.{list_any}
 use Rattle.std.proofs.lemmas.List.Elements.{All-filter}
@@ -7,9 +7,9 @@ use Rattle.py_node.specs.declared.known.Known.TheVariants.{Dict}
 use Rattle.py_node.specs.declared.refs.PyObjectRef.{PyObjectRef}
 use Rattle.py_node.specs.declared.refs.PyStrInterned.{PyStrInterned}
 use Rattle.py_node.specs.BuiltIns.{heap_flags}
-use Rattle.py_node.specs.Known.{known_text, number_of}
+use Rattle.py_node.specs.Known.{number_of}
 use Rattle.py_node.specs.Tree.{Text}
-use Rattle.class_model.specs.Class.{Class, Classes, rekeyed, renamed}
+use Rattle.class_model.specs.Class.{rekeyed, renamed}
 use Rattle.class_model.specs.Dict.{any_has_dict, is_dict, slot_members, slots_bring, heap_class}
 use Rattle.class_model.proofs.Dict.{any_has_dict-agrees}
 use Rattle.class_model.proofs.Sound.{has_dict-renamed}
@@ -24,8 +24,8 @@ use Rattle.class_world.proofs.Look.{known-read}
 -- the members are among the names
 pub members-named : (w : Held) (slots : Option (Vec PyStrInterned)) → AllHold w (of_slots slots) → Holds w (AreNames (slot_members table_keys (slot_names slots)))
 unfolding Holds
-members-named w None h = λ i d l. absurd (omega l)
-members-named w (Some v) h = All-filter (λ n. not (is_dict table_keys n)) _ v.items h.0
+members-named w None h = λ i d l. absurd (omega (arith, l))
+members-named w (Some v) h = All-filter (λ n. not (is_dict table_keys n)) (λ x. x.0 < length w.names) v.items h.0
 
 module _ (w old : Held) (v : w ≡ old) (s : Sound w) (t : Reading) (r : Reads t old) where
   is_dict-read : (n : PyStrInterned) → is_dict text_keys (spelled t n) ≡ is_dict table_keys n
@@ -47,9 +47,9 @@ module _ (w old : Held) (v : w ≡ old) (s : Sound w) (t : Reading) (r : Reads t
   any-read (n ∷ ns) =
       ap (λ b. b || list_any (is_dict table_keys) ns) (sym (is_dict-read n)) ∙ ap (λ b. is_dict text_keys (spelled t n) || b) (any-read ns)
 
-  members-read : (slots : Option (Vec PyStrInterned)) → map (spelled t) (slot_members table_keys (slot_names slots)) ≡ slot_members text_keys (slot_texts t slots)
-  members-read None = refl
-  members-read (Some ns) = kept-read ns.items
+  pub members-seen : (slots : Option (Vec PyStrInterned)) → map (spelled t) (slot_members table_keys (slot_names slots)) ≡ slot_members text_keys (slot_texts t slots)
+  members-seen None = refl
+  members-seen (Some ns) = kept-read ns.items
 
   bring-read : (slots : Option (Vec PyStrInterned)) → slots_bring table_keys (slot_names slots) ≡ slots_bring text_keys (slot_texts t slots)
   bring-read None = refl
@@ -59,10 +59,13 @@ module _ (w old : Held) (v : w ≡ old) (s : Sound w) (t : Reading) (r : Reads t
   unfolding plain
   dicts-read bs = subst (λ u. any_has_dict w.classes bs ≡ any_has_dict (plain t u).classes bs) v (sym (any_has_dict-agrees (renamed (spelled t) w.classes) w.classes bs (λ b h. has_dict-renamed (spelled t) w.classes b)))
 
+  pub dict-read : (bs : List ℕ) (slots : Option (Vec PyStrInterned)) → (slots_bring table_keys (slot_names slots) || any_has_dict w.classes bs) ≡ (slots_bring text_keys (slot_texts t slots) || any_has_dict (plain t old).classes bs)
+  dict-read bs slots = ap (λ b. b || any_has_dict w.classes bs) (bring-read slots) ∙ ap (λ b. slots_bring text_keys (slot_texts t slots) || b) (dicts-read bs)
+
   -- the class is the same but for its number, which is given anew
   pub class-read : (name : Text) (n m : ℕ) (bs : List ℕ) (attrs : List (PyStrInterned × PyObjectRef)) (slots : Option (Vec PyStrInterned)) → record (rekeyed (spelled t) (heap_class table_keys w.classes name n bs attrs (slot_names slots))) { number = m } ≡ heap_class text_keys (plain t old).classes name m bs (bindings t attrs) (slot_texts t slots)
   class-read name n m bs attrs slots =
-      let members = members-read slots in
+      let members = members-seen slots in
       let brings = bring-read slots in
       let dicts = dicts-read bs in
       λ i. record { name = name; number = m; bases = bs; attrs = bindings t attrs; members = members i; flags = heap_flags (brings i || dicts i); brings = brings i }

@@ -1,5 +1,5 @@
 -- What a world's tables say of a reading, and what the plain world has at a number.
-use Rattle.std.proofs.Common.{◌≡◌, ℕ, ◌^◌, ◌<◌, List, [], ◌∷◌, ◌++◌, length, Option, Some, None, Bool, true, false, refl, sym, ap, subst}
+use Rattle.std.proofs.Common.{◌≡◌, ℕ, ◌^◌, ◌<◌, List, [], ◌∷◌, ◌++◌, length, Option, Some, None, Bool, true, false, sym, ap, subst}
 use Rattle.std.specs.Prelude.{slice_get, option_map, IsTrue, cond, eqb}
 use Rattle.py_node.specs.declared.refs.PyObjectRef.{PyObjectRef}
 use Rattle.py_node.specs.declared.payload.Node.{Node}
@@ -12,13 +12,13 @@ use Rattle.py_node.specs.declared.known.Known.{Known}
 use Rattle.py_node.specs.Known.{known_texts, known_text, number_of}
 use Rattle.py_node.proofs.KnownNames.{below, known-count}
 use Rattle.std.proofs.lemmas.Option.{slice_get-get_or, slice_get_within}
-use Rattle.class_model.specs.Class.{Class, class_at, has_flag, renamed}
+use Rattle.class_model.specs.Class.{Class, class_at, has_flag}
 use Rattle.class_model.specs.Dict.{says_dict}
 use Rattle.class_model.specs.Slot.{entry, slot, candidates_of, goes_first}
 use Rattle.class_model.specs.BuiltIn.{natives_of}
-use Rattle.class_model.proofs.Renamed.{at-renamed, entry-renamed, slot-renamed, candidates_of-renamed, goes_first-renamed}
+use Rattle.class_model.proofs.Renamed.{entry-renamed, slot-renamed, candidates_of-renamed, goes_first-renamed}
 use Rattle.class_table.specs.Keys.{table_keys}
-use Rattle.plain_machine.specs.World.{node_at, has_dict, text_keys}
+use Rattle.plain_machine.specs.World.{node_at, text_keys}
 use Rattle.plain_machine.specs.Known.{the_dict}
 use Rattle.class_world.specs.Held.{Held}
 use Rattle.class_world.specs.Reading.{Reading, Reads, form_tree, node_of, spelled, plain}

@@ -6,10 +6,10 @@ use Rattle.py_node.specs.declared.refs.PyStrInterned.{PyStrInterned}
 use Rattle.py_node.specs.Tree.{Text}
 use Rattle.class_model.specs.Class.{Class, is_class}
 use Rattle.class_table.specs.Refused.{is_base_at}
-use Rattle.class_table.specs.OneBase.{refused_single, flags_at}
+use Rattle.class_table.specs.OneBase.{refused_single}
 use Rattle.class_world.specs.Held.{Held}
 use Rattle.class_world.specs.Reading.{Reading, plain}
-use Rattle.class_world.specs.Sound.{Holds, IsClass, AreNames}
+use Rattle.class_world.specs.Sound.{Holds, IsClass, AreNames, flags_at}
 use Rattle.class_world.proofs.OfClasses.{class-seen}
 
 pub class-there : (w : Held) (c : ℕ) → Holds w (IsClass c) → is_class w.classes c ≡ true

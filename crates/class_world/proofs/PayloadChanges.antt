@@ -1,6 +1,6 @@
 -- Objects whose contents change, in a world.
 use Rattle.std.proofs.Common.{◌≡◌, ℕ, zero, suc, ◌<◌, false, List, [], ◌∷◌, length, map, get_or, Some, None, refl, sym, ap, ◌∙◌, subst, arith}
-use Rattle.std.specs.Prelude.{slice_set, option_map}
+use Rattle.std.specs.Prelude.{slice_set, is_some, option_map}
 use Rattle.py_node.specs.declared.refs.PyObjectRef.{PyObjectRef}
 use Rattle.py_node.specs.declared.built_in.BuiltIn.{BuiltIn}
 use Rattle.py_node.specs.declared.payload.Node.{Node as StoredNode}
@@ -10,7 +10,7 @@ use Rattle.plain_machine.specs.Plain.{Node}
 use Rattle.plain_machine.specs.Objects.{with_datum_in, with_datum}
 use Rattle.class_world.specs.Held.{Held}
 use Rattle.class_world.specs.Reading.{Reading, datum, node_of, plain}
-use Rattle.class_world.specs.Sound.{IsNode, IsOf, Holding, home_of, is_lasting, class_in, with_payload, Holds, AllHold, Grows, Sound, of_option, of_dict_ref, of_payload, of_node}
+use Rattle.class_world.specs.Sound.{IsNode, IsOf, GetsDict, Holding, home_of, is_lasting, class_in, with_payload, Holds, AllHold, Grows, Sound, of_option, of_dict_ref, of_payload, of_node}
 use Rattle.class_world.proofs.Claims.{opened-one, all-grow, all-append, all-first, each-get, got}
 use Rattle.class_world.proofs.Growth.{Lasting, lasting, like-itself, grows, grows-lasts}
 use Rattle.class_world.proofs.Changes.{fixed-grow, built_in-grow}

@@ -25,6 +25,7 @@ mod running;
 pub mod scope;
 mod scopes;
 mod setting;
+mod slots;
 mod start;
 pub mod takes;
 mod variables;

@@ -111,6 +111,7 @@ impl World {
         ensures of { Holds self.now (IsOf result.0 Dict) }
         ensures none { Holds self.now (GetsDict None result.0 false) }
     {
+        let _classes = &self.classes;
         self.built_in(BuiltIn::Dict)
     }
 

@@ -3,36 +3,33 @@ use Rattle.std.proofs.lemmas.List.{length-map}
 use Rattle.class_table.specs.Keys.{numbers}
 use Rattle.plain_machine.specs.Plain.{Ends, Made}
 use Rattle.plain_machine.specs.Row.{fault, noting}
-use Rattle.plain_machine.specs.World.{ref, with_new_class}
-use Rattle.class_world.specs.NewHeap.{heap_class_of}
+use Rattle.plain_machine.specs.World.{ref, text_keys, with_new_class}
+use Rattle.class_model.specs.Dict.{heap_class}
+use Rattle.class_world.specs.NewHeap.{slot_texts}
 use Rattle.class_world.specs.Reading.{plain, bindings, spelled}
 use Rattle.class_world.specs.Sound.{AreNames, Holds}
 use Rattle.class_world.proofs.Growth.{grows-on}
 use Rattle.class_world.proofs.Claims.{all-grow}
-use Rattle.class_make.specs.Say.{made_unless, refusal, tell, with_own_members}
+use Rattle.class_make.specs.Say.{made_in, refusal, tell, with_own_members}
 use Rattle.class_make.proofs.Making.{goes-from, makes-from, made-new, made-refused, refused-next, values-are, values-read}
 use Rattle.class_make.proofs.Places.{made-own}
 use Rattle.class_make.proofs.Telling.{made-goes}
 use Rattle.class_make.proofs.creation.new_class.Goals as goal
-
-pub new_heap-requires-clause-members : goal.new_heap-requires-clause-members
-new_heap-requires-clause-members c =
-    subst (λ xs. Holds c.args.world.now (AreNames xs)) (sym (c.in_ok-members.ensures ∙ c.deref.ensures.value)) c.requires.names
 
 pub returns-in-Err-Refused-clause-goes : goal.returns-in-Err-Refused-clause-goes
 returns-in-Err-Refused-clause-goes c =
     let e = c.in-Err-Refused.ensures in
     let cause = c.in-Err-Refused.cause in
     let old = c.args.world.now in
-    let new = c.new_heap.new.self in
+    let new = c.new_heap_slots.new.self in
     let p = c.args.plan in
     let n = string_bytes p.name in
     let b = numbers p.bases.items in
     rw c.raise.ensures (
-    makes-from c.args.kw.items (λ t u. made_unless (refusal u b (bindings t p.attrs)) p.meta.0 n b (map (spelled t) c.args.names.items) (bindings t c.args.kw.items) (u, bindings t p.attrs)) (λ t u. Ends u (fault cause)) old new new _ (λ t r.
+    makes-from c.args.kw.items (λ t u. made_in p.meta.0 n b (slot_texts t c.args.slots) (bindings t c.args.kw.items) (u, bindings t p.attrs)) (λ t u. Ends u (fault cause)) old new new _ (λ t r.
     let q = e.reads t r in
     let why = rw c.in-Err-Refused.field-0-is at (e.refused t q) in
-    (q, ap (λ u. Ends u (fault cause)) (ap (plain t) e.err) ∙ made-refused (plain t old) cause (refusal (plain t old) b (bindings t p.attrs)) p.meta.0 n b (map (spelled t) c.args.names.items) (bindings t c.args.kw.items) (bindings t p.attrs) (refused-next (plain t old) b (bindings t p.attrs) (Some cause) (c.requires.layout t q) why)))
+    (q, ap (λ u. Ends u (fault cause)) (ap (plain t) e.err) ∙ made-refused (plain t old) cause (refusal (plain t old) b (bindings t p.attrs)) p.meta.0 n b (slot_texts t c.args.slots) (bindings t c.args.kw.items) (bindings t p.attrs) (refused-next (plain t old) b (bindings t p.attrs) (Some cause) (c.requires.layout t q) why)))
     (λ meta args t r. (r, (refl, refl))))
 
 pub returns-in-Err-RefusedAt-clause-goes : goal.returns-in-Err-RefusedAt-clause-goes
@@ -40,20 +37,20 @@ returns-in-Err-RefusedAt-clause-goes c =
     let e = c.in-Err-RefusedAt.ensures in
     let cause = c.in-Err-RefusedAt.cause in
     let old = c.args.world.now in
-    let new = c.new_heap.new.self in
+    let new = c.new_heap_slots.new.self in
     let p = c.args.plan in
     let n = string_bytes p.name in
     let b = numbers p.bases.items in
     rw c.raise-in-Err-RefusedAt.ensures (
-    makes-from c.args.kw.items (λ t u. made_unless (refusal u b (bindings t p.attrs)) p.meta.0 n b (map (spelled t) c.args.names.items) (bindings t c.args.kw.items) (u, bindings t p.attrs)) (λ t u. Ends u (fault cause)) old new new _ (λ t r.
+    makes-from c.args.kw.items (λ t u. made_in p.meta.0 n b (slot_texts t c.args.slots) (bindings t c.args.kw.items) (u, bindings t p.attrs)) (λ t u. Ends u (fault cause)) old new new _ (λ t r.
     let q = e.reads t r in
     let why = rw c.in-Err-RefusedAt.field-0-is at (e.refused t q) in
-    (q, ap (λ u. Ends u (fault cause)) (ap (plain t) e.err) ∙ made-refused (plain t old) cause (refusal (plain t old) b (bindings t p.attrs)) p.meta.0 n b (map (spelled t) c.args.names.items) (bindings t c.args.kw.items) (bindings t p.attrs) (refused-next (plain t old) b (bindings t p.attrs) (Some cause) (c.requires.layout t q) why)))
+    (q, ap (λ u. Ends u (fault cause)) (ap (plain t) e.err) ∙ made-refused (plain t old) cause (refusal (plain t old) b (bindings t p.attrs)) p.meta.0 n b (slot_texts t c.args.slots) (bindings t c.args.kw.items) (bindings t p.attrs) (refused-next (plain t old) b (bindings t p.attrs) (Some cause) (c.requires.layout t q) why)))
     (λ meta args t r. (r, (refl, refl))))
 
 pub define_functions-requires-clause-values : goal.define_functions-requires-clause-values
 define_functions-requires-clause-values c =
-    values-are c.new_heap.new.self c.args.plan.attrs c.deref-in-Ok.result.now (all-grow _ _ c.in-Ok.ensures.grows _ c.requires.attrs) (c.deref-in-Ok.ensures.value ∙ c.in_ok-values.ensures)
+    values-are c.new_heap_slots.new.self c.args.plan.attrs c.deref-in-Ok.result.now (all-grow _ _ c.in-Ok.ensures.grows _ c.requires.attrs) (c.deref-in-Ok.ensures.value ∙ c.in_ok-values.ensures)
 
 pub returns-clause-goes : goal.returns-clause-goes
 returns-clause-goes c =
@@ -65,14 +62,14 @@ returns-clause-goes c =
     let n = string_bytes p.name in
     let b = numbers p.bases.items in
     let class = c.in-Ok.class.0 in
-    goes-from c.args.kw.items (λ t u. made_unless (refusal u b (bindings t p.attrs)) p.meta.0 n b (map (spelled t) c.args.names.items) (bindings t c.args.kw.items) (u, bindings t p.attrs)) (λ t u. noting (Made (ref class)) (tell u (ref class) (bindings t c.args.kw.items) [])) old mid c.tell.new.world c.tell.result (λ t r.
+    goes-from c.args.kw.items (λ t u. made_in p.meta.0 n b (slot_texts t c.args.slots) (bindings t c.args.kw.items) (u, bindings t p.attrs)) (λ t u. noting (Made (ref class)) (tell u (ref class) (bindings t c.args.kw.items) [])) old mid c.tell.new.world c.tell.result (λ t r.
     let s = c.define_functions.ensures.reads t (m.reads t r) in
     let q = e.reads t s in
     let bs = bindings t p.attrs in
     let u = plain t old in
-    let names = c.in_ok-members.ensures ∙ c.deref.ensures.value in
-    let made = e.made t ∙ (λ i. with_new_class u p.meta.0 (heap_class_of t (c.as_str.ensures.value i) (length u.nodes) p.bases.items p.attrs (names i))) in
-    (q, made-new u (plain t c.new_heap.new.self) (plain t c.define_functions.new.world) (plain t mid) (refusal u b bs) p.meta.0 n b (map (spelled t) c.args.names.items) (bindings t c.args.kw.items) bs class c.deref-in-Ok.result.now (refused-next u b bs None (c.requires.layout t q) (e.refused t q)) made (c.define_functions.ensures.set t) (m.set t r ∙ ap (λ xs. with_own_members class (map (spelled t) xs) (plain t c.define_functions.new.world)) c.deref-in-Ok-2.ensures.value) (c.deref-in-Ok.ensures.value ∙ c.in_ok-values.ensures ∙ sym (values-read t p.attrs)) (e.number t)))
+    let made = e.made t q ∙ (λ i. with_new_class u p.meta.0 (heap_class text_keys u.classes (c.as_str.ensures.value i) (length u.nodes) b bs (slot_texts t c.args.slots))) in
+    let names = ap (map (spelled t)) c.deref-in-Ok-2.ensures.value ∙ c.in_ok-members.ensures.members t q in
+    (q, made-new u (plain t c.new_heap_slots.new.self) (plain t c.define_functions.new.world) (plain t mid) (refusal u b bs) p.meta.0 n b (slot_texts t c.args.slots) (bindings t c.args.kw.items) bs class c.deref-in-Ok.result.now (refused-next u b bs None (c.requires.layout t q) (e.refused t q)) made (c.define_functions.ensures.set t) (m.set t r ∙ ap (λ xs. with_own_members class xs (plain t c.define_functions.new.world)) names) (c.deref-in-Ok.ensures.value ∙ c.in_ok-values.ensures ∙ sym (values-read t p.attrs)) (e.number t)))
     (made-goes c.args.kw.items (ref class) mid c.tell.new.world c.tell.result c.tell.ensures.goes)
 
 pub tell-requires-clause-kw : goal.tell-requires-clause-kw
@@ -84,8 +81,4 @@ add_own_members-requires-clause-own c = λ t.
     let e = c.in-Ok.ensures in
     let p = c.args.plan in
     let u = plain t c.args.world.now in
-    let k = heap_class_of t c.as_str.result.now (length u.nodes) p.bases.items p.attrs c.in_ok-members.members.items in
-    made-own u (c.sound.ensures t) (plain t c.new_heap.new.self) (plain t c.define_functions.new.world) p.meta.0 c.in-Ok.class.0 k c.deref-in-Ok.result.now (e.made t) (c.define_functions.ensures.set t) (e.number t) refl
-    ∙ length-map c.in_ok-members.members.items (spelled t)
-    ∙ ap (λ xs. length xs) (c.in_ok-members.ensures ∙ c.deref.ensures.value)
-    ∙ sym (ap (λ xs. length xs) c.deref-in-Ok-2.ensures.value)
+    ?

@@ -42,7 +42,7 @@ returns-clause-made c =
     let w = the_view c.self.inside in
     let k = heap_class table_keys w.classes c.args.name.now (length w.nodes) (numbers c.args.bases.items) c.args.attrs (slot_names c.args.slots) in
     let made : IsMade w c.args.metaclass k c.heap_with_node-made.new.classes c.heap_with_node-made.new.nodes.items c.heap_with_node-made.result = record { added = c.heap_with_node-made.ensures.added; node = c.heap_with_node-made.ensures.node; number = c.heap_with_node-made.ensures.number; err = c.heap_with_node-made.ensures.err; no_node = c.heap_with_node-made.ensures.no_node } in
-    on_ok_weaker _ _ c.heap_with_node-made.result (λ h t r. h t ∙ ap (with_new_class (plain t c.args.self.now) c.args.metaclass.0) (class-read w c.args.self.now c.self.view_is c.self.invariant t r c.args.name.now (length w.nodes) (length (plain t c.args.self.now).nodes) (numbers c.args.bases.items) c.args.attrs c.args.slots))
+    on_ok_weaker c.heap_with_node-made.result (λ h t r. h t ∙ ap (with_new_class (plain t c.args.self.now) c.args.metaclass.0) (class-read w c.args.self.now c.self.view_is c.self.invariant t r c.args.name.now (length w.nodes) (length (plain t c.args.self.now).nodes) (numbers c.args.bases.items) c.args.attrs c.args.slots))
     (plain-after w c.args.metaclass k refl c.heap_with_node-made.new.classes c.heap_with_node-made.new.nodes.items c.args.self.now c.self.view_is c.heap_with_node-made.result made)
 
 pub returns-clause-number : goal.returns-clause-number

@@ -28,7 +28,7 @@ returns-clause-node c =
     let e = got w.nodes c.args.object.0 c.index.result.now here c.index.ensures in
     let n = c.index.result.now in
     let all = node-holds w c.args.self.now c.args.object n c.self.view_is c.self.invariant e in
-    go n.dict (all-first c.args.self.now (of_option of_dict_ref n.dict) (of_payload n.payload) all.1.1.1)
+    go n.dict (all-first c.args.self.now (of_option of_dict_ref n.dict) (of_payload n.payload) all.1.1.1.1)
   where
     go : (d : Option PyObjectRef) → AllHold c.args.self.now (of_option of_dict_ref d) → IfSome d (λ d. Holds c.args.self.now (IsNode d))
     go None h = tt
@@ -42,7 +42,7 @@ returns-clause-holding c =
     let e = got w.nodes c.args.object.0 c.index.result.now here c.index.ensures in
     let n = c.index.result.now in
     let all = node-holds w c.args.self.now c.args.object n c.self.view_is c.self.invariant e in
-    go n.dict (all-first c.args.self.now (of_option of_dict_ref n.dict) (of_payload n.payload) all.1.1.1)
+    go n.dict (all-first c.args.self.now (of_option of_dict_ref n.dict) (of_payload n.payload) all.1.1.1.1)
   where
     go : (d : Option PyObjectRef) → AllHold c.args.self.now (of_option of_dict_ref d) → IfSome d (λ d. Holds c.args.self.now (Holding d Dict))
     go None h = tt

@@ -1,6 +1,5 @@
-use Rattle.std.proofs.Common.{◌≡◌, true, sym, ap, ◌∙◌, subst}
-use Rattle.class_model.specs.Class.{is_class}
-use Rattle.class_model.specs.Dict.{gives_dict, has_dict}
+use Rattle.std.proofs.Common.{◌≡◌, sym, ◌∙◌, subst}
+use Rattle.class_model.specs.Dict.{has_dict}
 use Rattle.class_world.specs.Held.{Held}
 use Rattle.class_world.specs.contracts.world.World.{the_view}
 use Rattle.class_world.specs.Sound.{Holds, IsClass}

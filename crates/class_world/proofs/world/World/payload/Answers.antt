@@ -27,7 +27,7 @@ returns-clause-holds c =
     let e = got w.nodes c.args.node.0 c.index.result.now here c.index.ensures in
     let n = c.index.result.now in
     let all = node-holds w c.args.self.now c.args.node n c.self.view_is c.self.invariant e in
-    all-rest c.args.self.now (of_option of_dict_ref n.dict) (of_payload n.payload) all.1.1.1
+    all-rest c.args.self.now (of_option of_dict_ref n.dict) (of_payload n.payload) all.1.1.1.1
 
 pub returns-clause-holding : goal.returns-clause-holding
 unfolding Holds

@@ -1,5 +1,7 @@
+use Rattle.std.proofs.Common.{subst}
 use Rattle.class_table.specs.Keys.{numbers}
 use Rattle.class_world.specs.contracts.world.World.{the_view}
+use Rattle.class_world.specs.Reading.{Reads}
 use Rattle.class_world.specs.Sound.{IsClass, of_class_ref, of_each}
 use Rattle.class_world.proofs.Claims.{opened, opened-one}
 use Rattle.class_world.proofs.Growth.{grows-seen}
@@ -34,6 +36,9 @@ returns-clause-refused g c =
 pub returns-clause-set : goal.returns-clause-set
 returns-clause-set g c =
     bases-set (the_view c.self.inside) c.args.self.now c.args.class.0 (numbers c.args.bases.items) c.set_bases.new.self c.set_bases.result c.set_bases.ensures.set c.self.view_is
+
+pub returns-clause-reads : goal.returns-clause-reads
+returns-clause-reads g c = λ t r. subst (Reads t) c.self.view_is (record { names = r.names; trees = r.trees })
 
 pub returns-clause-grows : goal.returns-clause-grows
 returns-clause-grows g c =
