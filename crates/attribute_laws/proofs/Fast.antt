@@ -97,8 +97,8 @@ fast-kind w a u of fast =
             | inr e ↦ inr (p.1 ∙ ap (λ b. Some (place_of b)) e, parts.1)
           ]
       | inr p ↦
-          let none : class_has_flag w method_descriptor (Some p.0) ≡ false = ap (λ o. or_false (option_map (λ k. has_flag method_descriptor k) o)) p.3 ∙ script-marks-none p.1 p.4 in
-          absurd (false≢true (sym none ∙ sym (ap (class_has_flag w method_descriptor) p.2) ∙ parts.0))
+          let none : class_has_flag w method_descriptor (Some p.0) ≡ false = ap (λ o. or_false (option_map (λ k. has_flag method_descriptor k) o)) p.4 ∙ script-marks-none p.1 p.2 p.5 in
+          absurd (false≢true (sym none ∙ sym (ap (class_has_flag w method_descriptor) p.3) ∙ parts.0))
     ]
 
 -- what the objects of a built-in class hold

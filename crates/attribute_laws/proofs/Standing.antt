@@ -83,5 +83,6 @@ marks-methods built_in.Function e = inl refl
 marks-methods built_in.MethodDescriptor e = inr refl
 marks-methods b e = absurd (false≢true e)
 
-pub script-marks-none : (k : Class Text) → k.flags ≡ heap_flags → has_flag method_descriptor k ≡ false
-script-marks-none k e = rw e refl
+pub script-marks-none : (k : Class Text) (dict : Bool) → k.flags ≡ heap_flags dict → has_flag method_descriptor k ≡ false
+script-marks-none k true e = rw e refl
+script-marks-none k false e = rw e refl

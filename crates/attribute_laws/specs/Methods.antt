@@ -1,5 +1,5 @@
 -- Methods that are loaded to be called at once.
-use Rattle.std.specs.Prelude.{◌≡◌, ℕ, suc, ◌<◌, List, [], ◌∷◌, Option, Some, Ok, ◌⊎◌}
+use Rattle.std.specs.Prelude.{◌≡◌, ℕ, suc, ◌<◌, Bool, List, [], ◌∷◌, Option, Some, Ok, ◌⊎◌}
 use Rattle.py_node.specs.declared.refs.PyObjectRef.{PyObjectRef}
 use Rattle.py_node.specs.declared.built_in.BuiltIn.{BuiltIn}
 use Rattle.py_node.specs.declared.built_in.BuiltIn.TheVariants as built_in
@@ -34,7 +34,7 @@ abbrev pub IsBuiltIn : PlainWorld → PyObjectRef → Type 0
 IsBuiltIn w a = (b : BuiltIn) × (class_at w a ≡ Some (place_of b))
 
 abbrev pub IsOfScript : PlainWorld → PyObjectRef → Type 0
-IsOfScript w a = (c : ℕ) × (k : Class Text) × (class_at w a ≡ Some c) × (class_numbered w.classes c ≡ Some k) × (k.flags ≡ heap_flags)
+IsOfScript w a = (c : ℕ) × (k : Class Text) × (dict : Bool) × (class_at w a ≡ Some c) × (class_numbered w.classes c ≡ Some k) × (k.flags ≡ heap_flags dict)
 
 -- the method that is made of an object and what its class has under a name: its class, and what it holds. A native is bound with its name, its class and its doc
 abbrev pub method_class : Option Datum → ℕ

@@ -4,7 +4,7 @@ ghost use Rattle.std.specs.Prelude.{◌≡◌, ◌≤◌, true, IfOk};
 ghost use Rattle.class_model.specs.Class.{is_class};
 ghost use Rattle.class_model.specs.Numbers.{limit};
 
-use class_table::ClassTable;
+use class_table::{ClassTable, slot_members};
 use class_table::start::known_names;
 use py_node::{
     Known, OutOfMemory, PyAttributes, PyObjectRef, PyStrInterned, PyTypeFlags, PyTypeRef,
@@ -40,12 +40,15 @@ pub const VALUE: PyObjectRef = PyObjectRef(8);
 pub fn put(table: &mut Table, classes: &mut ClassTable, alloc: Global) {
     table.put("class_table::known_names", known(alloc));
     table.tell("ClassTable::new", &classes.len());
-    table.put("ClassTable::new_heap", heap_class(classes, alloc));
+    table.put("ClassTable::new_heap_slots", heap_class(classes, alloc));
     table.put("ClassTable::new_simple_heap", simple_class(classes));
     table.put("ClassTable::new_static", static_class(classes, alloc));
     table.put("ClassTable::new_single", single_class(classes, alloc));
     table.put("ClassTable::may_derive", derives(classes, alloc));
     table.tell("ClassTable::takes", &taken(classes));
+    table.put("ClassTable::has_dict", dicts(classes));
+    table.put("ClassTable::would_have_dict", wanted(classes, alloc));
+    table.put("class_table::slot_members", members(alloc));
 }
 
 /// A number, if it is that of a class.
@@ -82,7 +85,7 @@ fn heap_class(classes: &mut ClassTable, alloc: Global) -> Result<PyTypeRef, NoVa
     let bases = one_class(alloc, there(classes, INT)?)?;
     let members = vec![in alloc; NAME]?;
     let attrs = PyAttributes::new(alloc);
-    Ok(classes.new_heap(number, "first", bases, attrs, members)?)
+    Ok(classes.new_heap_slots(number, "first", bases, attrs, Some(members))?)
 }
 
 fn simple_class(classes: &mut ClassTable) -> Result<PyTypeRef, NoValue> {
@@ -95,17 +98,41 @@ fn static_class(classes: &mut ClassTable, alloc: Global) -> Result<PyTypeRef, No
     let base = there(classes, OBJECT)?;
     let number = fresh(classes, STATIC)?;
     let attrs = PyAttributes::new(alloc);
-    let flags = PyTypeFlags::of_script_class();
+    let flags = PyTypeFlags::of_script_class(true);
     Ok(classes.new_static(number, "a.b.static", base, attrs, flags)?)
 }
 
-// A class with the flags of one that a script makes.
+// A class that brings its objects no dict, with the flags of one that a script makes.
 fn single_class(classes: &mut ClassTable, alloc: Global) -> Result<PyTypeRef, NoValue> {
     let base = there(classes, OBJECT)?;
     let number = fresh(classes, SINGLE)?;
     let attrs = PyAttributes::new(alloc);
-    let flags = PyTypeFlags::heap_type_flags();
-    Ok(classes.new_single(number, "single", base, attrs, flags)?)
+    let flags = PyTypeFlags::of_script_class(classes.has_dict(base));
+    Ok(classes.new_single(number, "single", base, attrs, flags, false)?)
+}
+
+// Whether the objects of two classes have a dict.
+fn dicts(classes: &ClassTable) -> Result<(bool, bool), NoValue> {
+    let first = there(classes, FIRST)?;
+    let child = there(classes, CHILD)?;
+    Ok((classes.has_dict(first), classes.has_dict(child)))
+}
+
+// Whether the objects of a class with no bases would have a dict: without `__slots__`, with `__dict__` and with another name.
+fn wanted(classes: &ClassTable, alloc: Global) -> Result<(bool, bool, bool), OutOfMemory> {
+    let dict = Some(vec![in alloc; Known::Dict.interned()]?);
+    let other = Some(vec![in alloc; NAME]?);
+    Ok((
+        classes.would_have_dict(&[], &None),
+        classes.would_have_dict(&[], &dict),
+        classes.would_have_dict(&[], &other),
+    ))
+}
+
+// How many members `__dict__` and another name are.
+fn members(alloc: Global) -> Result<usize, OutOfMemory> {
+    let names = vec![in alloc; Known::Dict.interned(), NAME]?;
+    Ok(slot_members(alloc, Some(names)).len())
 }
 
 // Whether a new class may have the number of a class, one that was passed over, and a later one.

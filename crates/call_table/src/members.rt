@@ -23,7 +23,13 @@ fn with_member(world: &mut World) -> Result<PyTypeRef, ClassFault>
     let metaclass = world.built_in(BuiltIn::TypeType);
     let bases = one_class(alloc, world.built_in(BuiltIn::Object))?;
     let members = one_name(alloc, world.known(Known::Qualname))?;
-    world.new_heap("M", bases, PyAttributes::new(alloc), members, metaclass)
+    world.new_heap_slots(
+        "M",
+        bases,
+        PyAttributes::new(alloc),
+        Some(members),
+        metaclass,
+    )
 }
 
 // Whether the objects of a class are those of `object`.

@@ -31,7 +31,10 @@ pub fn put(table: &mut Table, alloc: Global) {
     );
     table.tell(
         "PyTypeFlags::of_script_class",
-        &flags(PyTypeFlags::of_script_class()),
+        &(
+            flags(PyTypeFlags::of_script_class(true)),
+            flags(PyTypeFlags::of_script_class(false)),
+        ),
     );
 }
 

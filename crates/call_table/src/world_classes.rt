@@ -6,18 +6,18 @@ ghost use Rattle.class_world.specs.Sound.{Holds, IsClass};
 use class_table::{ClassFault, Steps};
 use class_world::{Fixed, World};
 use py_node::{
-    BuiltIn, Known, NativeEntry, ObjectNative, PyAttributes, PyTypeFlags, PyTypeRef, SlotEntry,
-    SlotId,
+    BuiltIn, Known, NativeEntry, ObjectNative, OutOfMemory, PyAttributes, PyTypeFlags, PyTypeRef,
+    SlotEntry, SlotId,
 };
 use std::marker::Brand;
 use std::sync::ledger::{Blank, Ledger};
-use table_lines::lists::{no_names, one_class};
+use table_lines::lists::{one_class, one_name};
 use table_lines::{NoValue, Table};
 use world_text::show::show;
 use world_text::write_classes;
 
 pub fn put(table: &mut Table, world: &mut World) {
-    table.put_text("World::new_heap", heap_class(world));
+    table.put_text("World::new_heap_slots", heap_class(world));
     table.put_bytes(
         "world_text::write_classes",
         write_classes(world.alloc(), world),
@@ -30,6 +30,22 @@ pub fn put(table: &mut Table, world: &mut World) {
     table.put("World::get_attributes", inherited(world));
     table.put_text("World::set_name", renamed(world));
     table.put("World::set_bases", counted(world));
+    table.tell("World::has_dict", &dicts(world));
+    table.put("World::members_of_slots", slots(world));
+}
+
+// Whether functions and numbers have a dict.
+fn dicts(world: &World) -> (bool, bool) {
+    let function = world.built_in(BuiltIn::Function);
+    let number = world.built_in(BuiltIn::Int);
+    (world.has_dict(function), world.has_dict(number))
+}
+
+// Whether the objects of a class with `__dict__` alone in its `__slots__` have a dict, and how many members it has.
+fn slots(world: &World) -> Result<(bool, usize), OutOfMemory> {
+    let slots = Some(one_name(world.alloc(), world.known(Known::Dict))?);
+    let members = world.members_of_slots(&slots)?;
+    Ok((world.would_have_dict(&[], &slots), members.len()))
 }
 
 // The text of a class.
@@ -45,7 +61,7 @@ fn heap_class(world: &mut World) -> Result<String, NoValue> {
     let metaclass = world.built_in(BuiltIn::TypeType);
     let bases = one_class(alloc, world.built_in(BuiltIn::Object))?;
     let attrs = PyAttributes::new(alloc);
-    let class = world.new_heap("A", bases, attrs, no_names(alloc), metaclass)?;
+    let class = world.new_heap_slots("A", bases, attrs, None, metaclass)?;
     shown(world, class)
 }
 

@@ -19,7 +19,9 @@ use crate::tell::tell;
 use class_table::ClassFault;
 use class_world::World;
 use py_node::task::Keywords;
-use py_node::{Cause, Known, OutOfMemory, PyAttributes, PyObjectRef, PyStrInterned, PyTypeRef, Step};
+use py_node::{
+    Cause, Known, OutOfMemory, PyAttributes, PyObjectRef, PyStrInterned, PyTypeRef, Step,
+};
 use std::alloc::Global;
 
 /// What a class is made from: its metaclass, its name, its bases and its attributes.

@@ -53,7 +53,7 @@ fn refusal(
     let mut attrs = PyAttributes::new(alloc);
     attrs.insert(name, qualname)?;
     let metaclass = world.built_in(BuiltIn::TypeType);
-    match world.new_heap("A", bases, attrs, Vec::new(alloc), metaclass) {
+    match world.new_heap_slots("A", bases, attrs, None, metaclass) {
         Ok(_) => Ok(None),
         Err(ClassFault::Refused(cause) | ClassFault::RefusedAt(cause, _)) => Ok(Some(cause)),
         Err(ClassFault::OutOfMemory) => Err(OutOfMemory),

@@ -24,6 +24,7 @@ pub fn put(table: &mut Table, vm: &mut VirtualMachine, alloc: Global) {
     table.put("VirtualMachine::add_expr", stored(vm));
     table.put_text("VirtualMachine::make_node", made_number(vm));
     table.put_text("VirtualMachine::new_heap", made_class(vm));
+    table.put("VirtualMachine::new_heap_slots", without_dict(vm));
     table.put_text("VirtualMachine::set_attr", attribute(vm));
     table.put("VirtualMachine::fail", given_up(alloc));
 }
@@ -64,6 +65,16 @@ fn class(vm: &mut VirtualMachine) -> Result<PyTypeRef, ClassFault>
     let bases = one_class(alloc, vm.world().built_in(BuiltIn::Object))?;
     let attrs = PyAttributes::new(alloc);
     vm.new_heap("C", bases, attrs, no_names(alloc), metaclass)
+}
+
+// Whether the objects of a class with empty `__slots__` have a dict.
+fn without_dict(vm: &mut VirtualMachine) -> Result<bool, NoValue> {
+    let alloc = vm.world().alloc();
+    let metaclass = vm.world().built_in(BuiltIn::TypeType);
+    let bases = one_class(alloc, vm.world().built_in(BuiltIn::Object))?;
+    let attrs = PyAttributes::new(alloc);
+    let class = vm.new_heap_slots("E", bases, attrs, Some(no_names(alloc)), metaclass)?;
+    Ok(vm.world().has_dict(class))
 }
 
 fn made_class(vm: &mut VirtualMachine) -> Result<String, NoValue> {

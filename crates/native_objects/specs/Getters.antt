@@ -9,7 +9,7 @@ use Rattle.py_node.specs.Known.{known_text}
 use Rattle.py_node.specs.Tree.{Text}
 use Rattle.class_model.specs.Class.{bases_of, lin}
 use Rattle.class_model.specs.Layout.{base}
-use Rattle.class_table.specs.OneBase.{flags_at}
+use Rattle.class_world.specs.Sound.{flags_at}
 use Rattle.plain_machine.specs.Plain.{ATuple, PlainWorld, Bindings, Said, Ends}
 use Rattle.plain_machine.specs.World.{datum_at, ref}
 use Rattle.plain_machine.specs.Known.{the_tuple}

@@ -1,5 +1,5 @@
 -- What callers see of a machine.
-use Rattle.std.specs.Prelude.{◌≡◌, ℕ, Bool, List, Result, Ok, Err, IsTrue, length}
+use Rattle.std.specs.Prelude.{◌≡◌, ℕ, Bool, List, [], ◌∷◌, map, Option, Some, None, Result, Ok, Err, IsTrue, length}
 use Rattle.py_node.specs.declared.memory.OutOfMemory.{OutOfMemory}
 use Rattle.py_node.specs.declared.refs.PyObjectRef.{PyObjectRef}
 use Rattle.py_node.specs.declared.refs.PyStrInterned.{PyStrInterned}
@@ -7,10 +7,11 @@ use Rattle.py_node.specs.declared.refs.PyTypeRef.{PyTypeRef}
 use Rattle.py_node.specs.Tree.{Text}
 use Rattle.class_table.specs.declared.fault.ClassFault.{ClassFault}
 use Rattle.class_table.specs.declared.fault.ClassFault.TheVariants as class_fault
-use Rattle.plain_machine.specs.World.{with_new_class}
+use Rattle.plain_machine.specs.World.{text_keys, with_new_class}
 use Rattle.class_world.specs.Held.{Held}
-use Rattle.class_world.specs.NewHeap.{heap_class_of}
-use Rattle.class_world.specs.Reading.{Reading, plain}
+use Rattle.class_model.specs.Dict.{heap_class}
+use Rattle.class_table.specs.Keys.{numbers}
+use Rattle.class_world.specs.Reading.{Reading, Reads, bindings, spelled, plain}
 
 -- its world, whether it has failed, and for how many frames it has room
 pub record State : Type 0 where
@@ -31,6 +32,11 @@ MarkedAs old new (Err (class_fault.RefusedAt cause c)) = new.failed ≡ old.fail
 MarkedAs old new (Err class_fault.OutOfMemory) = IsTrue new.failed
 
 -- the world has one more class, of a script
-abbrev pub MadeHeap : Reading → Held → Held → ℕ → Text → List PyTypeRef → List (PyStrInterned × PyObjectRef) → List PyStrInterned → Type 0
-MadeHeap t old new metaclass name bases attrs members =
-    plain t new ≡ with_new_class (plain t old) metaclass (heap_class_of t name (length (plain t old).nodes) bases attrs members)
+abbrev pub MadeHeap : Reading → Held → Held → ℕ → Text → List PyTypeRef → List (PyStrInterned × PyObjectRef) → Option (List Text) → Type 0
+MadeHeap t old new metaclass name bases attrs slots =
+    Reads t old → plain t new ≡ with_new_class (plain t old) metaclass (heap_class text_keys (plain t old).classes name (length (plain t old).nodes) (numbers bases) (bindings t attrs) slots)
+
+-- members stand for `__slots__`, where there are some
+abbrev pub member_texts : Reading → List PyStrInterned → Option (List Text)
+member_texts t [] = None
+member_texts t (x ∷ xs) = Some (map (spelled t) (x ∷ xs))

@@ -1,22 +1,24 @@
 //! Classes that a host makes and changes on a machine. Each call is the world's own: its refusals and what it changes are
 //! those. Want of memory sets the machine's mark.
 
-ghost use Rattle.std.specs.Prelude.{◌≡◌, ◌≤◌, ◌∷◌, [], ℕ, Ok, Some, IfOk, OnOk, OnErr, is_some, length, false};
+ghost use Rattle.std.specs.Prelude.{◌≡◌, ◌≤◌, ◌∷◌, [], ℕ, Ok, None, Some, IfOk, OnOk, OnErr, is_some, length, false};
 ghost use Rattle.py_node.specs.declared.built_in.BuiltIn.{BuiltIn};
 ghost use Rattle.py_node.specs.declared.built_in.BuiltIn.TheVariants.{TypeType};
 ghost use Rattle.class_model.specs.Class.{class_at as class_numbered, own_of};
 ghost use Rattle.class_model.specs.Layout.{best_of};
 ghost use Rattle.class_table.specs.Keys.{numbers};
-ghost use Rattle.class_table.specs.OneBase.{refused_single, single_class, flags_at, static_flags};
+ghost use Rattle.class_model.specs.Dict.{heap_class};
+ghost use Rattle.class_table.specs.OneBase.{refused_single, single_class, says_so, static_flags};
 ghost use Rattle.class_table.specs.Rebase.{refused_rebase, told, IsToldFirst};
 ghost use Rattle.class_table.specs.Refused.{refusal, WithMemory, NeedsNoMemory, IsEarly, refused_attr, NamesNoClass};
 ghost use Rattle.plain_machine.specs.Change.{SetBases, apply, without_own_attr};
 ghost use Rattle.plain_machine.specs.Known.{the_type};
-ghost use Rattle.plain_machine.specs.World.{ref, is_text, with_new_class, with_own_attr};
-ghost use Rattle.class_world.specs.NewHeap.{heap_class_of, refused_heap};
+ghost use Rattle.plain_machine.specs.World.{ref, is_text, text_keys, has_dict, with_new_class, with_own_attr};
+ghost use Rattle.class_world.specs.NewHeap.{refused_heap, slot_texts, of_slots};
 ghost use Rattle.class_world.specs.Reading.{Reading, Reads, bindings, plain};
+ghost use Rattle.class_world.specs.Held.{Held};
 ghost use Rattle.class_world.specs.Sound.{AllHold, Holds, Grows, IsNode, IsName, AreNames, IsClass, IsOf, of_each, of_binding, of_class_ref};
-ghost use Rattle.vm_eval.specs.State.{MadeHeap, MarkedAs};
+ghost use Rattle.vm_eval.specs.State.{MadeHeap, MarkedAs, member_texts};
 
 use crate::machine::VirtualMachine;
 use class_table::{ClassFault, Steps};
@@ -24,24 +26,26 @@ use py_node::{PyAttributes, PyObjectRef, PyStrInterned, PyTypeFlags, PyTypeRef};
 use std::sync::ledger::Ledger;
 
 impl VirtualMachine {
-    /// A class that a script could make, and the node that stands for it: with the name, the bases,
-    /// the attributes and the members. Where it is refused the machine stays as it was, and where
-    /// memory runs out its world does.
-    pub fn new_heap(
+    /// A class that a script could make, and the node that stands for it: with the name, the bases, the attributes and what
+    /// `__slots__` name, where it has some. All of these names but `__dict__` are its members, and it brings its objects a
+    /// dict where it has no `__slots__` or `__dict__` is among them. Where it is refused the machine stays as it was, and
+    /// where memory runs out its world does.
+    pub fn new_heap_slots(
         &mut self,
         name: &str,
         bases: Vec<PyTypeRef>,
         attrs: PyAttributes,
-        members: Vec<PyStrInterned>,
+        slots: Option<Vec<PyStrInterned>>,
         metaclass: PyTypeRef,
     ) -> Result<PyTypeRef, ClassFault>
         requires bases { AllHold self.old.world (of_each of_class_ref bases.items) }
         requires attrs { AllHold self.old.world (of_each of_binding attrs) }
-        requires members { Holds self.old.world (AreNames members.items) }
+        requires slots { AllHold self.old.world (of_slots slots) }
         requires metaclass { Holds self.old.world (IsClass metaclass.0) }
         requires of_classes { Holds self.old.world (IsOf metaclass.0 TypeType) }
         ensures made { OnOk result ((t : Reading) →
-            MadeHeap t self.old.world self.new.world metaclass.0 name.now bases.items attrs members.items) }
+            MadeHeap t self.old.world self.new.world metaclass.0 name.now bases.items attrs
+            (slot_texts t slots)) }
         ensures number { IfOk result (λ c. (t : Reading) → c.0 ≡ length (plain t self.old.world).nodes) }
         ensures early { (t : Reading) →
             IsEarly (plain t self.old.world).classes (numbers bases.items) (refusal result) }
@@ -58,8 +62,46 @@ impl VirtualMachine {
         ensures mark { MarkedAs self.old self.new result }
         ensures names { NamesNoClass result }
     {
-        let class = self.world.new_heap(name, bases, attrs, members, metaclass);
+        let class = self
+            .world
+            .new_heap_slots(name, bases, attrs, slots, metaclass);
         self.marked_as(class)
+    }
+
+    /// The same with members in place of `__slots__`: where there are none, the class has no `__slots__`.
+    pub fn new_heap(
+        &mut self,
+        name: &str,
+        bases: Vec<PyTypeRef>,
+        attrs: PyAttributes,
+        members: Vec<PyStrInterned>,
+        metaclass: PyTypeRef,
+    ) -> Result<PyTypeRef, ClassFault>
+        requires bases { AllHold self.old.world (of_each of_class_ref bases.items) }
+        requires attrs { AllHold self.old.world (of_each of_binding attrs) }
+        requires members { Holds self.old.world (AreNames members.items) }
+        requires metaclass { Holds self.old.world (IsClass metaclass.0) }
+        requires of_classes { Holds self.old.world (IsOf metaclass.0 TypeType) }
+        ensures made { OnOk result ((t : Reading) →
+            MadeHeap t self.old.world self.new.world metaclass.0 name.now bases.items attrs
+            (member_texts t members.items)) }
+        ensures number { IfOk result (λ c. (t : Reading) → c.0 ≡ length (plain t self.old.world).nodes) }
+        ensures early { (t : Reading) →
+            IsEarly (plain t self.old.world).classes (numbers bases.items) (refusal result) }
+        ensures refused { (t : Reading) → Reads t self.old.world →
+            WithMemory result (refusal result ≡
+            refused_heap (plain t self.old.world) (numbers bases.items) (bindings t attrs)) }
+        ensures err { OnErr result (self.new.world ≡ self.old.world) }
+        ensures reads { (t : Reading) → Reads t self.new.world → Reads t self.old.world }
+        ensures grows { Grows self.old.world self.new.world }
+        ensures class { IfOk result (λ c. Holds self.new.world (IsClass c.0)) }
+        ensures of { IfOk result (λ c. (d : ℕ) (b : BuiltIn) → best_of self.old.world.classes (numbers bases.items) ≡
+            Some d → Holds self.old.world (IsOf d b) → Holds self.new.world (IsOf c.0 b)) }
+        ensures node { IfOk result (λ c. Holds self.new.world (IsNode (ref c.0))) }
+        ensures mark { MarkedAs self.old self.new result }
+        ensures names { NamesNoClass result }
+    {
+        self.new_heap_slots(name, bases, attrs, slots_of(members), metaclass)
     }
 
     /// Gives a class's own attribute a value. The class must be made by a script. Where it is refused
@@ -91,7 +133,8 @@ impl VirtualMachine {
     pub fn new_simple_heap(&mut self, name: &str, base: PyTypeRef) -> Result<PyTypeRef, ClassFault>
         requires base { Holds self.old.world (IsClass base.0) }
         ensures made { OnOk result ((t : Reading) → plain t self.new.world ≡ with_new_class (plain t self.old.world) the_type
-            (heap_class_of t name.now (length (plain t self.old.world).nodes) (base ∷ []) [] [])) }
+            (heap_class text_keys (plain t self.old.world).classes name.now (length (plain t self.old.world).nodes)
+            (base.0 ∷ []) [] None)) }
         ensures number { IfOk result (λ c. (t : Reading) → c.0 ≡ length (plain t self.old.world).nodes) }
         ensures refused { (t : Reading) → refusal result ≡ refused_single (plain t self.old.world).classes base.0 }
         ensures err { OnErr result (self.new.world ≡ self.old.world) }
@@ -124,7 +167,7 @@ impl VirtualMachine {
         requires of_classes { Holds self.old.world (IsOf metaclass.0 TypeType) }
         ensures made { OnOk result ((t : Reading) → plain t self.new.world ≡
             with_new_class (plain t self.old.world) metaclass.0 (single_class name.now (length (plain t self.old.world).nodes)
-            base.0 (bindings t attrs) (static_flags flags.0 (flags_at (plain t self.old.world).classes base.0)))) }
+            base.0 (bindings t attrs) (static_flags flags.0 (has_dict (plain t self.old.world) base.0)) (says_so flags.0))) }
         ensures number { IfOk result (λ c. (t : Reading) → c.0 ≡ length (plain t self.old.world).nodes) }
         ensures refused { (t : Reading) → refusal result ≡ refused_single (plain t self.old.world).classes base.0 }
         ensures err { OnErr result (self.new.world ≡ self.old.world) }
@@ -191,7 +234,8 @@ impl VirtualMachine {
 
     /// Gives a class other bases. The tests that need no order are told first, and also where memory is short: a script
     /// made the class; it gets bases; none of them is the class or derives from it; each may have subclasses and its
-    /// layout goes with those before it; the class keeps its solid class; none stands twice. Then the least-numbered
+    /// layout goes with those before it; the class keeps its solid class and gives its objects
+    /// a dict as before; none stands twice. Then the least-numbered
     /// class is told that would have no order while all its bases have one. Where it is refused, and where memory runs
     /// out, the machine's world stays as it was. No count of steps falls.
     pub fn set_bases<L: Ledger>(
@@ -217,5 +261,17 @@ impl VirtualMachine {
     {
         let set = self.world.set_bases(class, bases, steps);
         self.marked_as(set)
+    }
+}
+
+// Members stand for `__slots__`, where there are some.
+fn slots_of(members: Vec<PyStrInterned>) -> Option<Vec<PyStrInterned>>
+    ensures texts { (t : Reading) → slot_texts t result ≡ member_texts t members.items }
+    ensures names { (w : Held) → Holds w (AreNames members.items) → AllHold w (of_slots result) }
+{
+    if members.is_empty() {
+        None
+    } else {
+        Some(members)
     }
 }

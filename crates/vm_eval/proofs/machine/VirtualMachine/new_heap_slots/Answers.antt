@@ -3,8 +3,8 @@ use Rattle.class_table.specs.Keys.{numbers}
 use Rattle.class_table.specs.Refused.{refusal, refused_layout}
 use Rattle.class_world.specs.Reading.{plain}
 use Rattle.vm_eval.specs.State.{State}
-use Rattle.vm_eval.proofs.machine.VirtualMachine.new_heap.Goals as goal
+use Rattle.vm_eval.proofs.machine.VirtualMachine.new_heap_slots.Goals as goal
 
 pub returns-clause-early : goal.returns-clause-early
 returns-clause-early c = λ t cause e.
-    ap refusal c.marked_as.ensures.answer ∙ c.new_heap-class.ensures.early t cause (subst (λ (s : State). refused_layout (plain t s.world).classes (numbers c.args.bases.items) ≡ Some cause) (sym c.self.view_is) e)
+    ap refusal c.marked_as.ensures.answer ∙ c.new_heap_slots-class.ensures.early t cause (subst (λ (s : State). refused_layout (plain t s.world).classes (numbers c.args.bases.items) ≡ Some cause) (sym c.self.view_is) e)
