@@ -1,3 +1,4 @@
+pub mod Dicts
 pub mod Standing
 pub mod Loading
 pub mod Fast

@@ -23,7 +23,7 @@ pub(crate) fn add_own_members(
 ) -> Result<(), OutOfMemory>
     requires class { Holds world.old (IsClass class.0) }
     requires names { Holds world.old (AreNames names.now) }
-    requires own { (t : Reading) →
+    requires own { (t : Reading) → Reads t world.old →
         member_count (class_at (plain t world.old).classes class.0) ≡ length names.now }
     ensures set { OnOk result ((t : Reading) → Reads t world.new →
         plain t world.new ≡ with_own_members class.0 (map (spelled t) names.now) (plain t world.old)) }
@@ -37,7 +37,7 @@ pub(crate) fn add_own_members(
 // Where the places begin that a class gives its objects itself, by its members of these names.
 fn places_from(world: &World, class: PyTypeRef, names: &[PyStrInterned]) -> usize
     requires class { Holds world.now (IsClass class.0) }
-    requires own { (t : Reading) →
+    requires own { (t : Reading) → Reads t world.now →
         member_count (class_at (plain t world.now).classes class.0) ≡ length names.now }
     ensures places { (t : Reading) → places_from (plain t world.now) class.0 (map (spelled t) names.now) ≡ result }
     ensures room { result + length names.now ≤ usize.MAX }

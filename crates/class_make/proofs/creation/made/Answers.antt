@@ -1,51 +1,38 @@
-use Rattle.std.proofs.Common.{◌∙◌, ap, refl, map, string_bytes}
-use Rattle.std.specs.Prelude.{option_map}
+use Rattle.std.proofs.Common.{◌∙◌, None, Some, sym, subst, string_bytes}
+use Rattle.std.specs.Prelude.{IfSome}
+use Rattle.py_node.specs.declared.known.Known.TheVariants.{Slots}
+use Rattle.py_node.specs.Known.{known_text}
 use Rattle.class_table.specs.Keys.{numbers}
-use Rattle.class_table.specs.Refused.{refused_layout}
-use Rattle.py_node.specs.declared.raised.Cause.TheVariants.{SlotsType}
-use Rattle.plain_machine.specs.Plain.{Ends}
-use Rattle.plain_machine.specs.Row.{fault}
-use Rattle.class_world.specs.Reading.{bindings, plain, spelled}
-use Rattle.class_world.proofs.Claims.{all-grow}
-use Rattle.class_make.specs.Say.{made, made_unless, refusal}
-use Rattle.class_make.proofs.Making.{goes-from, makes-from, made-names}
+use Rattle.class_world.specs.Reading.{bindings, plain}
+use Rattle.class_world.specs.Sound.{IsNode, Holds}
+use Rattle.class_world.proofs.Growth.{grows-itself}
+use Rattle.class_make.specs.Say.{made, names_in, with_names, with_slots}
+use Rattle.class_make.proofs.Making.{goes-from, made-slots}
+use Rattle.class_make.proofs.Spaces.{has-read, value-there}
 use Rattle.class_make.proofs.creation.made.Goals as goal
 
 pub returns-in-None-clause-goes : goal.returns-in-None-clause-goes
 returns-in-None-clause-goes c =
-    let e = c.in_ok-names.ensures in
     let old = c.args.world.now in
-    let new = c.member_names.new.world in
     let p = c.args.plan in
     let n = string_bytes p.name in
     let b = numbers p.bases.items in
-    rw c.raise.ensures (
-    makes-from c.args.kw.items (λ t u. made p.meta.0 n b (bindings t c.args.kw.items) (u, bindings t p.attrs)) (λ t u. Ends u (fault SlotsType)) old new new _ (λ t r.
-    (e.reads t r, ap (λ u. Ends u (fault SlotsType)) (e.same t) ∙ made-names p.meta.0 n b (bindings t c.args.kw.items) (plain t old, bindings t p.attrs) _ (e.names t r ∙ ap (option_map (λ ns. map (spelled t) ns.items)) c.in-None.is)))
-    (λ meta args t r. (r, (refl, refl))))
+    goes-from c.args.kw.items (λ t u. made p.meta.0 n b (bindings t c.args.kw.items) (u, bindings t p.attrs)) (λ t u. with_slots p.meta.0 n b None (bindings t c.args.kw.items) (u, bindings t p.attrs)) old old c.with_slots.new.world c.with_slots.result (λ t r.
+    (r, made-slots p.meta.0 n b (bindings t c.args.kw.items) (plain t old, bindings t p.attrs) None (has-read t p.attrs c.known-slots.result (known_text Slots) (c.known-slots.ensures.spelled t r) ∙ sym c.get.ensures ∙ c.in-None.is)))
+    c.with_slots.ensures.goes
 
 pub returns-in-Some-clause-goes : goal.returns-in-Some-clause-goes
 returns-in-Some-clause-goes c =
-    let e = c.in_ok-names.ensures in
     let old = c.args.world.now in
-    let mid = c.member_names.new.world in
     let p = c.args.plan in
     let n = string_bytes p.name in
     let b = numbers p.bases.items in
-    goes-from c.args.kw.items (λ t u. made p.meta.0 n b (bindings t c.args.kw.items) (u, bindings t p.attrs)) (λ t u. made_unless (refusal u b (bindings t p.attrs)) p.meta.0 n b (map (spelled t) c.in-Some.names.items) (bindings t c.args.kw.items) (u, bindings t p.attrs)) old mid c.new_class.new.world c.new_class.result (λ t r.
-    (e.reads t r, (λ i. made_unless (refusal (e.same t i) b (bindings t p.attrs)) p.meta.0 n b (map (spelled t) c.in-Some.names.items) (bindings t c.args.kw.items) (e.same t i, bindings t p.attrs)) ∙ made-names p.meta.0 n b (bindings t c.args.kw.items) (plain t old, bindings t p.attrs) _ (e.names t r ∙ ap (option_map (λ ns. map (spelled t) ns.items)) c.in-Some.is)))
-    c.new_class.ensures.goes
+    let v = c.in-Some.value in
+    goes-from c.args.kw.items (λ t u. made p.meta.0 n b (bindings t c.args.kw.items) (u, bindings t p.attrs)) (λ t u. with_names (names_in u v) p.meta.0 n b (bindings t c.args.kw.items) (u, bindings t p.attrs)) old old c.by_names.new.world c.by_names.result (λ t r.
+    (r, made-slots p.meta.0 n b (bindings t c.args.kw.items) (plain t old, bindings t p.attrs) (Some v) (has-read t p.attrs c.known-slots.result (known_text Slots) (c.known-slots.ensures.spelled t r) ∙ sym c.get.ensures ∙ c.in-Some.is)))
+    c.by_names.ensures.goes
 
-pub new_class-requires-clause-bases : goal.new_class-requires-clause-bases
-new_class-requires-clause-bases c = all-grow _ _ c.in_ok-names.ensures.grows _ c.requires.bases
-
-pub new_class-requires-clause-attrs : goal.new_class-requires-clause-attrs
-new_class-requires-clause-attrs c = all-grow _ _ c.in_ok-names.ensures.grows _ c.requires.attrs
-
-pub new_class-requires-clause-kw : goal.new_class-requires-clause-kw
-new_class-requires-clause-kw c = all-grow _ _ c.in_ok-names.ensures.grows _ c.requires.kw
-
-pub new_class-requires-clause-layout : goal.new_class-requires-clause-layout
-new_class-requires-clause-layout c = λ t r.
-    let e = c.in_ok-names.ensures in
-    ap (λ u. refused_layout u.classes (numbers c.args.plan.bases.items)) (e.same t) ∙ c.requires.layout t (e.reads t r)
+pub by_names-requires-clause-value : goal.by_names-requires-clause-value
+by_names-requires-clause-value c =
+    let w = c.args.world.now in
+    subst (λ o. IfSome o (λ r. Holds w (IsNode r))) c.in-Some.is (value-there w w c.args.plan.attrs c.known-slots.result c.get.result (grows-itself w) c.requires.attrs c.get.ensures)

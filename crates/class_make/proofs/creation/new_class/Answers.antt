@@ -77,8 +77,13 @@ tell-requires-clause-kw c =
     all-grow _ _ (grows-on _ _ _ c.in-Ok.ensures.grows (grows-on _ _ _ c.define_functions.ensures.grows c.in_ok-add_own_members-in-Ok.ensures.grows)) _ c.requires.kw
 
 pub add_own_members-requires-clause-own : goal.add_own_members-requires-clause-own
-add_own_members-requires-clause-own c = λ t.
+add_own_members-requires-clause-own c = λ t r.
     let e = c.in-Ok.ensures in
     let p = c.args.plan in
     let u = plain t c.args.world.now in
-    ?
+    let q = e.reads t (c.define_functions.ensures.reads t r) in
+    let k = heap_class text_keys u.classes c.as_str.result.now (length u.nodes) (numbers p.bases.items) (bindings t p.attrs) (slot_texts t c.args.slots) in
+    made-own u (c.sound.ensures t) (plain t c.new_heap_slots.new.self) (plain t c.define_functions.new.world) p.meta.0 c.in-Ok.class.0 k c.deref-in-Ok.result.now (e.made t q) (c.define_functions.ensures.set t) (e.number t) refl
+    ∙ ap (λ xs. length xs) (sym (c.in_ok-members.ensures.members t q))
+    ∙ length-map c.in_ok-members.members.items (spelled t)
+    ∙ sym (ap (λ xs. length xs) c.deref-in-Ok-2.ensures.value)

@@ -12,7 +12,7 @@ returns-clause-places c = λ t.
 pub returns-clause-offsets : goal.returns-clause-offsets
 returns-clause-offsets c = λ i l.
     let t = c.readable.ensures.0 in
-    let own = c.requires.own t in
+    let own = c.requires.own t c.readable.ensures.1 in
     let few = own-counted (plain t c.args.world.now).classes c.args.class.0 c.member_count.result (c.member_count.ensures.count t) in
     let from = c.saturating_sub.ensures in
     c.member_count.ensures.offsets (c.saturating_sub.result + i) (omega (arith, own, few, from, l))
