@@ -50,7 +50,7 @@ returns-in-Err-RefusedAt-clause-goes c =
 
 pub define_functions-requires-clause-values : goal.define_functions-requires-clause-values
 define_functions-requires-clause-values c =
-    values-are c.new_heap_slots.new.self c.args.plan.attrs c.deref-in-Ok.result.now (all-grow _ _ c.in-Ok.ensures.grows _ c.requires.attrs) (c.deref-in-Ok.ensures.value ∙ c.in_ok-values.ensures)
+    values-are c.new_heap_slots.new.self c.args.plan.attrs c.deref.result.now (all-grow _ _ c.in-Ok.ensures.grows _ c.requires.attrs) (c.deref.ensures.value ∙ c.in_ok-values.ensures)
 
 pub returns-clause-goes : goal.returns-clause-goes
 returns-clause-goes c =
@@ -68,8 +68,8 @@ returns-clause-goes c =
     let bs = bindings t p.attrs in
     let u = plain t old in
     let made = e.made t q ∙ (λ i. with_new_class u p.meta.0 (heap_class text_keys u.classes (c.as_str.ensures.value i) (length u.nodes) b bs (slot_texts t c.args.slots))) in
-    let names = ap (map (spelled t)) c.deref-in-Ok-2.ensures.value ∙ c.in_ok-members.ensures.members t q in
-    (q, made-new u (plain t c.new_heap_slots.new.self) (plain t c.define_functions.new.world) (plain t mid) (refusal u b bs) p.meta.0 n b (slot_texts t c.args.slots) (bindings t c.args.kw.items) bs class c.deref-in-Ok.result.now (refused-next u b bs None (c.requires.layout t q) (e.refused t q)) made (c.define_functions.ensures.set t) (m.set t r ∙ ap (λ xs. with_own_members class xs (plain t c.define_functions.new.world)) names) (c.deref-in-Ok.ensures.value ∙ c.in_ok-values.ensures ∙ sym (values-read t p.attrs)) (e.number t)))
+    let names = ap (map (spelled t)) c.deref-in-Ok.ensures.value ∙ c.in_ok-members.ensures.members t q in
+    (q, made-new u (plain t c.new_heap_slots.new.self) (plain t c.define_functions.new.world) (plain t mid) (refusal u b bs) p.meta.0 n b (slot_texts t c.args.slots) (bindings t c.args.kw.items) bs class c.deref.result.now (refused-next u b bs None (c.requires.layout t q) (e.refused t q)) made (c.define_functions.ensures.set t) (m.set t r ∙ ap (λ xs. with_own_members class xs (plain t c.define_functions.new.world)) names) (c.deref.ensures.value ∙ c.in_ok-values.ensures ∙ sym (values-read t p.attrs)) (e.number t)))
     (made-goes c.args.kw.items (ref class) mid c.tell.new.world c.tell.result c.tell.ensures.goes)
 
 pub tell-requires-clause-kw : goal.tell-requires-clause-kw
@@ -83,7 +83,7 @@ add_own_members-requires-clause-own c = λ t r.
     let u = plain t c.args.world.now in
     let q = e.reads t (c.define_functions.ensures.reads t r) in
     let k = heap_class text_keys u.classes c.as_str.result.now (length u.nodes) (numbers p.bases.items) (bindings t p.attrs) (slot_texts t c.args.slots) in
-    made-own u (c.sound.ensures t) (plain t c.new_heap_slots.new.self) (plain t c.define_functions.new.world) p.meta.0 c.in-Ok.class.0 k c.deref-in-Ok.result.now (e.made t q) (c.define_functions.ensures.set t) (e.number t) refl
+    made-own u (c.sound.ensures t) (plain t c.new_heap_slots.new.self) (plain t c.define_functions.new.world) p.meta.0 c.in-Ok.class.0 k c.deref.result.now (e.made t q) (c.define_functions.ensures.set t) (e.number t) refl
     ∙ ap (λ xs. length xs) (sym (c.in_ok-members.ensures.members t q))
     ∙ length-map c.in_ok-members.members.items (spelled t)
-    ∙ sym (ap (λ xs. length xs) c.deref-in-Ok-2.ensures.value)
+    ∙ sym (ap (λ xs. length xs) c.deref-in-Ok.ensures.value)
