@@ -41,6 +41,8 @@ SHOWN = [
     (f"{SIZED}return 1\n    def __getitem__(self, k): return [1][k]\nlist(L())", "length-hint"),
     (f"{SIZED}return 1\n    def __getitem__(self, k): return [1][k] + 'a'\n[*L()]", "length-hint"),
     ("class S:\n    __slots__ = ('x',)\n    x = 1", "slots-and-value"),
+    ("class S:\n    __slots__ = ('__dict__', '__dict__')", "dict-again"),
+    ("class A: pass\nclass B(A):\n    __slots__ = ['__dict__']", "dict-again"),
     ("class A: pass\nA.__dict__['q'] = 1", "class-dict"),
     ("int.__add__('a', 6)", "foreign-receiver"),
     ("class A:\n    @property\n    def p(self):\n        'text'\nA.p.__doc__", "doc-of-property"),
@@ -60,6 +62,7 @@ NOT_SHOWN = [
     ("class A:\n    def pop(self): return self.nope\nA().pop()", ["call pop(<A object>)", "= 5"]),
     ("repr(5)", ['= "6"']),
     ("hash(5)", ["= True"]),
+    ("class A: pass\nclass B(A):\n    __slots__ = 'x'", ["! TypeError"]),
 ]
 
 

@@ -201,9 +201,20 @@ def is_length_hint(case: Case) -> bool:
     return len(rest) < len(case.python) and rest == [*case.machine.events, without_cause(case.end)]
 
 
+def is_slots(node: ast.AST) -> bool:
+    """Whether it is the name `__slots__`."""
+    return isinstance(node, ast.Name) and node.id == "__slots__"
+
+
 def is_slots_and_value(case: Case) -> bool:
-    slots = any(isinstance(it, ast.Name) and it.id == "__slots__" for it in case.nodes)
+    slots = any(is_slots(it) for it in case.nodes)
     return slots and case.is_fault_of_python("ValueError") and case.end.startswith("= <class ")
+
+
+def is_dict_again(case: Case) -> bool:
+    given = (it.value for it in case.nodes if isinstance(it, ast.Assign) and any(map(is_slots, it.targets)))
+    named = any(isinstance(it, ast.Constant) and it.value == "__dict__" for value in given for it in ast.walk(value))
+    return named and case.is_fault_of_python("TypeError") and case.end.startswith("= <class ")
 
 
 def is_class_dict(case: Case) -> bool:
@@ -279,6 +290,7 @@ RECOGNISERS: dict[str, Callable[[Case], bool]] = {
     "len-index": is_len_index,
     "length-hint": is_length_hint,
     "slots-and-value": is_slots_and_value,
+    "dict-again": is_dict_again,
     "class-dict": is_class_dict,
     "foreign-receiver": is_foreign_receiver,
     "doc-of-property": is_doc_of_property,
