@@ -1,4 +1,4 @@
-pub mod Dicts
+pub mod Keeping
 pub mod Standing
 pub mod Loading
 pub mod Fast

@@ -1,4 +1,4 @@
-use Rattle.attribute_laws.proofs.Dicts.{bases-keep, class-keeps}
+use Rattle.attribute_laws.proofs.Keeping.{bases-keep, class-keeps}
 use Rattle.class_world.specs.Reading.{plain}
 use Rattle.attribute_laws.proofs.dicts.changes_keep_dicts.Goals as goal
 
