@@ -234,10 +234,9 @@ impl VirtualMachine {
 
     /// Gives a class other bases. The tests that need no order are told first, and also where memory is short: a script
     /// made the class; it gets bases; none of them is the class or derives from it; each may have subclasses and its
-    /// layout goes with those before it; the class keeps its solid class and gives its objects
-    /// a dict as before; none stands twice. Then the least-numbered
-    /// class is told that would have no order while all its bases have one. Where it is refused, and where memory runs
-    /// out, the machine's world stays as it was. No count of steps falls.
+    /// layout goes with those before it; the class keeps its solid class and gives its objects a dict as before; none
+    /// stands twice. Then the least-numbered class is told that would have no order while all its bases have one. Where
+    /// it is refused, and where memory runs out, the machine's world stays as it was. No count of steps falls.
     pub fn set_bases<L: Ledger>(
         &mut self,
         class: PyTypeRef,
