@@ -4,8 +4,8 @@ ghost use Rattle.std.specs.Prelude.{◌≡◌, ◌≤◌, true, IfOk};
 ghost use Rattle.class_model.specs.Class.{is_class};
 ghost use Rattle.class_model.specs.Numbers.{limit};
 
-use class_table::{ClassTable, slot_members};
 use class_table::start::known_names;
+use class_table::{ClassTable, slot_members};
 use py_node::{
     Known, OutOfMemory, PyAttributes, PyObjectRef, PyStrInterned, PyTypeFlags, PyTypeRef,
 };
