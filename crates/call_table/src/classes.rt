@@ -102,13 +102,13 @@ fn static_class(classes: &mut ClassTable, alloc: Global) -> Result<PyTypeRef, No
     Ok(classes.new_static(number, "a.b.static", base, attrs, flags)?)
 }
 
-// A class that brings its objects no dict, with the flags of one that a script makes.
+// A class with the flags of one that a script makes.
 fn single_class(classes: &mut ClassTable, alloc: Global) -> Result<PyTypeRef, NoValue> {
     let base = there(classes, OBJECT)?;
     let number = fresh(classes, SINGLE)?;
     let attrs = PyAttributes::new(alloc);
-    let flags = PyTypeFlags::of_script_class(classes.has_dict(base));
-    Ok(classes.new_single(number, "single", base, attrs, flags, false)?)
+    let flags = PyTypeFlags::of_script_class(true);
+    Ok(classes.new_single(number, "single", base, attrs, flags, true)?)
 }
 
 // Whether the objects of two classes have a dict.
