@@ -9,7 +9,7 @@ use Rattle.py_node.specs.declared.built_in.BuiltIn.TheVariants as built_in
 use Rattle.py_node.specs.declared.entry.SlotId.{SlotId}
 use Rattle.py_node.specs.declared.entry.SlotEntry.{SlotEntry}
 use Rattle.py_node.specs.declared.slots.Sort.TheVariants.{Nearest}
-use Rattle.py_node.specs.BuiltIns.{place_of, flags_of, built_in_flags, heap_type, heap_flags, method_descriptor}
+use Rattle.py_node.specs.BuiltIns.{place_of, flags_of, built_in_flags, heap_type, method_descriptor}
 use Rattle.py_node.specs.Slots.{sort_of}
 use Rattle.py_node.specs.Tree.{Text}
 use Rattle.class_model.specs.Order.{BeginsWith}
@@ -82,7 +82,3 @@ unfolding flags_of built_in_flags place_of
 marks-methods built_in.Function e = inl refl
 marks-methods built_in.MethodDescriptor e = inr refl
 marks-methods b e = absurd (false≢true e)
-
-pub script-marks-none : (k : Class Text) (dict : Bool) → k.flags ≡ heap_flags dict → has_flag method_descriptor k ≡ false
-script-marks-none k true e = rw e refl
-script-marks-none k false e = rw e refl
