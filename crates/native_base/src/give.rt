@@ -10,7 +10,9 @@ ghost use Rattle.native_base.specs.Say.{int_made, iterator_made, text_made, obje
 
 use class_world::World;
 use class_world::limits::is_within_limit;
-use py_node::{Answer, BuiltIn, Cause, OutOfMemory, Payload, PyObjectRef, Raised, SequenceIterator};
+use py_node::{
+    Answer, BuiltIn, Cause, OutOfMemory, Payload, PyObjectRef, Raised, SequenceIterator,
+};
 
 /// Ends with a new object of a built-in class.
 pub fn new_object(

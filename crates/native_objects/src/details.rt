@@ -7,7 +7,7 @@ ghost use Rattle.class_world.specs.Held.{Held};
 ghost use Rattle.class_world.specs.Reading.{Reading, Reads, bindings, datum, plain, spelled, spelled_option};
 ghost use Rattle.class_world.specs.Rows.{EndsAs, LeavesEnd};
 ghost use Rattle.class_world.specs.Sound.{AllHold, AreNodes, IsClass, IsName, Holds, of_name_ref, of_node_ref, of_option, of_optional, of_payload, of_start};
-ghost use Rattle.native_objects.specs.Details.{Part as Read, accessor_part, bounds_part, builtin_method_part, callable_part, class_method_part, doc_part, dotted_text, function_part, getset_part, getter_of_say, in_class_part, kept_part, looked_part, member_part, method_descriptor_part, method_part, name_part, native_function_part, native_part, part_given, part_of, property_part, signature_given, signature_part, slice_part, static_method_part, super_part};
+ghost use Rattle.native_objects.specs.Details.{Part as Read, accessor_part, bounds_part, builtin_method_part, callable_part, class_method_part, doc_part, dotted_text, function_part, getset_part, getter_of_say, in_class_part, kept_part, looked_part, member_part, method_descriptor_part, method_part, name_part, native_function_part, native_part, part_given, part_of, property_part, signature_given, signature_part, slice_part, static_method_part, super_part, whole_text};
 ghost use Rattle.native_objects.specs.DetailParts.{of_part, read_part};
 ghost use Rattle.native_objects.specs.Properties.{of_property};
 ghost use Rattle.native_objects.specs.Takes.{with_own};
