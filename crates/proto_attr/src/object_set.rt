@@ -16,7 +16,8 @@ use crate::setting::setter;
 use class_world::World;
 use class_world::limits::has_place;
 use py_node::{
-    Answer, Cause, DescriptorTask, OutOfMemory, PyObjectRef, PySetterValue, PyStrInterned, Step, Task,
+    Answer, Cause, DescriptorTask, OutOfMemory, PyObjectRef, PySetterValue, PyStrInterned, Step,
+    Task,
 };
 
 // An object's attribute is set or taken out by what its class has under the name, or else in its dict.
