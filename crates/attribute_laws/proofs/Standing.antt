@@ -13,7 +13,7 @@ use Rattle.py_node.specs.BuiltIns.{place_of, flags_of, built_in_flags, heap_type
 use Rattle.py_node.specs.Slots.{sort_of}
 use Rattle.py_node.specs.Tree.{Text}
 use Rattle.class_model.specs.Order.{BeginsWith}
-use Rattle.class_model.specs.Class.{Class, class_at as class_numbered, is_class, has_flag, lin, or_else, first_along}
+use Rattle.class_model.specs.Class.{Class, class_at as class_numbered, is_class, lin, or_else, first_along}
 use Rattle.class_model.specs.Slot.{slot, read_along, entry, is_heap_at}
 use Rattle.class_model.specs.BuiltIn.{natives_of}
 use Rattle.class_model.proofs.Rule.{lin-begins}
