@@ -2,4 +2,4 @@ pub mod Keeping
 pub mod Looking
 pub mod Feeding
 pub mod Absent
-pub mod Same
+pub mod Alike

@@ -23,7 +23,7 @@ pub trait Pane {
     /// Lends the published classes to a function, and gives its answer. They are what a list of changes shows that begins
     /// with all that this pane knew. It fails only where its count of faults rises.
     fn look<R, F: FnOnce(&ClassTable) -> R>(&mut self, f: F) -> Result<R, Failed>
-        requires { F.IsAlwaysCallable f }
+        requires callable { F.IsAlwaysCallable f }
         ensures answer { IfOk result (λ r. (list : List Change) × FnOnceReturnsAt F.FnOnce f (shown list) r ×
             Follows (knows self.old) list × knows self.new list) }
         ensures kept { IsKept (knows self.old) (knows self.new) }

@@ -102,7 +102,7 @@ impl Press {
 
     // Makes a change, which is then pending.
     pub(crate) fn append(&mut self, change: &ClassChange) -> Result<(), ClassFault>
-        requires { IsFit (shown self.old.changes) (change_of change.now) }
+        requires fit { IsFit (shown self.old.changes) (change_of change.now) }
         ensures added { OnOk result (self.new.changes ≡ self.old.changes ++ change_of change.now ∷ []) }
         ensures refused { WithMemory result (told result ≡ refused (shown self.old.changes) (change_of change.now)) }
         ensures err { OnErr result (self.new.changes ≡ self.old.changes) }
@@ -113,7 +113,7 @@ impl Press {
 
     // Makes those changes of a log that stand past its own, which are then pending.
     pub(crate) fn follow(&mut self, log: &[ClassChange]) -> Result<u64, OutOfMemory>
-        requires { CanFollow self.old.changes (map change_of log.now) }
+        requires follows { CanFollow self.old.changes (map change_of log.now) }
         ensures whole { OnOk result (self.new.changes ≡ map change_of log.now) }
         ensures count { IfOk result (λ n. length self.old.changes + n ≡ length log.now) }
         ensures kept { BeginsWith self.old.changes self.new.changes }

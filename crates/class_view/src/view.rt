@@ -37,8 +37,8 @@ impl ClassView {
         alloc: Global,
         readers: u32,
     ) -> Result<(ClassWriter, Vec<ClassReader<RuledPane>>), OutOfMemory>
-        requires { (0 < readers) × (readers < 2 ^ 31) }
-        ensures { IfOk result (λ r. (r.0.published ≡ []) × (r.0.changes ≡ []) × (vec_len r.1 ≡ readers)) }
+        requires readers { (0 < readers) × (readers < 2 ^ 31) }
+        ensures made { IfOk result (λ r. (r.0.published ≡ []) × (r.0.changes ≡ []) × (vec_len r.1 ≡ readers)) }
     {
         let mut row = Vec::with_capacity(alloc, readers as usize)?;
         let writer = ClassWriter::new(alloc, 2 * readers as usize)?;

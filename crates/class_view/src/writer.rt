@@ -77,7 +77,7 @@ impl ClassWriter {
     /// Makes a change, which is then pending. It is refused as a replica refuses it; then, and where memory runs out,
     /// nothing changes.
     pub fn append(&mut self, change: &ClassChange) -> Result<(), ClassFault>
-        requires { IsFit (shown self.old.changes) (change_of change.now) }
+        requires fit { IsFit (shown self.old.changes) (change_of change.now) }
         ensures added { OnOk result (self.new.changes ≡ self.old.changes ++ change_of change.now ∷ []) }
         ensures refused { WithMemory result (told result ≡ refused (shown self.old.changes) (change_of change.now)) }
         ensures err { OnErr result (self.new.changes ≡ self.old.changes) }
@@ -92,7 +92,7 @@ impl ClassWriter {
     /// Makes those changes of a log that stand past its own, which are then pending, and says how many they are. Where
     /// memory runs out, those that were made before stay made, and it can follow the log from there.
     pub fn follow(&mut self, log: &[ClassChange]) -> Result<u64, OutOfMemory>
-        requires { CanFollow self.old.changes (map change_of log.now) }
+        requires follows { CanFollow self.old.changes (map change_of log.now) }
         ensures whole { OnOk result (self.new.changes ≡ map change_of log.now) }
         ensures count { IfOk result (λ n. length self.old.changes + n ≡ length log.now) }
         ensures kept { BeginsWith self.old.changes self.new.changes }
