@@ -1,8 +1,9 @@
 -- A class that isn't there has no linearisation.
 use Rattle.std.proofs.Common.{◌≡◌, ℕ, zero, suc, false, List, map, Option, Some, None, is_some, option_and_then, option_map, refl, sym, ap, ◌∙◌, rules}
 use Rattle.class_model.specs.Order.{all_some, least_order, linear}
-use Rattle.class_model.specs.Class.{Classes, class_at, bases_of, is_along, is_class, is_sub, lin}
 use Rattle.py_node.specs.declared.refs.PyStrInterned.{PyStrInterned}
+use Rattle.py_node.specs.Attributes.{is_same_name}
+use Rattle.class_model.specs.Class.{Classes, class_at, bases_of, is_along, is_class, is_sub, lin, along, found}
 
 none_of : {A : Type 0} (o : Option A) → is_some o ≡ false → o ≡ None
 none_of None e = refl
@@ -22,3 +23,6 @@ line_absent t c away = sym (line_none t c away)
 
 pub sub_absent : (t : Classes PyStrInterned) (c d : ℕ) → is_class t c ≡ false → is_sub t c d ≡ false
 sub_absent t c d away = ap (λ (o : Option (List ℕ)). is_along d o) (line_none t c away)
+
+pub found_absent : (t : Classes PyStrInterned) (c : ℕ) (n : PyStrInterned) → is_class t c ≡ false → None ≡ found is_same_name t c n
+found_absent t c n away = sym (ap (λ (o : Option (List ℕ)). option_and_then (along (λ k. is_same_name k n) t) o) (line_none t c away))

@@ -1,20 +1,21 @@
 //! What a reader asks of the classes that it is lent.
 
 ghost use Rattle.std.specs.Prelude.{◌≡◌, IfOk, option_map};
-ghost use Rattle.class_model.specs.Class.{lin, is_sub};
+ghost use Rattle.py_node.specs.Attributes.{is_same_name};
+ghost use Rattle.class_model.specs.Class.{found, lin, is_sub};
 ghost use Rattle.class_table.specs.Keys.{numbers};
-ghost use Rattle.class_view.specs.Found.{value_in};
 
 use class_table::ClassTable;
 use py_node::{OutOfMemory, PyObjectRef, PyStrInterned, PyTypeRef};
 
 // The value of a name in the first class along the linearisation that has it.
+#[tactic(auto, using(crate::proofs::Absent::found_absent))]
 pub(crate) fn find(
     classes: &ClassTable,
     class: PyTypeRef,
     name: PyStrInterned,
 ) -> Option<PyObjectRef>
-    ensures { result ≡ value_in classes.now class.0 name }
+    ensures { result ≡ found is_same_name classes.now class.0 name }
 {
     if classes.has_class(class) {
         classes.get_attr(class, name)

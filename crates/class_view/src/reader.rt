@@ -2,11 +2,12 @@
 
 ghost use Rattle.std.specs.Prelude.{◌≡◌, ◌<◌, ◌≤◌, List, IfOk, OnErr, option_map};
 ghost use Rattle.left_right.specs.Sides.{view};
-ghost use Rattle.class_model.specs.Class.{is_sub, lin};
+ghost use Rattle.py_node.specs.Attributes.{is_same_name};
+ghost use Rattle.class_model.specs.Class.{found, is_sub, lin};
 ghost use Rattle.class_table.specs.Keys.{numbers};
 ghost use Rattle.class_log.specs.Change.{Change};
 ghost use Rattle.class_log.specs.Shown.{shown};
-ghost use Rattle.class_view.specs.Found.{IsGone, value_in};
+ghost use Rattle.class_view.specs.Found.{IsGone};
 ghost use Rattle.class_view.specs.Lists.{Follows, IsKept};
 ghost use Rattle.class_view.specs.Known.{knows_of};
 
@@ -50,7 +51,7 @@ impl<P: Pane + Drop> ClassReader<P> {
         class: PyTypeRef,
         name: PyStrInterned,
     ) -> Result<Option<PyObjectRef>, Gone>
-        ensures answer { IfOk result (λ v. (list : List Change) × (v ≡ value_in (shown list) class.0 name) ×
+        ensures answer { IfOk result (λ v. (list : List Change) × (v ≡ found is_same_name (shown list) class.0 name) ×
             Follows (P.knows self.old.pane) list × P.knows self.new.pane list) }
         ensures kept { IsKept (P.knows self.old.pane) (P.knows self.new.pane) }
         ensures faults { P.faults self.old.pane ≤ P.faults self.new.pane }

@@ -1,6 +1,6 @@
 //! The writer.
 
-ghost use Rattle.std.specs.Prelude.{◌≡◌, ◌<◌, ◌+◌, ◌^◌, ◌++◌, ◌∷◌, [], length, map, IfOk, OnOk, OnErr};
+ghost use Rattle.std.specs.Prelude.{◌≡◌, ◌<◌, ◌+◌, ◌^◌, ◌++◌, ◌∷◌, ◌↔◌, [], length, map, IsTrue, IfOk, OnOk, OnErr};
 ghost use Rattle.left_right.specs.Sides.{view as known_of};
 ghost use Rattle.class_table.specs.Rebase.{told};
 ghost use Rattle.class_table.specs.Refused.{WithMemory};
@@ -72,6 +72,13 @@ impl ClassWriter {
         ensures { result.now ≡ shown self.now.changes }
     {
         self.press().replica().classes()
+    }
+
+    /// Whether a change can be made next, as a replica tells it.
+    pub fn is_fit(&self, change: &ClassChange) -> bool
+        ensures { IsTrue result ↔ IsFit (shown self.now.changes) (change_of change.now) }
+    {
+        self.press().replica().is_fit(change)
     }
 
     /// Makes a change, which is then pending. It is refused as a replica refuses it; then, and where memory runs out,
