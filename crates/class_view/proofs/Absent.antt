@@ -1,5 +1,5 @@
 -- A class that isn't there has no linearisation.
-use Rattle.std.proofs.Common.{◌≡◌, ℕ, zero, suc, false, List, map, Option, Some, None, is_some, option_and_then, option_map, refl, sym, ap, ◌∙◌, rules}
+use Rattle.std.proofs.Common.{◌≡◌, ℕ, zero, suc, false, List, map, Option, Some, None, is_some, option_and_then, option_map, refl, sym, ap, rules}
 use Rattle.class_model.specs.Order.{all_some, least_order, linear}
 use Rattle.py_node.specs.declared.refs.PyStrInterned.{PyStrInterned}
 use Rattle.py_node.specs.Attributes.{is_same_name}

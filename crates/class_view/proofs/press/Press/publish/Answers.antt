@@ -1,4 +1,4 @@
-use Rattle.std.proofs.Common.{◌≡◌, ◌≤◌, ◌++◌, List, length, drop, true, sym, ap, ◌∙◌, subst, rules}
+use Rattle.std.proofs.Common.{◌≡◌, ◌≤◌, ◌++◌, List, length, drop, true, sym, ap, ◌∙◌, rules}
 use Rattle.left_right.specs.Sides.{view}
 use Rattle.class_view.specs.declared.rule.View.{View}
 use Rattle.class_log.specs.Change.{Change}
