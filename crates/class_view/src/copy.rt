@@ -25,7 +25,7 @@ impl Model for Posting {
 
 impl Posting {
     /// A copy of a change.
-    pub fn of(alloc: Global, change: &ClassChange) -> Result<Posting, OutOfMemory>
+    pub(crate) fn of(alloc: Global, change: &ClassChange) -> Result<Posting, OutOfMemory>
         ensures { IfOk result (λ p. p ≡ change_of change.now) }
     {
         Ok(Posting {
