@@ -9,6 +9,7 @@ pub mod Edited
 pub mod Rebased
 pub mod Rebases
 pub mod Trials
+pub mod Descended
 pub mod Blames
 pub mod Swapped
 pub mod Renewing

@@ -14,5 +14,7 @@ pub mod OneBase
 pub mod Name
 pub mod Rebase
 pub mod Steps
+pub mod Descendants
 pub mod Trial
+pub mod Blame
 pub mod Renewed

@@ -1,6 +1,6 @@
 //! The table of classes.
 
-ghost use Rattle.std.specs.Prelude.{◌≡◌, ◌<◌, ◌≤◌, [], true, false, length, Ok, OnOk, OnErr, IfOk, ◌↔◌, IsTrue, Some, is_some, leb, option_map, slice_get, None, IfSome, IsSome};
+ghost use Rattle.std.specs.Prelude.{◌≡◌, ◌+◌, ◌<◌, ◌≤◌, [], true, false, length, Ok, OnOk, OnErr, IfOk, ◌↔◌, IsTrue, Some, is_some, leb, option_map, slice_get, None, IfSome, IsSome};
 ghost use Rattle.std.specs.List.{All};
 ghost use Rattle.py_node.specs.declared.raised.Cause.TheVariants.{EmptyBases, NotBaseType, LayoutConflict, DuplicateBase, LocalPrecedence, MroConflict};
 ghost use Rattle.py_node.specs.Attributes.{is_same_name, AreNamesDistinct};
@@ -20,6 +20,7 @@ ghost use Rattle.class_table.specs.Stored.{classes_of};
 ghost use Rattle.class_table.specs.New.{IsBelow, class_of_new};
 ghost use Rattle.class_table.specs.Refused.{refusal, cause_of, refused_layout, refused_bases, refused_attr, WithMemory, NeedsNoMemory, IsEarly, AreThere, NamesNoClass};
 ghost use Rattle.class_table.specs.Rebase.{refused_change, refused_rebase, told, IsToldFirst};
+ghost use Rattle.class_table.specs.Descendants.{descendants};
 ghost use Rattle.class_table.specs.Causes.{LacksBase, HasLayoutConflict, HasDuplicate, BreaksOrder, HasNoLine};
 ghost use Rattle.class_table.specs.Given.{AreGiven};
 
@@ -267,8 +268,9 @@ impl ClassTable {
     /// the class; there are none; one is the class or derives from it; base by base, one may have no subclasses or its
     /// layout conflicts with those before it; the solid class of the best of them is not that of the best base of now, or
     /// the class gives its objects a dict and would not, or the other way round; one stands twice; and then at the least-numbered class that they leave without an order while all its bases have
-    /// one. Where they are refused or memory runs out, the table stays as it was. `steps` counts the merges and the
-    /// classes whose slots are found anew; where they are refused before any order is looked at, it counts nothing.
+    /// one. Where they are refused or memory runs out, the table stays as it was. `steps` counts the merges, at most one
+    /// for the class and for each that derives from it, and the classes whose slots are found anew; where they are
+    /// refused before any order is looked at, it counts nothing.
     pub fn set_bases<L: Ledger>(
         &mut self,
         class: PyTypeRef,
@@ -283,6 +285,7 @@ impl ClassTable {
         ensures err { OnErr result (self.new ≡ self.old) }
         ensures merges { steps.old.merges ≤ steps.new.merges }
         ensures probes { steps.old.probes ≤ steps.new.probes }
+        ensures few_merges { steps.new.merges ≤ steps.old.merges + length (descendants self.old class.0) }
         ensures uncounted { IsSome (refused_change self.old class.0 (numbers bases.items)) → steps.new ≡ steps.old }
     {
         let alloc = self.alloc;
