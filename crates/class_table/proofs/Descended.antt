@@ -107,6 +107,22 @@ distinct-map f (x ∷ xs) d h = (
   distinct-map f xs d.1 (λ a b p q. h a b (inr p) (inr q)),
 )
 
+filter-fewer : (p : ℕ → Bool) (xs : List ℕ) → length (filter p xs) ≤ length xs
+filter-fewer p [] = omega arith
+filter-fewer p (x ∷ xs) = go (p x) (filter-fewer p xs)
+  where
+    go : (b : Bool) → length (filter p xs) ≤ length xs → length (cond b (x ∷ filter p xs) (filter p xs)) ≤ suc (length xs)
+    go true h = omega (arith, h)
+    go false h = omega (arith, h)
+
+pub none-past : {A : Type 0} (xs : List A) (i : ℕ) → None ≡ slice_get xs i → length xs ≤ i
+none-past [] i e = omega arith
+none-past (x ∷ xs) zero e = cc
+none-past (x ∷ xs) (suc i) e = let r = none-past xs i e in omega (arith, r)
+
+pub Includes-in : {A : Type 0} (xs : List A) (i : ℕ) (d : A) → i < length xs → Includes xs (get_or xs i d)
+Includes-in xs i d l = Includes-at xs i (get_or xs i d) (slice_get-get_or xs i d l)
+
 -- a class is kept at one place
 pub one-place : (kept : List StoredClass) → is_ascending (classes_of kept) ≡ true → (i j : ℕ) (a b : StoredClass) → slice_get kept i ≡ Some a → slice_get kept j ≡ Some b → a.number ≡ b.number → i ≡ j
 one-place kept up i j a b e f n =
@@ -318,7 +334,6 @@ module _ (kept : List StoredClass) (ok : IsCoherent kept) (c : ℕ) where
   pub finding-end : (found : List ℕ) (n : ℕ) → length found ≤ n → Finding kept c n found → Distinct found → AreDescendants kept c found
   finding-end found n l f d = record { distinct = d; within = f.within; all = λ i k e h. found-all found n l f (length k.mro) i k (omega arith) e h }
 
-  -- no more were found than there are
   number-or : ℕ → ℕ
   number-or i = unwrap_or (number_at kept i) 0
 
@@ -326,26 +341,38 @@ module _ (kept : List StoredClass) (ok : IsCoherent kept) (c : ℕ) where
   unfolding number-or
   number-is i k e = ap (λ o. unwrap_or (option_map (λ (z : StoredClass). z.number) o) 0) e
 
-  pub found-few : (found : List ℕ) → AreDescendants kept c found → length found ≤ length (descendants (classes_of kept) c)
-  found-few found are =
-      let few = distinct-fewer (map number-or found) (descendants (classes_of kept) c) (distinct-map number-or found are.distinct apart) in_all in
-      let same = length-map found number-or in
-      omega (arith, few, same)
-    where
-      apart : (x y : ℕ) → Includes found x → Includes found y → number-or x ≡ number-or y → x ≡ y
-      apart x y h k e =
-          let a = are.within x h in
-          let b = are.within y k in
-          one-place kept ok.sound.ascending x y a.class b.class a.at b.at (sym (number-is x a.class a.at) ∙ e ∙ number-is y b.class b.at)
+  apart : (found : List ℕ) → ((i : ℕ) → Includes found i → Descends kept c i) → (x y : ℕ) → Includes found x → Includes found y → number-or x ≡ number-or y → x ≡ y
+  apart found within x y h k e =
+      let a = within x h in
+      let b = within y k in
+      one-place kept ok.sound.ascending x y a.class b.class a.at b.at (sym (number-is x a.class a.at) ∙ e ∙ number-is y b.class b.at)
 
-      in_all : (n : ℕ) → Includes (map number-or found) n → Includes (descendants (classes_of kept) c) n
-      in_all n h =
-          let r = from-map number-or found n h in
-          let d = are.within r.0 r.1 in
-          let num : d.class.number ≡ n = sym (number-is r.0 d.class d.at) ∙ r.2 in
-          let there : is_class (classes_of kept) n ≡ true = ap (is_class (classes_of kept)) (sym num) ∙ ap is_some (class-is r.0 d.class d.at) in
-          let sub : is_sub (classes_of kept) n c ≡ true = ap (λ x. is_sub (classes_of kept) x c) (sym num) ∙ ap (is_along c) (ok.mro r.0 d.class d.at) ∙ d.derives in
-          Includes-filter (λ x. is_sub (classes_of kept) x c) (numbers_of (classes_of kept)) n (at-held (classes_of kept) n there) sub
+  in_all : (found : List ℕ) → ((i : ℕ) → Includes found i → Descends kept c i) → (n : ℕ) → Includes (map number-or found) n → Includes (descendants (classes_of kept) c) n
+  in_all found within n h =
+      let r = from-map number-or found n h in
+      let d = within r.0 r.1 in
+      let num : d.class.number ≡ n = sym (number-is r.0 d.class d.at) ∙ r.2 in
+      let there : is_class (classes_of kept) n ≡ true = ap (is_class (classes_of kept)) (sym num) ∙ ap is_some (class-is r.0 d.class d.at) in
+      let sub : is_sub (classes_of kept) n c ≡ true = ap (λ x. is_sub (classes_of kept) x c) (sym num) ∙ ap (is_along c) (ok.mro r.0 d.class d.at) ∙ d.derives in
+      Includes-filter (λ x. is_sub (classes_of kept) x c) (numbers_of (classes_of kept)) n (at-held (classes_of kept) n there) sub
+
+  -- no more are found than there are
+  few : (found : List ℕ) → Distinct found → ((i : ℕ) → Includes found i → Descends kept c i) → length found ≤ length (descendants (classes_of kept) c)
+  few found distinct within =
+      let n = distinct-fewer (map number-or found) (descendants (classes_of kept) c) (distinct-map number-or found distinct (apart found within)) (in_all found within) in
+      let same = length-map found number-or in
+      omega (arith, n, same)
+
+  pub found-few : (found : List ℕ) → AreDescendants kept c found → length found ≤ length (descendants (classes_of kept) c)
+  found-few found are = few found are.distinct are.within
+
+  pub finding-full : (found : List ℕ) (n : ℕ) → length kept ≤ n → Finding kept c n found → Distinct found → AreDescendants kept c found
+  finding-full found n l f d =
+      let a = few found d f.within in
+      let b = filter-fewer (λ x. is_sub (classes_of kept) x c) (numbers_of (classes_of kept)) in
+      let e = length-map (classes_of kept) (λ (k : Class PyStrInterned). k.number) in
+      let g = length-map kept class_of in
+      finding-end found n (omega (arith, a, b, e, g, l)) f d
 
 -- an element of a list stands in a permutation of it
 pub moved-at : {A : Type 0} (xs ys : List A) (j : ℕ) (x : A) → IsPermutation xs ys → slice_get xs j ≡ Some x → (i : ℕ) × (slice_get ys i ≡ Some x)

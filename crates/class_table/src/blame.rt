@@ -13,6 +13,7 @@ ghost use Rattle.class_table.specs.Blame.{AreBlame, IsReached, AllReached};
 
 use crate::descendants::Ranked;
 use crate::fault::ClassFault;
+use crate::place::number_in;
 use crate::trial::{Change, Trial};
 use crate::trial_map::Trials;
 use py_node::Cause;
@@ -78,8 +79,9 @@ fn first_blamed(change: Change<'_>, ranked: &[Ranked], trials: &Trials) -> Optio
     let mut first = None;
     for next in ranked {
         let place = next.place;
-        if let Some(cause) = cause_at(change, trials, place) {
-            first = Some(earlier(first, Blame { place, cause }));
+        match cause_at(change, trials, place) {
+            None => {}
+            Some(cause) => first = Some(earlier(first, Blame { place, cause })),
         }
     }
     first
@@ -100,7 +102,7 @@ pub(crate) fn blamed(
     match first_blamed(change, ranked, trials) {
         None => Ok(()),
         Some(first) => {
-            let class = change.classes[first.place].number();
+            let class = number_in(change.classes, first.place);
             Err(ClassFault::RefusedAt(first.cause, class))
         }
     }

@@ -37,6 +37,14 @@ fn add_places(
     Ok(())
 }
 
+// The direct subclasses of the class at a place.
+fn subclasses_at(classes: &[Stored], at: usize) -> &[PyTypeRef]
+    requires { at < length classes.now }
+    ensures { (k : StoredClass) → slice_get classes.now at ≡ Some k → numbers result.now ≡ k.subclasses }
+{
+    classes[at].subclasses()
+}
+
 // The places of the class and of all that derive from it: those of the direct subclasses of each that was found.
 fn descendants(
     classes: &[Stored],
@@ -52,11 +60,19 @@ fn descendants(
     for index in 0..classes.len() {
         match found.at(index) {
             None => return Ok(found),
-            Some(at) => add_places(classes, &mut found, classes[at].subclasses())?,
+            Some(at) => add_places(classes, &mut found, subclasses_at(classes, at))?,
         }
     }
     let _all = found.all();
     Ok(found)
+}
+
+// How long the linearisation of the class at a place is.
+fn length_at(classes: &[Stored], at: usize) -> usize
+    requires { at < length classes.now }
+    ensures { (k : StoredClass) → slice_get classes.now at ≡ Some k → result ≡ length k.mro }
+{
+    classes[at].line_length()
 }
 
 // How long the linearisations of the classes at some places are.
@@ -72,7 +88,7 @@ fn measured(
     for place in places {
         ranked.push(Ranked {
             place: *place,
-            length: classes[*place].line_length(),
+            length: length_at(classes, *place),
         })?;
     }
     Ok(ranked)
