@@ -6,9 +6,7 @@ use Rattle.std.proofs.lemmas.List.{drop_more}
 use Rattle.std.proofs.lemmas.Option.{slice_get_within, slice_get-map, get_or_from_slice_get}
 use Rattle.std.proofs.Math.ListN.{drop_of_length-le}
 use Rattle.py_node.specs.declared.raised.Cause.{Cause}
-use Rattle.std.specs.Global.{Vec}
 use Rattle.py_node.specs.declared.refs.PyStrInterned.{PyStrInterned}
-use Rattle.py_node.specs.declared.refs.PyTypeRef.{PyTypeRef}
 use Rattle.class_model.specs.Order.{has, all_some}
 use Rattle.class_model.specs.Class.{Class, Classes, bases_of, lin}
 use Rattle.class_model.specs.Numbers.{numbers_of, ascend_from, is_ascending}

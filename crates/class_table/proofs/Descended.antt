@@ -1,5 +1,5 @@
 -- The class and all that derive from it are found.
-use Rattle.std.proofs.Common.{◌≡◌, ℕ, zero, suc, ◌+◌, ◌<◌, ◌≤◌, ◌⊎◌, Bool, true, false, cond, ◌||◌, eqb, List, [], ◌∷◌, ◌++◌, map, filter, length, get_or, take, drop, Option, Some, None, inl, inr, refl, sym, ap, subst, ◌∙◌, arith}
+use Rattle.std.proofs.Common.{◌≡◌, ℕ, zero, suc, ◌+◌, ◌<◌, ◌≤◌, ◌⊎◌, Bool, true, false, cond, ◌||◌, eqb, List, [], ◌∷◌, ◌++◌, map, filter, length, get_or, take, Option, Some, None, inl, inr, refl, sym, ap, subst, ◌∙◌, arith}
 use Rattle.std.specs.Prelude.{slice_get, option_map, is_some, unwrap_or}
 use Rattle.std.specs.List.{list_any, AllByRecursion, IsDistinct}
 use Rattle.std.specs.List.Sorted.{IsPermutation}
@@ -10,19 +10,19 @@ use Rattle.std.proofs.lemmas.Option.{slice_get_within, slice_get-get_or, get_or_
 use Rattle.indexmap.specs.IndexSet.{insert_key}
 use Rattle.py_node.specs.declared.refs.PyStrInterned.{PyStrInterned}
 use Rattle.py_node.specs.declared.refs.PyTypeRef.{PyTypeRef}
-use Rattle.class_model.specs.Order.{has, Includes, Distinct, all_some, members_of}
+use Rattle.class_model.specs.Order.{has, Includes, Distinct, all_some}
 use Rattle.class_model.specs.Class.{Class, Classes, class_at, is_class, bases_of, lin, is_sub, is_along, subclasses}
 use Rattle.class_model.specs.Numbers.{numbers_of, is_ascending}
-use Rattle.class_model.proofs.Held.{Includes-equal, Includes-left, Includes-right, Includes-sides, Includes-map, Includes-filter, from_flat_map, distinct-fewer}
+use Rattle.class_model.proofs.Held.{Includes-equal, Includes-left, Includes-right, Includes-sides, Includes-filter, from_flat_map, distinct-fewer}
 use Rattle.class_model.proofs.Tests.{Decides-has}
 use Rattle.class_model.proofs.Linear.{all_some-holds}
 use Rattle.class_model.proofs.Lines.{all_some-some}
 use Rattle.class_model.proofs.Numbers.{at-held}
 use Rattle.class_model.proofs.Rule.{lin-least, lin-held, lin-inside, lin-bases, lin-within}
 use Rattle.class_table.specs.Keys.{numbers}
-use Rattle.class_table.specs.Stored.{StoredClass, IsHere, class_of, number_at, classes_of}
+use Rattle.class_table.specs.Stored.{StoredClass, class_of, number_at, classes_of}
 use Rattle.class_table.specs.Coherent.{IsCoherent}
-use Rattle.class_table.specs.Descendants.{descendants, Descends, AreDescendants, IsPlaceOf, AreAdded, AreFollowed, AreMeasured, IsRanked, StandsAt, AreRanked}
+use Rattle.class_table.specs.Descendants.{descendants, Descends, AreDescendants, AreAdded, AreFollowed, AreMeasured, AreRanked}
 use Rattle.class_table.specs.declared.descendants.Ranked.{Ranked}
 use Rattle.class_table.proofs.Found.{number-get, ascends, place-class, class-here}
 use Rattle.class_table.proofs.Places.{get-push_cases}

@@ -1,11 +1,11 @@
 -- The trial of other bases, class by class.
-use Rattle.std.proofs.Common.{◌≡◌, ℕ, ◌+◌, ◌<◌, ◌≤◌, ◌⊎◌, true, false, cond, List, [], ◌∷◌, map, length, get_or, set, eqb, Result, Ok, Err, Option, Some, None, inl, inr, refl, sym, ap, subst, ◌∙◌, arith}
+use Rattle.std.proofs.Common.{◌≡◌, ℕ, ◌+◌, ◌<◌, ◌≤◌, true, false, cond, List, [], ◌∷◌, map, length, get_or, eqb, Result, Ok, Err, Option, Some, None, inl, inr, refl, sym, ap, subst, ◌∙◌, arith}
 use Rattle.std.specs.Prelude.{slice_get, IfOk, is_some, option_map, option_and_then}
 use Rattle.std.proofs.lemmas.Bool.{false≢true, cases_eq, eq-eqb, ne_eqb}
 use Rattle.std.proofs.lemmas.Option.{get_or_from_slice_get, slice_get-get_or, slice_get_within}
 use Rattle.py_node.specs.declared.raised.Cause.{Cause}
 use Rattle.py_node.specs.declared.refs.PyStrInterned.{PyStrInterned}
-use Rattle.class_model.specs.Order.{has, least_order, all_some, Includes, Distinct, BeginsWith}
+use Rattle.class_model.specs.Order.{has, least_order, all_some, Includes, Distinct}
 use Rattle.class_model.specs.Class.{Class, Classes, class_at, is_class, bases_of, lin, is_along}
 use Rattle.class_model.specs.Change.{with_bases, order_cause}
 use Rattle.class_model.proofs.Held.{Includes-equal, Subsequence-length}
@@ -22,7 +22,7 @@ use Rattle.class_table.specs.Rebase.{any_derives}
 use Rattle.class_table.specs.declared.trial.Trial.{Trial}
 use Rattle.class_table.specs.declared.trial.Trial.TheVariants.{Line, Failed, Without}
 use Rattle.class_table.specs.declared.descendants.Ranked.{Ranked}
-use Rattle.class_table.specs.Descendants.{AreRanked, IsRanked, StandsAt}
+use Rattle.class_table.specs.Descendants.{AreRanked}
 use Rattle.class_table.specs.Trial.{bases_under, trial_at, line_tried, IsTrial, HasTrial, IsToBlame, IsWithout, IsKnown, AreKnown, AreTried}
 use Rattle.class_table.proofs.Found.{place-class}
 use Rattle.class_table.proofs.Pushed.{each-there}

@@ -1,6 +1,6 @@
 //! The class that is to blame where other bases leave no order.
 
-ghost use Rattle.std.specs.Prelude.{◌≡◌, ◌<◌, ◌≤◌, ◌⊎◌, ℕ, false, true, length, None, Some, IfSome, IfNone, option_map, slice_get};
+ghost use Rattle.std.specs.Prelude.{◌≡◌, ◌<◌, ◌≤◌, ◌⊎◌, ℕ, false, true, None, Some, IfSome, IfNone, option_map, slice_get};
 ghost use Rattle.class_model.specs.Order.{has};
 ghost use Rattle.class_model.specs.Change.{is_blamed, caused, failing};
 ghost use Rattle.class_table.specs.Keys.{numbers};
@@ -63,7 +63,11 @@ fn earlier(first: Option<Blame>, next: Blame) -> Blame
 {
     match first {
         None => next,
-        Some(found) => if found.place <= next.place { found } else { next },
+        Some(found) => if found.place <= next.place {
+            found
+        } else {
+            next
+        },
     }
 }
 

@@ -1,6 +1,6 @@
 //! The class whose bases change, and all that derive from it.
 
-ghost use Rattle.std.specs.Prelude.{◌≡◌, ◌<◌, ◌≤◌, ℕ, List, true, length, IfOk, OnOk, slice_get};
+ghost use Rattle.std.specs.Prelude.{◌≡◌, ◌<◌, ◌≤◌, ℕ, true, length, IfOk, OnOk, slice_get};
 ghost use Rattle.class_model.specs.Order.{Includes};
 ghost use Rattle.class_model.specs.Class.{is_class};
 ghost use Rattle.class_table.specs.Keys.{numbers};
@@ -46,11 +46,7 @@ fn subclasses_at(classes: &[Stored], at: usize) -> &[PyTypeRef]
 }
 
 // The places of the class and of all that derive from it: those of the direct subclasses of each that was found.
-fn descendants(
-    classes: &[Stored],
-    alloc: Global,
-    class: PyTypeRef,
-) -> Result<PlaceSet, OutOfMemory>
+fn descendants(classes: &[Stored], alloc: Global, class: PyTypeRef) -> Result<PlaceSet, OutOfMemory>
     requires coherent { IsCoherent classes.now }
     requires own { is_class (classes_of classes.now) class.0 ≡ true }
     ensures { IfOk result (λ v. AreDescendants classes.now class.0 v) }
@@ -76,11 +72,7 @@ fn length_at(classes: &[Stored], at: usize) -> usize
 }
 
 // How long the linearisations of the classes at some places are.
-fn measured(
-    classes: &[Stored],
-    alloc: Global,
-    places: &[usize],
-) -> Result<Vec<Ranked>, OutOfMemory>
+fn measured(classes: &[Stored], alloc: Global, places: &[usize]) -> Result<Vec<Ranked>, OutOfMemory>
     requires { (i : ℕ) → Includes places.now i → i < length classes.now }
     ensures { IfOk result (λ v. AreMeasured classes.now places.now v.items) }
 {

@@ -1,6 +1,6 @@
 //! Places, each once.
 
-ghost use Rattle.std.specs.Prelude.{◌≡◌, ℕ, List, [], ◌∷◌, ◌++◌, length, cond, OnOk, slice_get};
+ghost use Rattle.std.specs.Prelude.{◌≡◌, ℕ, List, [], ◌∷◌, ◌++◌, cond, OnOk, slice_get};
 ghost use Rattle.class_model.specs.Order.{has, Distinct};
 
 use indexmap::IndexSet;
