@@ -22,7 +22,8 @@ use Rattle.plain_machine.proofs.Follow.{reach-is}
 use Rattle.proto_attr.specs.Say.{attribute_say, get_by}
 use Rattle.proto_attr.proofs.Winning.{class-last}
 use Rattle.proto_descr.specs.Say.{descriptor_say, descr_get_by, function_get, native_get, object_get, bound_native, class_get, static_get, class_of_option}
-use Rattle.proto_call.specs.Say.{call_job_say, call_by, asked_of_native, call_native}
+use Rattle.native_base.specs.Called.{call_native}
+use Rattle.proto_call.specs.Say.{call_job_say, call_by, asked_of_native}
 use Rattle.attribute_laws.specs.Methods.{GoesByRows, IsUsual, method_class, method_made, ReadIsAMethod, TargetIsFirst, MethodAsksIt, NativeIsAsked}
 use Rattle.attribute_laws.proofs.Loading.{Loaded, loaded, has-class}
 use Rattle.attribute_laws.proofs.Fast.{fast-kind, function-gets, native-gets, native-calls, method-calls, bound-calls, of-function, of-native, type-known, not-none}

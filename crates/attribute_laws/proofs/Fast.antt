@@ -29,8 +29,8 @@ use Rattle.plain_machine.specs.Objects.{class_has_flag, or_false, is_fast, is_fo
 use Rattle.plain_machine.specs.Known.{the_none_type, the_method, the_builtin_method}
 use Rattle.plain_machine.specs.Sound.{IsSound, home, holds_as, held_by}
 use Rattle.proto_descr.specs.Say.{is_object_none}
-use Rattle.attribute_laws.specs.Methods.{IsUsual, IsBuiltIn, IsOfScript, method_class, method_made}
-use Rattle.attribute_laws.proofs.Standing.{with_flag, node-of, class-there, some-of, own-slot, marks-methods, script-marks-none}
+use Rattle.attribute_laws.specs.Methods.{IsUsual, IsBuiltIn, IsUnmarked, method_class, method_made}
+use Rattle.attribute_laws.proofs.Standing.{with_flag, node-of, class-there, some-of, own-slot, marks-methods}
 
 -- what the classes of methods have in the slots that bind and call
 
@@ -85,7 +85,7 @@ flagged : (flag : ℕ) (o : Option (Class Text)) → or_false (option_map (λ k.
 flagged flag None e = absurd (false≢true e)
 flagged flag (Some k) e = (k, refl, e)
 
-pub fast-kind : (w : PlainWorld) (a : PyObjectRef) → IsUsual w → IsBuiltIn w a ⊎ IsOfScript w a → is_fast w a ≡ true → (class_at w a ≡ Some (place_of built_in.Function)) ⊎ ((class_at w a ≡ Some (place_of built_in.MethodDescriptor)) × (is_for_objects (datum_at w a) ≡ true))
+pub fast-kind : (w : PlainWorld) (a : PyObjectRef) → IsUsual w → IsBuiltIn w a ⊎ IsUnmarked w a → is_fast w a ≡ true → (class_at w a ≡ Some (place_of built_in.Function)) ⊎ ((class_at w a ≡ Some (place_of built_in.MethodDescriptor)) × (is_for_objects (datum_at w a) ≡ true))
 fast-kind w a u of fast =
     let parts = and_parts (class_has_flag w method_descriptor (class_at w a)) (is_for_objects (datum_at w a)) fast in
     elim of [
@@ -97,8 +97,8 @@ fast-kind w a u of fast =
             | inr e ↦ inr (p.1 ∙ ap (λ b. Some (place_of b)) e, parts.1)
           ]
       | inr p ↦
-          let none : class_has_flag w method_descriptor (Some p.0) ≡ false = ap (λ o. or_false (option_map (λ k. has_flag method_descriptor k) o)) p.4 ∙ script-marks-none p.1 p.2 p.5 in
-          absurd (false≢true (sym none ∙ sym (ap (class_has_flag w method_descriptor) p.3) ∙ parts.0))
+          let none : class_has_flag w method_descriptor (Some p.0) ≡ false = ap (λ o. or_false (option_map (λ k. has_flag method_descriptor k) o)) p.3 ∙ p.4 in
+          absurd (false≢true (sym none ∙ sym (ap (class_has_flag w method_descriptor) p.2) ∙ parts.0))
     ]
 
 -- what the objects of a built-in class hold

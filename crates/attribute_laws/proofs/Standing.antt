@@ -9,11 +9,11 @@ use Rattle.py_node.specs.declared.built_in.BuiltIn.TheVariants as built_in
 use Rattle.py_node.specs.declared.entry.SlotId.{SlotId}
 use Rattle.py_node.specs.declared.entry.SlotEntry.{SlotEntry}
 use Rattle.py_node.specs.declared.slots.Sort.TheVariants.{Nearest}
-use Rattle.py_node.specs.BuiltIns.{place_of, flags_of, built_in_flags, heap_type, heap_flags, method_descriptor}
+use Rattle.py_node.specs.BuiltIns.{place_of, flags_of, built_in_flags, heap_type, method_descriptor}
 use Rattle.py_node.specs.Slots.{sort_of}
 use Rattle.py_node.specs.Tree.{Text}
 use Rattle.class_model.specs.Order.{BeginsWith}
-use Rattle.class_model.specs.Class.{Class, class_at as class_numbered, is_class, has_flag, lin, or_else, first_along}
+use Rattle.class_model.specs.Class.{Class, class_at as class_numbered, is_class, lin, or_else, first_along}
 use Rattle.class_model.specs.Slot.{slot, read_along, entry, is_heap_at}
 use Rattle.class_model.specs.BuiltIn.{natives_of}
 use Rattle.class_model.proofs.Rule.{lin-begins}
@@ -82,7 +82,3 @@ unfolding flags_of built_in_flags place_of
 marks-methods built_in.Function e = inl refl
 marks-methods built_in.MethodDescriptor e = inr refl
 marks-methods b e = absurd (false≢true e)
-
-pub script-marks-none : (k : Class Text) (dict : Bool) → k.flags ≡ heap_flags dict → has_flag method_descriptor k ≡ false
-script-marks-none k true e = rw e refl
-script-marks-none k false e = rw e refl

@@ -1,12 +1,12 @@
 -- Methods that are loaded to be called at once.
-use Rattle.std.specs.Prelude.{◌≡◌, ℕ, suc, ◌<◌, Bool, List, [], ◌∷◌, Option, Some, Ok, ◌⊎◌}
+use Rattle.std.specs.Prelude.{◌≡◌, ℕ, suc, ◌<◌, false, List, [], ◌∷◌, Option, Some, Ok, ◌⊎◌}
 use Rattle.py_node.specs.declared.refs.PyObjectRef.{PyObjectRef}
 use Rattle.py_node.specs.declared.built_in.BuiltIn.{BuiltIn}
 use Rattle.py_node.specs.declared.built_in.BuiltIn.TheVariants as built_in
 use Rattle.py_node.specs.declared.entry.NativeEntry.{NativeEntry}
-use Rattle.py_node.specs.BuiltIns.{place_of, flags_of, heap_flags}
+use Rattle.py_node.specs.BuiltIns.{place_of, flags_of, method_descriptor}
 use Rattle.py_node.specs.Tree.{Text}
-use Rattle.class_model.specs.Class.{Class, class_at as class_numbered}
+use Rattle.class_model.specs.Class.{Class, class_at as class_numbered, has_flag}
 use Rattle.plain_machine.specs.Plain.{Datum, AMethod, ABuiltinMethod, AMethodDescriptor, PlainWorld, PlainTask, Bindings, AttributeJob, DescriptorJob, DoGetAttr, DoLoadMethod, DoInvoke, DoCall, ToAttribute, ToDescriptor, ToCall, AsFunction, Told, Asks, Ends, Saying}
 use Rattle.plain_machine.specs.World.{class_at, datum_at, with_node, next_node}
 use Rattle.plain_machine.specs.Known.{the_none_type, the_method, the_builtin_method}
@@ -29,12 +29,12 @@ pub record IsUsual (w : PlainWorld) : Type 0 where
   pub flags : (b : BuiltIn) (k : Class Text) → class_numbered w.classes (place_of b) ≡ Some k → k.flags ≡ flags_of b
   pub of_none : class_at w none ≡ Some the_none_type
 
--- an object's class is built in, or has the flags of a class that a script makes
+-- an object's class is built in, or doesn't mark what it makes as methods, as no class that a script makes does
 abbrev pub IsBuiltIn : PlainWorld → PyObjectRef → Type 0
 IsBuiltIn w a = (b : BuiltIn) × (class_at w a ≡ Some (place_of b))
 
-abbrev pub IsOfScript : PlainWorld → PyObjectRef → Type 0
-IsOfScript w a = (c : ℕ) × (k : Class Text) × (dict : Bool) × (class_at w a ≡ Some c) × (class_numbered w.classes c ≡ Some k) × (k.flags ≡ heap_flags dict)
+abbrev pub IsUnmarked : PlainWorld → PyObjectRef → Type 0
+IsUnmarked w a = (c : ℕ) × (k : Class Text) × (class_at w a ≡ Some c) × (class_numbered w.classes c ≡ Some k) × (has_flag method_descriptor k ≡ false)
 
 -- the method that is made of an object and what its class has under a name: its class, and what it holds. A native is bound with its name, its class and its doc
 abbrev pub method_class : Option Datum → ℕ
@@ -49,7 +49,7 @@ method_made d o a = AMethod o a
 abbrev pub ReadIsAMethod : Type 0
 ReadIsAMethod =
     (say : Saying PlainTask) (w u : PlainWorld) (o p a : PyObjectRef) (x : Text) (left depth : ℕ) →
-    GoesByRows say → IsUsual w → IsBuiltIn w a ⊎ IsOfScript w a → suc (suc depth) < 1000 →
+    GoesByRows say → IsUsual w → IsBuiltIn w a ⊎ IsUnmarked w a → suc (suc depth) < 1000 →
     attribute_say w (DoLoadMethod o x) [] ≡ Ends u (Ok (AsFunction p a)) →
     (u ≡ w) × (p ≡ o) × (
     let c = method_class (datum_at w a) in

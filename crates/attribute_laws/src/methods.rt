@@ -1,6 +1,9 @@
 //! Methods that are loaded to be called at once.
 
-ghost use Rattle.attribute_laws.specs.Methods.{MethodAsksIt, NativeIsAsked, ReadIsAMethod, TargetIsFirst};
+ghost use Rattle.attribute_laws.specs.Methods.{IsUsual, MethodAsksIt, NativeIsAsked, ReadIsAMethod, TargetIsFirst};
+ghost use Rattle.class_world.specs.Reading.{Reading, plain};
+
+use class_world::World;
 
 /// Loading a method and calling what was loaded does what reading the attribute and calling the method does. Where a
 /// function is loaded with its target, no method is made; the read would have made one, of just these two, and have
@@ -12,3 +15,11 @@ pub fn laws_of_methods()
     ensures method { MethodAsksIt }
     ensures native { NativeIsAsked }
 {}
+
+/// What these laws ask of a world is so of each, and so of a machine's at any time.
+pub fn every_world_is_usual(world: &World)
+    ensures { (t : Reading) → IsUsual (plain t world.now) }
+{
+    world.sound();
+    world.keeps_built_ins();
+}

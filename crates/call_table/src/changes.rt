@@ -105,7 +105,9 @@ fn put_attr(classes: &mut ClassTable) -> Result<Option<PyObjectRef>, NoValue> {
 
 fn set_name(classes: &mut ClassTable) -> Result<(&str, bool), NoValue> {
     let child = there(classes, CHILD)?;
-    classes.set_name(child, "b.other")?;
+    if classes.is_heap(child) {
+        classes.set_name(child, "b.other")?;
+    }
     name(classes, CHILD)
 }
 

@@ -3,7 +3,7 @@
 use py_node::{
     BodyCall, Cause, Command, Constant, Expr, Kind, MemberPlace, Names, OutOfMemory, PyAttributes,
     PyMembers, PyNumberBinaryOp, PyObjectRef, PyStrInterned, PyTypeFlags, PyTypeRef, Raised, Reply,
-    ReplyAnswer, Word,
+    ReplyAnswer, SlotId, Word,
 };
 use std::alloc::{AllocError, Global};
 use table_lines::Table;
@@ -36,6 +36,32 @@ pub fn put(table: &mut Table, alloc: Global) {
             flags(PyTypeFlags::of_script_class(false)),
         ),
     );
+    put_words(table);
+}
+
+// The words of faults that hosts alone meet, and of slots that no class of a script fills.
+fn put_words(table: &mut Table) {
+    for cause in [
+        Cause::MemberBool,
+        Cause::ReadOnly,
+        Cause::NotSequence,
+        Cause::NotMapping,
+    ] {
+        table.tell("Cause::word", &(cause.kind().word(), cause.word()));
+    }
+    for slot in [
+        SlotId::Negative,
+        SlotId::Positive,
+        SlotId::Absolute,
+        SlotId::Invert,
+        SlotId::Boolean,
+        SlotId::Concat,
+        SlotId::Repeat,
+        SlotId::InplaceConcat,
+        SlotId::InplaceRepeat,
+    ] {
+        table.tell("SlotId::name", &slot.name());
+    }
 }
 
 // The numbers of two texts, one of which comes twice.

@@ -138,7 +138,9 @@ fn inherited(world: &mut World) -> Result<(usize, bool), NoValue> {
 
 fn renamed(world: &mut World) -> Result<String, NoValue> {
     let class = simple(world, "G")?;
-    world.set_name(class, "H")?;
+    if world.class_is_heap(class) {
+        world.set_name(class, "H")?;
+    }
     shown(world, class)
 }
 

@@ -1,5 +1,6 @@
 pub mod Order
 pub mod Class
+pub mod Name
 pub mod Numbers
 pub mod Layout
 pub mod Slot

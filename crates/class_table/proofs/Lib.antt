@@ -32,3 +32,4 @@ pub mod Collected
 pub mod Heaps
 pub mod StartParts
 pub mod Dicts
+pub mod LastParts

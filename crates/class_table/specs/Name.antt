@@ -1,10 +1,7 @@
 -- The part of a name past its last dot.
 use Rattle.std.specs.Prelude.{◌≡◌, ℕ, suc, ◌<◌, ◌≤◌, ◌⊎◌, slice_index_or, length, drop}
 use Rattle.py_node.specs.Tree.{Text}
-
--- the dot that parts names
-abbrev pub dot : ℕ
-dot = 46
+use Rattle.class_model.specs.Name.{dot}
 
 -- the part of a name after its last dot, or all of it
 pub record IsLastPart (name part : Text) : Type 0 where

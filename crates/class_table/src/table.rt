@@ -254,9 +254,10 @@ impl ClassTable {
         take_heap(&mut self.classes, class, name)
     }
 
-    /// Gives a class another name. Where memory runs out, the table stays as it was.
+    /// Gives a class that a script made another name. Where memory runs out, the table stays as it was.
     pub fn set_name(&mut self, class: PyTypeRef, name: &str) -> Result<(), OutOfMemory>
-        requires { is_class self.old class.0 ≡ true }
+        requires there { is_class self.old class.0 ≡ true }
+        requires heap { is_heap_at (class_at self.old class.0) ≡ true }
         ensures named { OnOk result (self.new ≡ with_class_name self.old class.0 name.now) }
         ensures err { OnErr result (self.new ≡ self.old) }
     {

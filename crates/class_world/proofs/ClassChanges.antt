@@ -65,7 +65,7 @@ attr-there ks c d x r = at-changed (λ (k : Class PyStrInterned). record k { att
 
 -- as many classes as before
 pub classes-grow : (w : Held) (ks : HeldClasses) → Like w.classes ks → Grows w (record w { classes = ks })
-classes-grow w ks k = grows w (record w { classes = ks }) refl (omega arith) (omega arith) (λ m f h. h) (omega arith) (keep-itself w.nodes) k
+classes-grow w ks k = grows w (record w { classes = ks }) refl (omega arith) (omega arith) (λ m f h. h) (omega arith) (keep-itself w.classes w.nodes) k
 
 abbrev pub AreStanding : Held → HeldClasses → Type 0
 AreStanding w ks = (c : ℕ) → is_class ks c ≡ true → Holds w (Standing c (record { 0 = c }))
@@ -75,7 +75,7 @@ classes-sound w ks k h a s =
     let new = record w { classes = ks } in
     let more = classes-grow w ks k in
     let go = all-grow w new more in
-    record { forms = go _ s.forms; below = s.below; nodes = go _ s.nodes; classes = go _ h; vars = go _ s.vars; scopes = go _ s.scopes; fixed = fixed-grow w new s.fixed (grows-lasts w new more); built_in = built_in-grow w new s.built_in (grows-lasts w new more); own = λ b. more.still _ (s.own b); flags = λ b. more.still _ (s.flags b); standing = λ d e. more.still _ (a d e); itself = s.itself; apart = s.apart; scopes_apart = s.scopes_apart; known = s.known }
+    record { forms = go _ s.forms; below = s.below; nodes = go _ s.nodes; classes = go _ h; vars = go _ s.vars; scopes = go _ s.scopes; fixed = fixed-grow w new s.fixed (grows-lasts w new more); built_in = built_in-grow w new s.built_in (grows-lasts w new more); own = λ b. more.still _ (s.own b); flags = λ b. more.still _ (s.flags b); of_none = more.still _ s.of_none; standing = λ d e. more.still _ (a d e); itself = s.itself; apart = s.apart; scopes_apart = s.scopes_apart; known = s.known }
 
 -- an attribute is set, or memory ran out and nothing changed
 module _ {A E : Type 0} (w : Held) (c : ℕ) (x : PyStrInterned) (r : PyObjectRef) (ks : HeldClasses) where
@@ -130,7 +130,7 @@ module _ (w : Held) (meta : PyTypeRef) (k : Class PyStrInterned) where
   pub made-grows : (c : PyTypeRef) → Grows w (class_made c)
   made-grows c =
       let n = length-append w.nodes (record { class = meta; dict = None; members = []; payload = payload.Class c } ∷ []) in
-      grows w (class_made c) refl (omega arith) (omega arith) (λ m f h. h) (omega arith) (keep-push w.nodes (record { class = meta; dict = None; members = []; payload = payload.Class c })) (like-push w.classes k)
+      grows w (class_made c) refl (omega arith) (omega arith) (λ m f h. h) (omega arith) (keep-push w.classes w.nodes (record { class = meta; dict = None; members = []; payload = payload.Class c })) (like-push w.classes k)
 
   pub node-made : (c : PyTypeRef) (r : PyObjectRef) → r.0 ≡ length w.nodes → Holds (class_made c) (IsNode r)
   unfolding Holds
@@ -190,6 +190,7 @@ module _ (w : Held) (meta : PyTypeRef) (k : Class PyStrInterned) where
           built_in = many;
           own = λ b. more.still _ (s.own b);
           flags = λ b. more.still _ (s.flags b);
+          of_none = more.still _ s.of_none;
           standing = stands;
           itself = itself;
           apart = s.apart;

@@ -1,6 +1,9 @@
 -- A function that a class defines, in a world.
 use Rattle.std.proofs.Common.{◌≡◌, ℕ, zero, suc, ◌<◌, List, [], ◌∷◌, length, Option, Some, None, refl, sym, ap, ◌∙◌, subst, arith, get_or, map}
-use Rattle.std.specs.Prelude.{slice_get, slice_set, is_some, option_map}
+use Rattle.std.specs.Prelude.{slice_get, slice_set, is_some, false, option_map}
+use Rattle.class_model.specs.Class.{Classes, class_at}
+use Rattle.class_model.specs.Slot.{is_heap_at}
+use Rattle.py_node.specs.declared.refs.PyStrInterned.{PyStrInterned}
 use Rattle.py_node.specs.declared.refs.PyObjectRef.{PyObjectRef}
 use Rattle.py_node.specs.declared.refs.PyTypeRef.{PyTypeRef}
 use Rattle.py_node.specs.declared.payload.Node.{Node as StoredNode}
@@ -115,12 +118,14 @@ nodes-read t c (m ∷ ns) zero n l e =
 nodes-read t c (m ∷ ns) (suc i) n l e = ap (λ ms. node_of t m ∷ ms) (nodes-read t c ns i n (omega arith) e)
 
 -- another node in its place that tells the same
-pub stays-set : (ns : List StoredNode) (i : ℕ) (n new : StoredNode) → n ≡ get_or ns i n → lasting new.payload ≡ lasting n.payload → (m : ℕ) (x : StoredNode) → slice_get ns m ≡ Some x → (y : StoredNode) × (slice_get (slice_set ns i new) m ≡ Some y) × (lasting y.payload ≡ lasting x.payload)
-stays-set [] i n new e q m x k = cc
-stays-set (z ∷ ns) zero n new e q zero x k = let same : z ≡ x = cc in (new, refl, q ∙ ap (λ (y : StoredNode). lasting y.payload) (e ∙ same))
-stays-set (z ∷ ns) zero n new e q (suc m) x k = (x, k, refl)
-stays-set (z ∷ ns) (suc i) n new e q zero x k = (x, k, refl)
-stays-set (z ∷ ns) (suc i) n new e q (suc m) x k = stays-set ns i n new e q m x k
+pub stays-set : (ks : Classes PyStrInterned) (ns : List StoredNode) (i : ℕ) (n new : StoredNode) → n ≡ get_or ns i n → lasting new.payload ≡ lasting n.payload → (is_heap_at (class_at ks n.class.0) ≡ false → new.class ≡ n.class) → (m : ℕ) (x : StoredNode) → slice_get ns m ≡ Some x → (y : StoredNode) × (slice_get (slice_set ns i new) m ≡ Some y) × (lasting y.payload ≡ lasting x.payload) × (is_heap_at (class_at ks x.class.0) ≡ false → y.class ≡ x.class)
+stays-set ks [] i n new e q of m x k = cc
+stays-set ks (z ∷ ns) zero n new e q of zero x k =
+    let same : n ≡ x = let at : z ≡ x = cc in e ∙ at in
+    (new, refl, q ∙ ap (λ (y : StoredNode). lasting y.payload) same, subst (λ (y : StoredNode). is_heap_at (class_at ks y.class.0) ≡ false → new.class ≡ y.class) same of)
+stays-set ks (z ∷ ns) zero n new e q of (suc m) x k = (x, k, refl, λ h. refl)
+stays-set ks (z ∷ ns) (suc i) n new e q of zero x k = (x, k, refl, λ h. refl)
+stays-set ks (z ∷ ns) (suc i) n new e q of (suc m) x k = stays-set ks ns i n new e q of m x k
 
 -- and stands for no other class
 pub class-set : (ns : List StoredNode) (i : ℕ) (n new : StoredNode) → n ≡ get_or ns i n → class_in new.payload ≡ class_in n.payload → (m d : ℕ) → held_class (slice_set ns i new) (record { 0 = m }) ≡ Some d → held_class ns (record { 0 = m }) ≡ Some d
@@ -137,7 +142,7 @@ module _ (w : Held) (c : PyTypeRef) (r : PyObjectRef) (n new : StoredNode) where
   pub define-grows : n ≡ get_or w.nodes r.0 n → new ≡ defined_node c n → Grows w defined
   define-grows e k =
       let l = set-length w.nodes r.0 new in
-      grows w defined refl (omega arith) (omega arith) (λ m f h. h) (omega arith) (record { stays = stays-set w.nodes r.0 n new e (ap (λ (x : StoredNode). lasting x.payload) k ∙ lasting-stays c n.payload) }) (like-itself w.classes)
+      grows w defined refl (omega arith) (omega arith) (λ m f h. h) (omega arith) (record { stays = stays-set w.classes w.nodes r.0 n new e (ap (λ (x : StoredNode). lasting x.payload) k ∙ lasting-stays c n.payload) (λ h. ap (λ (x : StoredNode). x.class) k) }) (like-itself w.classes)
 
   pub define-sound : r.0 < length w.nodes → n ≡ get_or w.nodes r.0 n → new ≡ defined_node c n → Holds w (IsClass c.0) → Sound w → Sound defined
   define-sound l e k h s =
@@ -146,7 +151,7 @@ module _ (w : Held) (c : PyTypeRef) (r : PyObjectRef) (n new : StoredNode) where
       let here = each-get w of_node w.nodes r.0 n (got w.nodes r.0 n l e) s.nodes in
       let there = subst (λ m. AllHold w (of_node m)) (sym k) (node-holds w c n h here) in
       let same : class_in new.payload ≡ class_in n.payload = ap (λ (x : StoredNode). class_in x.payload) k ∙ ap (λ (l : Lasting). l.class) (lasting-stays c n.payload) in
-      record { forms = go _ s.forms; below = s.below; nodes = go _ (each-set w of_node w.nodes r.0 new s.nodes there); classes = go _ s.classes; vars = go _ s.vars; scopes = go _ s.scopes; fixed = fixed-grow w defined s.fixed (grows-lasts w defined more); built_in = built_in-grow w defined s.built_in (grows-lasts w defined more); own = λ b. more.still _ (s.own b); flags = λ b. more.still _ (s.flags b); standing = λ d e. more.still _ (s.standing d e); itself = λ m d q. s.itself m d (class-set w.nodes r.0 n new e same m d q); apart = s.apart; scopes_apart = s.scopes_apart; known = s.known }
+      record { forms = go _ s.forms; below = s.below; nodes = go _ (each-set w of_node w.nodes r.0 new s.nodes there); classes = go _ s.classes; vars = go _ s.vars; scopes = go _ s.scopes; fixed = fixed-grow w defined s.fixed (grows-lasts w defined more); built_in = built_in-grow w defined s.built_in (grows-lasts w defined more); own = λ b. more.still _ (s.own b); flags = λ b. more.still _ (s.flags b); of_none = more.still _ s.of_none; standing = λ d e. more.still _ (s.standing d e); itself = λ m d q. s.itself m d (class-set w.nodes r.0 n new e same m d q); apart = s.apart; scopes_apart = s.scopes_apart; known = s.known }
 
   pub define-read : (now : Held) → w ≡ now → r.0 < length w.nodes → n ≡ get_or w.nodes r.0 n → new ≡ defined_node c n → (t : Reading) → plain t defined ≡ with_definer (plain t now) c.0 r
   unfolding plain

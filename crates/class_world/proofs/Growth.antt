@@ -1,11 +1,15 @@
 -- Worlds that have grown, and claims that hold still.
 use Rattle.std.proofs.Common.{◌≡◌, ℕ, suc, ◌≤◌, List, [], ◌∷◌, ◌++◌, length, Option, Some, None, refl, sym, ap, ◌∙◌, subst, arith, length-append}
-use Rattle.std.specs.Prelude.{nat_lt, slice_get, is_some, is_none, Bool, true, false, ◌&&◌, option_map, option_and_then}
+use Rattle.std.specs.Prelude.{nat_lt, slice_get, is_some, is_none, Bool, true, false, ◌&&◌, ◌==◌, option_map, option_and_then}
 use Rattle.py_node.specs.declared.built_in.BuiltIn.{BuiltIn}
 use Rattle.py_node.specs.declared.refs.PyStrInterned.{PyStrInterned}
 use Rattle.class_model.specs.Class.{Class, class_at, is_class, is_along, lin}
 use Rattle.class_model.specs.Layout.{is_place, layout, layout_along, member_count}
 use Rattle.class_model.specs.Dict.{says_dict, has_dict}
+use Rattle.class_model.specs.Slot.{is_heap_at}
+use Rattle.py_node.specs.BuiltIns.{heap_type}
+use Rattle.py_node.specs.declared.refs.PyTypeRef.{PyTypeRef}
+use Rattle.std.specs.Int.RustNames.{bit_and}
 use Rattle.class_table.specs.OneBase.{says_so}
 use Rattle.class_model.proofs.Numbers.{at-before}
 use Rattle.std.proofs.lemmas.Bool.{and_parts, ltb-true}
@@ -22,7 +26,7 @@ use Rattle.py_node.specs.declared.payload.Node.{Node}
 use Rattle.py_node.specs.declared.payload.Payload.{Payload}
 use Rattle.py_node.specs.declared.payload.Form.{Form}
 use Rattle.class_world.specs.Held.{Held}
-use Rattle.class_world.specs.Sound.{Claim, IsNode, AreNodes, IsExpression, AreExpressions, IsName, AreNames, IsClass, IsOf, Holding, Standing, CanBeKeys, KeysDiffer, HasForm, HasParams, HasValues, AreMembers, IsOffset, HasFlags, GetsDict, flags_at, StandsThere, IsMember, params_in, held_params, AreFilled, home_of, home_at, key_in, held_key, class_in, held_class, Holds, Lasts, Grows}
+use Rattle.class_world.specs.Sound.{Claim, IsNode, AreNodes, IsExpression, AreExpressions, IsName, AreNames, IsClass, IsOf, Holding, Standing, CanBeKeys, KeysDiffer, HasForm, HasParams, HasValues, AreMembers, IsOffset, HasFlags, GetsDict, OfStatic, class_ref_at, flags_at, StandsThere, IsMember, params_in, held_params, AreFilled, home_of, home_at, key_in, held_key, class_in, held_class, Holds, Lasts, Grows}
 use Rattle.class_world.proofs.Claims.{get-pushed}
 use Rattle.class_world.proofs.Homes.{held_by-push}
 
@@ -40,9 +44,9 @@ pub record Lasting : Type 0 where
 abbrev pub lasting : Payload → Lasting
 lasting p = record { home = home_of p; key = key_in p; class = class_in p; params = params_in p }
 
--- each node tells what it told
-pub record Keep (old new : List Node) : Type 0 where
-  pub stays : (n : ℕ) (x : Node) → slice_get old n ≡ Some x → (y : Node) × (slice_get new n ≡ Some y) × (lasting y.payload ≡ lasting x.payload)
+-- each node tells what it told, and is of the class that it was of where no script made that
+pub record Keep (ks : List (Class PyStrInterned)) (old new : List Node) : Type 0 where
+  pub stays : (n : ℕ) (x : Node) → slice_get old n ≡ Some x → (y : Node) × (slice_get new n ≡ Some y) × (lasting y.payload ≡ lasting x.payload) × (is_heap_at (class_at ks x.class.0) ≡ false → y.class ≡ x.class)
 
 pub record Like (old new : List (Class PyStrInterned)) : Type 0 where
   pub held : (c : ℕ) (b : BuiltIn) → held_by old c ≡ Some b → held_by new c ≡ Some b
@@ -67,6 +71,22 @@ says-dict t c = go (class_at t c)
 pub dict-still : (old new : List (Class PyStrInterned)) → Like old new → (c : ℕ) → is_class old c ≡ true → has_dict new c ≡ has_dict old c
 dict-still old new l c h = says-dict new c ∙ ap says (l.flags c h) ∙ sym (says-dict old c)
 
+-- whether a script made a class is told by its flags
+unfoldable pub scripted : Option ℕ → Bool
+scripted None = false
+scripted (Some n) = bit_and n heap_type == heap_type
+
+heap-says : (t : List (Class PyStrInterned)) (c : ℕ) → is_heap_at (class_at t c) ≡ scripted (flags_at t c)
+unfolding scripted
+heap-says t c = go (class_at t c)
+  where
+    go : (o : Option (Class PyStrInterned)) → is_heap_at o ≡ scripted (option_map (λ (k : Class PyStrInterned). k.flags) o)
+    go None = refl
+    go (Some k) = refl
+
+heap-still : (old new : List (Class PyStrInterned)) → Like old new → (c : ℕ) → is_class old c ≡ true → is_heap_at (class_at new c) ≡ is_heap_at (class_at old c)
+heap-still old new l c h = heap-says new c ∙ ap scripted (l.flags c h) ∙ sym (heap-says old c)
+
 -- a class with flags is there
 flagged : (o : Option (Class PyStrInterned)) (n : ℕ) → option_map (λ (k : Class PyStrInterned). k.flags) o ≡ Some n → is_some o ≡ true
 flagged None n e = cc
@@ -75,8 +95,8 @@ flagged (Some k) n e = refl
 pub like-itself : (ks : List (Class PyStrInterned)) → Like ks ks
 like-itself ks = record { held = λ c b h. h; there = λ c h. h; places = λ c d i h. h; offsets = λ c o h. h; flags = λ c h. refl }
 
-pub keep-itself : (ns : List Node) → Keep ns ns
-keep-itself ns = record { stays = λ n x e. (x, e, refl) }
+pub keep-itself : (ks : List (Class PyStrInterned)) (ns : List Node) → Keep ks ns ns
+keep-itself ks ns = record { stays = λ n x e. (x, e, refl, λ h. refl) }
 
 there-push : (ks : List (Class PyStrInterned)) (k : Class PyStrInterned) (c : ℕ) → is_class ks c ≡ true → is_class (ks ++ k ∷ []) c ≡ true
 there-push ks k c e = ap is_some (at-before ks k c e) ∙ e
@@ -100,30 +120,30 @@ place-push ks k c d i h =
 pub like-push : (ks : List (Class PyStrInterned)) (k : Class PyStrInterned) → Like ks (ks ++ k ∷ [])
 like-push ks k = record { held = held_by-push ks k; there = there-push ks k; places = place-push ks k; offsets = offset-push ks k; flags = λ c h. ap (option_map (λ (k : Class PyStrInterned). k.flags)) (at-before ks k c h) }
 
-pub keep-push : (ns : List Node) (x : Node) → Keep ns (ns ++ x ∷ [])
-keep-push ns x = record { stays = λ n y e. (y, get-pushed ns x n y e, refl) }
+pub keep-push : (ks : List (Class PyStrInterned)) (ns : List Node) (x : Node) → Keep ks ns (ns ++ x ∷ [])
+keep-push ks ns x = record { stays = λ n y e. (y, get-pushed ns x n y e, refl, λ h. refl) }
 
 -- what is read of a node, and follows from what it tells for ever, is read still
-still-read : {B : Type 0} (f : Lasting → Option B) (of : Option Node → Option B) → of None ≡ None → ((x : Node) → of (Some x) ≡ f (lasting x.payload)) → (old new : List Node) → Keep old new → (n : ℕ) (b : B) → of (slice_get old n) ≡ Some b → of (slice_get new n) ≡ Some b
-still-read {B} f of nothing read old new g n b h = go (slice_get old n) refl h
+still-read : {B : Type 0} (f : Lasting → Option B) (of : Option Node → Option B) → of None ≡ None → ((x : Node) → of (Some x) ≡ f (lasting x.payload)) → {ks : List (Class PyStrInterned)} (old new : List Node) → Keep ks old new → (n : ℕ) (b : B) → of (slice_get old n) ≡ Some b → of (slice_get new n) ≡ Some b
+still-read {B} f of nothing read {ks} old new g n b h = go (slice_get old n) refl h
   where
     go : (o : Option Node) → slice_get old n ≡ o → of o ≡ Some b → of (slice_get new n) ≡ Some b
     go None e h = let absent : None ≡ Some b = sym nothing ∙ h in cc absent
     go (Some x) e h = let y = g.stays n x e in ap of y.1 ∙ read y.0 ∙ ap f y.2 ∙ sym (read x) ∙ h
 
-home-still : (old new : List Node) → Keep old new → (n : ℕ) (b : BuiltIn) → home_at old n ≡ Some b → home_at new n ≡ Some b
+home-still : {ks : List (Class PyStrInterned)} (old new : List Node) → Keep ks old new → (n : ℕ) (b : BuiltIn) → home_at old n ≡ Some b → home_at new n ≡ Some b
 home-still = still-read (λ l. Some l.home) (option_map (λ (x : Node). home_of x.payload)) refl (λ x. refl)
 
-key-still : (old new : List Node) → Keep old new → (r : PyObjectRef) (k : Key) → held_key old r ≡ Some k → held_key new r ≡ Some k
+key-still : {ks : List (Class PyStrInterned)} (old new : List Node) → Keep ks old new → (r : PyObjectRef) (k : Key) → held_key old r ≡ Some k → held_key new r ≡ Some k
 key-still old new g r = still-read (λ l. l.key) (option_and_then (λ (x : Node). key_in x.payload)) refl (λ x. refl) old new g r.0
 
-class-still : (old new : List Node) → Keep old new → (r : PyObjectRef) (c : ℕ) → held_class old r ≡ Some c → held_class new r ≡ Some c
+class-still : {ks : List (Class PyStrInterned)} (old new : List Node) → Keep ks old new → (r : PyObjectRef) (c : ℕ) → held_class old r ≡ Some c → held_class new r ≡ Some c
 class-still old new g r = still-read (λ l. l.class) (option_and_then (λ (x : Node). class_in x.payload)) refl (λ x. refl) old new g r.0
 
-params-still : (old new : List Node) → Keep old new → (r : PyObjectRef) (ps : List PyStrInterned) → held_params old r ≡ Some ps → held_params new r ≡ Some ps
+params-still : {ks : List (Class PyStrInterned)} (old new : List Node) → Keep ks old new → (r : PyObjectRef) (ps : List PyStrInterned) → held_params old r ≡ Some ps → held_params new r ≡ Some ps
 params-still old new g r = still-read (λ l. l.params) (option_and_then (λ (x : Node). params_in x.payload)) refl (λ x. refl) old new g r.0
 
-values-still : (old new : List Node) → Keep old new → (r : PyObjectRef) (vars : List (PyStrInterned × PyObjectRef)) → AreFilled vars (held_params old r) → AreFilled vars (held_params new r)
+values-still : {ks : List (Class PyStrInterned)} (old new : List Node) → Keep ks old new → (r : PyObjectRef) (vars : List (PyStrInterned × PyObjectRef)) → AreFilled vars (held_params old r) → AreFilled vars (held_params new r)
 values-still old new g r vars h = go (held_params old r) refl h
   where
     go : (o : Option (List PyStrInterned)) → held_params old r ≡ o → AreFilled vars o → AreFilled vars (held_params new r)
@@ -134,10 +154,10 @@ known-key : (o : Option Key) → is_some o ≡ true → (k : Key) × (o ≡ Some
 known-key None e = cc
 known-key (Some k) e = (k, refl)
 
-key-keep : (old new : List Node) → Keep old new → (r : PyObjectRef) → is_some (held_key old r) ≡ true → is_some (held_key new r) ≡ true
+key-keep : {ks : List (Class PyStrInterned)} (old new : List Node) → Keep ks old new → (r : PyObjectRef) → is_some (held_key old r) ≡ true → is_some (held_key new r) ≡ true
 key-keep old new g r h = let a = known-key (held_key old r) h in ap is_some (key-still old new g r a.0 a.1)
 
-keys-keep : (old new : List Node) → Keep old new → (rs : List PyObjectRef) → AreKeys (held_key old) rs → AreKeys (held_key new) rs
+keys-keep : {ks : List (Class PyStrInterned)} (old new : List Node) → Keep ks old new → (rs : List PyObjectRef) → AreKeys (held_key old) rs → AreKeys (held_key new) rs
 keys-keep old new g rs h = record {
   known = λ i r e. let a = known-key (held_key old r) (h.known i r e) in ap is_some (key-still old new g r a.0 a.1);
   apart = λ i j r s e f q.
@@ -156,7 +176,17 @@ members-still old new l k c [] h = h
 members-still old new l k c (m ∷ ms) h =
     ((k.places c m.0.class.0 m.0.index h.0.0, stands-still (length old.nodes) (length new.nodes) l m.1 h.0.1), members-still old new l k c ms h.1)
 
-grows-at : (old new : Held) → length old.names ≤ length new.names → length old.forms ≤ length new.forms → Stays old.forms new.forms → length old.nodes ≤ length new.nodes → Keep old.nodes new.nodes → Like old.classes new.classes → (c : Claim) → Holds old c → Holds new c
+static-still : (ks : List (Class PyStrInterned)) (old new : List Node) → Keep ks old new → (n c : ℕ) → class_ref_at old n ≡ Some c → is_heap_at (class_at ks c) ≡ false → class_ref_at new n ≡ Some c
+static-still ks old new g n c h heap = go (slice_get old n) refl h
+  where
+    go : (o : Option Node) → slice_get old n ≡ o → option_map (λ (x : Node). x.class.0) o ≡ Some c → class_ref_at new n ≡ Some c
+    go None e h = cc
+    go (Some x) e h =
+        let here : x.class.0 ≡ c = cc in
+        let y = g.stays n x e in
+        ap (option_map (λ (x : Node). x.class.0)) y.1 ∙ ap (λ (k : PyTypeRef). Some k.0) (y.3 (ap (λ c. is_heap_at (class_at ks c)) here ∙ heap)) ∙ h
+
+grows-at : (old new : Held) → length old.names ≤ length new.names → length old.forms ≤ length new.forms → Stays old.forms new.forms → length old.nodes ≤ length new.nodes → Keep old.classes old.nodes new.nodes → Like old.classes new.classes → (c : Claim) → Holds old c → Holds new c
 unfolding Holds
 grows-at old new x e s n p l (IsNode r) h = omega arith
 grows-at old new x e s n p l (AreNodes rs) h = λ i d m. let below = h i d m in omega arith
@@ -176,14 +206,16 @@ grows-at old new x e s n p l (HasValues r vars) h = values-still old.nodes new.n
 grows-at old new x e s n p l (AreMembers c ms) h = members-still old new n l c ms h
 grows-at old new x e s n p l (IsOffset c o) h = l.offsets c o h
 grows-at old new x e s n p l (HasFlags c m) h = l.flags c (flagged (class_at old.classes c) m h) ∙ h
+grows-at old new x e s n p l (OfStatic r c) h =
+    (static-still old.classes old.nodes new.nodes p r.0 c h.0 h.2, l.there c h.1, heap-still old.classes new.classes l c h.1 ∙ h.2)
 grows-at old new x e s n p l (GetsDict o c b) h = (l.there c h.0, h.1 ∙ sym (ap (λ v. is_none o && v) (dict-still old.classes new.classes l c h.0)))
 
 -- where no table is shorter
-lasts : (old new : Held) → length old.names ≤ length new.names → length old.forms ≤ length new.forms → Stays old.forms new.forms → length old.nodes ≤ length new.nodes → Keep old.nodes new.nodes → Like old.classes new.classes → Lasts old new
+lasts : (old new : Held) → length old.names ≤ length new.names → length old.forms ≤ length new.forms → Stays old.forms new.forms → length old.nodes ≤ length new.nodes → Keep old.classes old.nodes new.nodes → Like old.classes new.classes → Lasts old new
 lasts old new x e s n p l = record { still = grows-at old new x e s n p l }
 
 -- and the same bodies run
-pub grows : (old new : Held) → old.scopes ≡ new.scopes → length old.names ≤ length new.names → length old.forms ≤ length new.forms → Stays old.forms new.forms → length old.nodes ≤ length new.nodes → Keep old.nodes new.nodes → Like old.classes new.classes → Grows old new
+pub grows : (old new : Held) → old.scopes ≡ new.scopes → length old.names ≤ length new.names → length old.forms ≤ length new.forms → Stays old.forms new.forms → length old.nodes ≤ length new.nodes → Keep old.classes old.nodes new.nodes → Like old.classes new.classes → Grows old new
 grows old new b x e s n p l = record { still = grows-at old new x e s n p l; bodies = ap length (sym b) }
 
 pub grows-lasts : (old new : Held) → Grows old new → Lasts old new
@@ -204,7 +236,7 @@ same-lasts old new x e n k =
     let a = ap length x in
     let b = ap length e in
     let d = ap length n in
-    lasts old new (omega arith) (omega arith) (λ m f h. subst (λ fs. slice_get fs m ≡ Some f) e h) (omega arith) (subst (λ ns. Keep old.nodes ns) n (keep-itself old.nodes)) (subst (λ ks. Like old.classes ks) k (like-itself old.classes))
+    lasts old new (omega arith) (omega arith) (λ m f h. subst (λ fs. slice_get fs m ≡ Some f) e h) (omega arith) (subst (λ ns. Keep old.classes old.nodes ns) n (keep-itself old.classes old.nodes)) (subst (λ ks. Like old.classes ks) k (like-itself old.classes))
 
 pub grows-seen : (w now new : Held) → w ≡ now → Grows w new → Grows now new
 grows-seen w now new e g = subst (λ w. Grows w new) e g
@@ -213,10 +245,10 @@ pub lasts-seen : (w now new : Held) → w ≡ now → Lasts w new → Lasts now 
 lasts-seen w now new e g = subst (λ w. Lasts w new) e g
 
 pub node-grows : (w : Held) (n : Node) → Grows w (record w { nodes = w.nodes ++ n ∷ [] })
-node-grows w n = let l = length-append w.nodes (n ∷ []) in grows w (record w { nodes = w.nodes ++ n ∷ [] }) refl (omega arith) (omega arith) (λ m f h. h) (omega arith) (keep-push w.nodes n) (like-itself w.classes)
+node-grows w n = let l = length-append w.nodes (n ∷ []) in grows w (record w { nodes = w.nodes ++ n ∷ [] }) refl (omega arith) (omega arith) (λ m f h. h) (omega arith) (keep-push w.classes w.nodes n) (like-itself w.classes)
 
 pub form-grows : (w : Held) (f : Form) → Grows w (record w { forms = w.forms ++ f ∷ [] })
-form-grows w f = let l = length-append w.forms (f ∷ []) in grows w (record w { forms = w.forms ++ f ∷ [] }) refl (omega arith) (omega arith) (λ m g h. get-pushed w.forms f m g h) (omega arith) (keep-itself w.nodes) (like-itself w.classes)
+form-grows w f = let l = length-append w.forms (f ∷ []) in grows w (record w { forms = w.forms ++ f ∷ [] }) refl (omega arith) (omega arith) (λ m g h. get-pushed w.forms f m g h) (omega arith) (keep-itself w.classes w.nodes) (like-itself w.classes)
 
 pub names-grow : (w : Held) (names : List (List ℕ)) → length w.names ≤ length names → Grows w (record w { names = names })
-names-grow w names l = grows w (record w { names = names }) refl l (omega arith) (λ m f h. h) (omega arith) (keep-itself w.nodes) (like-itself w.classes)
+names-grow w names l = grows w (record w { names = names }) refl l (omega arith) (λ m f h. h) (omega arith) (keep-itself w.classes w.nodes) (like-itself w.classes)

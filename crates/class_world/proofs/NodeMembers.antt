@@ -73,6 +73,13 @@ module _ (w now : Held) (v : w ≡ now) (r : PyObjectRef) (n : StoredNode) (at :
     pub kept : lasting new.payload ≡ lasting n.payload
     kept = kept-of o set err
 
+    of-of : (o : Result A E) → OnOk o (new ≡ with_members n (with_value is_same_place n.members p (setter_value value))) → OnErr o (new ≡ n) → new.class ≡ n.class
+    of-of (Ok a) q f = ap (λ (x : StoredNode). x.class) q
+    of-of (Err e) q f = ap (λ (x : StoredNode). x.class) f
+
+    of : new.class ≡ n.class
+    of = of-of o set err
+
     stands : (value : PySetterValue) → AllHold w (of_setter value) → StandsThere (length w.nodes) (setter_value value)
     unfolding Holds
     stands (Assign m) h = h.0
@@ -86,10 +93,10 @@ module _ (w now : Held) (v : w ≡ now) (r : PyObjectRef) (n : StoredNode) (at :
 
     pub member-sound : n ≡ get_or w.nodes r.0 n → is_place w.classes n.class.0 p.class.0 p.index ≡ true → AllHold w (of_setter value) → Sound w → Sound (record w { nodes = slice_set w.nodes r.0 new })
     member-sound is i h s =
-        change-sound w r n new is kept (holds-of o set err (each-get w of_node w.nodes r.0 n at s.nodes) i h) s
+        change-sound w r n new is kept (λ h. of) (holds-of o set err (each-get w of_node w.nodes r.0 n at s.nodes) i h) s
 
     pub member-grows : n ≡ get_or w.nodes r.0 n → Grows w (record w { nodes = slice_set w.nodes r.0 new })
-    member-grows is = change-grows w r n new is kept
+    member-grows is = change-grows w r n new is kept (λ h. of)
 
     pub member-set : r.0 < length w.nodes → n ≡ get_or w.nodes r.0 n → (c : ℕ) (i : ℕ) → place_at w.classes c i ≡ Some (p.class.0, p.index) → OnOk o ((t : Reading) → plain t (record w { nodes = slice_set w.nodes r.0 new }) ≡ with_value_at_place (plain t now) r (place_at (plain t now).classes c i) (setter_value value))
     member-set l is c i e = go o set

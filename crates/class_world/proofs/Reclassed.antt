@@ -88,6 +88,14 @@ module _ {K : Type 0} (t : Classes K) (ok : AreSound t) (c d : ℕ) (there : is_
   pub same-held : held_by t c ≡ held_by t d
   same-held = held_by-layout t t c d same-layout
 
+-- a script made the class of before
+pub was-heap : {K : Type 0} (t : Classes K) (c d : ℕ) → refused_class t c d ≡ None → is_heap_at (class_at t c) ≡ true
+was-heap t c d passed = go (is_heap_at (class_at t c)) (is_heap_at (class_at t d)) passed
+  where
+    go : (x y : Bool) → option_or (unless (x && y) ImmutableType) (unless (is_same (solid t c) (solid t d) && alike (has_dict t c) (has_dict t d)) LayoutDiffers) ≡ None → x ≡ true
+    go true y e = refl
+    go false y e = cc
+
 -- the places of one class are those of the other one
 members-moved : (w : Held) (c d : ℕ) → layout w.classes c ≡ layout w.classes d → (ms : List (MemberPlace × Option PyObjectRef)) → AllByRecursion (IsMember w c) ms → AllByRecursion (IsMember w d) ms
 members-moved w c d e [] h = h

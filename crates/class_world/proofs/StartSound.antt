@@ -14,11 +14,12 @@ use Rattle.py_node.specs.Known.{known_texts}
 use Rattle.class_model.specs.Class.{Class, class_at, is_class, has_flag, renamed}
 use Rattle.class_model.specs.Start.{built_class}
 use Rattle.plain_machine.specs.Start.{class_node as plain_class_node, fixed_nodes as plain_fixed_nodes, bare}
-use Rattle.plain_machine.specs.Known.{the_dict}
+use Rattle.plain_machine.specs.Known.{the_dict, the_none_type}
+use Rattle.plain_machine.specs.Row.{none}
 use Rattle.class_world.specs.Held.{Held}
 use Rattle.class_world.specs.StartNodes.{class_node, fixed_nodes, start_nodes}
 use Rattle.class_world.specs.Reading.{Reading, node_of, spelled, plain}
-use Rattle.class_world.specs.Sound.{Standing, HasFlags, GetsDict, held_class, Holds, AllHold, Sound, of_node, of_dict, of_class, of_each}
+use Rattle.class_world.specs.Sound.{Standing, HasFlags, OfStatic, GetsDict, held_class, Holds, AllHold, Sound, of_node, of_dict, of_class, of_each}
 use Rattle.class_world.proofs.Claims.{each-append, all-append}
 use Rattle.class_table.proofs.StartParts.{split}
 
@@ -88,6 +89,11 @@ started-own built_in.StaticMethod = refl
 started-own built_in.Super = refl
 started-own built_in.Iterator = refl
 started-own built_in.Slice = refl
+
+-- None is of its class, by computing
+started-none : Holds started (OfStatic none the_none_type)
+unfolding all_built_ins place_of flags_of built_in_flags Holds
+started-none = (refl, refl, refl)
 
 -- the flags of each class, by computing
 started-flags : (b : BuiltIn) → Holds started (HasFlags (place_of b) (flags_of b))
@@ -214,6 +220,7 @@ started-sound = record {
   built_in = started-there;
   own = started-own;
   flags = started-flags;
+  of_none = started-none;
   apart = tt;
   scopes_apart = λ i d l. absurd (omega arith);
   standing = λ c e. places-stand 0 all_built_ins refl c e;

@@ -11,3 +11,4 @@ pub mod StartNodes
 pub mod Added
 pub mod NewHeap
 pub mod Keyed
+pub mod Names

@@ -18,7 +18,9 @@ use Rattle.py_node.specs.BuiltIns.{place_of, flags_of, built_in_count, fixed_nod
 use Rattle.class_model.specs.Class.{Class, Classes, class_at, is_class, has_flag}
 use Rattle.class_model.specs.Dict.{has_dict}
 use Rattle.class_model.specs.Layout.{is_place}
-use Rattle.plain_machine.specs.Known.{the_dict}
+use Rattle.class_model.specs.Slot.{is_heap_at}
+use Rattle.plain_machine.specs.Known.{the_dict, the_none_type}
+use Rattle.plain_machine.specs.Row.{none}
 use Rattle.plain_machine.specs.Sound.{holds_as, held_by, is_offset, read_offset, set_offset, Key, NumberKey, TextKey, AreKeys}
 use Rattle.class_world.specs.declared.scope.Scope.{Scope}
 use Rattle.class_world.specs.Held.{Held}
@@ -55,6 +57,8 @@ pub data Claim : Type 0 where
   IsOffset : ℕ → Option ℕ → Claim
   -- the class has these flags
   HasFlags : ℕ → ℕ → Claim
+  -- the object is of this class, and no script made the class
+  OfStatic : PyObjectRef → ℕ → Claim
   -- whether an object of the class has a dict: it has one exactly where it stands for no class and its own class gives it one
   GetsDict : Option ℕ → ℕ → Bool → Claim
 
@@ -153,6 +157,10 @@ IsMember w c m = (is_place w.classes c m.0.class.0 m.0.index ≡ true) × Stands
 abbrev pub flags_at : {K : Type 0} → Classes K → ℕ → Option ℕ
 flags_at t c = option_map (λ k. k.flags) (class_at t c)
 
+-- the class of a node
+abbrev pub class_ref_at : List Node → ℕ → Option ℕ
+class_ref_at ns n = option_map (λ x. x.class.0) (slice_get ns n)
+
 unfoldable pub Holds : Held → Claim → Type 0
 Holds w (IsNode r) = r.0 < length w.nodes
 Holds w (AreNodes rs) = All (λ r. r.0 < length w.nodes) rs
@@ -172,6 +180,7 @@ Holds w (HasValues r vars) = AreFilled vars (held_params w.nodes r)
 Holds w (AreMembers c ms) = AllByRecursion (IsMember w c) ms
 Holds w (IsOffset c o) = is_offset w.classes c o ≡ true
 Holds w (HasFlags c n) = flags_at w.classes c ≡ Some n
+Holds w (OfStatic r c) = (class_ref_at w.nodes r.0 ≡ Some c) × (is_class w.classes c ≡ true) × (is_heap_at (class_at w.classes c) ≡ false)
 Holds w (GetsDict o c b) = (is_class w.classes c ≡ true) × (b ≡ (is_none o && has_dict w.classes c))
 
 abbrev pub AllHold : Held → List Claim → Type 0
@@ -299,7 +308,8 @@ pub record Sound (w : Held) : Type 0 where
   -- the fixed nodes and the built-in classes are there
   pub fixed : fixed_node_count ≤ length w.nodes
   pub built_in : (c : ℕ) → c < built_in_count → is_class w.classes c ≡ true
-  -- the objects of each hold what they should, and each has the flags of its row
+  -- the objects of each hold what they should, each has the flags of its row, and None is of its class
   pub own : (b : BuiltIn) → Holds w (IsOf (place_of b) (holds_as b))
   pub flags : (b : BuiltIn) → Holds w (HasFlags (place_of b) (flags_of b))
+  pub of_none : Holds w (OfStatic none the_none_type)
   pub known : (n : ℕ) (x : List ℕ) → slice_get known_texts n ≡ Some x → slice_get w.names n ≡ Some x

@@ -1,6 +1,8 @@
 //! Another name and other bases for a class of a world.
 
-ghost use Rattle.std.specs.Prelude.{◌≡◌, ◌≤◌, OnOk, OnErr};
+ghost use Rattle.std.specs.Prelude.{◌≡◌, ◌≤◌, true, OnOk, OnErr};
+ghost use Rattle.class_model.specs.Class.{class_at as class_numbered};
+ghost use Rattle.class_model.specs.Slot.{is_heap_at};
 ghost use Rattle.class_table.specs.Keys.{numbers};
 ghost use Rattle.class_table.specs.Refused.{WithMemory};
 ghost use Rattle.class_table.specs.Rebase.{refused_rebase, told, IsToldFirst};
@@ -15,9 +17,10 @@ use std::sync::ledger::Ledger;
 
 #[tactic(auto, unfolding(crate::specs::Reading::plain))]
 impl World {
-    /// Gives a class another name. Where memory runs out, the world stays as it was.
+    /// Gives a class that a script made another name. Where memory runs out, the world stays as it was.
     pub fn set_name(&mut self, class: PyTypeRef, name: &str) -> Result<(), OutOfMemory>
-        requires { Holds self.old (IsClass class.0) }
+        requires class { Holds self.old (IsClass class.0) }
+        requires heap { is_heap_at (class_numbered self.old.classes class.0) ≡ true }
         ensures named { OnOk result ((t : Reading) → plain t self.new ≡
             apply (plain t self.old) (SetName class.0 name.now)) }
         ensures err { OnErr result (self.new ≡ self.old) }

@@ -1,7 +1,8 @@
 //! Names: their numbers and their texts.
 
-ghost use Rattle.std.specs.Prelude.{◌≡◌, IfOk, OnErr, string_bytes};
+ghost use Rattle.std.specs.Prelude.{◌≡◌, IfOk, OnOk, OnErr, string_bytes};
 ghost use Rattle.py_node.specs.Known.{known_text};
+ghost use Rattle.class_world.specs.Names.{AddsName};
 ghost use Rattle.class_world.specs.Reading.{Reading, Reads, plain};
 ghost use Rattle.class_world.specs.Sound.{IsName, Holds, Grows};
 
@@ -29,6 +30,7 @@ impl World {
     /// The name of a text, which may be new.
     pub fn intern(&mut self, text: &str) -> Result<PyStrInterned, OutOfMemory>
         ensures spelled { IfOk result (λ x. (t : Reading) → Reads t self.new → t.text x.0 ≡ text.now) }
+        ensures adds { OnOk result (AddsName self.old self.new text.now) }
         ensures err { OnErr result (self.new ≡ self.old) }
         ensures same { (t : Reading) → plain t self.new ≡ plain t self.old }
         ensures reads { (t : Reading) → Reads t self.new → Reads t self.old }

@@ -5,6 +5,7 @@ ghost use Rattle.class_model.specs.BuiltIn.{natives_of};
 ghost use Rattle.class_model.specs.Class.{class_at as class_numbered, found, found_past, own_of, is_sub, has_flag};
 ghost use Rattle.class_model.specs.Collect.{all_attributes};
 ghost use Rattle.class_model.specs.Layout.{place_count};
+ghost use Rattle.class_model.specs.Name.{short_name};
 ghost use Rattle.class_model.specs.Slot.{entry, slot as slot_read, candidates_of, goes_first, is_heap_at};
 ghost use Rattle.class_table.specs.Turn.{list_of};
 ghost use Rattle.plain_machine.specs.World.{ref, class_at, text_keys, slot_at, candidates_at, goes_first_at, is_text};
@@ -20,8 +21,17 @@ use py_node::{
 
 #[tactic(auto, unfolding(crate::specs::Reading::plain))]
 impl World {
-    /// The name of a class.
+    /// What a class is called: all of its name where a script made it, and else the part after its last dot.
     pub fn class_name(&self, class: PyTypeRef) -> &str
+        requires { Holds self.now (IsClass class.0) }
+        ensures { (t : Reading) → option_map short_name (class_numbered (plain t self.now).classes class.0) ≡
+            Some result.now }
+    {
+        self.classes.name(class)
+    }
+
+    /// The name of a class, with the parts before it.
+    pub fn slot_name(&self, class: PyTypeRef) -> &str
         requires { Holds self.now (IsClass class.0) }
         ensures { (t : Reading) → option_map (λ k. k.name) (class_numbered (plain t self.now).classes class.0) ≡
             Some result.now }
@@ -158,7 +168,8 @@ impl World {
     /// Whether a class was made by a script.
     pub fn class_is_heap(&self, class: PyTypeRef) -> bool
         requires { Holds self.now (IsClass class.0) }
-        ensures { (t : Reading) → is_heap_at (class_numbered (plain t self.now).classes class.0) ≡ result }
+        ensures reads { (t : Reading) → is_heap_at (class_numbered (plain t self.now).classes class.0) ≡ result }
+        ensures held { is_heap_at (class_numbered self.now.classes class.0) ≡ result }
     {
         self.classes.is_heap(class)
     }

@@ -1,12 +1,18 @@
 //! The world, and how it begins.
 
 ghost use Rattle.std.specs.Prelude.{◌≡◌, ◌<◌, ℕ, List, map, Some, IfOk, slice_get};
+ghost use Rattle.py_node.specs.declared.built_in.BuiltIn.{BuiltIn};
+ghost use Rattle.py_node.specs.BuiltIns.{place_of, flags_of};
 ghost use Rattle.py_node.specs.Replies.{started_of};
 ghost use Rattle.py_node.specs.Known.{known_texts};
+ghost use Rattle.plain_machine.specs.Known.{the_none_type};
+ghost use Rattle.plain_machine.specs.Row.{none};
+ghost use Rattle.plain_machine.specs.World.{class_at};
 ghost use Rattle.plain_machine.specs.Start.{bare, start};
 ghost use Rattle.plain_machine.specs.Sound.{IsSound};
 ghost use Rattle.class_world.specs.Held.{Held};
 ghost use Rattle.class_world.specs.Reading.{Reading, Reads, plain, IsReadable};
+ghost use Rattle.class_world.specs.Sound.{flags_at};
 
 use crate::attributes_of_built_ins::add_own_attrs;
 use crate::scope::Scope;
@@ -128,5 +134,14 @@ impl World {
         ensures { (t : Reading) → IsSound (plain t self.now) }
     {
         self.classes.sound();
+    }
+
+    /// Each built-in class has the flags of its row, and None is of its own class.
+    pub fn keeps_built_ins(&self)
+        ensures flags { (t : Reading) (b : BuiltIn) →
+            flags_at (plain t self.now).classes (place_of b) ≡ Some (flags_of b) }
+        ensures of_none { (t : Reading) → class_at (plain t self.now) none ≡ Some the_none_type }
+    {
+        let _nodes = &self.nodes;
     }
 }

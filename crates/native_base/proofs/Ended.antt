@@ -7,7 +7,7 @@ use Rattle.py_node.specs.declared.task.Step.TheVariants.{End}
 use Rattle.plain_machine.specs.Plain.{PlainWorld, Said, Saying}
 use Rattle.plain_machine.specs.Rows.{Pending}
 use Rattle.class_world.specs.declared.world.World.{World}
-use Rattle.class_world.specs.Reading.{Reading, plain}
+use Rattle.class_world.specs.Reading.{Reading}
 use Rattle.class_world.specs.Rows.{EndsAs, Follows, Steps}
 
 pub ends-follow : {J K : Type 0} (say : Saying J) (stands : Reading → K → Pending J) (p : Reading → Pending J) (said : Reading → PlainWorld → Said) (old new : World) (r : Result Answer Fault) → EndsAs said old new r → Follows say stands p said old new (End r)

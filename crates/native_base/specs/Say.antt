@@ -6,7 +6,7 @@ use Rattle.py_node.specs.declared.raised.Raised.{Raised as Fault}
 use Rattle.py_node.specs.declared.raised.Cause.TheVariants.{ArgCount, SelfType, IntRange, TooLong}
 use Rattle.py_node.specs.BuiltIns.{place_of}
 use Rattle.py_node.specs.Tree.{Text}
-use Rattle.plain_machine.specs.Plain.{Datum, ANumber, AText, AnIterator, PlainWorld, Bindings, AsNumber, Said, Ends}
+use Rattle.plain_machine.specs.Plain.{Datum, ANumber, AText, ATuple, AList, ADict, AnIterator, PlainWorld, Bindings, AsNumber, Said, Ends}
 use Rattle.plain_machine.specs.World.{datum_at, number_of, with_node, next_node}
 use Rattle.plain_machine.specs.Known.{the_int, the_str}
 use Rattle.plain_machine.specs.Row.{value, not_implemented, fits, most_items, fault}
@@ -23,6 +23,18 @@ in_length x = cond (nat_le (length x) most_items) (Ok x) (fault TooLong)
 -- ends with a new object of a class
 abbrev pub object_made : PlainWorld → ℕ → Datum → Said
 object_made w c d = Ends (with_node w c d) (value (next_node w c))
+
+-- how many bytes or items a text or a container has
+abbrev pub size_of : Datum → ℕ
+size_of (AText x) = length x
+size_of (ATuple rs) = length rs
+size_of (AList rs) = length rs
+size_of (ADict es) = length es
+size_of d = 0
+
+-- ends with such an object, which has no more than the limit
+abbrev pub sized_made : PlainWorld → ℕ → Datum → Said
+sized_made w c d = cond (nat_le (size_of d) most_items) (object_made w c d) (Ends w (fault TooLong))
 
 -- ends with a new whole number, or with a fault
 abbrev pub int_made : PlainWorld → Result ℤ Fault → Said

@@ -3,13 +3,16 @@
 ghost use Rattle.std.specs.Prelude.{◌≡◌, Ok, None, IfOk, string_bytes};
 ghost use Rattle.py_node.specs.BuiltIns.{place_of};
 ghost use Rattle.plain_machine.specs.Sound.{holds_as};
-ghost use Rattle.class_world.specs.Reading.{datum};
+ghost use Rattle.class_world.specs.Reading.{Reading, datum};
 ghost use Rattle.class_world.specs.Sound.{AllHold, Holds, IsNode, class_in, home_of, of_payload};
 ghost use Rattle.class_world.specs.Rows.{EndsAs, LeavesEnd};
-ghost use Rattle.native_base.specs.Say.{int_made, iterator_made, text_made, object_made};
+ghost use Rattle.native_base.specs.Say.{int_made, iterator_made, text_made, object_made, size_of, sized_made};
 
 use class_world::World;
-use py_node::{Answer, BuiltIn, OutOfMemory, Payload, PyObjectRef, Raised, SequenceIterator};
+use class_world::limits::is_within_limit;
+use py_node::{
+    Answer, BuiltIn, Cause, OutOfMemory, Payload, PyObjectRef, Raised, SequenceIterator,
+};
 
 /// Ends with a new object of a built-in class.
 pub fn new_object(
@@ -27,6 +30,39 @@ pub fn new_object(
     let class = world.built_in(class);
     let node = world.make_node(class, payload)?;
     Ok(Ok(Answer::Value(node)))
+}
+
+/// Ends with a new text, tuple, list or dict, where it has no more bytes or items than there may be.
+pub fn new_sized(
+    world: &mut World,
+    class: BuiltIn,
+    payload: Payload,
+) -> Result<Result<Answer, Raised>, OutOfMemory>
+    requires of { holds_as class ≡ home_of payload }
+    requires holds { AllHold world.old (of_payload payload) }
+    requires other { class_in payload ≡ None }
+    ensures ends { IfOk result (λ r.
+        EndsAs (λ t u. sized_made u (place_of class) (datum t payload)) world.old world.new r) }
+    ensures safe { LeavesEnd world.old world.new result }
+{
+    if is_within_limit(size_of(&payload)) {
+        new_object(world, class, payload)
+    } else {
+        Ok(Err(Raised::new(Cause::TooLong)))
+    }
+}
+
+// How many bytes or items a text or a container has.
+fn size_of(payload: &Payload) -> usize
+    ensures { (t : Reading) → result ≡ size_of (datum t payload.now) }
+{
+    match payload {
+        Payload::Text(text) => text.len(),
+        Payload::Tuple(items) => items.len(),
+        Payload::List(items) => items.len(),
+        Payload::Dict(entries) => entries.len(),
+        _ => 0,
+    }
 }
 
 /// Ends with a new whole number, or with a fault.

@@ -31,7 +31,7 @@ use Rattle.native_calls.specs.declared.way.Way.{Way}
 use Rattle.native_calls.specs.declared.way.Way.TheVariants.{Binds, Sets, Deletes, Wraps, Makes, Calls, Looks, Starts, Reads, Marked, Marks}
 use Rattle.native_calls.specs.Parts.{mark_by_name, or_not_abstract, part_of_wrapped, reads_wrapped, with_get}
 use Rattle.native_objects.specs.Makers.{with_heir}
-use Rattle.proto_call.specs.Say.{call_native}
+use Rattle.native_base.specs.Called.{call_native}
 use Rattle.proto_descr.specs.Say.{class_of_option, function_get, native_get, getset_get, getset_set, class_for, class_method_get, class_method_by, static_method_get, start_with}
 use Rattle.proto_descr.specs.Members.{member_get, member_set}
 use Rattle.proto_descr.specs.Properties.{property_get, property_set}

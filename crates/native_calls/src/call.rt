@@ -10,7 +10,7 @@ ghost use Rattle.native_calls.specs.Say.{call_by_name, called_task, is_function}
 
 use class_world::World;
 use class_world::args::copy_args;
-use proto_call::native_call;
+use native_base::called::native_call;
 use py_node::task::{Args, Keywords};
 use py_node::{CallableNative, Cause, NativeEntry, OutOfMemory, Payload, PyObjectRef, Step, Task};
 

@@ -6,7 +6,7 @@ use Rattle.std.specs.List.{position_from}
 use Rattle.py_node.specs.declared.refs.PyObjectRef.{PyObjectRef}
 use Rattle.py_node.specs.declared.refs.PyStrInterned.{PyStrInterned}
 use Rattle.py_node.specs.declared.raised.Cause.TheVariants.{TooLong}
-use Rattle.plain_machine.specs.Dicts.{Entries, with_value_in}
+use Rattle.plain_machine.specs.Dicts.{Entries, has_place, with_value_in}
 use Rattle.plain_machine.specs.Known.{the_tuple}
 use Rattle.plain_machine.specs.Plain.{ATuple, PlainWorld, Said, Ends}
 use Rattle.plain_machine.specs.Row.{fault}
@@ -16,7 +16,7 @@ use Rattle.class_world.specs.Reading.{Reading, bindings}
 use Rattle.class_world.specs.Sound.{IsName, IsNode, Holds, AllHold, of_binding, of_each}
 use Rattle.class_world.proofs.Claims.{each-get}
 use Rattle.class_world.proofs.DictEntries.{get-below}
-use Rattle.native_containers.specs.Say.{ends_none, has_place, list_made, names_set, pairs_made}
+use Rattle.native_containers.specs.Say.{ends_none, list_made, names_set, pairs_made}
 
 next : (i : ℕ) → suc i ≡ i + 1
 next i = omega arith

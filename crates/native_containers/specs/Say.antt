@@ -1,5 +1,5 @@
 -- What the natives of tuples, lists, dicts and iterators say that ask no task.
-use Rattle.std.specs.Prelude.{pos, Bool, cond, ◌||◌, nat_le, nat_lt, is_some, length, map, fold, List, [], ◌∷◌, ◌++◌, Option, Some, None, Ok}
+use Rattle.std.specs.Prelude.{pos, Bool, cond, nat_le, is_some, length, map, fold, List, [], ◌∷◌, ◌++◌, Option, Some, None, Ok}
 use Rattle.py_node.specs.declared.refs.PyObjectRef.{PyObjectRef}
 use Rattle.py_node.specs.declared.raised.Cause.TheVariants.{ArgCount, ConcatType, MissingKey, TooLong}
 use Rattle.py_node.specs.declared.entry.TupleNative.{TupleNative}
@@ -12,7 +12,7 @@ use Rattle.py_node.specs.declared.entry.IteratorNative.{IteratorNative}
 use Rattle.py_node.specs.declared.entry.IteratorNative.TheVariants as iterator
 use Rattle.py_node.specs.Attributes.{value_of}
 use Rattle.py_node.specs.Tree.{Text}
-use Rattle.plain_machine.specs.Dicts.{Entries, is_like, value_in, with_entry, with_entries, with_value_in, without_value_for}
+use Rattle.plain_machine.specs.Dicts.{Entries, has_place, is_like, with_entry, with_entries, with_value_in, without_value_for}
 use Rattle.plain_machine.specs.Known.{the_tuple, the_list}
 use Rattle.plain_machine.specs.Objects.{with_datum}
 use Rattle.plain_machine.specs.Plain.{ATuple, AList, PlainWorld, Bindings, Ended, Said, Ends}
@@ -108,10 +108,6 @@ pairs_made w rs (e ∷ es) =
 abbrev pub dict_updated : PlainWorld → PyObjectRef → PyObjectRef → (PlainWorld → Said) → Said
 dict_updated w d o go =
     with_kind kind.Dict w o (dict_changed w d (fold (with_entry w) (entries_at w d) (entries_at w o)) go)
-
--- whether a dict has a key, or room for it
-abbrev pub has_place : PlainWorld → PyObjectRef → Text → Bool
-has_place w d x = is_some (value_in w x d) || nat_lt (length (entries_at w d)) most_items
 
 -- each keyword is set in a dict, one after another. One that is no key there gets a new text
 abbrev pub names_set : PlainWorld → PyObjectRef → Bindings → Said

@@ -7,7 +7,7 @@ ghost use Rattle.class_world.specs.Claims.{of_args};
 ghost use Rattle.class_world.specs.Reading.{Reading, Reads, bindings, plain};
 ghost use Rattle.class_world.specs.Sound.{AllHold, Grows, Holding, Holds, IsName, IsNode, of_binding, of_each};
 ghost use Rattle.class_world.specs.Rows.{EndsAs, LeavesEnd};
-ghost use Rattle.native_containers.specs.Say.{dict_filled, dict_updated, has_place, names_set};
+ghost use Rattle.native_containers.specs.Say.{dict_filled, dict_updated, names_set};
 ghost use Rattle.native_containers.specs.Take.{with_own};
 ghost use Rattle.native_containers.specs.declared.take.Kind.TheVariants as kind;
 
@@ -15,7 +15,7 @@ use crate::entries::with_entries;
 use crate::made::{change_dict, ends_none};
 use crate::take::{Kind, entries, kind_refusal, own};
 use class_world::World;
-use class_world::limits::MOST_ITEMS;
+use class_world::limits::has_place;
 use py_node::{Answer, Cause, OutOfMemory, PyObjectRef, PyStrInterned, Raised};
 
 /// Sets the entries of another dict, if there is one, and then keywords, in a dict.
@@ -102,13 +102,4 @@ fn set_names(
         world.set_value_in(dict, keyword.0, keyword.1)?;
     }
     Ok(ends_none(world))
-}
-
-// Whether a dict has a name as a key, or room for it.
-fn has_place(world: &World, dict: PyObjectRef, name: PyStrInterned) -> bool
-    requires dict { Holds world.now (IsNode dict) }
-    requires name { Holds world.now (IsName name) }
-    ensures { (t : Reading) → Reads t world.now → has_place (plain t world.now) dict (t.text name.0) ≡ result }
-{
-    world.value_in(dict, name).is_some() || entries(world, dict).len() < MOST_ITEMS
 }

@@ -12,7 +12,7 @@ use Rattle.plain_machine.specs.World.{is_text, with_node, next_node, with_own_at
 use Rattle.plain_machine.specs.Known.{the_str, the_list, the_dict}
 use Rattle.plain_machine.specs.Dicts.{Entries}
 use Rattle.plain_machine.specs.Row.{value, fault}
-use Rattle.native_base.specs.Say.{object_made}
+use Rattle.native_base.specs.Say.{sized_made}
 use Rattle.native_objects.specs.Takes.{with_lone_class}
 
 -- a new text for each name, in order, with its value
@@ -21,10 +21,10 @@ keyed w es [] = (w, es)
 keyed w es (b ∷ bs) = keyed (with_node w the_str (AText b.0)) (es ++ (next_node w the_str, b.1) ∷ []) bs
 
 abbrev pub dict_made : PlainWorld × Entries → Said
-dict_made s = object_made s.0 the_dict (ADict s.1)
+dict_made s = sized_made s.0 the_dict (ADict s.1)
 
 abbrev pub keys_made : PlainWorld × Entries → Said
-keys_made s = object_made s.0 the_list (AList (map (λ e. e.0) s.1))
+keys_made s = sized_made s.0 the_list (AList (map (λ e. e.0) s.1))
 
 -- the own attributes of a class, as a new dict
 abbrev pub class_dict : PlainWorld → ℕ → Said

@@ -10,17 +10,18 @@ use Rattle.py_node.specs.declared.entry.Detail.TheVariants as detail
 use Rattle.py_node.specs.Tree.{Text}
 use Rattle.plain_machine.specs.Plain.{Datum, AFunction, AMethod, ANativeFunction, ABuiltinMethod, AMethodDescriptor, AGetSet, AClassMethod, AStaticMethod, AMember, AProperty, ASuper, ASlice, PlainWorld, Bindings, Said, Ends}
 use Rattle.plain_machine.specs.World.{ref}
-use Rattle.plain_machine.specs.ClassText.{name_at}
+use Rattle.plain_machine.specs.ClassText.{name_at, whole_name_at}
 use Rattle.plain_machine.specs.Row.{value, none, elsewhere}
 use Rattle.plain_machine.specs.Takes.{with_one}
 use Rattle.native_base.specs.Say.{in_length, text_made}
 use Rattle.signatures.specs.Signature.{signature_of}
 use Rattle.native_objects.specs.Takes.{with_own}
 
--- a part of what an object holds: a name, what the objects of a class have under a name, a class, an object that may be absent, the signature that a text for readers gives for a name, or what is told by another task
+-- a part of what an object holds: a name, what the objects of a class have under a name, told with what the class is called or with its whole name, a class, an object that may be absent, the signature that a text for readers gives for a name, or what is told by another task
 pub data Part : Type 0 where
   NamePart : Text → Part
   DottedPart : ℕ → Text → Part
+  WholePart : ℕ → Text → Part
   ClassPart : ℕ → Part
   ObjectPart : Option PyObjectRef → Part
   SignaturePart : Text → Text → Part
@@ -86,6 +87,7 @@ method_descriptor_part d (Some (AMethodDescriptor c x n flags doc)) = described_
 method_descriptor_part d _ = None
 
 abbrev pub getset_part : Detail → Option Datum → Option Part
+getset_part detail.Qualname (Some (AGetSet c x get set)) = Some (WholePart c x)
 getset_part d (Some (AGetSet c x get set)) = in_class_part d c x
 getset_part d _ = None
 
@@ -178,6 +180,9 @@ or_none (Some r) = r
 abbrev pub dotted_text : PlainWorld → ℕ → Text → Text
 dotted_text w c x = name_at w.classes c ++ codes "." ++ x
 
+abbrev pub whole_text : PlainWorld → ℕ → Text → Text
+whole_text w c x = whole_name_at w.classes c ++ codes "." ++ x
+
 -- a signature, or else None
 abbrev pub signature_given : PlainWorld → Option Text → Said
 signature_given w None = Ends w (value none)
@@ -187,6 +192,7 @@ signature_given w (Some x) = text_made w (in_length x)
 abbrev pub part_given : PlainWorld → Part → Said
 part_given w (NamePart x) = text_made w (in_length x)
 part_given w (DottedPart c x) = text_made w (in_length (dotted_text w c x))
+part_given w (WholePart c x) = text_made w (in_length (whole_text w c x))
 part_given w (ClassPart c) = Ends w (value (ref c))
 part_given w (ObjectPart o) = Ends w (value (or_none o))
 part_given w (SignaturePart x doc) = signature_given w (signature_of x doc)

@@ -18,7 +18,7 @@ use Rattle.plain_machine.specs.Dicts.{dict_of}
 use Rattle.plain_machine.specs.Objects.{class_number, type_object}
 use Rattle.plain_machine.specs.Row.{value, none, fault}
 use Rattle.plain_machine.specs.Takes.{with_one}
-use Rattle.native_base.specs.Say.{in_length, int_made, object_made, text_made}
+use Rattle.native_base.specs.Say.{in_length, int_made, text_made, sized_made}
 use Rattle.native_objects.specs.Attributes.{annotations, class_dict}
 use Rattle.native_objects.specs.Details.{or_none}
 use Rattle.native_objects.specs.Takes.{with_lone_class}
@@ -32,7 +32,7 @@ given_or w None x = text_made w (in_length x)
 
 -- a new tuple of classes
 abbrev pub tuple_made : PlainWorld → Option (List ℕ) → Said
-tuple_made w cs = object_made w the_tuple (ATuple (map ref (or_nothing cs)))
+tuple_made w cs = sized_made w the_tuple (ATuple (map ref (or_nothing cs)))
 
 abbrev pub or_zero : Option ℕ → ℕ
 or_zero None = 0

@@ -1,5 +1,5 @@
 -- What classes are called, and the texts of objects that name a class.
-use Rattle.std.specs.Prelude.{ℕ, Bool, true, false, cond, eqb, ◌||◌, [], ◌∷◌, ◌++◌, codes, Option, Some, None, Result, Ok}
+use Rattle.std.specs.Prelude.{ℕ, Bool, true, false, cond, eqb, ◌||◌, [], ◌∷◌, ◌++◌, codes, Option, Some, None, Result}
 use Rattle.std.specs.Fmt.{digits}
 use Rattle.py_node.specs.declared.refs.PyObjectRef.{PyObjectRef}
 use Rattle.py_node.specs.declared.raised.Raised.{Raised as Fault}

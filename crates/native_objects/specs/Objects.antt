@@ -14,7 +14,7 @@ use Rattle.plain_machine.specs.Known.{the_list, the_dict}
 use Rattle.plain_machine.specs.Objects.{class_number, is_instance}
 use Rattle.plain_machine.specs.Row.{value, truth, not_implemented, fault, elsewhere}
 use Rattle.plain_machine.specs.Takes.{with_one, with_two}
-use Rattle.native_base.specs.Say.{object_made, number_told, text_made}
+use Rattle.native_base.specs.Say.{object_made, number_told, text_made, sized_made}
 use Rattle.native_objects.specs.Attributes.{type_dir}
 use Rattle.native_objects.specs.Takes.{needed, with_class, with_lone_class, with_class_and}
 use Rattle.native_objects.specs.Names.{object_text, class_text}
@@ -70,7 +70,7 @@ or_nothing (Some cs) = cs
 
 -- a new list of classes
 abbrev pub classes_made : PlainWorld → List ℕ → Said
-classes_made w cs = object_made w the_list (AList (map ref cs))
+classes_made w cs = sized_made w the_list (AList (map ref cs))
 
 -- a class may be given a name and bases, and any keywords
 abbrev pub with_name_and_bases : PlainWorld → List PyObjectRef → Said → Said

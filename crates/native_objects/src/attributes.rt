@@ -14,7 +14,7 @@ ghost use Rattle.native_objects.specs.Attributes.{annotations, class_dict, keyed
 
 use crate::take::lone_class;
 use class_world::World;
-use native_base::give::new_object;
+use native_base::give::new_sized;
 use py_node::{
     Answer, BuiltIn, Cause, Known, OutOfMemory, Payload, PyAttributes, PyObjectRef, PyStrInterned,
     PyTypeRef, Raised,
@@ -35,7 +35,7 @@ pub(crate) fn class_dict(
 {
     let attrs = world.attributes(class).try_clone(world.alloc())?;
     let entries = key_all(world, &attrs)?;
-    new_object(world, BuiltIn::Dict, Payload::Dict(entries))
+    new_sized(world, BuiltIn::Dict, Payload::Dict(entries))
 }
 
 /// The names of a class's attributes, its own and those that it inherits, as a new list.
@@ -55,7 +55,7 @@ pub(crate) fn type_dir(
     let attrs = world.get_attributes(class)?;
     let entries = key_all(world, &attrs)?;
     let keys = keys_of(world.alloc(), &entries)?;
-    new_object(world, BuiltIn::List, Payload::List(keys))
+    new_sized(world, BuiltIn::List, Payload::List(keys))
 }
 
 /// The annotations of a class that a script made: its own, or else a new dict, which becomes an own attribute.

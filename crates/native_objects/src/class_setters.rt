@@ -35,6 +35,7 @@ pub(crate) fn heap_value(
         with_heap_value (plain t world.now) class.0 given go ≡ Ends (plain t world.now) (Err x)) }
     ensures heap { IfOk result (λ v. (t : Reading) →
         is_heap_at (class_numbered (plain t world.now).classes class.0) ≡ true) }
+    ensures held { IfOk result (λ v. is_heap_at (class_numbered world.now.classes class.0) ≡ true) }
     ensures node { IfOk result (λ v. Holds world.now (IsNode v)) }
 {
     if world.class_is_heap(class) {
@@ -68,13 +69,14 @@ pub(crate) fn set_name(
     }
 }
 
-// A class gets another name, which has no null character.
+// A class that a script made gets another name, which has no null character.
 fn renamed(
     world: &mut World,
     class: PyTypeRef,
     name: &str,
 ) -> Result<Result<Answer, Raised>, OutOfMemory>
-    requires { Holds world.old (IsClass class.0) }
+    requires class { Holds world.old (IsClass class.0) }
+    requires heap { is_heap_at (class_numbered world.old.classes class.0) ≡ true }
     ensures ends { IfOk result (λ r. EndsAs (λ t u. renamed u class.0 name.now) world.old world.new r) }
     ensures safe { LeavesEnd world.old world.new result }
 {

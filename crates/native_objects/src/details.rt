@@ -7,7 +7,7 @@ ghost use Rattle.class_world.specs.Held.{Held};
 ghost use Rattle.class_world.specs.Reading.{Reading, Reads, bindings, datum, plain, spelled, spelled_option};
 ghost use Rattle.class_world.specs.Rows.{EndsAs, LeavesEnd};
 ghost use Rattle.class_world.specs.Sound.{AllHold, AreNodes, IsClass, IsName, Holds, of_name_ref, of_node_ref, of_option, of_optional, of_payload, of_start};
-ghost use Rattle.native_objects.specs.Details.{Part as Read, accessor_part, bounds_part, builtin_method_part, callable_part, class_method_part, doc_part, dotted_text, function_part, getset_part, getter_of_say, in_class_part, kept_part, looked_part, member_part, method_descriptor_part, method_part, name_part, native_function_part, native_part, part_given, part_of, property_part, signature_given, signature_part, slice_part, static_method_part, super_part};
+ghost use Rattle.native_objects.specs.Details.{Part as Read, accessor_part, bounds_part, builtin_method_part, callable_part, class_method_part, doc_part, dotted_text, function_part, getset_part, getter_of_say, in_class_part, kept_part, looked_part, member_part, method_descriptor_part, method_part, name_part, native_function_part, native_part, part_given, part_of, property_part, signature_given, signature_part, slice_part, static_method_part, super_part, whole_text};
 ghost use Rattle.native_objects.specs.DetailParts.{of_part, read_part};
 ghost use Rattle.native_objects.specs.Properties.{of_property};
 ghost use Rattle.native_objects.specs.Takes.{with_own};
@@ -26,8 +26,10 @@ use signatures::get_text_signature_from_internal_doc;
 #[derive(Clone, Copy)]
 pub(crate) enum Part {
     Name(PyStrInterned),
-    /// What the objects of a class have under a name.
+    /// What the objects of a class have under a name, told with what the class is called.
     Dotted(PyTypeRef, PyStrInterned),
+    /// The same, told with the whole name of the class.
+    Whole(PyTypeRef, PyStrInterned),
     Class(PyTypeRef),
     Object(Option<PyObjectRef>),
     /// The signature that a text for readers gives for a name.
@@ -196,7 +198,10 @@ fn getset_part(detail: Detail, payload: &Payload) -> Option<Part>
     ensures holds { (w : Held) → AllHold w (of_payload payload.now) → AllHold w (of_option of_part result) }
 {
     match payload {
-        Payload::GetSet(g) => in_class_part(detail, g.class, g.name),
+        Payload::GetSet(g) => match detail {
+            Detail::Qualname => Some(Part::Whole(g.class, g.name)),
+            _ => in_class_part(detail, g.class, g.name),
+        },
         _ => None,
     }
 }
@@ -397,6 +402,10 @@ fn give_part(world: &mut World, part: Part) -> Result<Result<Answer, Raised>, Ou
             let text = dotted(world, class, name)?;
             limited_text(world, text)
         }
+        Part::Whole(class, name) => {
+            let text = whole(world, class, name)?;
+            limited_text(world, text)
+        }
         Part::Class(class) => Ok(Ok(Answer::Value(world.class_node(class)))),
         Part::Object(Some(object)) => Ok(Ok(Answer::Value(object))),
         Part::Object(None) => Ok(Ok(Answer::Value(world.fixed(Fixed::None)))),
@@ -442,7 +451,7 @@ fn signature(
     }
 }
 
-// The name of a class, and a name in it.
+// What a class is called, and a name in it.
 fn dotted(world: &World, class: PyTypeRef, name: PyStrInterned) -> Result<String, OutOfMemory>
     requires class { Holds world.now (IsClass class.0) }
     requires name { Holds world.now (IsName name) }
@@ -452,5 +461,18 @@ fn dotted(world: &World, class: PyTypeRef, name: PyStrInterned) -> Result<String
     let alloc = world.alloc();
     let name = world.spelling(name)?;
     let class = world.class_name(class);
+    Ok(format!(in alloc; "{class}.{name}")?)
+}
+
+// The whole name of a class, and a name in it.
+fn whole(world: &World, class: PyTypeRef, name: PyStrInterned) -> Result<String, OutOfMemory>
+    requires class { Holds world.now (IsClass class.0) }
+    requires name { Holds world.now (IsName name) }
+    ensures { IfOk result (λ s. (t : Reading) → Reads t world.now →
+        string_bytes s ≡ whole_text (plain t world.now) class.0 (spelled t name)) }
+{
+    let alloc = world.alloc();
+    let name = world.spelling(name)?;
+    let class = world.slot_name(class);
     Ok(format!(in alloc; "{class}.{name}")?)
 }

@@ -18,7 +18,7 @@ use crate::names::{given, limited_text};
 use crate::take::lone_class;
 use class_world::takes::one;
 use class_world::{Fixed, World};
-use native_base::give::{new_int, new_object};
+use native_base::give::{new_int, new_sized};
 use py_node::{
     Answer, BuiltIn, Cause, Known, OutOfMemory, Payload, Property, PyObjectRef, PyStrInterned,
     PyTypeRef, Raised,
@@ -159,7 +159,7 @@ fn bases(world: &mut World, class: PyTypeRef) -> Result<Result<Answer, Raised>, 
     let table = world.classes();
     table.sound();
     let nodes = class_nodes(world, table.bases(class))?;
-    new_object(world, BuiltIn::Tuple, Payload::Tuple(nodes))
+    new_sized(world, BuiltIn::Tuple, Payload::Tuple(nodes))
 }
 
 // The linearisation of a class, as a new tuple.
@@ -169,7 +169,7 @@ fn mro(world: &mut World, class: PyTypeRef) -> Result<Result<Answer, Raised>, Ou
     ensures safe { LeavesEnd world.old world.new result }
 {
     let nodes = class_nodes(world, world.classes().mro(class))?;
-    new_object(world, BuiltIn::Tuple, Payload::Tuple(nodes))
+    new_sized(world, BuiltIn::Tuple, Payload::Tuple(nodes))
 }
 
 // The best base of a class, or else None.

@@ -12,7 +12,7 @@ use crate::lists::class_nodes;
 use crate::names::{class_text, limited_text};
 use crate::take::{class_and, lone_class, own_class};
 use class_world::{Fixed, World};
-use native_base::give::new_object;
+use native_base::give::{new_object, new_sized};
 use py_node::{
     Answer, BuiltIn, Cause, OutOfMemory, Payload, PyObjectRef, PyStrInterned, Raised, TypeNative,
 };
@@ -107,7 +107,7 @@ fn type_subclasses(
         Err(raised) => Ok(Err(raised)),
         Ok(class) => {
             let nodes = class_nodes(world, world.classes().subclasses(class))?;
-            new_object(world, BuiltIn::List, Payload::List(nodes))
+            new_sized(world, BuiltIn::List, Payload::List(nodes))
         }
     }
 }
@@ -126,7 +126,7 @@ fn type_mro(
         Err(raised) => Ok(Err(raised)),
         Ok(class) => {
             let nodes = class_nodes(world, world.classes().mro(class))?;
-            new_object(world, BuiltIn::List, Payload::List(nodes))
+            new_sized(world, BuiltIn::List, Payload::List(nodes))
         }
     }
 }

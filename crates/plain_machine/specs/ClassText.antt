@@ -7,6 +7,7 @@ use Rattle.py_node.specs.declared.entry.SlotEntry.TheVariants.{Native, Wrapper, 
 use Rattle.py_node.specs.Slots.{printed_name, all_slots}
 use Rattle.py_node.specs.Tree.{Text}
 use Rattle.class_model.specs.Class.{class_at as class_numbered, Classes, lin}
+use Rattle.class_model.specs.Name.{short_name}
 use Rattle.class_model.specs.Numbers.{numbers_of}
 use Rattle.class_model.specs.Slot.{Keys, is_heap_at, entry}
 use Rattle.class_model.specs.BuiltIn.{natives_of}
@@ -29,7 +30,11 @@ abbrev pub own_words : {K : Type 0} → Keys K → Classes K → ℕ → List Sl
 own_words keys t c slots = flat_map (λ s. slot_words s (entry keys natives_of t c s)) slots
 
 abbrev pub name_at : {K : Type 0} → Classes K → ℕ → Text
-name_at t c = or_empty (option_map (λ k. k.name) (class_numbered t c))
+name_at t c = or_empty (option_map short_name (class_numbered t c))
+
+-- the whole name, with the parts before
+abbrev pub whole_name_at : {K : Type 0} → Classes K → ℕ → Text
+whole_name_at t c = or_empty (option_map (λ k. k.name) (class_numbered t c))
 
 abbrev pub names_along : {K : Type 0} → Classes K → Option (List ℕ) → List Text
 names_along t None = []

@@ -1,5 +1,5 @@
 -- The dicts of objects: what stands in one under a text, and how that is set and taken out.
-use Rattle.std.specs.Prelude.{Bool, false, cond, List, [], ◌∷◌, ◌++◌, Option, Some, None, option_and_then, fold}
+use Rattle.std.specs.Prelude.{Bool, false, cond, ◌||◌, nat_lt, length, List, [], ◌∷◌, ◌++◌, Option, Some, None, is_some, option_and_then, fold}
 use Rattle.std.specs.Ordering.{int_eq}
 use Rattle.py_node.specs.declared.refs.PyObjectRef.{PyObjectRef}
 use Rattle.py_node.specs.Attributes.{value_of}
@@ -8,6 +8,7 @@ use Rattle.plain_machine.specs.Plain.{Datum, AText, ADict, PlainWorld}
 use Rattle.plain_machine.specs.Known.{the_str}
 use Rattle.plain_machine.specs.World.{is_text, node_at, datum_at, with_node, next_node}
 use Rattle.plain_machine.specs.Objects.{with_datum}
+use Rattle.plain_machine.specs.Row.{most_items}
 use Rattle.plain_machine.specs.Sound.{Key, NumberKey, TextKey, key_at}
 
 abbrev pub Entries : Type 0
@@ -32,6 +33,10 @@ is_key w x k = is_text_datum x (datum_at w k)
 -- the value that a dict has under a text
 abbrev pub value_in : PlainWorld → Text → PyObjectRef → Option PyObjectRef
 value_in w x d = value_of (is_key w x) (entries_in (datum_at w d))
+
+-- whether a dict has room for one more entry, or the key
+abbrev pub has_place : PlainWorld → PyObjectRef → Text → Bool
+has_place w d x = nat_lt (length (entries_in (datum_at w d))) most_items || is_some (value_in w x d)
 
 -- the value that an object's own dict has under a text
 abbrev pub own_value : PlainWorld → PyObjectRef → Text → Option PyObjectRef

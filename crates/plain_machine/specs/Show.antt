@@ -7,12 +7,13 @@ use Rattle.py_node.specs.Tree.{Text}
 use Rattle.plain_machine.specs.Escapes.{escaped, quoted}
 use Rattle.plain_machine.specs.Lines.{joined}
 use Rattle.class_model.specs.Class.{class_at as class_numbered}
+use Rattle.class_model.specs.Name.{short_name}
 use Rattle.plain_machine.specs.Plain.{Datum, AClass, ANumber, AText, ATuple, AList, ADict, Node, PlainWorld}
 use Rattle.plain_machine.specs.World.{node_at}
 
 -- the name of a class, escaped
 abbrev pub class_name : PlainWorld → ℕ → Text
-class_name w c = elim (class_numbered w.classes c) [ None ↦ [] | Some k ↦ escaped k.name ]
+class_name w c = elim (class_numbered w.classes c) [ None ↦ [] | Some k ↦ escaped (short_name k) ]
 
 -- an object of no class that has a text of its own
 abbrev pub plain_text : PlainWorld → ℕ → Text

@@ -2,7 +2,7 @@
 use Rattle.std.specs.Prelude.{ℕ, zero, suc, Bool, true, false, cond, eqb, not, ◌&&◌, List, [], ◌∷◌, Option, Some, None, Ok, Err, is_some}
 use Rattle.py_node.specs.declared.refs.PyObjectRef.{PyObjectRef}
 use Rattle.py_node.specs.declared.raised.Raised.{Raised as Fault}
-use Rattle.py_node.specs.declared.raised.Cause.TheVariants.{ImmutableType, NoAttribute, NoSpecial}
+use Rattle.py_node.specs.declared.raised.Cause.TheVariants.{ImmutableType, NoAttribute, NoSpecial, TooLong}
 use Rattle.py_node.specs.declared.entry.SlotId.TheVariants.{Getattro, Setattro, DescrGet, DescrSet}
 use Rattle.py_node.specs.declared.entry.SlotEntry.{SlotEntry}
 use Rattle.py_node.specs.declared.entry.SlotEntry.TheVariants.{Native, Wrapper}
@@ -22,7 +22,7 @@ use Rattle.plain_machine.specs.Plain.{ToAttribute, ToDescriptor, ToCall, AsMaybe
 use Rattle.plain_machine.specs.World.{is_text, datum_at, slot_at, with_node, next_node, with_own_attr}
 use Rattle.plain_machine.specs.Change.{without_own_attr}
 use Rattle.plain_machine.specs.Objects.{class_object, type_object, class_number, special_at, is_fast}
-use Rattle.plain_machine.specs.Dicts.{dict_of, value_in, own_value, with_value_in, without_value_in}
+use Rattle.plain_machine.specs.Dicts.{dict_of, has_place, value_in, own_value, with_value_in, without_value_in}
 use Rattle.plain_machine.specs.Known.{the_str}
 use Rattle.plain_machine.specs.Row.{Row, start, fork, ask, pass, end, value, done, none, fault, is_attribute_error, on_value}
 
@@ -230,7 +230,7 @@ invoke_say w o f args kw = start (invoke_by w o f args kw) (end w)
 -- an object's attribute is set by what its class has under the name, where that sets attributes, or else in its dict
 abbrev pub set_in_dict : PlainWorld → Option PyObjectRef → Text → Option PyObjectRef → Option PyObjectRef → Said
 set_in_dict w None x v old = Ends w (fault NoAttribute)
-set_in_dict w (Some d) x (Some v) old = Ends (with_value_in w d x v) done
+set_in_dict w (Some d) x (Some v) old = cond (has_place w d x) (Ends (with_value_in w d x v) done) (Ends w (fault TooLong))
 set_in_dict w (Some d) x None (Some old) = Ends (without_value_in w d x) done
 set_in_dict w (Some d) x None None = Ends w (fault NoAttribute)
 

@@ -14,8 +14,10 @@ use crate::AttributeKept;
 use crate::generic::no_attribute;
 use crate::setting::setter;
 use class_world::World;
+use class_world::limits::has_place;
 use py_node::{
-    Answer, DescriptorTask, OutOfMemory, PyObjectRef, PySetterValue, PyStrInterned, Step, Task,
+    Answer, Cause, DescriptorTask, OutOfMemory, PyObjectRef, PySetterValue, PyStrInterned, Step,
+    Task,
 };
 
 // An object's attribute is set or taken out by what its class has under the name, or else in its dict.
@@ -57,6 +59,9 @@ fn set_in_dict(
     };
     match value {
         PySetterValue::Assign(value) => {
+            if !has_place(world, dict, name) {
+                return Ok(Step::raise(Cause::TooLong));
+            }
             world.set_value_in(dict, name, value)?;
             Ok(Step::End(Ok(Answer::Done)))
         }

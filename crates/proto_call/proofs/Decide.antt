@@ -43,11 +43,3 @@ pub ends-does : (n : ObjectNative) (F : Reading → PlainWorld → Said) (old ne
 ends-does n F old new r h = λ args kw t q.
     let k = h t q in
     (k.0, subst (λ s. Steps call_job_say (call_stands t) t (DoObject n args (kw t)) [] s (End r) new) (sym k.1) (refl, refl))
-
-pub first-node : (w : Held) (r : PyObjectRef) (rs : List PyObjectRef) → Holds w (IsNode r) → Holds w (AreNodes rs) → Holds w (AreNodes (r ∷ rs))
-unfolding Holds
-first-node w r rs h k = λ i d l. one i d l
-  where
-    one : (i : ℕ) (d : PyObjectRef) → i < length (r ∷ rs) → (get_or (r ∷ rs) i d).0 < length w.nodes
-    one zero d l = h
-    one (suc i) d l = k i d (omega arith)

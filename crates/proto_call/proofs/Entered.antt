@@ -5,7 +5,7 @@ use Rattle.std.specs.Global.{Vec}
 use Rattle.py_node.specs.declared.refs.PyObjectRef.{PyObjectRef}
 use Rattle.py_node.specs.declared.refs.PyStrInterned.{PyStrInterned}
 use Rattle.py_node.specs.declared.payload.Function.{Function}
-use Rattle.py_node.specs.declared.raised.Cause.TheVariants.{ArgCount}
+use Rattle.py_node.specs.declared.raised.Cause.TheVariants.{ArgCount, TooLong}
 use Rattle.py_node.specs.declared.task.CallTask.TheVariants as call
 use Rattle.py_node.specs.declared.task.Step.{Step}
 use Rattle.py_node.specs.Attributes.{value_of, with_value, is_same_name}
@@ -20,7 +20,7 @@ use Rattle.class_world.specs.Rows.{Steps}
 use Rattle.class_world.specs.Sound.{IsNode, Holds, AllHold, of_option, of_node_ref}
 use Rattle.class_world.proofs.Bound.{value-read}
 use Rattle.proto_call.specs.declared.CallKept.{CallKept}
-use Rattle.proto_call.specs.Say.{call_job_say, is_empty, but_last, last_of, left_over, single, with_keywords, all_filled, when_filled, by_keywords, by_place, body_by, value_text, shown}
+use Rattle.proto_call.specs.Say.{call_job_say, is_empty, but_last, last_of, left_over, rest_fits, single, with_keywords, all_filled, when_filled, by_keywords, by_place, body_by, value_text, shown}
 use Rattle.plain_machine.specs.Known.{the_tuple}
 use Rattle.plain_machine.specs.Args.{filled}
 use Rattle.proto_call.specs.Rows.{call_stands, Begins}
@@ -43,12 +43,21 @@ filled-opens t u g f before vars kw xs names more all =
     sym (ap keyed here ∙ ap (λ b. cond b (opened_of g f vars t u) (Ends u (fault ArgCount))) test)
 
 -- the last parameter takes the rest
-pub rest-fills : (t : Reading) (u v : PlainWorld) (g : Function) (f : PyObjectRef) (args : List PyObjectRef) (vars kw : List (PyStrInterned × PyObjectRef)) → g.rest ≡ true → v ≡ with_node u the_tuple (ATuple (left_over (but_last (map (spelled t) g.params.items)) args)) → bindings t vars ≡ with_value is_text (filled [] (but_last (map (spelled t) g.params.items)) args) (last_of (map (spelled t) g.params.items)) (next_node u the_tuple) → by_keywords_of g f vars kw t v ≡ by_place_of g f args kw t u
-rest-fills t u v g f args vars kw rest made filling =
+pub rest-fills : (t : Reading) (u v : PlainWorld) (g : Function) (f : PyObjectRef) (args : List PyObjectRef) (vars kw : List (PyStrInterned × PyObjectRef)) → g.rest ≡ true → rest_fits (map (spelled t) g.params.items) args ≡ true → v ≡ with_node u the_tuple (ATuple (left_over (but_last (map (spelled t) g.params.items)) args)) → bindings t vars ≡ with_value is_text (filled [] (but_last (map (spelled t) g.params.items)) args) (last_of (map (spelled t) g.params.items)) (next_node u the_tuple) → by_keywords_of g f vars kw t v ≡ by_place_of g f args kw t u
+rest-fills t u v g f args vars kw rest fits made filling =
     let x = spelled t g.name in
     let ps = map (spelled t) g.params.items in
-    let keyed : by_keywords_of g f vars kw t v ≡ by_place u f x ps true (t.tree g.body) args (bindings t kw) = λ i. by_keywords (made i) f x ps (rest i) (t.tree g.body) (filling i) (bindings t kw) in
-    keyed ∙ ap (λ b. by_place u f x ps b (t.tree g.body) args (bindings t kw)) (sym rest)
+    let whole = by_keywords (with_node u the_tuple (ATuple (left_over (but_last ps) args))) f x ps true (t.tree g.body) (with_value is_text (filled [] (but_last ps) args) (last_of ps) (next_node u the_tuple)) (bindings t kw) in
+    let keyed : by_keywords_of g f vars kw t v ≡ whole = λ i. by_keywords (made i) f x ps (rest i) (t.tree g.body) (filling i) (bindings t kw) in
+    keyed ∙ sym (ap (λ b. cond b whole (Ends u (fault TooLong))) fits) ∙ ap (λ b. by_place u f x ps b (t.tree g.body) args (bindings t kw)) (sym rest)
+
+-- or there are too many
+pub rest-refused : (t : Reading) (u : PlainWorld) (g : Function) (f : PyObjectRef) (args : List PyObjectRef) (kw : List (PyStrInterned × PyObjectRef)) → g.rest ≡ true → rest_fits (map (spelled t) g.params.items) args ≡ false → by_place_of g f args kw t u ≡ Ends u (fault TooLong)
+rest-refused t u g f args kw rest fits =
+    let x = spelled t g.name in
+    let ps = map (spelled t) g.params.items in
+    ap (λ b. by_place u f x ps b (t.tree g.body) args (bindings t kw)) rest
+    ∙ ap (λ b. cond b (by_keywords (with_node u the_tuple (ATuple (left_over (but_last ps) args))) f x ps true (t.tree g.body) (with_value is_text (filled [] (but_last ps) args) (last_of ps) (next_node u the_tuple)) (bindings t kw)) (Ends u (fault TooLong))) fits
 
 -- each parameter takes one argument, and none is left over
 pub all-fill : (t : Reading) (u : PlainWorld) (g : Function) (f : PyObjectRef) (args : List PyObjectRef) (vars kw : List (PyStrInterned × PyObjectRef)) → g.rest ≡ false → is_empty (left_over (map (spelled t) g.params.items) args) ≡ true → bindings t vars ≡ filled [] (map (spelled t) g.params.items) args → by_keywords_of g f vars kw t u ≡ by_place_of g f args kw t u

@@ -1,18 +1,13 @@
 -- What the rows of calls say.
-use Rattle.std.specs.Prelude.{ℕ, zero, suc, Bool, true, false, cond, not, eqb, ◌&&◌, ◌||◌, List, [], ◌∷◌, Option, Some, None, is_some, is_none, map, Ok}
+use Rattle.std.specs.Prelude.{ℕ, zero, suc, Bool, true, false, cond, not, eqb, ◌&&◌, ◌||◌, List, [], ◌∷◌, Option, Some, None, is_some, is_none, length, map, nat_le, Ok}
 use Rattle.py_node.specs.declared.refs.PyObjectRef.{PyObjectRef}
-use Rattle.py_node.specs.declared.raised.Cause.TheVariants.{AbstractMethods, ArgCount, CannotCreate, FormatSpec, InitNotNone, NoSpecial, NotCallable, SelfType, UnexpectedKeyword, UnsafeNew}
+use Rattle.py_node.specs.declared.raised.Cause.TheVariants.{AbstractMethods, ArgCount, CannotCreate, FormatSpec, InitNotNone, NoSpecial, NotCallable, SelfType, TooLong, UnexpectedKeyword, UnsafeNew}
 use Rattle.py_node.specs.declared.entry.SlotId.TheVariants.{Call, Init, New}
 use Rattle.py_node.specs.declared.entry.SlotEntry.{SlotEntry}
 use Rattle.py_node.specs.declared.entry.SlotEntry.TheVariants.{Native, Wrapper}
-use Rattle.py_node.specs.declared.entry.NativeEntry.{NativeEntry}
-use Rattle.py_node.specs.declared.entry.NativeEntry.TheVariants.{OfType, OfCallable, OfWrapper}
 use Rattle.py_node.specs.declared.entry.ObjectNative.{ObjectNative}
 use Rattle.py_node.specs.declared.entry.ObjectNative.TheVariants as object
-use Rattle.py_node.specs.declared.entry.TypeNative.TheVariants as type
-use Rattle.py_node.specs.declared.entry.CallableNative.TheVariants as callable
 use Rattle.py_node.specs.declared.task.PyComparisonOp.TheVariants.{Eq}
-use Rattle.py_node.specs.declared.entry.WrapperNative.TheVariants as wrapper
 use Rattle.py_node.specs.Attributes.{value_of, with_value}
 use Rattle.py_node.specs.Tree.{Text, Tree}
 use Rattle.py_node.specs.Replies.{Started}
@@ -21,7 +16,7 @@ use Rattle.py_node.specs.Known.{known_text}
 use Rattle.class_model.specs.Class.{found}
 use Rattle.class_model.specs.Slot.{slot}
 use Rattle.class_model.specs.BuiltIn.{natives_of}
-use Rattle.plain_machine.specs.Plain.{Datum, AnObject, AClass, AFunction, AMethod, ANativeFunction, ABuiltinMethod, AMethodDescriptor, AStaticMethod, ATuple, AList, ANumber, AsNumber, PlainWorld, Bindings, DoEval, CallJob, DoCall, DoBody, DoTypeCall, DoNew, DoInit, DoObject, DoGeneric, DoGenericSet, DoSpecial, DoCmp, DoIsTrue, DoRepr, DoStr, DoDir, PlainTask, ToEval, ToAttribute, ToCall, ToCompare, ToProtocol, ToObject, Ended, Chose, Said, Asks, Ends}
+use Rattle.plain_machine.specs.Plain.{Datum, AnObject, AFunction, ATuple, AList, ANumber, AsNumber, PlainWorld, Bindings, DoEval, CallJob, DoCall, DoBody, DoTypeCall, DoNew, DoInit, DoObject, DoGeneric, DoGenericSet, DoSpecial, DoCmp, DoIsTrue, DoRepr, DoStr, DoDir, PlainTask, ToEval, ToAttribute, ToCall, ToCompare, ToProtocol, ToObject, Ended, Chose, Said, Asks, Ends}
 use Rattle.plain_machine.specs.World.{is_text, datum_at, slot_at, text_keys, with_node, next_node, with_scope, without_scope}
 use Rattle.plain_machine.specs.Objects.{class_object, class_number, is_instance, nearest_built_in}
 use Rattle.plain_machine.specs.Args.{filled}
@@ -29,29 +24,15 @@ use Rattle.plain_machine.specs.Takes.{with_one, with_two, with_three, with_text,
 use Rattle.plain_machine.specs.Known.{the_object, the_type, the_int, the_tuple}
 use Rattle.plain_machine.specs.Native.{native_task}
 use Rattle.plain_machine.specs.Show.{show}
+use Rattle.native_base.specs.Called.{call_native}
 use Rattle.native_objects.specs.Objects.{object_native_say}
-use Rattle.plain_machine.specs.Row.{Row, start, fork, ask, pass, end, value, done, fault, elsewhere, none, truth, is_not_implemented, on_value, on_truth, on_done, make}
+use Rattle.plain_machine.specs.Row.{Row, start, fork, ask, pass, end, value, done, fault, elsewhere, none, truth, is_not_implemented, on_value, on_truth, on_done, make, most_items}
 
 abbrev pub is_empty : {A : Type 0} → List A → Bool
 is_empty [] = true
 is_empty (x ∷ xs) = false
 
 -- Call
-
-abbrev pub with_self : Option PyObjectRef → List PyObjectRef → List PyObjectRef
-with_self None args = args
-with_self (Some r) args = r ∷ args
-
--- what the native entry for calls does with what the object holds: a body runs, a bound function is called with its object first, a native is asked, a class makes an object, what a static method wraps is called
-abbrev pub call_native : NativeEntry → Option Datum → PyObjectRef → List PyObjectRef → Bindings → Option PlainTask
-call_native (OfCallable callable.CallFunction) d f args kw = Some (ToCall (DoBody f args kw))
-call_native (OfCallable callable.CallMethod) (Some (AMethod o g)) f args kw = Some (ToCall (DoCall g (o ∷ args) kw))
-call_native (OfCallable callable.CallNativeFunction) (Some (ANativeFunction x n o doc)) f args kw = Some (native_task n (with_self o args) kw)
-call_native (OfCallable callable.CallBuiltinMethod) (Some (ABuiltinMethod x n o c doc)) f args kw = Some (native_task n (o ∷ args) kw)
-call_native (OfCallable callable.CallMethodDescriptor) (Some (AMethodDescriptor c x n flags doc)) f args kw = Some (native_task n args kw)
-call_native (OfType type.Call) (Some (AClass c)) f args kw = Some (ToCall (DoTypeCall c args kw))
-call_native (OfWrapper wrapper.StaticCall) (Some (AStaticMethod g)) f args kw = Some (ToCall (DoCall g args kw))
-call_native _ d f args kw = None
 
 -- what is asked, where the native entry is one of these. No class has another one
 abbrev pub asked_of_native : PlainWorld → Option PlainTask → Said
@@ -134,13 +115,19 @@ when_filled w f x params rest body (Some vars) =
 abbrev pub by_keywords : PlainWorld → PyObjectRef → Text → List Text → Bool → Tree → Bindings → Bindings → Said
 by_keywords w f x params rest body vars kw = when_filled w f x params rest body (with_keywords (single rest params) vars kw)
 
--- the arguments that are left over are a new tuple, for the parameter that takes the rest; without one there may be none
+abbrev pub rest_fits : List Text → List PyObjectRef → Bool
+rest_fits params args = nat_le (length (left_over (but_last params) args)) most_items
+
+-- the arguments that are left over are a new tuple, for the parameter that takes the rest, which has no more items than
+-- there may be; without one there may be none
 abbrev pub by_place : PlainWorld → PyObjectRef → Text → List Text → Bool → Tree → List PyObjectRef → Bindings → Said
 by_place w f x params false body args kw =
     cond (is_empty (left_over params args)) (by_keywords w f x params false body (filled [] params args) kw) (Ends w (fault ArgCount))
 by_place w f x params true body args kw =
-    by_keywords (with_node w the_tuple (ATuple (left_over (but_last params) args))) f x params true body
-    (with_value is_text (filled [] (but_last params) args) (last_of params) (next_node w the_tuple)) kw
+    cond (rest_fits params args)
+    (by_keywords (with_node w the_tuple (ATuple (left_over (but_last params) args))) f x params true body
+    (with_value is_text (filled [] (but_last params) args) (last_of params) (next_node w the_tuple)) kw)
+    (Ends w (fault TooLong))
 
 abbrev pub body_by : PlainWorld → Option Datum → PyObjectRef → List PyObjectRef → Bindings → Said
 body_by w (Some (AFunction x params rest body c)) f args kw = by_place w f x params rest body args kw

@@ -10,7 +10,7 @@ ghost use Rattle.class_world.specs.Claims.{of_args, LeavesOpen};
 ghost use Rattle.py_node.specs.Attributes.{with_value};
 ghost use Rattle.py_node.specs.declared.payload.Payload.TheVariants as payload;
 ghost use Rattle.py_node.specs.declared.task.CallTask.TheVariants as call;
-ghost use Rattle.proto_call.specs.Say.{but_last, last_of, left_over, value_text, shown, started};
+ghost use Rattle.proto_call.specs.Say.{but_last, last_of, left_over, rest_fits, value_text, shown, started};
 ghost use Rattle.plain_machine.specs.Known.{the_tuple};
 ghost use Rattle.plain_machine.specs.Args.{filled};
 ghost use Rattle.proto_call.specs.Rows.{Begins, of_call_kept, bodies_of};
@@ -20,6 +20,7 @@ use crate::CallKept;
 use crate::parameters::{all_filled, left_over, single, with_keywords};
 use class_world::World;
 use class_world::args::{copy_args, filled};
+use class_world::limits::is_within_limit;
 use py_node::task::{Args, Keywords};
 use py_node::{
     BodyCall, BuiltIn, Cause, EvalTask, Function, OutOfMemory, Payload, PyAttributes, PyObjectRef,
@@ -78,7 +79,7 @@ fn copy_function(alloc: Global, function: &Function) -> Result<Function, OutOfMe
 }
 
 // Arguments fill the parameters by place. Those that are left over are a new tuple, for the
-// parameter that takes the rest; without one there may be none.
+// parameter that takes the rest, and no more than a tuple may have; without one there may be none.
 fn by_place(
     world: &mut World,
     f: PyObjectRef,
@@ -95,6 +96,9 @@ fn by_place(
 {
     let alloc = world.alloc();
     if function.rest {
+        if !rest_fits(&function.params, args) {
+            return Ok(Step::raise(Cause::TooLong));
+        }
         let vars = with_rest(world, &function.params, args)?;
         by_keywords(world, f, function, vars, kw)
     } else if left_over(&function.params, args).is_empty() {
@@ -103,6 +107,13 @@ fn by_place(
     } else {
         Ok(Step::raise(Cause::ArgCount))
     }
+}
+
+// Whether the arguments that are left over for the last parameter can be a tuple.
+fn rest_fits(params: &[PyStrInterned], args: &[PyObjectRef]) -> bool
+    ensures { (t : Reading) → rest_fits (map (spelled t) params.now) args.now ≡ result }
+{
+    is_within_limit(left_over(single(params, true), args).len())
 }
 
 // The values of parameters of which the last takes the arguments that are left over, as a new

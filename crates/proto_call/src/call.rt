@@ -1,25 +1,18 @@
 //! The call of an object.
 
-ghost use Rattle.std.specs.Prelude.{◌≡◌, ◌∷◌, Some, IfOk, option_map};
+ghost use Rattle.std.specs.Prelude.{◌∷◌, IfOk};
 ghost use Rattle.py_node.specs.declared.task.CallTask.TheVariants as call;
-ghost use Rattle.plain_machine.specs.World.{datum_at};
-ghost use Rattle.class_world.specs.Sound.{AllHold, Holds, IsNode, AreNodes, of_payload, of_option, of_node_ref};
-ghost use Rattle.class_world.specs.Claims.{of_args, of_ended, of_task};
-ghost use Rattle.class_world.specs.Reading.{Reading, Reads, bindings, datum, plain, task_of};
-ghost use Rattle.proto_call.specs.Say.{call_native, call_by, with_self};
+ghost use Rattle.class_world.specs.Sound.{AllHold, IsNode};
+ghost use Rattle.class_world.specs.Claims.{of_args, of_ended};
 ghost use Rattle.proto_call.specs.Rows.{Begins, Resumes, LeavesNone};
 
 use crate::CallKept;
-use crate::asked::{bound, special};
-use class_world::natives::native_task;
+use crate::asked::special;
 use class_world::{Fixed, World};
+use native_base::called::native_call;
 use native_base::give::new_int;
 use py_node::task::{Args, Keywords};
-use py_node::{
-    Answer, CallTask, CallableNative, Cause, Known, NativeEntry, OutOfMemory, Payload, PyObjectRef,
-    Raised, SlotEntry, SlotId, Step, Task, TypeNative, WrapperNative,
-};
-use std::alloc::Global;
+use py_node::{Answer, Cause, Known, OutOfMemory, PyObjectRef, Raised, SlotEntry, SlotId, Step};
 
 /// An object is called as its class's entry for calls says: by a native, or by the special method.
 pub(crate) fn begin_call(
@@ -63,85 +56,5 @@ pub(crate) fn named_end(
         }
         Ok(Answer::Done) => Ok(Step::End(Ok(Answer::Value(world.fixed(Fixed::None))))),
         other => Ok(Step::End(other)),
-    }
-}
-
-/// What a native entry for calls asks for an object, if it is there yet.
-pub fn native_call(
-    world: &World,
-    native: NativeEntry,
-    f: PyObjectRef,
-    args: Args,
-    kw: Keywords,
-) -> Result<Option<Task>, OutOfMemory>
-    requires { AllHold world.now (IsNode f ∷ of_args args.items kw.items) }
-    ensures task { IfOk result (λ o. (t : Reading) → option_map (task_of t) o ≡
-        call_native native (datum_at (plain t world.now) f) f args.items (bindings t kw.items)) }
-    ensures holds { IfOk result (λ o. AllHold world.now (of_option of_task o)) }
-{
-    let alloc = world.alloc();
-    let task = call_held(alloc, native, world.payload(f), f, args, kw)?;
-    Ok(task)
-}
-
-// The same for an object that holds this.
-fn call_held(
-    alloc: Global,
-    native: NativeEntry,
-    payload: &Payload,
-    f: PyObjectRef,
-    args: Args,
-    kw: Keywords,
-) -> Result<Option<Task>, OutOfMemory>
-    ensures task { IfOk result (λ o. (t : Reading) → option_map (task_of t) o ≡
-        call_native native (Some (datum t payload.now)) f args.items (bindings t kw.items)) }
-    ensures holds { IfOk result (λ o. (w : World) → AllHold w (IsNode f ∷ of_args args.items kw.items) →
-        AllHold w (of_payload payload.now) → AllHold w (of_option of_task o)) }
-{
-    match (native, payload) {
-        (NativeEntry::OfCallable(CallableNative::CallFunction), _) => {
-            Ok(Some(Task::Call(CallTask::Body(f, args, kw))))
-        }
-        (NativeEntry::OfCallable(CallableNative::CallMethod), Payload::Method(method)) => {
-            let args = bound(alloc, method.target, args)?;
-            Ok(Some(Task::Call(CallTask::Call(method.func, args, kw))))
-        }
-        (
-            NativeEntry::OfCallable(CallableNative::CallNativeFunction),
-            Payload::NativeFunction(func),
-        ) => {
-            let args = with_self(alloc, func.target, args)?;
-            Ok(Some(native_task(func.entry, args, kw)))
-        }
-        (
-            NativeEntry::OfCallable(CallableNative::CallBuiltinMethod),
-            Payload::BuiltinMethod(method),
-        ) => {
-            let args = bound(alloc, method.target, args)?;
-            Ok(Some(native_task(method.entry, args, kw)))
-        }
-        (
-            NativeEntry::OfCallable(CallableNative::CallMethodDescriptor),
-            Payload::MethodDescriptor(method),
-        ) => { Ok(Some(native_task(method.entry, args, kw))) }
-        (NativeEntry::OfType(TypeNative::Call), Payload::Class(class)) => {
-            Ok(Some(Task::Call(CallTask::TypeCall(*class, args, kw))))
-        }
-        (NativeEntry::OfWrapper(WrapperNative::StaticCall), Payload::StaticMethod(func)) => {
-            Ok(Some(Task::Call(CallTask::Call(*func, args, kw))))
-        }
-        _ => Ok(None),
-    }
-}
-
-// The arguments of a native function, after the object that it is bound to, if any.
-fn with_self(alloc: Global, target: Option<PyObjectRef>, args: Args) -> Result<Args, OutOfMemory>
-    ensures items { IfOk result (λ v. v.items ≡ with_self target args.items) }
-    ensures holds { IfOk result (λ v. (w : World) → AllHold w (of_option of_node_ref target) →
-        Holds w (AreNodes args.items) → Holds w (AreNodes v.items)) }
-{
-    match target {
-        None => Ok(args),
-        Some(target) => bound(alloc, target, args),
     }
 }

@@ -12,10 +12,10 @@ ghost use Rattle.plain_machine.specs.Known.{the_type};
 ghost use Rattle.proto_call.specs.Rows.{Begins, Starts, Continues, Resumes, OpensNone, LeavesNone};
 
 use crate::CallKept;
-use crate::asked::bound;
 use class_world::World;
 use class_world::args::{copy_args, copy_keywords};
 use class_world::natives::native_task;
+use native_base::called::bound;
 use py_node::task::{Args, Keywords};
 use py_node::{
     Answer, BuiltIn, CallTask, Cause, Known, OutOfMemory, PyObjectRef, PyStrInterned, PyTypeRef,

@@ -7,9 +7,10 @@ ghost use Rattle.class_world.specs.Claims.{of_args};
 ghost use Rattle.proto_call.specs.Rows.{Begins, Resumes, OpensNone, LeavesNone};
 
 use crate::CallKept;
-use crate::asked::{bound, special};
+use crate::asked::special;
 use class_world::natives::native_task;
 use class_world::{Fixed, World};
+use native_base::called::bound;
 use py_node::task::{Args, Keywords};
 use py_node::{Answer, Cause, Known, OutOfMemory, PyObjectRef, SlotEntry, SlotId, Step};
 

@@ -7,7 +7,6 @@ ghost use Rattle.class_world.specs.Claims.{of_call_task, of_ended, LeavesOpen};
 ghost use Rattle.proto_call.specs.Rows.{Begins, Resumes, of_call_kept, bodies_of};
 
 use crate::body::begin_body;
-pub use crate::call::native_call;
 use crate::call::{begin_call, named_end};
 use crate::create::{begin_new, begin_type_call, resume_type_call};
 use crate::init::{begin_init, resume_init};

@@ -17,7 +17,7 @@ use Rattle.plain_machine.specs.Objects.{special_at}
 use Rattle.plain_machine.specs.Plain.{AList, PlainWorld, Bindings, DoSpecial, DoStr, ToAttribute, ToObject, AsValue, Ended, Said, Ends}
 use Rattle.plain_machine.specs.Row.{Row, start, pass, end, value, none, fault, on_value}
 use Rattle.plain_machine.specs.World.{is_text, class_at, datum_at, number_of, slot_at}
-use Rattle.native_base.specs.Say.{object_made}
+use Rattle.native_base.specs.Say.{sized_made}
 use Rattle.native_containers.specs.Take.{entries_at}
 use Rattle.native_containers.specs.Say.{keys_of}
 use Rattle.native_numbers.specs.Numbers.{number_hash}
@@ -107,7 +107,7 @@ abbrev pub other_keys : PlainWorld → Bindings → List PyObjectRef → List Py
 other_keys w attrs keys = filter (λ k. not (has_name w attrs k)) keys
 
 abbrev pub names_made : List PyObjectRef → PlainWorld × Entries → Said
-names_made others s = object_made s.0 the_list (AList (map (λ e. e.0) s.1 ++ others))
+names_made others s = sized_made s.0 the_list (AList (map (λ e. e.0) s.1 ++ others))
 
 abbrev pub dir_by : PlainWorld → Bindings → List PyObjectRef → Said
 dir_by w attrs keys = names_made (other_keys w attrs keys) (keyed w [] attrs)

@@ -14,7 +14,7 @@ ghost use Rattle.proto_object.specs.Rows.{Begins, of_object_kept};
 
 use crate::ObjectKept;
 use class_world::World;
-use native_base::give::new_object;
+use native_base::give::new_sized;
 use native_containers::keys_of;
 use native_containers::take::entries;
 use native_objects::key_all;
@@ -104,7 +104,7 @@ fn new_names(
     let entries = key_all(world, attrs)?;
     let keys = keys_of(world.alloc(), &entries)?;
     let names = joined(world.alloc(), &keys, others)?;
-    new_object(world, BuiltIn::List, Payload::List(names))
+    new_sized(world, BuiltIn::List, Payload::List(names))
 }
 
 // Some objects, and others after them.

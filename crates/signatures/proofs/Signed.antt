@@ -7,33 +7,8 @@ use Rattle.std.proofs.lemmas.List.{append_assoc}
 use Rattle.std.proofs.lemmas.Slice.Eq.{starts_is}
 use Rattle.std.proofs.Math.Seq.{drop-append_seam}
 use Rattle.py_node.specs.Tree.{Text}
-use Rattle.class_table.specs.Name.{dot, IsLastPart}
-use Rattle.signatures.specs.Signature.{StandsAt, opening, ending, part_from, last_part, up_to_ending, signature_after, signature_of, IsSignature, HasNoSignature}
-
--- past the last dot the part stays
-no-dot : (part x : Text) → ((i : ℕ) → i < length x → slice_index_or x i 0 ≡ dot → ⊥) → part_from part x ≡ part
-no-dot part [] none = refl
-no-dot part (c ∷ x) none = elim (eqb_tells c dot) [
-  | inl p ↦ absurd (none 0 (omega arith) p.1)
-  | inr p ↦ rw p.0 (no-dot part x (λ i l. none (suc i) (omega (arith, l))))
-]
-
-past-dot : (part x : Text) (i : ℕ) → i < length x → slice_index_or x i 0 ≡ dot → ((j : ℕ) → suc i ≤ j → j < length x → slice_index_or x j 0 ≡ dot → ⊥) → part_from part x ≡ drop (suc i) x
-past-dot part [] i l at none = absurd (omega (arith, l))
-past-dot part (c ∷ x) zero l at none =
-    let same : eqb c dot ≡ true = (Decides-eqb c dot).1 at in
-    rw same (no-dot x x (λ j k. none (suc j) (omega arith) (omega (arith, k))))
-past-dot part (c ∷ x) (suc i) l at none =
-    past-dot (cond (eqb c dot) x part) x i (omega (arith, l)) at (λ j from below. none (suc j) (omega (arith, from)) (omega (arith, below)))
-
-last-part : (name part : Text) → IsLastPart name part → last_part name ≡ part
-last-part name part p = elim p.past [
-  | inl first ↦
-      no-dot name name (λ i l. p.last i (omega (arith, first)) l) ∙ sym (p.text ∙ ap (λ i. drop i name) first)
-  | inr dotted ↦
-      past-dot name name dotted.0 dotted.2 dotted.3 (λ j from. p.last j (omega (arith, from, dotted.1)))
-      ∙ sym (p.text ∙ ap (λ i. drop i name) dotted.1)
-]
+use Rattle.class_model.specs.Name.{last_part}
+use Rattle.signatures.specs.Signature.{StandsAt, opening, ending, up_to_ending, signature_after, signature_of, IsSignature, HasNoSignature}
 
 -- whether a text begins with another
 tests : (x y : Text) → (starts_with eqb x y ≡ true → x ≡ y ++ drop (length y) x) × ((rest : Text) → x ≡ y ++ rest → starts_with eqb x y ≡ true)
@@ -84,8 +59,8 @@ after-none name text none = go (starts_with eqb text (name ++ opening)) (tests t
         ap up_to_ending dropped ∙ up-to-none rest (none rest begins (drop (length (name ++ opening)) text, refl))
 
 -- what was found for the last part of a name is the name's signature
-pub signature-told : {B : Type 0} (now : B → Text) (r : Option B) (name part text : Text) → IsLastPart name part → IfSome r (λ x. IsSignature part text (now x)) → IfNone r (HasNoSignature part text) → option_map now r ≡ signature_of name text
+pub signature-told : {B : Type 0} (now : B → Text) (r : Option B) (name part text : Text) → part ≡ last_part name → IfSome r (λ x. IsSignature part text (now x)) → IfNone r (HasNoSignature part text) → option_map now r ≡ signature_of name text
 signature-told now (Some x) name part text l found none =
-    sym (ap (λ p. signature_after p text) (last-part name part l) ∙ after-found part text (now x) found)
+    sym (ap (λ p. signature_after p text) (sym l) ∙ after-found part text (now x) found)
 signature-told now None name part text l found none =
-    sym (ap (λ p. signature_after p text) (last-part name part l) ∙ after-none part text none)
+    sym (ap (λ p. signature_after p text) (sym l) ∙ after-none part text none)

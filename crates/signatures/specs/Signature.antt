@@ -2,7 +2,8 @@
 use Rattle.std.specs.Prelude.{◌≡◌, ℕ, ◌+◌, ◌<◌, ◌≤◌, cond, eqb, [], ◌∷◌, ◌++◌, length, take, drop, codes, Option, Some, None, option_map}
 use Rattle.std.specs.List.{starts_with}
 use Rattle.py_node.specs.Tree.{Text}
-use Rattle.class_table.specs.Name.{dot, IsLastPart}
+use Rattle.class_model.specs.Name.{last_part}
+use Rattle.class_table.specs.Name.{IsLastPart}
 
 -- a text stands in another one at a place
 abbrev pub StandsAt : Text → Text → ℕ → Type 0
@@ -14,14 +15,6 @@ opening = codes "("
 -- what ends a signature, beginning with the bracket that closes it
 abbrev pub ending : Text
 ending = codes ")\n--\n\n"
-
--- the part of a name after its last dot, or all of it: what is past each dot is the part from there on
-abbrev pub part_from : Text → Text → Text
-part_from part [] = part
-part_from part (c ∷ rest) = part_from (cond (eqb c dot) rest part) rest
-
-abbrev pub last_part : Text → Text
-last_part name = part_from name name
 
 -- all up to the bracket that begins the first ending, with that bracket; nothing where there is no ending
 abbrev pub up_to_ending : Text → Option Text

@@ -1,8 +1,9 @@
 //! What a host does with a machine beside running commands: it looks at the classes and gives names and expressions.
 //! Want of memory sets the machine's mark, as in a run.
 
-ghost use Rattle.std.specs.Prelude.{◌≡◌, true, IfOk, OnErr};
+ghost use Rattle.std.specs.Prelude.{◌≡◌, true, IfOk, OnOk, OnErr};
 ghost use Rattle.py_node.specs.Tree.{tree_of};
+ghost use Rattle.class_world.specs.Names.{AddsName};
 ghost use Rattle.class_world.specs.Reading.{Reading, Reads, plain};
 ghost use Rattle.class_world.specs.Sound.{Holds, Grows, IsName, IsExpression};
 ghost use Rattle.vm_eval.specs.State.{MarkedBy};
@@ -38,6 +39,7 @@ impl VirtualMachine {
     /// The name of a text, which may be new.
     pub fn intern(&mut self, text: &str) -> Result<PyStrInterned, OutOfMemory>
         ensures err { OnErr result (self.new.world ≡ self.old.world) }
+        ensures adds { OnOk result (AddsName self.old.world self.new.world text.now) }
         ensures spelled { IfOk result (λ x. (t : Reading) → Reads t self.new.world → t.text x.0 ≡ text.now) }
         ensures same { (t : Reading) → plain t self.new.world ≡ plain t self.old.world }
         ensures reads { (t : Reading) → Reads t self.new.world → Reads t self.old.world }

@@ -16,7 +16,8 @@ use Rattle.py_node.specs.Tree.{Text}
 use Rattle.plain_machine.specs.Escapes.{escaped}
 use Rattle.plain_machine.specs.Lines.{joined, end_of_line}
 use Rattle.plain_machine.specs.ClassLines.{class_head, slots_head, slot_word, class_lines}
-use Rattle.class_model.specs.Class.{Class, Classes, class_at, lin, renamed}
+use Rattle.class_model.specs.Class.{Classes, class_at, lin, renamed}
+use Rattle.class_model.specs.Name.{short_name}
 use Rattle.class_model.specs.Numbers.{numbers_of}
 use Rattle.class_model.specs.Slot.{Keys, is_heap_at, entry}
 use Rattle.class_model.specs.BuiltIn.{natives_of}
@@ -30,7 +31,7 @@ use Rattle.class_world.proofs.Look.{known-read}
 
 module _ {K L : Type 0} (f : K → L) (keys : Keys K) (others : Keys L) (agree : (a b : K) → others.same (f a) (f b) ≡ keys.same a b) (special : (k : Known) → others.special k ≡ f (keys.special k)) (t : Classes K) where
   name-renamed : (c : ℕ) → name_at (renamed f t) c ≡ name_at t c
-  name-renamed c = at-renamed f (λ o. or_empty (option_map (λ (k : Class L). k.name) o)) (λ o. or_empty (option_map (λ (k : Class K). k.name) o)) refl (λ k. refl) t c
+  name-renamed c = at-renamed f (λ o. or_empty (option_map (short_name {K = L}) o)) (λ o. or_empty (option_map (short_name {K = K}) o)) refl (λ k. refl) t c
 
   names-renamed : (o : Option (List ℕ)) → names_along (renamed f t) o ≡ names_along t o
   names-renamed None = refl
@@ -90,7 +91,7 @@ regrouped : (before head names end slots words : Text) → before ++ head ++ nam
 regrouped before head names end slots words = grind (arith, common_steps)
 
 -- both lines of a class, with its name and its linearisation
-pub class-written : {K : Type 0} (keys : Keys K) (t : Classes K) (c : ℕ) (name : Text) (line : List ℕ) (before mid new : Text) → option_map (λ k. k.name) (class_at t c) ≡ Some name → lin t c ≡ Some line
+pub class-written : {K : Type 0} (keys : Keys K) (t : Classes K) (c : ℕ) (name : Text) (line : List ℕ) (before mid new : Text) → option_map short_name (class_at t c) ≡ Some name → lin t c ≡ Some line
     → mid ≡ before ++ class_head name ++ joined (codes ", ") (map escaped (map (name_at t) line)) ++ end_of_line
     → new ≡ mid ++ slots_head name ++ flat_map slot_word (own_words keys t c all_slots) ++ end_of_line
     → new ≡ before ++ class_text keys t c

@@ -71,7 +71,7 @@ fn push_class(out: &mut Vec<u8>, classes: &ClassTable, class: PyTypeRef) -> Resu
     requires { is_class classes.now class.0 ≡ true }
     ensures { OnOk result (out.new.items ≡ out.old.items ++ class_text table_keys classes.now class.0) }
 {
-    let name = classes.slot_name(class);
+    let name = classes.name(class);
     push_names(out, classes, name, classes.mro(class))?;
     push_slots(out, classes, name, class)?;
     Ok(())
@@ -121,7 +121,7 @@ fn push_members(
 {
     let mut is_first = true;
     for class in line {
-        push_class_member(out, is_first, classes.slot_name(*class))?;
+        push_class_member(out, is_first, classes.name(*class))?;
         is_first = false;
     }
     Ok(())

@@ -2,18 +2,22 @@ use Rattle.std.proofs.Common.{◌≡◌, ◌<◌, ◌+◌, inl, inr, Some, refl,
 use Rattle.std.specs.Str.{IsCharBoundary}
 use Rattle.std.specs.Prelude.{slice_index_or}
 use Rattle.std.proofs.lemmas.Str.Pattern.{NoCharPasses-char, rfind_char}
+use Rattle.class_table.proofs.LastParts.{last-part}
 use Rattle.class_table.proofs.name.last_part.Goals as goal
 
-pub returns-in-None : goal.returns-in-None
-returns-in-None c = record {
+pub returns-in-None-clause-part : goal.returns-in-None-clause-part
+returns-in-None-clause-part c = record {
   start = 0;
   text = refl;
   past = inl refl;
   last = λ i from below at. NoCharPasses-char 46 c.args.name.now i c.in-None.ensures.cases (omega arith) below at;
 }
 
-pub returns-in-Some : goal.returns-in-Some
-returns-in-Some c =
+pub returns-in-None-clause-past : goal.returns-in-None-clause-past
+returns-in-None-clause-past c = sym (last-part _ _ (returns-in-None-clause-part c))
+
+pub returns-in-Some-clause-part : goal.returns-in-Some-clause-part
+returns-in-Some-clause-part c =
     let name = c.args.name.now in
     let cut = c.in-Some.ensures.cases in
     let i = cut.0 in
@@ -32,3 +36,6 @@ returns-in-Some c =
       past = inr (i, omega (arith, ends), last.0, last.1);
       last = λ k from below at. last.2 k (omega (arith, from, ends)) below at;
     }
+
+pub returns-in-Some-clause-past : goal.returns-in-Some-clause-past
+returns-in-Some-clause-past c = sym (last-part _ _ (returns-in-Some-clause-part c))

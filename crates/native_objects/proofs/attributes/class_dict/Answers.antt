@@ -6,7 +6,7 @@ use Rattle.plain_machine.specs.Known.{the_dict}
 use Rattle.class_world.specs.Reading.{bindings, datum, plain}
 use Rattle.class_world.specs.Sound.{AllHold, of_binding, of_each}
 use Rattle.class_world.proofs.Growth.{grows-on}
-use Rattle.native_base.specs.Say.{object_made}
+use Rattle.native_base.specs.Say.{sized_made}
 use Rattle.native_objects.specs.Attributes.{class_dict, dict_made, keyed}
 use Rattle.native_objects.proofs.Ended.{ends-then}
 use Rattle.native_objects.proofs.Owned.{attrs-there}
@@ -23,12 +23,12 @@ returns-clause-ends c =
     let mid = c.key_all.new.world in
     let k = c.args.class.0 in
     let entries = c.in_ok-entries.entries in
-    ends-then (λ t u. class_dict u k) (λ t u. object_made u the_dict (datum t (payload.Dict entries))) w mid c.new_object.new.world c.new_object.result (λ t r.
+    ends-then (λ t u. class_dict u k) (λ t u. sized_made u the_dict (datum t (payload.Dict entries))) w mid c.new_sized.new.world c.new_sized.result (λ t r.
     let u = plain t w in
     let attrs = attrs-there (class_numbered u.classes k) _ (c.attributes.ensures.attrs t) ∙ ap (bindings t) (sym c.in_ok-attrs.ensures) in
-    (c.key_all.ensures.reads t r, ap (λ bs. dict_made (keyed u [] bs)) attrs ∙ ap dict_made (c.in_ok-entries.ensures.keyed t r))) c.new_object.ensures.ends
+    (c.key_all.ensures.reads t r, ap (λ bs. dict_made (keyed u [] bs)) attrs ∙ ap dict_made (c.in_ok-entries.ensures.keyed t r))) c.new_sized.ensures.ends
 
 pub returns-clause-safe : goal.returns-clause-safe
 returns-clause-safe c =
-    let h = c.new_object.ensures.safe in
-    (grows-on c.args.world.now c.key_all.new.world c.new_object.new.world c.key_all.ensures.grows h.0, h.1)
+    let h = c.new_sized.ensures.safe in
+    (grows-on c.args.world.now c.key_all.new.world c.new_sized.new.world c.key_all.ensures.grows h.0, h.1)

@@ -9,13 +9,13 @@ use Rattle.plain_machine.specs.World.{is_text}
 use Rattle.class_world.specs.Reading.{bindings, datum, plain}
 use Rattle.class_world.specs.Sound.{AreNodes, Holds}
 use Rattle.class_world.proofs.Growth.{grows-on}
-use Rattle.native_base.specs.Say.{object_made}
+use Rattle.native_base.specs.Say.{sized_made}
 use Rattle.native_objects.specs.Attributes.{type_dir, keys_made, keyed, or_no_attributes}
 use Rattle.native_objects.proofs.Ended.{ends-then}
 use Rattle.native_objects.proofs.attributes.type_dir.Goals as goal
 
-pub new_object-requires-clause-holds : goal.new_object-requires-clause-holds
-new_object-requires-clause-holds c =
+pub new_sized-requires-clause-holds : goal.new_sized-requires-clause-holds
+new_sized-requires-clause-holds c =
     let same : c.deref.result.now ≡ c.in_ok-entries.entries.items = search rules in
     let keys = c.in_ok-keys.ensures ∙ ap (map (λ (e : PyObjectRef × PyObjectRef). e.0)) same in
     (subst (λ rs. Holds c.key_all.new.world (AreNodes rs)) (sym keys) c.in_ok-entries.ensures.holds.0, tt)
@@ -33,17 +33,17 @@ returns-clause-ends c =
     let list = c.in_ok-keys.keys in
     let same : c.deref.result.now ≡ c.in_ok-entries.entries.items = search rules in
     let keys = c.in_ok-keys.ensures ∙ ap (map (λ (e : PyObjectRef × PyObjectRef). e.0)) same in
-    ends-then (λ t u. type_dir u c.args.args.now (bindings t c.args.kw.now)) (λ t u. object_made u the_list (datum t (payload.List list))) w mid c.new_object.new.world c.new_object.result (λ t r.
+    ends-then (λ t u. type_dir u c.args.args.now (bindings t c.args.kw.now)) (λ t u. sized_made u the_list (datum t (payload.List list))) w mid c.new_sized.new.world c.new_sized.result (λ t r.
     let u = plain t w in
     let first = c.key_all.ensures.reads t r in (
       first,
       c.in-Ok.ensures.given t (λ k. keys_made (keyed u [] (or_no_attributes (all_attributes is_text u.classes k))))
           ∙ ap (λ o. keys_made (keyed u [] (or_no_attributes o))) (c.in_ok-attrs.ensures.attrs t first)
           ∙ ap keys_made (c.in_ok-entries.ensures.keyed t r)
-          ∙ ap (λ rs. object_made (plain t mid) the_list (AList rs)) (sym keys),
-    )) c.new_object.ensures.ends
+          ∙ ap (λ rs. sized_made (plain t mid) the_list (AList rs)) (sym keys),
+    )) c.new_sized.ensures.ends
 
 pub returns-clause-safe : goal.returns-clause-safe
 returns-clause-safe c =
-    let h = c.new_object.ensures.safe in
-    (grows-on c.args.world.now c.key_all.new.world c.new_object.new.world c.key_all.ensures.grows h.0, h.1)
+    let h = c.new_sized.ensures.safe in
+    (grows-on c.args.world.now c.key_all.new.world c.new_sized.new.world c.key_all.ensures.grows h.0, h.1)

@@ -7,7 +7,7 @@ use Rattle.plain_machine.specs.Known.{the_tuple}
 use Rattle.plain_machine.specs.Plain.{ATuple}
 use Rattle.class_world.specs.Sound.{Holds}
 use Rattle.class_world.specs.Reading.{plain, datum}
-use Rattle.native_base.specs.Say.{object_made}
+use Rattle.native_base.specs.Say.{sized_made}
 use Rattle.native_objects.specs.Getters.{class_read, tuple_made}
 use Rattle.native_objects.proofs.Bases.{bases-seen}
 use Rattle.native_objects.proofs.Ended.{ends-after}
@@ -30,7 +30,7 @@ returns-clause-ends c =
     let w = c.args.world.now in
     let nodes = c.in_ok-nodes.nodes in
     let own = rw c.classes-table.ensures.same at c.bases.ensures in
-    ends-after (λ t u. class_read u property.Bases c.args.class.0) (λ t u. object_made u the_tuple (datum t (payload.Tuple nodes))) w c.new_object.new.world c.new_object.result (λ t r.
+    ends-after (λ t u. class_read u property.Bases c.args.class.0) (λ t u. sized_made u the_tuple (datum t (payload.Tuple nodes))) w c.new_sized.new.world c.new_sized.result (λ t r.
     let u = plain t w in
     ap (tuple_made u) (bases-seen t w c.args.class.0 ∙ own)
-    ∙ ap (λ rs. object_made u the_tuple (ATuple rs)) (sym c.in_ok-nodes.ensures.items)) c.new_object.ensures.ends
+    ∙ ap (λ rs. sized_made u the_tuple (ATuple rs)) (sym c.in_ok-nodes.ensures.items)) c.new_sized.ensures.ends

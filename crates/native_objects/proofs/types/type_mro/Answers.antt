@@ -9,7 +9,7 @@ use Rattle.plain_machine.specs.Plain.{AList}
 use Rattle.class_world.specs.Sound.{Holds}
 use Rattle.class_world.specs.Reading.{plain, bindings, datum}
 use Rattle.class_world.proofs.OfClasses.{line-seen}
-use Rattle.native_base.specs.Say.{object_made}
+use Rattle.native_base.specs.Say.{sized_made}
 use Rattle.native_objects.specs.Objects.{classes_made, or_nothing, type_mro}
 use Rattle.native_objects.proofs.Ended.{ends-after}
 use Rattle.native_objects.proofs.types.type_mro.Goals as goal
@@ -34,8 +34,8 @@ returns-in_ok-nodes-in-Ok-clause-ends c =
     let w = c.args.world.now in
     let nodes = c.in_ok-nodes-in-Ok.nodes in
     let line = rw c.classes.ensures.same at c.mro.ensures.line in
-    ends-after (λ t u. type_mro u c.args.args.now (bindings t c.args.kw.now)) (λ t u. object_made u the_list (datum t (payload.List nodes))) w c.new_object.new.world c.new_object.result (λ t r.
+    ends-after (λ t u. type_mro u c.args.args.now (bindings t c.args.kw.now)) (λ t u. sized_made u the_list (datum t (payload.List nodes))) w c.new_sized.new.world c.new_sized.result (λ t r.
     let u = plain t w in
     c.in-Ok.ensures.given t (λ k. classes_made u (or_nothing (lin u.classes k)))
     ∙ ap (λ l. classes_made u (or_nothing l)) (line-seen w w refl t c.in-Ok.class.0 ∙ line)
-    ∙ ap (λ rs. object_made u the_list (AList rs)) (sym c.in_ok-nodes-in-Ok.ensures.items)) c.new_object.ensures.ends
+    ∙ ap (λ rs. sized_made u the_list (AList rs)) (sym c.in_ok-nodes-in-Ok.ensures.items)) c.new_sized.ensures.ends

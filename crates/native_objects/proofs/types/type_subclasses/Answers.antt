@@ -8,7 +8,7 @@ use Rattle.plain_machine.specs.Known.{the_list}
 use Rattle.plain_machine.specs.Plain.{AList}
 use Rattle.class_world.specs.Sound.{Holds}
 use Rattle.class_world.specs.Reading.{plain, bindings, datum}
-use Rattle.native_base.specs.Say.{object_made}
+use Rattle.native_base.specs.Say.{sized_made}
 use Rattle.native_objects.specs.Objects.{classes_made, type_subclasses}
 use Rattle.native_objects.proofs.Ended.{ends-after}
 use Rattle.native_objects.proofs.Listed.{subclass-there, subclasses-seen}
@@ -35,8 +35,8 @@ returns-in_ok-nodes-in-Ok-clause-ends c =
     let w = c.args.world.now in
     let nodes = c.in_ok-nodes-in-Ok.nodes in
     let same = rw c.classes.ensures.same at c.subclasses.ensures in
-    ends-after (λ t u. type_subclasses u c.args.args.now (bindings t c.args.kw.now)) (λ t u. object_made u the_list (datum t (payload.List nodes))) w c.new_object.new.world c.new_object.result (λ t r.
+    ends-after (λ t u. type_subclasses u c.args.args.now (bindings t c.args.kw.now)) (λ t u. sized_made u the_list (datum t (payload.List nodes))) w c.new_sized.new.world c.new_sized.result (λ t r.
     let u = plain t w in
     c.in-Ok.ensures.given t (λ k. classes_made u (subclasses u.classes k))
     ∙ ap (classes_made u) (subclasses-seen t w c.in-Ok.class.0 ∙ sym same)
-    ∙ ap (λ rs. object_made u the_list (AList rs)) (sym c.in_ok-nodes-in-Ok.ensures.items)) c.new_object.ensures.ends
+    ∙ ap (λ rs. sized_made u the_list (AList rs)) (sym c.in_ok-nodes-in-Ok.ensures.items)) c.new_sized.ensures.ends

@@ -1,4 +1,4 @@
-use Rattle.std.proofs.Common.{sym, ap, ◌∙◌}
+use Rattle.std.proofs.Common.{◌≡◌, true, sym, ap, ◌∙◌, rules}
 use Rattle.class_world.specs.Reading.{Reading, Reads, plain}
 use Rattle.class_world.specs.Sound.{of_binding, of_each}
 use Rattle.class_world.proofs.Claims.{all-grow}
@@ -21,9 +21,12 @@ returns-in_ok-vars-clause-goes c =
     let args = c.args.args.now in
     let kw = c.args.kw.now in
     let vars = c.in_ok-vars.vars in
-    let made = rw c.deref.ensures.value at c.in_ok-vars.ensures.made in
-    let filling = rw c.deref.ensures.value at c.in_ok-vars.ensures.vars in
-    let same = λ (t : Reading) (r : Reads t mid). rest-fills t (plain t w) (plain t mid) g f args vars kw c.if-function.true (made t) (filling t r) in
+    let fit : c.rest_fits.result ≡ true = search rules in
+    let tested = rw c.deref.ensures.value at c.rest_fits.ensures in
+    let fits = λ (t : Reading). tested t ∙ fit in
+    let made = rw c.deref-then-function.ensures.value at c.in_ok-vars.ensures.made in
+    let filling = rw c.deref-then-function.ensures.value at c.in_ok-vars.ensures.vars in
+    let same = λ (t : Reading) (r : Reads t mid). rest-fills t (plain t w) (plain t mid) g f args vars kw c.if-function.true (fits t) (made t) (filling t r) in
     ok-map _ _ c.by_keywords.result (λ step h. enters-by (by_keywords_of g f vars kw) (by_place_of g f args kw) w mid c.by_keywords.new.world step c.with_rest.ensures.reads same h) c.by_keywords.ensures.goes
 
 pub returns-in_ok-vars-2-clause-goes : goal.returns-in_ok-vars-2-clause-goes

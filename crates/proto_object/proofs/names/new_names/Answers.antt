@@ -6,7 +6,7 @@ use Rattle.plain_machine.specs.Plain.{AList}
 use Rattle.class_world.specs.Reading.{bindings, datum, plain}
 use Rattle.class_world.specs.Sound.{AreNodes, Holds}
 use Rattle.class_world.proofs.Growth.{grows-on}
-use Rattle.native_base.specs.Say.{object_made}
+use Rattle.native_base.specs.Say.{sized_made}
 use Rattle.native_containers.specs.Say.{keys_of}
 use Rattle.native_containers.proofs.Payloads.{nodes-append}
 use Rattle.native_objects.specs.Attributes.{keyed}
@@ -14,8 +14,8 @@ use Rattle.native_objects.proofs.Ended.{ends-then}
 use Rattle.proto_object.specs.Texts.{names_made}
 use Rattle.proto_object.proofs.names.new_names.Goals as goal
 
-pub new_object-requires-clause-holds : goal.new_object-requires-clause-holds
-new_object-requires-clause-holds c =
+pub new_sized-requires-clause-holds : goal.new_sized-requires-clause-holds
+new_sized-requires-clause-holds c =
     let mid = c.key_all.new.world in
     let others = c.args.others.now in
     let first : c.deref.result.now ≡ c.in_ok-entries.entries.items = search rules in
@@ -33,12 +33,12 @@ returns-clause-ends c =
     let first : c.deref.result.now ≡ c.in_ok-entries.entries.items = search rules in
     let second : c.deref-2.result.now ≡ c.in_ok-keys.keys.items = search rules in
     let names = c.in_ok-names.ensures ∙ ap (λ rs. rs ++ others) (second ∙ c.in_ok-keys.ensures ∙ ap keys_of first) in
-    ends-then (λ t u. names_made others (keyed u [] (bindings t c.args.attrs.now))) (λ t u. object_made u the_list (datum t (payload.List list))) w mid c.new_object.new.world c.new_object.result (λ t r. (
+    ends-then (λ t u. names_made others (keyed u [] (bindings t c.args.attrs.now))) (λ t u. sized_made u the_list (datum t (payload.List list))) w mid c.new_sized.new.world c.new_sized.result (λ t r. (
       c.key_all.ensures.reads t r,
-      ap (names_made others) (c.in_ok-entries.ensures.keyed t r) ∙ ap (λ rs. object_made (plain t mid) the_list (AList rs)) (sym names),
-    )) c.new_object.ensures.ends
+      ap (names_made others) (c.in_ok-entries.ensures.keyed t r) ∙ ap (λ rs. sized_made (plain t mid) the_list (AList rs)) (sym names),
+    )) c.new_sized.ensures.ends
 
 pub returns-clause-safe : goal.returns-clause-safe
 returns-clause-safe c =
-    let h = c.new_object.ensures.safe in
-    (grows-on c.args.world.now c.key_all.new.world c.new_object.new.world c.key_all.ensures.grows h.0, h.1)
+    let h = c.new_sized.ensures.safe in
+    (grows-on c.args.world.now c.key_all.new.world c.new_sized.new.world c.key_all.ensures.grows h.0, h.1)

@@ -3,4 +3,4 @@ use Rattle.signatures.proofs.signature.get_text_signature_from_internal_doc.Goal
 
 pub returns-clause-equals : goal.returns-clause-equals
 returns-clause-equals c =
-    signature-told (λ x. x.now) c.signature.result c.args.name.now c.last_part.result.now c.args.doc.now c.last_part.ensures c.signature.ensures.found c.signature.ensures.none
+    signature-told (λ x. x.now) c.signature.result c.args.name.now c.last_part.result.now c.args.doc.now c.last_part.ensures.past c.signature.ensures.found c.signature.ensures.none

@@ -8,4 +8,4 @@ push_names-requires c = λ x h. lin-classes c.args.classes.now c.args.class.0 (n
 
 pub returns : goal.returns
 returns c =
-    class-written table_keys c.args.classes.now c.args.class.0 _ _ _ _ _ c.slot_name-name.ensures c.mro.ensures.line c.in_ok-push_names.ensures c.in_ok-push_slots.ensures
+    class-written table_keys c.args.classes.now c.args.class.0 _ _ _ _ _ c.name-name.ensures.short c.mro.ensures.line c.in_ok-push_names.ensures c.in_ok-push_slots.ensures

@@ -9,5 +9,5 @@ pub is_heap-requires : goal.is_heap-requires
 unfolding Holds
 is_heap-requires c = opened-one (the_view c.self.inside) c.args.self.now (IsClass c.args.class.0) c.self.view_is c.requires
 
-pub returns : goal.returns
-returns c = λ t. heap-seen (the_view c.self.inside) c.args.self.now c.self.view_is t c.args.class.0 ∙ sym c.is_heap.ensures
+pub returns-clause-reads : goal.returns-clause-reads
+returns-clause-reads c = λ t. heap-seen (the_view c.self.inside) c.args.self.now c.self.view_is t c.args.class.0 ∙ sym c.is_heap.ensures

@@ -1,4 +1,8 @@
+use Rattle.std.proofs.Common.{[], ◌∷◌, ◌++◌, ap, sym, ◌∙◌, subst}
 use Rattle.std.proofs.lemmas.Option.{slice_get_within}
+use Rattle.py_node.specs.Texts.{Stands}
+use Rattle.class_world.specs.Held.{Held}
+use Rattle.class_world.specs.Names.{AddsName}
 use Rattle.class_world.specs.contracts.world.World.{the_view}
 use Rattle.class_world.specs.Sound.{Holds}
 use Rattle.class_world.proofs.Growth.{names-grow, grows-seen}
@@ -14,3 +18,12 @@ returns-clause-grows c = grows-seen (the_view c.self.inside) _ _ c.self.view_is 
 pub returns-clause-holds : goal.returns-clause-holds
 unfolding Holds
 returns-clause-holds c = slice_get_within _ _ _ c.in_ok-intern.ensures.spelled
+
+pub returns-clause-adds : goal.returns-clause-adds
+unfolding AddsName
+returns-clause-adds c =
+    let w = the_view c.self.inside in
+    let v = c.self.view_is in (
+      λ s. ap (λ xs. record w { names = xs }) (c.intern.ensures.same (subst (λ (u : Held). Stands u.names c.args.text.now) (sym v) s)) ∙ v,
+      λ none. ap (λ xs. record w { names = xs }) (c.in_ok-intern.ensures.added (λ s. none (subst (λ (u : Held). Stands u.names c.args.text.now) v s))) ∙ ap (λ (u : Held). record u { names = u.names ++ c.args.text.now ∷ [] }) v,
+    )

@@ -1,4 +1,4 @@
-use Rattle.std.proofs.Common.{◌≡◌, None, refl, sym, ap, ◌∙◌}
+use Rattle.std.proofs.Common.{◌≡◌, true, false, None, refl, sym, ap, ◌∙◌}
 use Rattle.class_table.specs.Rebase.{refused_class}
 use Rattle.class_table.specs.Refused.{cause_of}
 use Rattle.class_world.specs.contracts.world.World.{the_view}
@@ -6,7 +6,7 @@ use Rattle.class_world.specs.Sound.{Holds, IsNode, IsClass, of_node, with_class_
 use Rattle.class_world.proofs.Claims.{got, opened-one, each-get}
 use Rattle.class_world.proofs.Growth.{grows-seen}
 use Rattle.class_world.proofs.NodeChanges.{change-grows, change-sound, change-read}
-use Rattle.class_world.proofs.Reclassed.{class-set-holds, class-told}
+use Rattle.class_world.proofs.Reclassed.{class-set-holds, class-told, was-heap}
 use Rattle.class_world.proofs.world.World.set_class.Goals as goal
 
 pub index-requires : goal.index-requires
@@ -42,7 +42,7 @@ invariant_of-self c =
     let second = got w.nodes c.args.object.0 n here c.index_mut.ensures.value in
     let same : m ≡ n = cc in
     let passed : refused_class w.classes n.class.0 c.args.class.0 ≡ None = sym (ap (λ x. refused_class w.classes x.class.0 c.args.class.0) same) ∙ sym c.may_become.ensures ∙ ap cause_of c.in-Ok.is in
-    rw c.set_class.ensures (change-sound w c.args.object n (with_class_ref n c.args.class) c.index_mut.ensures.value refl (class-set-holds w n c.args.class c.sound.ensures.sound (each-get w of_node w.nodes c.args.object.0 n second c.self.invariant.nodes) class passed) c.self.invariant)
+    rw c.set_class.ensures (change-sound w c.args.object n (with_class_ref n c.args.class) c.index_mut.ensures.value refl (λ h. let no : false ≡ true = sym h ∙ was-heap w.classes n.class.0 c.args.class.0 passed in cc no) (class-set-holds w n c.args.class c.sound.ensures.sound (each-get w of_node w.nodes c.args.object.0 n second c.self.invariant.nodes) class passed) c.self.invariant)
 
 pub returns-in-Ok-clause-refused : goal.returns-in-Ok-clause-refused
 unfolding Holds
@@ -61,10 +61,17 @@ returns-in-Ok-clause-set c = λ t.
     rw c.set_class.ensures (change-read w c.args.self.now c.self.view_is c.args.object n (with_class_ref n c.args.class) (λ x. record x { class = c.args.class.0 }) t here c.index_mut.ensures.value refl)
 
 pub returns-in-Ok-clause-grows : goal.returns-in-Ok-clause-grows
+unfolding Holds
 returns-in-Ok-clause-grows c =
     let w = the_view c.self.inside in
+    let here = opened-one w c.args.self.now (IsNode c.args.object) c.self.view_is c.requires.object in
+    let m = c.index.result.now in
     let n = c.index_mut.result.now in
-    rw c.set_class.ensures (grows-seen w _ _ c.self.view_is (change-grows w c.args.object n (with_class_ref n c.args.class) c.index_mut.ensures.value refl))
+    let first = got w.nodes c.args.object.0 m here c.index.ensures in
+    let second = got w.nodes c.args.object.0 n here c.index_mut.ensures.value in
+    let same : m ≡ n = cc in
+    let passed : refused_class w.classes n.class.0 c.args.class.0 ≡ None = sym (ap (λ x. refused_class w.classes x.class.0 c.args.class.0) same) ∙ sym c.may_become.ensures ∙ ap cause_of c.in-Ok.is in
+    rw c.set_class.ensures (grows-seen w _ _ c.self.view_is (change-grows w c.args.object n (with_class_ref n c.args.class) c.index_mut.ensures.value refl (λ h. let no : false ≡ true = sym h ∙ was-heap w.classes n.class.0 c.args.class.0 passed in cc no)))
 
 pub returns-in-Err-clause-refused : goal.returns-in-Err-clause-refused
 unfolding Holds

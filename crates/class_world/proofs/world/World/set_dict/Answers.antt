@@ -27,7 +27,7 @@ invariant_of-self c =
     let at = got w.nodes c.args.object.0 n here c.index_mut.ensures.value in
     let t = c.readable.ensures.0 in
     let had = sym (ap (λ o. is_some (option_and_then (λ (x : Node). x.dict) o)) (node-read w now c.args.object n c.self.view_is at t)) ∙ c.requires.had t in
-    rw c.set_dict.ensures (change-sound w c.args.object n (with_dict_ref n c.args.dict) c.index_mut.ensures.value refl (dict-set-holds w n c.args.dict had (each-get w of_node w.nodes c.args.object.0 n at c.self.invariant.nodes) dict holding) c.self.invariant)
+    rw c.set_dict.ensures (change-sound w c.args.object n (with_dict_ref n c.args.dict) c.index_mut.ensures.value refl (λ h. refl) (dict-set-holds w n c.args.dict had (each-get w of_node w.nodes c.args.object.0 n at c.self.invariant.nodes) dict holding) c.self.invariant)
 
 pub returns-clause-set : goal.returns-clause-set
 unfolding Holds
@@ -41,4 +41,4 @@ pub returns-clause-grows : goal.returns-clause-grows
 returns-clause-grows c =
     let w = the_view c.self.inside in
     let n = c.index_mut.result.now in
-    rw c.set_dict.ensures (grows-seen w _ _ c.self.view_is (change-grows w c.args.object n (with_dict_ref n c.args.dict) c.index_mut.ensures.value refl))
+    rw c.set_dict.ensures (grows-seen w _ _ c.self.view_is (change-grows w c.args.object n (with_dict_ref n c.args.dict) c.index_mut.ensures.value refl (λ h. refl)))

@@ -8,8 +8,8 @@ use Rattle.class_world.proofs.ChangedClass.{called, called-read, change-like, ch
 use Rattle.class_world.proofs.OneBase.{class-there}
 use Rattle.class_world.proofs.world.World.set_name.Goals as goal
 
-pub set_name-requires : goal.set_name-requires
-set_name-requires c = class-there _ _ (opened-one (the_view c.self.inside) c.args.self.now (IsClass c.args.class.0) c.self.view_is c.requires)
+pub set_name-requires-clause-there : goal.set_name-requires-clause-there
+set_name-requires-clause-there c = class-there _ _ (opened-one (the_view c.self.inside) c.args.self.now (IsClass c.args.class.0) c.self.view_is c.requires.class)
 
 pub invariant_of-self : goal.invariant_of-self
 invariant_of-self c =

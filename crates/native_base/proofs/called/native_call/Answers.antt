@@ -1,7 +1,7 @@
 use Rattle.std.proofs.Common.{ap, sym, ◌∙◌}
 use Rattle.class_world.specs.Reading.{bindings}
-use Rattle.proto_call.specs.Say.{call_native}
-use Rattle.proto_call.proofs.call.native_call.Goals as goal
+use Rattle.native_base.specs.Called.{call_native}
+use Rattle.native_base.proofs.called.native_call.Goals as goal
 
 pub returns-clause-task : goal.returns-clause-task
 returns-clause-task c = λ t.

@@ -1,0 +1,4 @@
+pub mod Change
+pub mod Shown
+pub mod Refused
+pub mod Following
