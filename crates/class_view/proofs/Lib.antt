@@ -1,0 +1,5 @@
+pub mod Keeping
+pub mod Looking
+pub mod Feeding
+pub mod Absent
+pub mod Alike

@@ -1,0 +1,5 @@
+use Rattle.class_view.proofs.Keeping.{admits}
+use Rattle.class_view.proofs.press.Press.reader.Goals as goal
+
+pub reader-requires : goal.reader-requires
+reader-requires c = admits

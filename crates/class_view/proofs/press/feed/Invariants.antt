@@ -1,0 +1,12 @@
+use Rattle.std.proofs.Common.{◌≡◌, ◌≤◌, ◌-◌, ◌++◌, drop, length, map}
+use Rattle.class_log.specs.Change.{change_of}
+use Rattle.class_view.proofs.press.feed.Given as goal
+
+abbrev pub invariant-loop-fed : goal.invariant-loop-fed
+invariant-loop-fed l =
+    (l.fed ≤ length l.changes)
+    × (l.publisher.desk ≡ l.fn.publisher.desk)
+    × (drop l.publisher.behind l.publisher.log.items ++ drop l.fed (map change_of l.changes) ≡ drop l.fn.publisher.behind l.fn.publisher.log.items ++ drop l.fn.fed (map change_of l.changes))
+
+abbrev pub decreases-loop-fed : goal.decreases-loop-fed
+decreases-loop-fed l = length l.changes - l.fed

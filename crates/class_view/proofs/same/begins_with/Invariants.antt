@@ -1,0 +1,6 @@
+use Rattle.std.proofs.Common.{◌≡◌, map, take}
+use Rattle.class_log.specs.Change.{change_of}
+use Rattle.class_view.proofs.same.begins_with.Given as goal
+
+abbrev pub invariant-loop-i : goal.invariant-loop-i
+invariant-loop-i l = take l.i (map change_of l.list) ≡ take l.i (map change_of l.part)

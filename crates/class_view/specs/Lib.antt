@@ -1,0 +1,5 @@
+pub mod Lists
+pub mod Rule
+pub mod Known
+pub mod Posted
+pub mod Found

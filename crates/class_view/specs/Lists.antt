@@ -1,0 +1,12 @@
+-- Lists that begin with others.
+use Rattle.std.specs.Prelude.{List}
+use Rattle.class_log.specs.Change.{Change}
+use Rattle.class_log.specs.Following.{BeginsWith}
+
+-- the list begins with all that was known
+abbrev pub Follows : (List Change → Type 0) → List Change → Type 0
+Follows knows list = (part : List Change) → knows part → BeginsWith part list
+
+-- what was known is still known
+abbrev pub IsKept : (List Change → Type 0) → (List Change → Type 0) → Type 0
+IsKept old new = (part : List Change) → old part → new part
