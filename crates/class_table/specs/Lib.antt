@@ -14,5 +14,6 @@ pub mod OneBase
 pub mod Name
 pub mod Rebase
 pub mod Steps
+pub mod Start
 pub mod Trial
 pub mod Renewed

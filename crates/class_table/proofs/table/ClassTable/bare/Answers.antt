@@ -9,7 +9,7 @@ use Rattle.py_node.specs.BuiltIns.{place_of, base_of, all_built_ins}
 use Rattle.class_model.specs.Start.{built_class}
 use Rattle.class_model.specs.Dict.{says_dict, has_its_dict}
 use Rattle.class_table.proofs.StartParts.{base_below, map-step, map-end, built-below, built-count, in-row, one-below, one-long, made-place, made-there, made-limit, built-dict}
-use Rattle.class_table.proofs.table.ClassTable.new.Goals as goal
+use Rattle.class_table.proofs.table.ClassTable.bare.Goals as goal
 
 pub loop-row-preserved : goal.loop-row-preserved
 loop-row-preserved c =
