@@ -61,7 +61,7 @@ fn add_attr(
 
 // The object that an own attribute holds: the next new one, or None.
 fn value_of(attr: Attr, next: u64) -> PyObjectRef
-    ensures { result.0 ≡ value_number next attr }
+    ensures { result ≡ record { 0 = value_number next attr } }
 {
     match attr {
         Attr::NoHash => PyObjectRef(NONE),
