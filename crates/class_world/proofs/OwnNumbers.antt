@@ -19,7 +19,7 @@ use Rattle.class_model.specs.Start.{built_in_classes}
 use Rattle.class_table.specs.OneBase.{says_so}
 use Rattle.class_table.specs.Start.{Numbered, value_number, number_past, with_own}
 use Rattle.plain_machine.specs.Start.{attr_class}
-use Rattle.plain_machine.specs.World.{next_node}
+use Rattle.plain_machine.specs.World.{ref, next_node}
 use Rattle.class_world.specs.Held.{Held, numbered}
 use Rattle.class_world.specs.Reading.{Reading, IsReadable, node_of, plain}
 use Rattle.class_world.specs.Sound.{flags_at}
@@ -46,26 +46,26 @@ attr-plain (attr.SettablePart d) = refl
 attr-plain attr.NoHash = refl
 
 -- the object gets the next number
-next-one : (w : Held) (t : Reading) (a : Attr) (r : PyObjectRef) → flags_at (plain t w).classes (place_of (attr_class a)) ≡ Some (flags_of (attr_class a)) → r ≡ next_node (plain t w) (place_of (attr_class a)) → r.0 ≡ length w.nodes
+next-one : (w : Held) (t : Reading) (a : Attr) (r : PyObjectRef) → flags_at (plain t w).classes (place_of (attr_class a)) ≡ Some (flags_of (attr_class a)) → r ≡ next_node (plain t w) (place_of (attr_class a)) → r ≡ ref (length w.nodes)
 unfolding plain
 next-one w t a r f e =
-    ap (λ (r : PyObjectRef). r.0) e
-    ∙ ap (λ b. cond b (length (plain t w).nodes + 1) (length (plain t w).nodes)) (no-dict (plain t w).classes (place_of (attr_class a)) (flags_of (attr_class a)) f (attr-plain a))
-    ∙ length-map w.nodes (node_of t)
+    e
+    ∙ ap (λ b. ref (cond b (length (plain t w).nodes + 1) (length (plain t w).nodes))) (no-dict (plain t w).classes (place_of (attr_class a)) (flags_of (attr_class a)) f (attr-plain a))
+    ∙ ap ref (length-map w.nodes (node_of t))
 
-pub next-numbered : {E : Type 0} (w : Held) (a : Attr) (c : ℕ) (o : Result PyObjectRef E) → c ≡ place_of (attr_class a) → IsReadable w → ((t : Reading) (b : BuiltIn) → flags_at (plain t w).classes (place_of b) ≡ Some (flags_of b)) → IfOk o (λ r. (t : Reading) → r ≡ next_node (plain t w) c) → IfOk o (λ r. r.0 ≡ length w.nodes)
+pub next-numbered : {E : Type 0} (w : Held) (a : Attr) (c : ℕ) (o : Result PyObjectRef E) → c ≡ place_of (attr_class a) → IsReadable w → ((t : Reading) (b : BuiltIn) → flags_at (plain t w).classes (place_of b) ≡ Some (flags_of b)) → IfOk o (λ r. (t : Reading) → r ≡ next_node (plain t w) c) → IfOk o (λ r. r ≡ ref (length w.nodes))
 next-numbered w a c (Ok r) e read flags h = let t = read.0 in next-one w t a r (flags t (attr_class a)) (h t ∙ ap (next_node (plain t w)) e)
 next-numbered w a c (Err x) e read flags h = tt
 
-pub past-numbered : {E : Type 0} (n m : ℕ) (o : Result PyObjectRef E) → IfOk o (λ r. m ≡ suc r.0) → IfOk o (λ r. r.0 ≡ n) → OnOk o (m ≡ suc n)
-past-numbered n m (Ok r) l e = l ∙ ap suc e
+pub past-numbered : {E : Type 0} (n m : ℕ) (o : Result PyObjectRef E) → IfOk o (λ r. m ≡ suc r.0) → IfOk o (λ r. r ≡ ref n) → OnOk o (m ≡ suc n)
+past-numbered n m (Ok r) l e = l ∙ ap (λ (r : PyObjectRef). suc r.0) e
 past-numbered n m (Err x) l e = tt
 
 -- the attribute is set
-pub own-added : {A E : Type 0} (old mid new : Held) (b : BuiltIn) (a : Known × Attr) (c : ℕ) (x : PyStrInterned) (r : PyObjectRef) (o : Result A E) → c ≡ place_of b → x.0 ≡ number_of a.0 → r.0 ≡ value_number (length old.nodes) a.1 → mid.classes ≡ old.classes → length mid.nodes ≡ number_past (length old.nodes) a.1 → OnOk o (new ≡ record mid { classes = with_class_attr is_same_name mid.classes c x r }) → OnOk o (numbered new ≡ with_own b (numbered old) a)
+pub own-added : {A E : Type 0} (old mid new : Held) (b : BuiltIn) (a : Known × Attr) (c : ℕ) (x : PyStrInterned) (r : PyObjectRef) (o : Result A E) → c ≡ place_of b → x ≡ record { 0 = number_of a.0 } → r ≡ ref (value_number (length old.nodes) a.1) → mid.classes ≡ old.classes → length mid.nodes ≡ number_past (length old.nodes) a.1 → OnOk o (new ≡ record mid { classes = with_class_attr is_same_name mid.classes c x r }) → OnOk o (numbered new ≡ with_own b (numbered old) a)
 unfolding with_own
 own-added old mid new b a c x r (Ok v) e n k ks l h =
-    ap numbered h ∙ (λ i. (with_class_attr is_same_name (ks i) (e i) (record { 0 = n i }) (record { 0 = k i }), l i))
+    ap numbered h ∙ (λ i. (with_class_attr is_same_name (ks i) (e i) (n i) (k i), l i))
 own-added old mid new b a c x r (Err v) e n k ks l h = tt
 
 -- at first, by computing

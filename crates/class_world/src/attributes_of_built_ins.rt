@@ -3,7 +3,7 @@
 ghost use Rattle.std.specs.Prelude.{◌≡◌, suc, length, fold, Some, None, IfOk, OnOk};
 ghost use Rattle.py_node.specs.BuiltIns.{place_of, all_built_ins};
 ghost use Rattle.plain_machine.specs.Plain.{AMethodDescriptor, AGetSet};
-ghost use Rattle.plain_machine.specs.World.{with_node, next_node};
+ghost use Rattle.plain_machine.specs.World.{ref, with_node, next_node};
 ghost use Rattle.class_table.specs.Start.{value_number, number_past, with_own, with_all_own, with_each_own};
 ghost use Rattle.plain_machine.specs.Start.{attr_class, attr_datum, with_value, value_in, with_attr, with_attrs};
 ghost use Rattle.class_world.specs.Held.{numbered};
@@ -77,7 +77,7 @@ fn add_value(
         with_value class (plain t world.old) (t.text name.0) attr) }
     ensures number { IfOk result (λ r. (t : Reading) → r ≡ value_in (plain t world.old) attr) }
     ensures classes { world.new.classes ≡ world.old.classes }
-    ensures value { IfOk result (λ r. r.0 ≡ value_number (length world.old.nodes) attr) }
+    ensures value { IfOk result (λ r. r ≡ ref (value_number (length world.old.nodes) attr)) }
     ensures past { OnOk result (length world.new.nodes ≡ number_past (length world.old.nodes) attr) }
     ensures reads { (t : Reading) → Reads t world.new → Reads t world.old }
     ensures grows { Grows world.old world.new }
@@ -101,7 +101,7 @@ fn add_object(
         with_node (plain t world.old) (place_of (attr_class attr)) (attr_datum class (t.text name.0) attr)) }
     ensures number { IfOk result (λ r. (t : Reading) → r ≡ next_node (plain t world.old) (place_of (attr_class attr))) }
     ensures classes { world.new.classes ≡ world.old.classes }
-    ensures next { IfOk result (λ r. r.0 ≡ length world.old.nodes) }
+    ensures next { IfOk result (λ r. r ≡ ref (length world.old.nodes)) }
     ensures past { OnOk result (length world.new.nodes ≡ suc (length world.old.nodes)) }
     ensures reads { (t : Reading) → Reads t world.new → Reads t world.old }
     ensures grows { Grows world.old world.new }

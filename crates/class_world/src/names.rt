@@ -21,7 +21,7 @@ impl World {
     /// A name that every world knows.
     pub fn known(&self, name: Known) -> PyStrInterned
         ensures spelled { (t : Reading) → Reads t self.now → t.text result.0 ≡ known_text name }
-        ensures number { result.0 ≡ number_of name }
+        ensures number { result ≡ record { 0 = number_of name } }
         ensures holds { Holds self.now (IsName result) }
     {
         let _names = &self.names;
