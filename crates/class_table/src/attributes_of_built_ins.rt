@@ -43,7 +43,6 @@ fn add_attrs(table: &mut ClassTable, class: BuiltIn, first: u64) -> Result<u64, 
 }
 
 // Adds an own attribute, and gives the number of the next new object.
-#[tactic(auto, unfolding(crate::specs::Start::with_own))]
 fn add_attr(
     table: &mut ClassTable,
     class: BuiltIn,
