@@ -40,13 +40,13 @@ own-next b s a = past-near s.1 a.1
 
 -- some own attributes of a class
 
-own-all-there : (b : BuiltIn) (as : List (Known × Attr)) (s : Numbered) → HasBuiltIns s.0 → HasBuiltIns (fold (with_own b) s as).0
+own-all-there : (b : BuiltIn) (own : List (Known × Attr)) (s : Numbered) → HasBuiltIns s.0 → HasBuiltIns (fold (with_own b) s own).0
 own-all-there b [] s h = h
-own-all-there b (a ∷ as) s h = own-all-there b as (with_own b s a) (own-there b s a h)
+own-all-there b (a ∷ own) s h = own-all-there b own (with_own b s a) (own-there b s a h)
 
-own-all-next : (b : BuiltIn) (as : List (Known × Attr)) (s : Numbered) → (fold (with_own b) s as).1 ≤ s.1 + length as
+own-all-next : (b : BuiltIn) (own : List (Known × Attr)) (s : Numbered) → (fold (with_own b) s own).1 ≤ s.1 + length own
 own-all-next b [] s = omega arith
-own-all-next b (a ∷ as) s = let r = own-all-next b as (with_own b s a) in let h = own-next b s a in omega (arith, r, h)
+own-all-next b (a ∷ own) s = let r = own-all-next b own (with_own b s a) in let h = own-next b s a in omega (arith, r, h)
 
 few-test : (b : BuiltIn) → ltb (length (own_attrs b)) 50 ≡ true
 unfolding own_attrs
@@ -98,16 +98,16 @@ module _ {X Y : Type 0} (f : Y → X → Y) where
   fold-end s u (x ∷ xs) (suc i) l was = fold-end (f s x) u xs i (omega arith) was
 
 -- in the middle of a class
-module _ (b : BuiltIn) (as : List (Known × Attr)) (i : ℕ) (s u : Numbered) (is : u ≡ fold (with_own b) s (take i as)) where
+module _ (b : BuiltIn) (own : List (Known × Attr)) (i : ℕ) (s u : Numbered) (is : u ≡ fold (with_own b) s (take i own)) where
   pub own-there-yet : HasBuiltIns s.0 → HasBuiltIns u.0
-  own-there-yet h = subst (λ (v : Numbered). HasBuiltIns v.0) (sym is) (own-all-there b (take i as) s h)
+  own-there-yet h = subst (λ (v : Numbered). HasBuiltIns v.0) (sym is) (own-all-there b (take i own) s h)
 
-  pub own-few-yet : as ≡ own_attrs b → u.1 ≤ s.1 + 50
+  pub own-few-yet : own ≡ own_attrs b → u.1 ≤ s.1 + 50
   own-few-yet same =
-      let at : u.1 ≡ (fold (with_own b) s (take i as)).1 = ap (λ (v : Numbered). v.1) is in
-      let near = own-all-next b (take i as) s in
-      let part = length-taken as i in
-      let all : length as ≡ length (own_attrs b) = ap (λ (xs : List (Known × Attr)). length xs) same in
+      let at : u.1 ≡ (fold (with_own b) s (take i own)).1 = ap (λ (v : Numbered). v.1) is in
+      let near = own-all-next b (take i own) s in
+      let part = length-taken own i in
+      let all : length own ≡ length (own_attrs b) = ap (λ (xs : List (Known × Attr)). length xs) same in
       let few = few-own b in
       omega (arith, at, near, part, all, few)
 

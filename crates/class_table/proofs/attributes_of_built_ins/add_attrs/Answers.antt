@@ -20,4 +20,4 @@ loop-attr-preserved c =
 pub returns : goal.returns
 returns c =
     fold-end (with_own c.args.class) (c.args.table.now, c.args.first) (c.loop-attr.table, c.loop-attr.next) c.attrs_of-attr-items.result.now c.loop-attr.attr-index c.loop-attr-test.false c.loop-attr.invariant
-    ∙ ap (λ as. fold (with_own c.args.class) (c.args.table.now, c.args.first) as) c.attrs_of-attr-items.ensures
+    ∙ ap (λ own. fold (with_own c.args.class) (c.args.table.now, c.args.first) own) c.attrs_of-attr-items.ensures
