@@ -73,5 +73,8 @@ started-count : length start_nodes ≡ fixed_node_count
 unfolding all_built_ins
 started-count = refl
 
-pub started-numbered : (built_in_classes {K = PyStrInterned}, length start_nodes) ≡ (built_in_classes {K = PyStrInterned}, fixed_node_count)
-started-numbered = ap (λ n. (built_in_classes {K = PyStrInterned}, n)) started-count
+abbrev first : ℕ → Numbered
+first n = (built_in_classes, n)
+
+pub started-numbered : first (length start_nodes) ≡ first fixed_node_count
+started-numbered = ap first started-count
