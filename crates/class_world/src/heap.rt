@@ -64,7 +64,8 @@ impl World {
         ensures set { OnOk result ((t : Reading) → plain t self.new ≡
             with_own_attr (plain t self.old) class.0 (t.text name.0) value) }
         ensures held { OnOk result (self.new ≡ record self.old {
-            classes = with_class_attr is_same_name self.old.classes class.0 name value }) }
+          classes = with_class_attr is_same_name self.old.classes class.0 name value;
+        }) }
         ensures err { OnErr result (self.new ≡ self.old) }
         ensures reads { (t : Reading) → Reads t self.new → Reads t self.old }
         ensures grows { Grows self.old self.new }

@@ -23,7 +23,7 @@ returns c =
     let s : Numbered = (c.args.table.now, fixed_node_count) in
     let rows = c.built_ins-row-items.result.now in
     ap (λ (u : Numbered). u.0) (
-      fold-end (λ (s : Numbered) (r : Row). with_all_own s r.0) s (c.loop-row.table, c.loop-row.next) rows c.loop-row.row-index c.loop-row-test.false c.loop-row.invariant
-      ∙ fold-rows with_all_own s rows
-      ∙ ap (λ bs. fold with_all_own s bs) c.built_ins-row-items.ensures.classes
+    fold-end (λ (s : Numbered) (r : Row). with_all_own s r.0) s (c.loop-row.table, c.loop-row.next) rows c.loop-row.row-index c.loop-row-test.false c.loop-row.invariant
+    ∙ fold-rows with_all_own s rows
+    ∙ ap (λ bs. fold with_all_own s bs) c.built_ins-row-items.ensures.classes
     )
