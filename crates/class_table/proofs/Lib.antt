@@ -21,6 +21,7 @@ pub mod Bests
 pub mod Passed
 pub mod KeptLayouts
 pub mod Orders
+pub mod Owned
 pub mod Noted
 pub mod Single
 pub mod Renames

@@ -15,6 +15,7 @@ pub mod Name
 pub mod Rebase
 pub mod Steps
 pub mod Descendants
+pub mod Start
 pub mod Trial
 pub mod Blame
 pub mod Renewed

@@ -2,6 +2,7 @@
 #![tactic(auto)]
 
 pub mod add;
+mod attributes_of_built_ins;
 pub mod blame;
 pub mod candidates;
 pub mod chain;

@@ -13,7 +13,6 @@ ghost use Rattle.class_model.specs.Collect.{all_attributes};
 ghost use Rattle.class_model.specs.Sound.{AreSound};
 ghost use Rattle.class_model.specs.Slot.{entry, slot as slot_read, is_heap_at};
 ghost use Rattle.class_model.specs.BuiltIn.{natives_of};
-ghost use Rattle.class_model.specs.Start.{built_in_classes};
 ghost use Rattle.class_model.specs.Change.{with_class, with_class_attr, without_class_attr, with_class_name, with_bases};
 ghost use Rattle.class_table.specs.Keys.{numbers, number_of, table_keys, slot_names};
 ghost use Rattle.class_table.specs.Stored.{classes_of};
@@ -36,10 +35,8 @@ use crate::put::put_in;
 use crate::read::{own_entry, read, value_along, value_past};
 use crate::rebase::rebase;
 use crate::rename::rename_in;
-use crate::start::new_class;
 use crate::steps::Steps;
 use crate::stored::{NewClass, Stored};
-use py_node::built_in::built_ins;
 use py_node::{
     Cause, OutOfMemory, PyAttributes, PyObjectRef, PyStrInterned, PyTypeFlags, PyTypeRef,
     SlotEntry, SlotId,
@@ -71,18 +68,6 @@ impl Model for ClassTable {
 }
 
 impl ClassTable {
-    /// A table of the built-in classes, which have no attributes yet.
-    pub fn new(alloc: Global) -> Result<ClassTable, OutOfMemory>
-        ensures { IfOk result (λ t. t ≡ built_in_classes) }
-    {
-        let mut table = ClassTable::empty(alloc);
-        for row in built_ins() {
-            let new = new_class(alloc, row.0)?;
-            table.add_class(new)?;
-        }
-        Ok(table)
-    }
-
     // What the table takes its memory from.
     pub(crate) fn alloc(&self) -> Global {
         self.alloc

@@ -102,6 +102,10 @@ module _ {A E : Type 0} (w : Held) (c : ℕ) (x : PyStrInterned) (r : PyObjectRe
       (ap (λ (ks : HeldClasses). record (plain t w) { classes = renamed (spelled t) ks }) p ∙ ap (λ (ks : Classes Text). record (plain t w) { classes = ks }) (attr-read t w.classes c x r))
   set-read now (Err e) p v = tt
 
+  pub set-held : (now : Held) (o : Result A E) → OnOk o (ks ≡ with_class_attr is_same_name w.classes c x r) → w ≡ now → OnOk o (record w { classes = ks } ≡ record now { classes = with_class_attr is_same_name now.classes c x r })
+  set-held now (Ok a) p v = ap (λ (ks : HeldClasses). record w { classes = ks }) p ∙ ap (λ (u : Held). record u { classes = with_class_attr is_same_name u.classes c x r }) v
+  set-held now (Err e) p v = tt
+
 -- every class's number is that of a node, so a further node has room for one
 pub room : (w : Held) (ks : HeldClasses) → AllHold w (of_each of_class ks) → limit ks ≤ length w.nodes
 unfolding Holds
