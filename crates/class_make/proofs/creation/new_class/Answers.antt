@@ -32,22 +32,6 @@ returns-in-Err-Refused-clause-goes c =
     (q, ap (λ u. Ends u (fault cause)) (ap (plain t) e.err) ∙ made-refused (plain t old) cause (refusal (plain t old) b (bindings t p.attrs)) p.meta.0 n b (slot_texts t c.args.slots) (bindings t c.args.kw.items) (bindings t p.attrs) (refused-next (plain t old) b (bindings t p.attrs) (Some cause) (c.requires.layout t q) why)))
     (λ meta args t r. (r, (refl, refl))))
 
-pub returns-in-Err-RefusedAt-clause-goes : goal.returns-in-Err-RefusedAt-clause-goes
-returns-in-Err-RefusedAt-clause-goes c =
-    let e = c.in-Err-RefusedAt.ensures in
-    let cause = c.in-Err-RefusedAt.cause in
-    let old = c.args.world.now in
-    let new = c.new_heap_slots.new.self in
-    let p = c.args.plan in
-    let n = string_bytes p.name in
-    let b = numbers p.bases.items in
-    rw c.raise-in-Err-RefusedAt.ensures (
-    makes-from c.args.kw.items (λ t u. made_in p.meta.0 n b (slot_texts t c.args.slots) (bindings t c.args.kw.items) (u, bindings t p.attrs)) (λ t u. Ends u (fault cause)) old new new _ (λ t r.
-    let q = e.reads t r in
-    let why = rw c.in-Err-RefusedAt.field-0-is at (e.refused t q) in
-    (q, ap (λ u. Ends u (fault cause)) (ap (plain t) e.err) ∙ made-refused (plain t old) cause (refusal (plain t old) b (bindings t p.attrs)) p.meta.0 n b (slot_texts t c.args.slots) (bindings t c.args.kw.items) (bindings t p.attrs) (refused-next (plain t old) b (bindings t p.attrs) (Some cause) (c.requires.layout t q) why)))
-    (λ meta args t r. (r, (refl, refl))))
-
 pub define_functions-requires-clause-values : goal.define_functions-requires-clause-values
 define_functions-requires-clause-values c =
     values-are c.new_heap_slots.new.self c.args.plan.attrs c.deref.result.now (all-grow _ _ c.in-Ok.ensures.grows _ c.requires.attrs) (c.deref.ensures.value ∙ c.in_ok-values.ensures)
