@@ -1,18 +1,18 @@
-use Rattle.std.proofs.Common.{◌≡◌, ℕ, [], subst, sym, ap, ◌∙◌}
+use Rattle.std.proofs.Common.{◌≡◌, ℕ, [], length, subst, sym, ap, ◌∙◌}
 use Rattle.plain_machine.specs.Answer.{Out, answer}
 use Rattle.class_world.specs.Reading.{Reads, plain, task_of}
 use Rattle.vm_eval.specs.Asks.{ending_in, unnoted}
 use Rattle.vm_eval.specs.Say.{say}
 use Rattle.vm_eval.specs.Stack.{ending_of}
 use Rattle.vm_eval.specs.State.{State}
-use Rattle.vm_eval.proofs.Rests.{none-read, still-none}
+use Rattle.vm_eval.proofs.Rests.{none-read, quiet-read, still-none}
 use Rattle.vm_eval.proofs.machine.VirtualMachine.ask.Goals as goal
 
 pub returns-then-self-clause-rests : goal.returns-then-self-clause-rests
 returns-then-self-clause-rests c = λ t. subst (λ (s : State). (plain t s.world).scopes ≡ []) c.self.view_is (none-read t c.self.inside.world c.self.invariant.0)
 
 pub returns-in-Ok-clause-rests : goal.returns-in-Ok-clause-rests
-returns-in-Ok-clause-rests c = λ t. none-read t c.take_calls-starts.new.self (still-none c.self.inside.world c.take_calls-starts.new.self c.self.invariant.0 (c.take_calls-starts.ensures.grows.bodies ∙ c.in-Ok.ensures.bodies))
+returns-in-Ok-clause-rests c = λ t. none-read t c.take_calls-starts.new.self (still-none c.self.inside.world c.take_calls-starts.new.self c.self.invariant.0 (ap length c.take_calls-starts.ensures.bodies ∙ c.in-Ok.ensures.bodies))
 
 pub returns-in-Ok-clause-answers : goal.returns-in-Ok-clause-answers
 returns-in-Ok-clause-answers c = λ t reads.
@@ -24,3 +24,9 @@ returns-in-Ok-clause-answers c = λ t reads.
     ∙ ap (λ w. Out w (ending_of c.in-Ok.end) left) (sym (c.take_calls-starts.ensures.taken t))
     ∙ ap (λ e. Out (plain t new) e left) (sym c.result_of.ensures.ending) in
     subst (λ (s : State). Reads t s.world × (n : ℕ) × (unnoted (answer say (plain t s.world) (task_of t c.args.task) c.args.units 0) ≡ Out (plain t new) (ending_in c.result_of.result) n)) c.self.view_is (said.0, left, out)
+
+pub returns-then-self-clause-quiet : goal.returns-then-self-clause-quiet
+returns-then-self-clause-quiet c = λ t. subst (λ (s : State). (plain t s.world).calls ≡ []) c.self.view_is (quiet-read t c.self.inside.world c.self.invariant.1)
+
+pub returns-in-Ok-clause-quiet : goal.returns-in-Ok-clause-quiet
+returns-in-Ok-clause-quiet c = λ t. quiet-read t c.take_calls-starts.new.self c.take_calls-starts.ensures.rests
