@@ -46,7 +46,7 @@ impl VirtualMachine {
             }
             Err(_) => {
                 self.world.end_bodies(0);
-                let _starts = self.world.take_calls();
+                let _left = self.world.take_calls();
                 self.failed = true;
                 self.world.sound();
                 Err(RunFault::OutOfMemory)

@@ -17,7 +17,7 @@ pub returns-in-Ok-clause-quiet : goal.returns-in-Ok-clause-quiet
 returns-in-Ok-clause-quiet c = λ t. quiet-read t c.replies.new.world (c.in-Ok.ensures.quiet c.self.invariant.1)
 
 pub returns-in-Err-clause-rests : goal.returns-in-Err-clause-rests
-returns-in-Err-clause-rests c = λ t. none-read t c.take_calls-starts.new.self (c.take_calls-starts.ensures.bodies ∙ c.end_bodies.ensures.bodies)
+returns-in-Err-clause-rests c = λ t. none-read t c.take_calls-left.new.self (c.take_calls-left.ensures.bodies ∙ c.end_bodies.ensures.bodies)
 
 pub returns-in-Err-clause-quiet : goal.returns-in-Err-clause-quiet
-returns-in-Err-clause-quiet c = λ t. quiet-read t c.take_calls-starts.new.self c.take_calls-starts.ensures.rests
+returns-in-Err-clause-quiet c = λ t. quiet-read t c.take_calls-left.new.self c.take_calls-left.ensures.rests
