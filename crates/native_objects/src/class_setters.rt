@@ -9,10 +9,9 @@ ghost use Rattle.class_model.specs.Slot.{is_heap_at};
 ghost use Rattle.plain_machine.specs.Change.{SetName, SetOwn};
 ghost use Rattle.plain_machine.specs.Plain.{Said, Ends};
 ghost use Rattle.plain_machine.specs.World.{datum_at};
-ghost use Rattle.class_world.specs.Claims.{of_ended};
 ghost use Rattle.class_world.specs.Reading.{Reading, plain};
 ghost use Rattle.class_world.specs.Rows.{EndsAs, LeavesEnd};
-ghost use Rattle.class_world.specs.Sound.{AllHold, Grows, IsClass, IsNode, Holds};
+ghost use Rattle.class_world.specs.Sound.{IsClass, IsNode, Holds};
 ghost use Rattle.native_objects.specs.Names.{has_null, text_of};
 ghost use Rattle.native_objects.specs.Setters.{changes, class_written, on_heap, renamed, set_name, set_qualname, take_own, with_heap_value};
 
