@@ -1,11 +1,13 @@
 use Rattle.std.proofs.Common.{◌≡◌, ℕ, [], length, subst, sym, ap, ◌∙◌}
 use Rattle.plain_machine.specs.Answer.{Out, answer}
 use Rattle.class_world.specs.Reading.{Reads, plain, task_of}
+use Rattle.class_world.specs.Sound.{Grows}
+use Rattle.class_world.proofs.Growth.{lasts-on}
 use Rattle.vm_eval.specs.Asks.{ending_in, unnoted}
 use Rattle.vm_eval.specs.Say.{say}
 use Rattle.vm_eval.specs.Stack.{ending_of}
 use Rattle.vm_eval.specs.State.{State}
-use Rattle.vm_eval.proofs.Rests.{none-read, quiet-read, still-none}
+use Rattle.vm_eval.proofs.Rests.{none-read, quiet-read, rest-grows, still-none}
 use Rattle.vm_eval.proofs.machine.VirtualMachine.ask.Goals as goal
 
 pub returns-then-self-clause-rests : goal.returns-then-self-clause-rests
@@ -30,3 +32,27 @@ returns-then-self-clause-quiet c = λ t. subst (λ (s : State). (plain t s.world
 
 pub returns-in-Ok-clause-quiet : goal.returns-in-Ok-clause-quiet
 returns-in-Ok-clause-quiet c = λ t. quiet-read t c.take_calls-starts.new.self c.take_calls-starts.ensures.rests
+
+pub returns-in-Ok-clause-grows : goal.returns-in-Ok-clause-grows
+returns-in-Ok-clause-grows c =
+    let old = c.self.inside.world in
+    let mid = c.drive.new.world in
+    let new = c.take_calls-starts.new.self in
+    let lasts = lasts-on old mid new c.in-Ok.ensures.lasts c.take_calls-starts.ensures.lasts in
+    let none = still-none old new c.self.invariant.0 (ap length c.take_calls-starts.ensures.bodies ∙ c.in-Ok.ensures.bodies) in
+    subst (λ (s : State). Grows s.world new) c.self.view_is (rest-grows old new lasts c.self.invariant.0 none c.self.invariant.1 c.take_calls-starts.ensures.rests)
+
+pub returns-in-Err-clause-grows : goal.returns-in-Err-clause-grows
+returns-in-Err-clause-grows c =
+    let old = c.self.inside.world in
+    let mid = c.drive.new.world in
+    let ended = c.end_bodies.new.self in
+    let new = c.take_calls-left.new.self in
+    let lasts = lasts-on old ended new (lasts-on old mid ended c.in-Err.ensures.lasts c.end_bodies.ensures.lasts) c.take_calls-left.ensures.lasts in
+    subst (λ (s : State). Grows s.world new) c.self.view_is (rest-grows old new lasts c.self.invariant.0 (c.take_calls-left.ensures.bodies ∙ c.end_bodies.ensures.bodies) c.self.invariant.1 c.take_calls-left.ensures.rests)
+
+pub returns-in-Err-clause-rests : goal.returns-in-Err-clause-rests
+returns-in-Err-clause-rests c = λ t. none-read t c.take_calls-left.new.self (c.take_calls-left.ensures.bodies ∙ c.end_bodies.ensures.bodies)
+
+pub returns-in-Err-clause-quiet : goal.returns-in-Err-clause-quiet
+returns-in-Err-clause-quiet c = λ t. quiet-read t c.take_calls-left.new.self c.take_calls-left.ensures.rests
