@@ -1,4 +1,4 @@
-use Rattle.std.proofs.Common.{◌∙◌, [], ap, refl, sym, subst, length, map, None, Some, string_bytes}
+use Rattle.std.proofs.Common.{◌∙◌, [], ap, refl, sym, length, map, None, Some, string_bytes}
 use Rattle.std.proofs.lemmas.List.{length-map}
 use Rattle.class_table.specs.Keys.{numbers}
 use Rattle.plain_machine.specs.Plain.{Ends, Made}
@@ -7,7 +7,6 @@ use Rattle.plain_machine.specs.World.{ref, text_keys, with_new_class}
 use Rattle.class_model.specs.Dict.{heap_class}
 use Rattle.class_world.specs.NewHeap.{slot_texts}
 use Rattle.class_world.specs.Reading.{plain, bindings, spelled}
-use Rattle.class_world.specs.Sound.{AreNames, Holds}
 use Rattle.class_world.proofs.Growth.{grows-on}
 use Rattle.class_world.proofs.Claims.{all-grow}
 use Rattle.class_make.specs.Say.{made_in, refusal, tell, with_own_members}
