@@ -1,11 +1,12 @@
-use Rattle.std.proofs.Common.{◌≡◌, ℕ, [], length, subst, sym, ap, ◌∙◌}
+use Rattle.std.proofs.Common.{◌≡◌, ℕ, List, [], length, subst, sym, ap, ◌∙◌}
 use Rattle.plain_machine.specs.Answer.{Out, answer}
 use Rattle.class_world.specs.Reading.{Reads, plain, task_of}
-use Rattle.class_world.specs.Sound.{Grows}
+use Rattle.class_world.specs.Sound.{AllHold, Claim, Grows}
+use Rattle.class_world.proofs.Claims.{all-last}
 use Rattle.class_world.proofs.Growth.{lasts-on}
 use Rattle.vm_eval.specs.Asks.{ending_in, unnoted}
 use Rattle.vm_eval.specs.Say.{say}
-use Rattle.vm_eval.specs.Stack.{ending_of}
+use Rattle.vm_eval.specs.Stack.{ending_of, of_end}
 use Rattle.vm_eval.specs.State.{State}
 use Rattle.vm_eval.proofs.Rests.{none-read, quiet-read, rest-grows, still-none}
 use Rattle.vm_eval.proofs.machine.VirtualMachine.ask.Goals as goal
@@ -56,3 +57,8 @@ returns-in-Err-clause-rests c = λ t. none-read t c.take_calls-left.new.self (c.
 
 pub returns-in-Err-clause-quiet : goal.returns-in-Err-clause-quiet
 returns-in-Err-clause-quiet c = λ t. quiet-read t c.take_calls-left.new.self c.take_calls-left.ensures.rests
+
+pub returns-in-Ok-clause-holds : goal.returns-in-Ok-clause-holds
+returns-in-Ok-clause-holds c =
+    let new = c.take_calls-starts.new.self in
+    subst (λ (cs : List Claim). AllHold new cs) (sym c.result_of.ensures.names) (all-last c.drive.new.world new c.take_calls-starts.ensures.lasts (of_end c.in-Ok.end) c.in-Ok.ensures.holds)
