@@ -35,8 +35,8 @@ impl World {
     /// layout goes with those before it; the class keeps its solid class and gives its
     /// objects a dict as before; none stands twice. Then the least-numbered
     /// class is told that would have no order while all its bases have one. Where it is refused, and where memory runs
-    /// out, the world stays as it was. No count of merges or of probes falls, and where a test fails that needs no order,
-    /// nothing is counted.
+    /// out, the world stays as it was. No count of merges or of probes falls, and where a test fails that needs no
+    /// order, nothing is counted.
     pub fn set_bases<L: Ledger>(
         &mut self,
         class: PyTypeRef,
