@@ -267,9 +267,10 @@ impl ClassTable {
     /// Other bases for a class that a script made. They are refused for the first of these causes: no script made
     /// the class; there are none; one is the class or derives from it; base by base, one may have no subclasses or its
     /// layout conflicts with those before it; the solid class of the best of them is not that of the best base of now, or
-    /// the class gives its objects a dict and would not, or the other way round; one stands twice; and then at the least-numbered class that they leave without an order while all its bases have
-    /// one. Where they are refused or memory runs out, the table stays as it was. `steps` counts the merges and the
-    /// classes whose slots are found anew; where they are refused before any order is looked at, it counts nothing.
+    /// the class gives its objects a dict and would not, or the other way round; one stands twice; and then at the
+    /// least-numbered class that they leave without an order while all its bases have one. Where they are refused or
+    /// memory runs out, the table stays as it was. No count of merges or of probes falls, and where a test fails that
+    /// needs no order, nothing is counted.
     pub fn set_bases<L: Ledger>(
         &mut self,
         class: PyTypeRef,
