@@ -65,7 +65,7 @@ attr-there ks c d x r = at-changed (λ (k : Class PyStrInterned). record k { att
 
 -- as many classes as before
 pub classes-grow : (w : Held) (ks : HeldClasses) → Like w.classes ks → Grows w (record w { classes = ks })
-classes-grow w ks k = grows w (record w { classes = ks }) refl (omega arith) (omega arith) (λ m f h. h) (omega arith) (keep-itself w.classes w.nodes) k
+classes-grow w ks k = grows w (record w { classes = ks }) refl refl (omega arith) (omega arith) (λ m f h. h) (omega arith) (keep-itself w.classes w.nodes) k
 
 abbrev pub AreStanding : Held → HeldClasses → Type 0
 AreStanding w ks = (c : ℕ) → is_class ks c ≡ true → Holds w (Standing c (record { 0 = c }))
@@ -130,7 +130,7 @@ module _ (w : Held) (meta : PyTypeRef) (k : Class PyStrInterned) where
   pub made-grows : (c : PyTypeRef) → Grows w (class_made c)
   made-grows c =
       let n = length-append w.nodes (record { class = meta; dict = None; members = []; payload = payload.Class c } ∷ []) in
-      grows w (class_made c) refl (omega arith) (omega arith) (λ m f h. h) (omega arith) (keep-push w.classes w.nodes (record { class = meta; dict = None; members = []; payload = payload.Class c })) (like-push w.classes k)
+      grows w (class_made c) refl refl (omega arith) (omega arith) (λ m f h. h) (omega arith) (keep-push w.classes w.nodes (record { class = meta; dict = None; members = []; payload = payload.Class c })) (like-push w.classes k)
 
   pub node-made : (c : PyTypeRef) (r : PyObjectRef) → r.0 ≡ length w.nodes → Holds (class_made c) (IsNode r)
   unfolding Holds
