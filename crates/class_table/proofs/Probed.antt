@@ -1,9 +1,11 @@
 -- What the special names find along a linearisation is what stands in the slots.
 use denote.Enum.Bare.{same_true}
 use Rattle.py_node.specs.contracts.entry.SlotId.{the_type}
-use Rattle.std.proofs.Common.{◌≡◌, ℕ, zero, suc, ◌+◌, ◌<◌, ◌≤◌, Bool, true, false, cond, ◌&&◌, ◌||◌, not, eqb, ltb, map, List, [], ◌∷◌, length, Option, Some, None, refl, sym, ap, ◌∙◌, add-zero, arith}
+use Rattle.std.proofs.Common.{◌≡◌, ℕ, zero, suc, ◌+◌, ◌<◌, ◌≤◌, Bool, true, false, cond, ◌&&◌, ◌||◌, not, eqb, ltb, map, List, [], ◌∷◌, length, get_or, drop, Option, Some, None, refl, sym, ap, ◌∙◌, add-zero, arith}
 use Rattle.std.specs.Prelude.{slice_get, slice_index_or, option_and_then}
 use Rattle.std.proofs.lemmas.Bool.{eqb-true, eq-eqb, ltb-true, false≢true}
+use Rattle.std.proofs.lemmas.List.{drop_more}
+use Rattle.std.proofs.Math.ListN.{drop_of_length-le}
 use Rattle.py_node.specs.declared.refs.PyObjectRef.{PyObjectRef}
 use Rattle.py_node.specs.declared.refs.PyStrInterned.{PyStrInterned}
 use Rattle.py_node.specs.declared.entry.SlotId.{SlotId}
@@ -192,3 +194,17 @@ module _ (t : Classes PyStrInterned) (c : ℕ) (line : List ℕ) (values : List 
       go : (b : Bool) → is_slot s New ≡ b → slot_by values s (names_of s) ≡ wrapped s (cond b (own_of (is_name_of table_keys s) (class_at t c)) (along (is_name_of table_keys s) t line))
       go true e = by-new s e
       go false e = by-names s (names_of s) (names-below s) (not-new s e) ∙ sym (names-found t s line (names_of s) few)
+
+-- what the names give, one after another
+module _ (values : List (Option PyObjectRef)) (s : SlotId) (ks : List Known) (i : ℕ) where
+  at-name : (d : Known) → i < length ks → slot_by values s (drop i ks) ≡ or_else (wrapped s (value_at values (number_of (get_or ks i d)))) (slot_by values s (drop (i + 1) ks))
+  at-name d l = ap (slot_by values s) (drop_more ks i d l)
+
+  pub slot-by_found : (d : Known) → i < length ks → (v : PyObjectRef) → Some v ≡ value_at values (number_of (get_or ks i d)) → slot_by values s (drop i ks) ≡ wrapped s (Some v)
+  slot-by_found d l v e = at-name d l ∙ ap (λ o. or_else (wrapped s o) (slot_by values s (drop (i + 1) ks))) (sym e)
+
+  pub slot-by_next : (d : Known) → i < length ks → None ≡ value_at values (number_of (get_or ks i d)) → slot_by values s (drop (i + 1) ks) ≡ slot_by values s (drop i ks)
+  slot-by_next d l e = sym (at-name d l ∙ ap (λ o. or_else (wrapped s o) (slot_by values s (drop (i + 1) ks))) (sym e))
+
+  pub slot-by_end : length ks ≤ i → slot_by values s (drop i ks) ≡ None
+  slot-by_end l = ap (slot_by values s) (drop_of_length-le ks l)

@@ -4,15 +4,26 @@ use Rattle.std.specs.Prelude.{slice_get}
 use Rattle.std.proofs.lemmas.Bool.{cases_eq, eq-eqb, ne_eqb, false≢true}
 use Rattle.std.proofs.lemmas.List.{length-set, map-append}
 use Rattle.std.proofs.lemmas.Option.{slice_get_within}
+use Rattle.class_model.specs.Numbers.{is_ascending}
+use Rattle.class_model.specs.Slot.{entries}
+use Rattle.class_model.specs.BuiltIn.{natives_of}
+use Rattle.class_table.specs.Keys.{table_keys}
+use Rattle.class_table.specs.Coherent.{HasLines}
+use Rattle.class_table.proofs.Refreshed.{length-entries}
 use Rattle.py_node.specs.declared.refs.PyStrInterned.{PyStrInterned}
 use Rattle.class_model.specs.Order.{has, Includes, Distinct, without}
-use Rattle.class_model.specs.Class.{Classes, lin}
+use Rattle.class_model.specs.Class.{Classes, is_heap, lin}
 use Rattle.class_model.proofs.Held.{Includes-equal, Includes-without}
 use Rattle.class_table.specs.Stored.{StoredClass, class_of, classes_of}
 use Rattle.class_table.specs.Patch.{settled}
-use Rattle.class_table.specs.Settle.{line_length, line_places, is_ranked, AreSettled}
+use Rattle.class_table.specs.Settle.{line_length, line_places, is_ranked, is_heap_ranked, AreHeapsSettled, AreSettled}
 use Rattle.class_table.specs.declared.descendants.Ranked.{Ranked}
 use Rattle.class_table.proofs.Places.{get-set_cases, get-set_at, get-set_away, same-maps}
+
+some-in : {A : Type 0} (xs : List A) (i : ℕ) → i < length xs → (x : A) × (slice_get xs i ≡ Some x)
+some-in [] i l = absurd (omega arith)
+some-in (x ∷ xs) zero l = (x, refl)
+some-in (x ∷ xs) (suc i) l = some-in xs i (omega arith)
 
 has-push : (xs : List ℕ) (y x : ℕ) → has (xs ++ y ∷ []) x ≡ (has xs x || eqb y x)
 has-push [] y x = or-false (eqb y x)
@@ -105,6 +116,72 @@ module _ (kind : StoredClass → Bool) (stays : (t : Classes PyStrInterned) (k :
           ∙ ap (λ z. Some (settled (classes_of orig) z)) same
           ∙ ap Some (twice b k)
           ∙ sym (ap (λ d. Some (cond (d && kind k) (settled (classes_of orig) k) k)) now ∙ ap (λ d. Some (cond d (settled (classes_of orig) k) k)) of)
+
+-- first those of one kind, and then all others
+pub settled-both : (kind : StoredClass → Bool) (stays : (t : Classes PyStrInterned) (k : StoredClass) → kind (settled t k) ≡ kind k) (rs : List Ranked) (orig mid new : List StoredClass) → AreSettled (λ i k. is_ranked rs i && kind k) orig mid → AreSettled (λ i k. is_ranked rs i && not (kind k)) mid new → AreSettled (λ i k. is_ranked rs i) orig new
+settled-both kind stays rs orig mid new a b = record {
+  count = b.count ∙ a.count;
+  at = λ i k e.
+      let x = cond (is_ranked rs i && kind k) (settled (classes_of orig) k) k in
+      b.at i x (a.at i k e)
+      ∙ ap (λ t. Some (cond (is_ranked rs i && not (kind x)) (settled t x) x)) (settled-plain kind stays (λ j z. is_ranked rs j && kind z) orig mid a)
+      ∙ ap Some (join (is_ranked rs i) (kind k) k refl);
+}
+  where
+    join : (r d : Bool) (k : StoredClass) → kind k ≡ d → cond (r && not (kind (cond (r && d) (settled (classes_of orig) k) k))) (settled (classes_of orig) (cond (r && d) (settled (classes_of orig) k) k)) (cond (r && d) (settled (classes_of orig) k) k) ≡ cond r (settled (classes_of orig) k) k
+    join false d k e = refl
+    join true true k e = ap (λ b. cond (not b) (settled (classes_of orig) k) (settled (classes_of orig) k)) (stays (classes_of orig) k ∙ e)
+    join true false k e = ap (λ b. cond (not b) (settled (classes_of orig) k) k) e
+
+module _ (is : ℕ → StoredClass → Bool) (orig cur : List StoredClass) (a : AreSettled is orig cur) (plain : classes_of cur ≡ classes_of orig) where
+  -- what stands at a place
+  pub settled-from : (i : ℕ) (x : StoredClass) → slice_get cur i ≡ Some x → (k : StoredClass) × (slice_get orig i ≡ Some k) × (x ≡ cond (is i k) (settled (classes_of orig) k) k)
+  settled-from i x e =
+      let l = slice_get_within cur i x e in
+      let n = a.count in
+      let r = some-in orig i (omega (arith, l, n)) in
+      let h = a.at i r.0 r.1 in
+      (r.0, r.1, cc)
+
+  kept-parts : (b : Bool) (k : StoredClass) → ((cond b (settled (classes_of orig) k) k).number ≡ k.number) × ((cond b (settled (classes_of orig) k) k).mro ≡ k.mro) × (is_heap (class_of (cond b (settled (classes_of orig) k) k)) ≡ is_heap (class_of k))
+  kept-parts true k = (refl, refl, refl)
+  kept-parts false k = (refl, refl, refl)
+
+  -- linearisations stay
+  pub settled-lines : HasLines orig → HasLines cur
+  settled-lines ok = record {
+    ascending = ap is_ascending plain ∙ ok.ascending;
+    mro = λ i x e.
+        let r = settled-from i x e in
+        let q = kept-parts (is i r.0) r.0 in
+        ap (λ t. lin t x.number) plain ∙ ap (λ (z : StoredClass). lin (classes_of orig) z.number) r.2 ∙ ap (lin (classes_of orig)) q.0 ∙ ok.mro i r.0 r.1 ∙ ap Some (sym (ap (λ (z : StoredClass). z.mro) r.2 ∙ q.1));
+  }
+
+  -- so do the numbers of slots
+  pub settled-full : ((i : ℕ) (k : StoredClass) → slice_get orig i ≡ Some k → length k.slots ≡ 73) → (i : ℕ) (x : StoredClass) → slice_get cur i ≡ Some x → length x.slots ≡ 73
+  settled-full full i x e =
+      let r = settled-from i x e in
+      ap (λ (z : StoredClass). length z.slots) r.2 ∙ go (is i r.0) r.0 (full i r.0 r.1)
+    where
+      go : (b : Bool) (k : StoredClass) → length k.slots ≡ 73 → length (cond b (settled (classes_of orig) k) k).slots ≡ 73
+      go true k h = length-entries (classes_of orig) k.number
+      go false k h = h
+
+-- where those that a script made are settled, and those that are not gone through have their slots, all that a script made have
+pub heaps-settled : (rs : List Ranked) (orig mid : List StoredClass) → AreSettled (is_heap_ranked rs) orig mid → classes_of mid ≡ classes_of orig → ((i : ℕ) (k : StoredClass) → slice_get orig i ≡ Some k → is_ranked rs i ≡ false → k.slots ≡ entries table_keys natives_of (classes_of orig) k.number) → AreHeapsSettled mid
+heaps-settled rs orig mid a plain away i x e heap =
+    let r = settled-from (is_heap_ranked rs) orig mid a plain i x e in
+    let q = kept-parts (is_heap_ranked rs) orig mid a plain (is_heap_ranked rs i r.0) r.0 in
+    let h : is_heap (class_of r.0) ≡ true = sym q.2 ∙ ap (λ (z : StoredClass). is_heap (class_of z)) (sym r.2) ∙ heap in
+    ap (λ (z : StoredClass). z.slots) r.2
+    ∙ go (is_ranked rs i) refl (is_heap (class_of r.0)) h r.0 (away i r.0 r.1)
+    ∙ ap (entries table_keys natives_of (classes_of orig)) (sym (ap (λ (z : StoredClass). z.number) r.2 ∙ q.0))
+    ∙ ap (λ t. entries table_keys natives_of t x.number) (sym plain)
+  where
+    go : (b : Bool) → is_ranked rs i ≡ b → (d : Bool) → d ≡ true → (k : StoredClass) → (is_ranked rs i ≡ false → k.slots ≡ entries table_keys natives_of (classes_of orig) k.number) → (cond (b && d) (settled (classes_of orig) k) k).slots ≡ entries table_keys natives_of (classes_of orig) k.number
+    go true w true h k f = refl
+    go true w false h k f = cc
+    go false w d h k f = f w
 
 -- what is added up along a list without repeats is no more than along one that has all of it
 module _ {K : Type 0} (t : Classes K) where

@@ -18,3 +18,5 @@ pub mod Descendants
 pub mod Trial
 pub mod Blame
 pub mod Renewed
+pub mod Probe
+pub mod Settle

@@ -1,5 +1,6 @@
 -- Slots that are found anew after the bases of a class were changed, and how many places are looked at.
 use Rattle.std.specs.Prelude.{◌≡◌, ℕ, ◌+◌, Bool, true, cond, ◌&&◌, not, List, [], ◌∷◌, map, length, Option, Some, None, slice_get}
+use Rattle.std.specs.List.{sum_by}
 use Rattle.class_model.specs.Order.{has}
 use Rattle.class_model.specs.Class.{Classes, is_heap, lin}
 use Rattle.class_model.specs.Slot.{entries}
@@ -19,14 +20,14 @@ abbrev pub line_places : {K : Type 0} → Classes K → List ℕ → ℕ
 line_places t [] = 0
 line_places t (d ∷ ds) = line_length (lin t d) + line_places t ds
 
--- the same of classes that are kept, by their places
+-- the same of the class at a place that is kept
 abbrev pub line_kept : Option StoredClass → ℕ
 line_kept None = 0
 line_kept (Some k) = length k.mro
 
+-- and of those at some places
 abbrev pub places_kept : List StoredClass → List Ranked → ℕ
-places_kept kept [] = 0
-places_kept kept (r ∷ rs) = line_kept (slice_get kept r.place) + places_kept kept rs
+places_kept kept rs = sum_by (λ (r : Ranked). line_kept (slice_get kept r.place)) rs
 
 -- each class that a script made has the slots of its definition
 abbrev pub AreHeapsSettled : List StoredClass → Type 0

@@ -3,14 +3,14 @@
 ghost use Rattle.std.specs.Prelude.{◌≡◌, ◌<◌, ◌*◌, ℕ, true, false, length, Some, map, slice_get, slice_set, slice_index_or};
 ghost use Rattle.py_node.specs.Slots.{place_of, slot_count};
 ghost use Rattle.class_model.specs.Class.{first_along, is_heap};
-ghost use Rattle.class_model.specs.Slot.{given_entry, entry};
+ghost use Rattle.class_model.specs.Slot.{given_entry, entry, entries};
 ghost use Rattle.class_model.specs.BuiltIn.{natives_of};
 ghost use Rattle.class_table.specs.Stored.{StoredClass, class_of, classes_of};
 ghost use Rattle.class_table.specs.Keys.{numbers, table_keys};
 ghost use Rattle.class_table.specs.Coherent.{HasLines};
 ghost use Rattle.class_table.specs.Patch.{settled};
 ghost use Rattle.class_table.specs.Probe.{special_count};
-ghost use Rattle.class_table.specs.Settle.{AreHeapsSettled, AreSettled, line_places_at, places_in};
+ghost use Rattle.class_table.specs.Settle.{AreHeapsSettled, AreSettled, is_ranked, is_heap_ranked, is_static_ranked, places_kept};
 ghost use Rattle.class_table.specs.Steps.{RiseBy};
 
 use crate::descendants::Ranked;
@@ -117,6 +117,14 @@ fn settle_static(classes: &mut [Stored], at: usize)
     }
 }
 
+// Whether a script made the class at a place.
+fn is_heap_at(classes: &[Stored], at: usize) -> bool
+    requires { at < length classes.now }
+    ensures { (k : StoredClass) → slice_get classes.now at ≡ Some k → result ≡ is_heap (class_of k) }
+{
+    classes[at].is_heap()
+}
+
 // Finds every slot of those classes at some places that a script made. It counts at most one probe for each special name
 // and each place of their linearisations.
 fn settle_heaps<L: Ledger>(classes: &mut [Stored], ranked: &[Ranked], steps: &mut Steps<L>)
@@ -146,4 +154,23 @@ fn settle_statics(classes: &mut [Stored], ranked: &[Ranked])
             settle_static(classes, next.place);
         }
     }
+}
+
+// Finds every slot of the classes at some places: first of those that a script made, from which the others take what
+// they lack.
+pub(crate) fn settle_all<L: Ledger>(
+    classes: &mut [Stored],
+    ranked: &[Ranked],
+    steps: &mut Steps<L>,
+)
+    requires lines { HasLines classes.old }
+    requires full { (i : ℕ) (k : StoredClass) → slice_get classes.old i ≡ Some k → length k.slots ≡ slot_count }
+    requires inside { (j : ℕ) (r : Ranked) → slice_get ranked.now j ≡ Some r → r.place < length classes.old }
+    requires away { (i : ℕ) (k : StoredClass) → slice_get classes.old i ≡ Some k → is_ranked ranked.now i ≡ false →
+        k.slots ≡ entries table_keys natives_of (classes_of classes.old) k.number }
+    ensures settled { AreSettled (λ i k. is_ranked ranked.now i) classes.old classes.new }
+    ensures steps { RiseBy 0 (special_count * places_kept classes.old ranked.now) steps.old steps.new }
+{
+    settle_heaps(classes, ranked, steps);
+    settle_statics(classes, ranked);
 }
