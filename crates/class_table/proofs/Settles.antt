@@ -1,15 +1,21 @@
 -- Those classes that are gone through get the slots of their definitions, and all others stay.
-use Rattle.std.proofs.Common.{◌≡◌, ℕ, zero, suc, ◌+◌, ◌*◌, ◌<◌, ◌≤◌, Bool, true, false, cond, ◌&&◌, ◌||◌, not, eqb, List, [], ◌∷◌, ◌++◌, map, length, set, Some, inl, inr, refl, sym, ap, subst, ◌∙◌, arith}
+use Rattle.std.proofs.Common.{◌≡◌, ℕ, zero, suc, ◌+◌, ◌*◌, ◌<◌, ◌≤◌, Bool, true, false, cond, ◌&&◌, ◌||◌, not, eqb, List, [], ◌∷◌, ◌++◌, map, length, get_or, set, Option, Some, inl, inr, refl, sym, ap, subst, ◌∙◌, arith}
 use Rattle.std.specs.Prelude.{slice_get}
 use Rattle.std.proofs.lemmas.Bool.{cases_eq, eq-eqb, ne_eqb, false≢true}
 use Rattle.std.proofs.lemmas.List.{length-set, map-append}
 use Rattle.std.proofs.lemmas.Option.{slice_get_within}
 use Rattle.class_model.specs.Numbers.{is_ascending}
-use Rattle.class_model.specs.Slot.{entries}
+use Rattle.class_model.specs.Slot.{is_by_itself, heap_entry, entry, entries}
 use Rattle.class_model.specs.BuiltIn.{natives_of}
 use Rattle.class_table.specs.Keys.{table_keys}
 use Rattle.class_table.specs.Coherent.{HasLines}
-use Rattle.class_table.proofs.Refreshed.{length-entries}
+use Rattle.py_node.specs.declared.entry.SlotEntry.{SlotEntry}
+use Rattle.py_node.specs.declared.entry.SlotId.{SlotId}
+use Rattle.py_node.specs.Slots.{place_of, all_slots, sort_of}
+use Rattle.std.proofs.lemmas.List.{get_or-set_same}
+use Rattle.class_table.proofs.Along.{entry-given, given-heap}
+use Rattle.class_table.proofs.Found.{place-class}
+use Rattle.class_table.proofs.Refreshed.{part, part-then, plain-set, length-entries}
 use Rattle.py_node.specs.declared.refs.PyStrInterned.{PyStrInterned}
 use Rattle.class_model.specs.Order.{has, Includes, Distinct, without}
 use Rattle.class_model.specs.Class.{Classes, is_heap, lin}
@@ -182,6 +188,23 @@ heaps-settled rs orig mid a plain away i x e heap =
     go true w true h k f = refl
     go true w false h k f = cc
     go false w d h k f = f w
+
+-- what a class that a script made has in a slot is what its names give
+pub heap-entry-is : (kept : List StoredClass) → HasLines kept → (i : ℕ) (k : StoredClass) → slice_get kept i ≡ Some k → is_heap (class_of k) ≡ true → (s : SlotId) → entry table_keys natives_of (classes_of kept) k.number s ≡ heap_entry table_keys (classes_of kept) k.number k.mro s
+heap-entry-is kept lines i k e heap s =
+    let there = place-class kept lines.ascending i k e in
+    let line = lines.mro i k e in
+    entry-given (classes_of kept) k.number (class_of k) k.mro there line s (ap (λ b. not b && is_by_itself (sort_of s)) heap)
+    ∙ given-heap (classes_of kept) k.number (class_of k) k.mro there line s heap
+
+-- one slot more of the class at a place, where what is written is what its definition says of the classes as they were
+pub part-written : (kept : List StoredClass) (at : ℕ) (k : StoredClass) → at < length kept → k ≡ get_or kept at k → (i : ℕ) (s : SlotId) (e : Option SlotEntry) (cur new : List StoredClass) → slice_get all_slots i ≡ Some s → length k.slots ≡ 73 → cur ≡ set kept at (part (classes_of kept) i k) → e ≡ entry table_keys natives_of (classes_of kept) k.number s → new ≡ set cur at (record (get_or cur at k) { slots = set (get_or cur at k).slots (place_of s) e }) → new ≡ set kept at (part (classes_of kept) (i + 1) k)
+part-written kept at k within here i s e cur new is n same written f =
+    let x = part (classes_of kept) i k in
+    let held : get_or cur at k ≡ x = ap (λ ys. get_or ys at k) same ∙ get_or-set_same kept at x k within in
+    let plain : classes_of cur ≡ classes_of kept = ap classes_of same ∙ plain-set kept at k x within here refl in
+    let now : e ≡ entry table_keys natives_of (classes_of cur) (get_or cur at k).number s = written ∙ ap (λ t. entry table_keys natives_of t k.number s) (sym plain) ∙ ap (λ (z : StoredClass). entry table_keys natives_of (classes_of cur) z.number s) (sym held) in
+    part-then kept at k within here i s cur new is n same (f ∙ ap (λ w. set cur at (record (get_or cur at k) { slots = set (get_or cur at k).slots (place_of s) w })) now)
 
 -- what is added up along a list without repeats is no more than along one that has all of it
 module _ {K : Type 0} (t : Classes K) where
