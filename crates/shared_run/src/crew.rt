@@ -1,11 +1,11 @@
 //! The workers of a run: each later seat with its session, and a thread of its own.
 
-ghost use Rattle.std.specs.Prelude.{◌≡◌, ◌<◌, length, vec_len, IfOk, suc, slice_index_or};
+ghost use Rattle.std.specs.Prelude.{◌≡◌, ℕ, ◌<◌, length, vec_len, IfOk, suc, slice_index_or};
 ghost use Rattle.std.specs.List.{All};
 ghost use Rattle.seat_lock.specs.Known.{IsFree, fresh_seat};
-ghost use Rattle.vm_eval.specs.Runs.{trees_in};
 ghost use Rattle.shared_vm.specs.Work.{MayPerform};
-ghost use Rattle.shared_run.specs.Crew.{Each, IsReady, Worked};
+ghost use Rattle.shared_run.specs.Crew.{AllReady, Each, Worked};
+ghost use Rattle.shared_run.specs.Mix.{session_trees};
 
 use py_node::{Command, OutOfMemory};
 use seat_lock::MOST_TURNS;
@@ -33,12 +33,12 @@ pub(crate) fn introduce(
 ) -> Result<Vec<Worker>, OutOfMemory>
     requires first { IsFree vm.now.id first.old }
     requires seats { Each (λ k s. s ≡ fresh_seat vm.now.id (suc k)) seats.items }
-    requires sessions { vec_len sessions ≡ vec_len seats }
+    requires len { vec_len seats ≡ vec_len sessions }
     requires short { All (λ s. vec_len s < MOST_TURNS) sessions.items }
     ensures same { first.new ≡ first.old }
-    ensures len { IfOk result (λ crew. length crew.items ≡ vec_len sessions) }
-    ensures ready { IfOk result (λ crew. Each (λ k w.
-        (d : Vec Command Global) → IsReady vm.now.id first.old.seen (trees_in (slice_index_or sessions.items k d).items) k w) crew.items) }
+    ensures len { IfOk result (λ crew. length crew.items ≡ length sessions.items) }
+    ensures ready { IfOk result (λ crew.
+        AllReady vm.now.id first.old.seen (session_trees sessions.items) crew.items) }
 {
     let mut crew = Vec::new(alloc);
     for (mut seat, session) in seats.into_iter().zip(sessions) {
@@ -60,9 +60,9 @@ pub(crate) fn work_all<R: AllocGlobal + Threads + Wait + Sync, G: Gate + Sync>(
     budget: u64,
     crew: &mut [Worker],
 )
-    requires { All (λ w. MayPerform vm.now.id (length w.session.items) w.seat) crew.old }
-    ensures len { length crew.new ≡ length crew.old }
-    ensures worked { Each (λ k w. (d : Worker) → Worked vm.now.id budget (slice_index_or crew.old k d) w) crew.new }
+    requires { All (λ w. MayPerform vm.now.id (vec_len w.session) w.seat) crew.old }
+    ensures { (k : ℕ) (d : _) → k < length crew.old →
+        Worked vm.now.id budget (slice_index_or crew.old k d) (slice_index_or crew.new k d) }
 {
     let threads = crew.len();
     if threads == 0 {
@@ -73,8 +73,8 @@ pub(crate) fn work_all<R: AllocGlobal + Threads + Wait + Sync, G: Gate + Sync>(
         crew,
         threads,
         &|_place: usize, worker: &mut Worker|
-            requires { MayPerform vm.now.id (length worker.now.session.items) worker.now.seat }
-            ensures { Worked vm.now.id budget worker.entry.now worker.exit.now }
+            requires { MayPerform vm.now.id (vec_len worker.now.session) worker.now.seat }
+            ensures { Worked vm.entry.now.id budget worker.entry.now worker.exit.now }
         { work(rt, vm, gate, budget, worker) },
     );
 }
@@ -87,9 +87,10 @@ fn work<R: AllocGlobal + Wait, G: Gate>(
     budget: u64,
     worker: &mut Worker,
 )
-    requires { MayPerform vm.now.id (length worker.old.session.items) worker.old.seat }
+    requires { MayPerform vm.now.id (vec_len worker.old.session) worker.old.seat }
     ensures { Worked vm.now.id budget worker.old worker.new }
 {
     let session = mem::replace(&mut worker.session, Vec::new(rt.alloc()));
-    worker.refused = !perform(rt, vm, gate, &mut worker.seat, session, budget);
+    let all = perform(rt, vm, gate, &mut worker.seat, session, budget);
+    worker.refused = !all;
 }

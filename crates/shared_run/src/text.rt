@@ -1,6 +1,6 @@
 //! The text of a journal.
 
-ghost use Rattle.std.specs.Prelude.{◌≡◌, ◌++◌, codes, IfOk, string_bytes};
+ghost use Rattle.std.specs.Prelude.{◌≡◌, ◌++◌, codes, IfOk, OnOk, string_bytes};
 ghost use Rattle.std.specs.Fmt.{decimal};
 ghost use Rattle.plain_machine.specs.Lines.{end_of_line};
 ghost use Rattle.shared_vm.specs.Book.{IsReplay};
@@ -29,12 +29,22 @@ pub fn write_journal(alloc: Global, closed: &Closed) -> Result<Vec<u8>, OutOfMem
 fn write_entries(alloc: Global, journal: &[Entry]) -> Result<Vec<u8>, OutOfMemory>
     ensures { IfOk result (λ v. v.items ≡ entries_text (plain_journal journal.now)) }
 {
-    let mut text = Vec::new(alloc);
+    let mut out = Vec::new(alloc);
     for entry in journal {
-        text.extend_from_slice(seat_line(alloc, entry.seat)?.as_bytes())?;
-        text.extend_from_slice(&write_replies(alloc, slice::from_ref(&entry.reply))?)?;
+        push_entry(alloc, &mut out, entry)?;
     }
-    Ok(text)
+    Ok(out)
+}
+
+// Adds the line of an entry's seat and the lines of its reply.
+fn push_entry(alloc: Global, out: &mut Vec<u8>, entry: &Entry) -> Result<(), OutOfMemory>
+    ensures { OnOk result (out.new.items ≡ out.old.items ++ entry_lines (plain_entry entry.now)) }
+{
+    let line = seat_line(alloc, entry.seat)?;
+    let reply = write_replies(alloc, slice::from_ref(&entry.reply))?;
+    out.extend_from_slice(line.as_bytes())?;
+    out.extend_from_slice(&reply)?;
+    Ok(())
 }
 
 // The line of a seat.
