@@ -1,3 +1,4 @@
 mod Entries
 mod Mixes
 mod Crews
+mod Texts

@@ -21,7 +21,8 @@ pub fn write_journal(alloc: Global, closed: &Closed) -> Result<Vec<u8>, OutOfMem
     ensures { IfOk result (λ v. v.items ≡ journal_text (plain_journal closed.now.journal.items)) }
 {
     let mut text = write_entries(alloc, &closed.journal)?;
-    text.extend_from_slice(&write_classes(alloc, closed.machine.world())?)?;
+    let classes = write_classes(alloc, closed.machine.world())?;
+    text.extend_from_slice(&classes)?;
     Ok(text)
 }
 
