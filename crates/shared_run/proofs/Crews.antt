@@ -1,12 +1,13 @@
 -- Seats that begin, that meet the first, and that did what they were to do.
 use Rattle.std.proofs.Common.{◌≡◌, ℕ, zero, suc, ◌+◌, ◌==◌, ◌<◌, ◌≤◌, false, List, [], ◌∷◌, ◌++◌, length, get_or, map, take, drop, inl, inr, refl, sym, ap, ap₂, ◌∙◌, subst, arith}
-use Rattle.std.specs.Prelude.{vec_len, slice_get, Some, Vec}
+use Rattle.std.specs.Prelude.{min, vec_len, slice_get, zip, Some, Vec}
 use Rattle.std.specs.List.{All}
 use Rattle.std.specs.declared.alloc.Global.{Global}
 use Rattle.std.proofs.lemmas.Bool.{cases_lt}
-use Rattle.std.proofs.lemmas.List.{append-nil, get_or_append_left, get_or_push, length_push, get_or-map, length-map}
+use Rattle.std.proofs.lemmas.List.{append-nil, get_or_append_left, get_or_push, length_push, get_or-map, length-map, map_push}
 use Rattle.std.proofs.lemmas.List.Elements.{filter-append}
 use Rattle.std.proofs.lemmas.Option.{get_or_from_slice_get}
+use Rattle.std.proofs.lemmas.Slice.Zip.{length-zip, get_or-zip}
 use mathlib.Core.List.{IsPrefix}
 use Rattle.py_node.specs.declared.expr.Command.{Command}
 use Rattle.py_node.specs.Tree.{Tree}
@@ -139,3 +140,41 @@ all_did id budget first session later sessions old new seats is did len ready wo
     whole (suc k) d less =
         let within : k < length new = omega (arith, less, length-map new (λ (w : Worker). w.seat)) in
         all_later id budget first.seen (session_trees later) old new len ready worked accepted k d within
+
+-- what a `zip` of seats and sessions gives next
+pub paired_at : {A B : Type 0} (as : List A) (bs : List B) (k : ℕ) (a : A) (b : B) → length as ≡ length bs → (k < length (zip as bs)) × ((a, b) ≡ get_or (zip as bs) k (a, b))
+    → (k < length as) × (k < length bs) × (a ≡ get_or as k a) × (b ≡ get_or bs k b)
+paired_at as bs k a b same at =
+    let long : length (zip as bs) ≡ min (length as) (length bs) = length-zip as bs in
+    let in₁ : k < length as = omega (arith, long, at.0) in
+    let in₂ : k < length bs = omega (arith, long, at.0) in
+    let both : (a, b) ≡ (get_or as k a, get_or bs k b) = at.1 ∙ get_or-zip as bs k (a, b) in₁ in₂ in
+    (in₁, in₂, ap (λ (p : A × B). p.0) both, ap (λ (p : A × B). p.1) both)
+
+pub paired_len : {A B : Type 0} (as : List A) (bs : List B) (n : ℕ) → length as ≡ length bs → n ≡ length (zip as bs) → n ≡ length bs
+paired_len as bs n same is = let long : length (zip as bs) ≡ min (length as) (length bs) = length-zip as bs in omega (arith, long, is, same)
+
+module _ (id : TableId) (k : ℕ) (seats : List (Known Entry)) (sessions : List (Vec Command Global)) (old : Known Entry) (session : Vec Command Global) (fresh : Each (λ k s. s ≡ fresh_seat id (suc k)) seats) (same : length seats ≡ length sessions)
+    (at : (k < length (zip seats sessions)) × ((old, session) ≡ get_or (zip seats sessions) k (old, session))) where
+  pub next_fresh : old ≡ fresh_seat id (suc k)
+  next_fresh = let p = paired_at seats sessions k old session same at in p.2 ∙ fresh k old p.0
+
+  pub next_free : IsFree id old
+  next_free = subst (λ (s : Known Entry). IsFree id s) (sym next_fresh) (refl, refl)
+
+  -- a worker more
+  pub ready_more : (opening : List (Turn Entry)) (new : Known Entry) (crew all : List Worker) → All (λ (v : Vec Command Global). vec_len v < MOST_TURNS) sessions
+      → IsSameSeat old new → new.in_turn ≡ false → turns_by new.number new.seen ≡ new.made → IsPrefix opening new.seen → length crew ≡ k
+      → AllReady id opening (session_trees sessions) crew → all ≡ crew ++ record { seat = new; session = session; refused = false } ∷ [] → AllReady id opening (session_trees sessions) all
+  ready_more opening new crew all short stays free own met len ready is =
+      let p = paired_at seats sessions k old session same at in
+      let w : Worker = record { seat = new; session = session; refused = false } in
+      let few : vec_len session < MOST_TURNS = subst (λ (v : Vec Command Global). vec_len v < MOST_TURNS) (sym p.3) (short k session p.1) in
+      let one : IsReady id opening (get_or (session_trees sessions) k []) k w = met_ready id k opening sessions old w next_fresh stays free own met few p.1 p.3 in
+      let P : ℕ → Worker → Type 0 = λ k w. IsReady id opening (get_or (session_trees sessions) k []) k w in
+      subst (λ (ws : List Worker). AllReady id opening (session_trees sessions) ws) (sym is) (each_push P crew w ready (subst (λ (m : ℕ). P m w) (sym len) one))
+
+-- a seat more is gathered
+pub gathered_more : (first : Known Entry) (done : List Worker) (w : Worker) (seats all : List (Known Entry)) → seats ≡ first ∷ map (λ (w : Worker). w.seat) done → all ≡ seats ++ w.seat ∷ [] → all ≡ first ∷ map (λ (w : Worker). w.seat) (done ++ w ∷ [])
+gathered_more first done w seats all was is =
+    is ∙ (ap (λ (ss : List (Known Entry)). ss ++ w.seat ∷ []) was ∙ ap (λ (ss : List (Known Entry)). first ∷ ss) (sym (map_push (λ (w : Worker). w.seat) done w)))
