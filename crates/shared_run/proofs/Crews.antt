@@ -146,10 +146,10 @@ pub paired_at : {A B : Type 0} (as : List A) (bs : List B) (k : ℕ) (a : A) (b 
     → (k < length as) × (k < length bs) × (a ≡ get_or as k a) × (b ≡ get_or bs k b)
 paired_at as bs k a b same at =
     let long : length (zip as bs) ≡ min (length as) (length bs) = length-zip as bs in
-    let in₁ : k < length as = omega (arith, long, at.0) in
-    let in₂ : k < length bs = omega (arith, long, at.0) in
-    let both : (a, b) ≡ (get_or as k a, get_or bs k b) = at.1 ∙ get_or-zip as bs k (a, b) in₁ in₂ in
-    (in₁, in₂, ap (λ (p : A × B). p.0) both, ap (λ (p : A × B). p.1) both)
+    let in_first : k < length as = omega (arith, long, at.0) in
+    let in_second : k < length bs = omega (arith, long, at.0) in
+    let both : (a, b) ≡ (get_or as k a, get_or bs k b) = at.1 ∙ get_or-zip as bs k (a, b) in_first in_second in
+    (in_first, in_second, ap (λ (p : A × B). p.0) both, ap (λ (p : A × B). p.1) both)
 
 pub paired_len : {A B : Type 0} (as : List A) (bs : List B) (n : ℕ) → length as ≡ length bs → n ≡ length (zip as bs) → n ≡ length bs
 paired_len as bs n same is = let long : length (zip as bs) ≡ min (length as) (length bs) = length-zip as bs in omega (arith, long, is, same)

@@ -28,17 +28,14 @@ IsTurn budget t = IsTurnOf t.by budget t
 
 module _ (id : TableId) (budget n : ℕ) (opening : List (Turn Entry)) (sessions : List (List Tree)) (s : Known Entry) (ss : List (Known Entry)) (log : List (Turn Entry))
     (did : AllDid id budget opening sessions (s ∷ ss)) (len : length (s ∷ ss) ≡ length sessions) (count : n ≡ length sessions) (some : 0 < n) (whole : IsWhole n (s ∷ ss) log) where
-  at : (k : ℕ) → k < n → k < length (s ∷ ss)
-  at k less = below k k n (length (s ∷ ss)) refl less (count ∙ sym len)
-
-  seat : ℕ → Known Entry
-  seat k = get_or (s ∷ ss) k s
+  within : (k : ℕ) → k < n → k < length (s ∷ ss)
+  within k less = below k k n (length (s ∷ ss)) refl less (count ∙ sym len)
 
   did_at : (k : ℕ) → k < n → Did id budget opening (get_or sessions k []) k (get_or (s ∷ ss) k s)
-  did_at k less = did k s (at k less)
+  did_at k less = did k s (within k less)
 
   made : (k : ℕ) → k < n → turns_by k log ≡ (get_or (s ∷ ss) k s).made
-  made k less = subst (λ (m : ℕ). turns_by m log ≡ (get_or (s ∷ ss) k s).made) (did_at k less).number (whole.own k s (at k less))
+  made k less = subst (λ (m : ℕ). turns_by m log ≡ (get_or (s ∷ ss) k s).made) (did_at k less).number (whole.own k s (within k less))
 
   turns : All (IsTurn budget) log
   turns = each_turn (λ (k : ℕ) (t : Turn Entry). IsTurnOf k budget t) n log whole.by_seats
@@ -56,14 +53,14 @@ module _ (id : TableId) (budget n : ℕ) (opening : List (Turn Entry)) (sessions
       (λ k d less. IfSome_then (get_or log k d).entry (own k d less) (λ e is. below e.seat (get_or log k d).by n (length sessions) is (whole.by_seats k d less) count))
 
   first_front : IsPrefix opening log
-  first_front = prefix_trans opening (get_or (s ∷ ss) 0 s).seen log (did_at 0 some).seen (whole.seen 0 s (at 0 some))
+  first_front = prefix_trans opening (get_or (s ∷ ss) 0 s).seen log (did_at 0 some).seen (whole.seen 0 s (within 0 some))
 
   mix : Mix (plain_journal (entries_in log)) sessions budget
   mix = record {
     opening_first = first_entries n opening first_front.0 log first_front.1 whole.by_seats ((did_at 0 some).opened refl ∙ sym (made 0 some)) (λ k later less. (did_at k less).behind later) own;
     in_order = λ k less.
-        let in' : k < n = below k k (length sessions) n refl less (sym count) in
-        ap (map (λ (e : PlainEntry). e.command)) (entries_of_turns k log own) ∙ (commands_plain (entries_in (turns_by k log)) ∙ (ap commands_in (made k in') ∙ (did_at k in').commands));
+        let less' : k < n = below k k (length sessions) n refl less (sym count) in
+        ap (map (λ (e : PlainEntry). e.command)) (entries_of_turns k log own) ∙ (commands_plain (entries_in (turns_by k log)) ∙ (ap commands_in (made k less') ∙ (did_at k less').commands));
     budget_is = budgets;
     by_seats = seats;
   }
