@@ -5,7 +5,7 @@ use Rattle.std.specs.List.{All}
 use Rattle.std.specs.declared.alloc.Global.{Global}
 use Rattle.std.proofs.lemmas.Bool.{cases_lt}
 use Rattle.std.proofs.lemmas.List.{append-nil, get_or_append_left, get_or_push, length_push, get_or-map, length-map, map_push}
-use Rattle.std.proofs.lemmas.List.Elements.{filter-append}
+use Rattle.std.proofs.lemmas.List.Elements.{All-head, All-same, All-rest, filter-append}
 use Rattle.std.proofs.lemmas.Option.{get_or_from_slice_get}
 use Rattle.std.proofs.lemmas.Slice.Zip.{length-zip, get_or-zip}
 use mathlib.Core.List.{IsPrefix}
@@ -178,3 +178,21 @@ module _ (id : TableId) (k : ℕ) (seats : List (Known Entry)) (sessions : List 
 pub gathered_more : (first : Known Entry) (done : List Worker) (w : Worker) (seats all : List (Known Entry)) → seats ≡ first ∷ map (λ (w : Worker). w.seat) done → all ≡ seats ++ w.seat ∷ [] → all ≡ first ∷ map (λ (w : Worker). w.seat) (done ++ w ∷ [])
 gathered_more first done w seats all was is =
     is ∙ (ap (λ (ss : List (Known Entry)). ss ++ w.seat ∷ []) was ∙ ap (λ (ss : List (Known Entry)). first ∷ ss) (sym (map_push (λ (w : Worker). w.seat) done w)))
+
+-- the lists without their first, which are short
+pub first_short : (sessions later : List (Vec Command Global)) (session : Vec Command Global) → sessions ≡ session ∷ later → All (λ (v : Vec Command Global). vec_len v < MOST_TURNS) sessions → vec_len session < MOST_TURNS
+first_short sessions later session is short =
+    All-head (λ (v : Vec Command Global). vec_len v < MOST_TURNS) session later (All-same (λ (v : Vec Command Global). vec_len v < MOST_TURNS) (session ∷ later) sessions (sym is) short)
+
+pub later_short : (sessions later : List (Vec Command Global)) (session : Vec Command Global) → sessions ≡ session ∷ later → All (λ (v : Vec Command Global). vec_len v < MOST_TURNS) sessions → All (λ (v : Vec Command Global). vec_len v < MOST_TURNS) later
+later_short sessions later session is short = All-rest (λ (v : Vec Command Global). vec_len v < MOST_TURNS) session later sessions is short
+
+-- the whole run
+pub run_did : (id : TableId) (budget : ℕ) (seats others : List (Known Entry)) (sessions later : List (Vec Command Global)) (session : Vec Command Global) (start first same_first : Known Entry) (old new : List Worker) (all : List (Known Entry))
+    → seats ≡ start ∷ others → sessions ≡ session ∷ later → Each (λ k s. s ≡ fresh_seat id k) seats → Stays id start first → Performed budget (trees_in session.items) start first
+    → same_first ≡ first → AllReady id first.seen (session_trees later) old → length new ≡ length old → ((k : ℕ) (d : Worker) → k < length old → Worked id budget (get_or old k d) (get_or new k d))
+    → All (λ (w : Worker). w.refused ≡ false) new → all ≡ same_first ∷ map (λ (w : Worker). w.seat) new → AllDid id budget first.seen (session_trees sessions) all
+run_did id budget seats others sessions later session start first same_first old new all seats_are sessions_are fresh stays done same ready len worked accepted all_are =
+    let began : start ≡ fresh_seat id 0 = first_fresh id seats others start seats_are fresh in
+    let did : Did id budget first.seen (trees_in session.items) 0 first = did_first id budget start first (trees_in session.items) began stays done in
+    all_did id budget first session later sessions old new all sessions_are did len ready worked accepted (all_are ∙ ap (λ (s : Known Entry). s ∷ map (λ (w : Worker). w.seat) new) same)

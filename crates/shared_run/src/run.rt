@@ -69,7 +69,7 @@ fn run_seats<R: AllocGlobal + Threads + Wait + Sync, G: Gate + Sync>(
         return Err(OutOfMemory);
     }
     let mut crew = introduce(rt.alloc(), vm, &mut first, seats, sessions)?;
-    work_all(rt, vm, gate, budget, &mut crew);
+    work_all(rt, vm, gate, budget, crew.as_mut_slice());
     let all = gather(rt.alloc(), first, crew)?;
     Ok(all)
 }
