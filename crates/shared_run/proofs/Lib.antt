@@ -2,3 +2,4 @@ mod Entries
 mod Mixes
 mod Crews
 mod Texts
+mod Sent
