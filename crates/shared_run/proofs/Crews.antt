@@ -196,3 +196,9 @@ run_did id budget seats others sessions later session start first same_first old
     let began : start ≡ fresh_seat id 0 = first_fresh id seats others start seats_are fresh in
     let did : Did id budget first.seen (trees_in session.items) 0 first = did_first id budget start first (trees_in session.items) began stays done in
     all_did id budget first session later sessions old new all sessions_are did len ready worked accepted (all_are ∙ ap (λ (s : Known Entry). s ∷ map (λ (w : Worker). w.seat) new) same)
+
+pub tails_same : {A B : Type 0} (as others : List A) (bs later : List B) (a : A) (b : B) → as ≡ a ∷ others → bs ≡ b ∷ later → length as ≡ length bs → length others ≡ length later
+tails_same as others bs later a b as_are bs_are same =
+    let long : length as ≡ length others + 1 = ap length as_are in
+    let many : length bs ≡ length later + 1 = ap length bs_are in
+    omega (arith, long, many, same)

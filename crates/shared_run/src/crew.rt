@@ -33,7 +33,7 @@ pub(crate) fn introduce(
 ) -> Result<Vec<Worker>, OutOfMemory>
     requires first { IsFree vm.now.id first.old }
     requires seats { Each (λ k s. s ≡ fresh_seat vm.now.id (suc k)) seats.items }
-    requires len { vec_len seats ≡ vec_len sessions }
+    requires len { length seats.items ≡ length sessions.items }
     requires short { All (λ s. vec_len s < MOST_TURNS) sessions.items }
     ensures same { first.new ≡ first.old }
     ensures len { IfOk result (λ crew. length crew.items ≡ length sessions.items) }

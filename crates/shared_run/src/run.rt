@@ -1,6 +1,6 @@
 //! A run of sessions on a new machine.
 
-ghost use Rattle.std.specs.Prelude.{◌≡◌, ◌<◌, ◌∷◌, List, map, vec_len, false, IfOk, OnOk};
+ghost use Rattle.std.specs.Prelude.{◌≡◌, ◌<◌, ◌∷◌, List, length, map, vec_len, false, IfOk, OnOk};
 ghost use Rattle.std.specs.List.{All};
 ghost use Rattle.seat_lock.specs.declared.history.Turn.{Turn};
 ghost use Rattle.seat_lock.specs.Known.{fresh_seat};
@@ -56,10 +56,10 @@ fn run_seats<R: AllocGlobal + Threads + Wait + Sync, G: Gate + Sync>(
     budget: u64,
 ) -> Result<Vec<Seat>, OutOfMemory>
     requires seats { Each (λ k s. s ≡ fresh_seat vm.now.id k) seats.items }
-    requires opening { 0 < vec_len sessions }
-    requires len { vec_len seats ≡ vec_len sessions }
+    requires opening { 0 < length sessions.items }
+    requires len { length seats.items ≡ length sessions.items }
     requires short { All (λ s. vec_len s < MOST_TURNS) sessions.items }
-    ensures len { IfOk result (λ all. vec_len all ≡ vec_len sessions) }
+    ensures len { IfOk result (λ all. length all.items ≡ length sessions.items) }
     ensures did { IfOk result (λ all. (opening : List (Turn Entry)) ×
         AllDid vm.now.id budget opening (session_trees sessions.items) all.items) }
 {

@@ -12,7 +12,13 @@ pub meet-requires-clause-seat : goal.meet-requires-clause-seat
 meet-requires-clause-seat c =
     let gives = YieldsList-from_zip {s = c.into_iter-seat-iterator.result} (YieldsList-from_vec c.args.seats.items (search rules) (search rules)) (YieldsList-from_vec c.args.sessions.items (search rules) (search rules)) in
     let turn = YieldsList-turn gives c.loop-seat.yielded c.loop-seat.seat-iterator c.loop-seat.yielded_by c.next.result c.next.new.self (c.in-Some.seat, c.in-Some.session) c.in-Some.is c.next.ensures.steps in
-    next_free c.args.vm.now.id (length c.loop-seat.yielded) c.args.seats.items c.args.sessions.items c.in-Some.seat c.in-Some.session c.requires.seats ? turn
+    next_free c.args.vm.now.id (length c.loop-seat.yielded) c.args.seats.items c.args.sessions.items c.in-Some.seat c.in-Some.session c.requires.seats c.requires.len turn
 
 pub meet-requires-clause-other : goal.meet-requires-clause-other
 meet-requires-clause-other c = subst (λ (s : Known Entry). IsFree c.args.vm.now.id s) (sym c.loop-seat.invariant.same) c.requires.first
+
+pub loop-seat-preserved : goal.loop-seat-preserved
+loop-seat-preserved c =
+    let gives = YieldsList-from_zip {s = c.into_iter-seat-iterator.result} (YieldsList-from_vec c.args.seats.items (search rules) (search rules)) (YieldsList-from_vec c.args.sessions.items (search rules) (search rules)) in
+    let turn = YieldsList-turn gives c.loop-seat.yielded c.loop-seat.seat-iterator c.loop-seat.yielded_by c.next.result c.next.new.self (c.in-Some.seat, c.in-Some.session) c.in-Some.is c.next.ensures.steps in
+    ?
