@@ -142,17 +142,17 @@ all_did id budget first session later sessions old new seats is did len ready wo
         all_later id budget first.seen (session_trees later) old new len ready worked accepted k d within
 
 -- what a `zip` of seats and sessions gives next
-pub paired_at : {A B : Type 0} (as : List A) (bs : List B) (k : ℕ) (a : A) (b : B) → length as ≡ length bs → (k < length (zip as bs)) × ((a, b) ≡ get_or (zip as bs) k (a, b))
-    → (k < length as) × (k < length bs) × (a ≡ get_or as k a) × (b ≡ get_or bs k b)
-paired_at as bs k a b same at =
-    let long : length (zip as bs) ≡ min (length as) (length bs) = length-zip as bs in
-    let in_first : k < length as = omega (arith, long, at.0) in
-    let in_second : k < length bs = omega (arith, long, at.0) in
-    let both : (a, b) ≡ (get_or as k a, get_or bs k b) = at.1 ∙ get_or-zip as bs k (a, b) in_first in_second in
+pub paired_at : {A B : Type 0} (xs : List A) (ys : List B) (k : ℕ) (a : A) (b : B) → length xs ≡ length ys → (k < length (zip xs ys)) × ((a, b) ≡ get_or (zip xs ys) k (a, b))
+    → (k < length xs) × (k < length ys) × (a ≡ get_or xs k a) × (b ≡ get_or ys k b)
+paired_at xs ys k a b same at =
+    let long : length (zip xs ys) ≡ min (length xs) (length ys) = length-zip xs ys in
+    let in_first : k < length xs = omega (arith, long, at.0) in
+    let in_second : k < length ys = omega (arith, long, at.0) in
+    let both : (a, b) ≡ (get_or xs k a, get_or ys k b) = at.1 ∙ get_or-zip xs ys k (a, b) in_first in_second in
     (in_first, in_second, ap (λ (p : A × B). p.0) both, ap (λ (p : A × B). p.1) both)
 
-pub paired_len : {A B : Type 0} (as : List A) (bs : List B) (n : ℕ) → length as ≡ length bs → n ≡ length (zip as bs) → n ≡ length bs
-paired_len as bs n same is = let long : length (zip as bs) ≡ min (length as) (length bs) = length-zip as bs in omega (arith, long, is, same)
+pub paired_len : {A B : Type 0} (xs : List A) (ys : List B) (n : ℕ) → length xs ≡ length ys → n ≡ length (zip xs ys) → n ≡ length ys
+paired_len xs ys n same is = let long : length (zip xs ys) ≡ min (length xs) (length ys) = length-zip xs ys in omega (arith, long, is, same)
 
 module _ (id : TableId) (k : ℕ) (seats : List (Known Entry)) (sessions : List (Vec Command Global)) (old : Known Entry) (session : Vec Command Global) (fresh : Each (λ k s. s ≡ fresh_seat id (suc k)) seats) (same : length seats ≡ length sessions)
     (at : (k < length (zip seats sessions)) × ((old, session) ≡ get_or (zip seats sessions) k (old, session))) where
@@ -197,8 +197,8 @@ run_did id budget seats others sessions later session start first same_first old
     let did : Did id budget first.seen (trees_in session.items) 0 first = did_first id budget start first (trees_in session.items) began stays done in
     all_did id budget first session later sessions old new all sessions_are did len ready worked accepted (all_are ∙ ap (λ (s : Known Entry). s ∷ map (λ (w : Worker). w.seat) new) same)
 
-pub tails_same : {A B : Type 0} (as others : List A) (bs later : List B) (a : A) (b : B) → as ≡ a ∷ others → bs ≡ b ∷ later → length as ≡ length bs → length others ≡ length later
-tails_same as others bs later a b as_are bs_are same =
-    let long : length as ≡ length others + 1 = ap length as_are in
-    let many : length bs ≡ length later + 1 = ap length bs_are in
+pub tails_same : {A B : Type 0} (xs others : List A) (ys later : List B) (a : A) (b : B) → xs ≡ a ∷ others → ys ≡ b ∷ later → length xs ≡ length ys → length others ≡ length later
+tails_same xs others ys later a b xs_are ys_are same =
+    let long : length xs ≡ length others + 1 = ap length xs_are in
+    let many : length ys ≡ length later + 1 = ap length ys_are in
     omega (arith, long, many, same)

@@ -28,8 +28,8 @@ module _ {X : Type 0} where
   none_kept false x xs is = is
 
   not_kept : (b : Bool) (x : X) (xs : List X) → b ≡ true → cond b (x ∷ xs) xs ≡ [] → ⊥
-  not_kept true x xs yes is = cc
-  not_kept false x xs yes is = cc
+  not_kept true x xs kept is = cc
+  not_kept false x xs kept is = cc
 
   pub front_nil : (xs ys : List X) → xs ++ ys ≡ [] → xs ≡ []
   front_nil [] ys is = refl

@@ -1,15 +1,13 @@
 use Rattle.std.proofs.Common.{subst}
 use denote.Param.Send.{sendable}
 use Rattle.std.proofs.Crossing.{crosses}
-use Rattle.py_node.proofs.expr.Expr.TheLaws.TheKnot as knot
-use Rattle.seat_lock.proofs.seat.LockSeat.TheSendSync as seat
 use Rattle.shared_run.specs.declared.crew.Worker.{Worker}
 use Rattle.shared_run.specs.Crew.{Worked}
-use Rattle.shared_run.proofs.Sent.{book_send, vm_sync}
+use Rattle.shared_run.proofs.Sent.{vm_sync, worker_send}
 use Rattle.shared_run.proofs.crew.work_all.Goals as goal
 
 pub for_each_mut-requires-send-T : goal.for_each_mut-requires-send-T
-for_each_mut-requires-send-T g c = search (seat.the_send, book_send, knot.crosses, sendable, crosses) depth 30
+for_each_mut-requires-send-T g c = search (worker_send, sendable) depth 30
 
 pub for_each_mut-requires-sync-F : goal.for_each_mut-requires-sync-F
 for_each_mut-requires-sync-F g c = search (vm_sync, sendable, crosses) depth 30
