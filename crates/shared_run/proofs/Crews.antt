@@ -144,7 +144,7 @@ all_did id budget first session later sessions old new seats is did len ready wo
 -- what a `zip` of seats and sessions gives next
 pub paired_at : {A B : Type 0} (xs : List A) (ys : List B) (k : ℕ) (a : A) (b : B) → length xs ≡ length ys → (k < length (zip xs ys)) × ((a, b) ≡ get_or (zip xs ys) k (a, b))
     → (k < length xs) × (k < length ys) × (a ≡ get_or xs k a) × (b ≡ get_or ys k b)
-paired_at xs ys k a b same at =
+paired_at {A = A} {B = B} xs ys k a b same at =
     let long : length (zip xs ys) ≡ min (length xs) (length ys) = length-zip xs ys in
     let in_first : k < length xs = omega (arith, long, at.0) in
     let in_second : k < length ys = omega (arith, long, at.0) in
@@ -199,6 +199,6 @@ run_did id budget seats others sessions later session start first same_first old
 
 pub tails_same : {A B : Type 0} (xs others : List A) (ys later : List B) (a : A) (b : B) → xs ≡ a ∷ others → ys ≡ b ∷ later → length xs ≡ length ys → length others ≡ length later
 tails_same xs others ys later a b xs_are ys_are same =
-    let long : length xs ≡ length others + 1 = ap length xs_are in
-    let many : length ys ≡ length later + 1 = ap length ys_are in
+    let long : length xs ≡ suc (length others) = ap length xs_are in
+    let many : length ys ≡ suc (length later) = ap length ys_are in
     omega (arith, long, many, same)

@@ -60,7 +60,7 @@ pub(crate) fn work_all<R: AllocGlobal + Threads + Wait + Sync, G: Gate + Sync>(
     budget: u64,
     crew: &mut [Worker],
 )
-    requires { All (λ w. MayPerform vm.now.id (vec_len w.session) w.seat) crew.old }
+    requires crew { All (λ w. MayPerform vm.now.id (vec_len w.session) w.seat) crew.old }
     ensures { (k : ℕ) (d : _) → k < length crew.old →
         Worked vm.now.id budget (slice_index_or crew.old k d) (slice_index_or crew.new k d) }
 {
