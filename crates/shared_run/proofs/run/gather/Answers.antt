@@ -8,6 +8,6 @@ use Rattle.shared_run.proofs.run.gather.Goals as goal
 
 pub loop-worker-preserved : goal.loop-worker-preserved
 loop-worker-preserved c = record {
-  seats = gathered_more c.args.first c.loop-worker.yielded c.in-Some.worker c.loop-worker.seats.items c.push-in-loop-worker.new.self.items c.loop-worker.invariant.seats c.in_ok-push-in-loop-worker.ensures.items;
+  seats = gathered_more c.args.first c.loop-worker.yielded c.in-Some.worker c.loop-worker.seats.items c.push-in-loop-worker.new.self.items c.loop-worker.invariant.seats c.in_ok-push-2.ensures.items;
   accepted = All-push (λ (w : Worker). w.refused ≡ false) c.loop-worker.yielded c.in-Some.worker c.loop-worker.invariant.accepted c.if-refused.false;
 }
