@@ -1,5 +1,6 @@
 use Rattle.std.proofs.Common.{◌≡◌, ℕ, ◌<◌, List, ◌∷◌, vec_len, sym, subst}
 use Rattle.std.specs.List.{All}
+use Rattle.std.specs.Vec.{with_items}
 use Rattle.shared_vm.specs.Work.{MayPerform}
 use Rattle.shared_run.specs.declared.crew.Worker.{Worker}
 use Rattle.shared_run.specs.Mix.{session_trees}
@@ -33,7 +34,7 @@ introduce-requires-clause-len g c =
     tails_same c.args.seats.items c.remove-first.new.self.items c.args.sessions.items c.remove-opening.new.self.items c.remove-first.result c.remove-opening.result seats sessions c.requires.len
 
 pub work_all-requires-clause-crew : goal.work_all-requires-clause-crew
-work_all-requires-clause-crew g c =
+work_all-requires-clause-crew g c κs within =
     subst (λ (ws : List Worker). All (λ (w : Worker). MayPerform c.args.vm.now.id (vec_len w.session) w.seat) ws) (sym c.as_mut_slice.ensures.value)
     (may_of_ready c.args.vm.now.id c.perform.new.seat.seen (session_trees c.remove-opening.new.self.items) c.in_ok-crew.crew.items c.in_ok-crew.ensures.ready)
 
@@ -43,6 +44,6 @@ returns-clause-did g c =
     let seats = first_taken c.args.seats.items c.remove-first.new.self.items c.remove-first.result (subst (λ (n : ℕ). 0 < n) (sym c.requires.len) c.requires.opening) c.remove-first.ensures.value c.remove-first.ensures.by_index.2 in (
       c.perform.new.seat.seen,
       run_did c.args.vm.now.id c.args.budget c.args.seats.items c.remove-first.new.self.items c.args.sessions.items c.remove-opening.new.self.items c.remove-opening.result c.remove-first.result c.perform.new.seat c.introduce.new.first
-          c.in_ok-crew.crew.items c.work_all.new.crew c.in_ok-all.all.items seats sessions c.requires.seats c.perform.ensures.stays (c.perform.ensures.all c.if-not-perform.false) c.in_ok-crew.ensures.same c.in_ok-crew.ensures.ready ? ?
+          c.in_ok-crew.crew.items (with_items c.in_ok-crew.crew c.work_all.new.crew).items c.in_ok-all.all.items seats sessions c.requires.seats c.perform.ensures.stays (c.perform.ensures.all c.if-not-perform.false) c.in_ok-crew.ensures.same c.in_ok-crew.ensures.ready ? ?
           c.in_ok-all.ensures.accepted c.in_ok-all.ensures.seats,
     )

@@ -10,7 +10,7 @@ use Rattle.shared_run.proofs.Crews.{fresh_at}
 use Rattle.shared_run.proofs.run.share_run.Goals as goal
 
 pub run_seats-requires-clause-seats : goal.run_seats-requires-clause-seats
-run_seats-requires-clause-seats g c = fresh_at c.in_ok-vm.vm.id _ c.in_ok-vm.seats.items (sym c.in_ok-vm.seats.ok.0 ∙ c.in_ok-vm.ensures.len) c.in_ok-vm.ensures.seats
+run_seats-requires-clause-seats g c κs within = fresh_at c.in_ok-vm.vm.id _ c.in_ok-vm.seats.items (sym c.in_ok-vm.seats.ok.0 ∙ c.in_ok-vm.ensures.len) c.in_ok-vm.ensures.seats
 
 pub close-closed-requires-clause-free : goal.close-closed-requires-clause-free
 close-closed-requires-clause-free g c = λ k d less. (c.in_ok-seats.ensures.did.1 k d less).free
