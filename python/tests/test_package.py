@@ -27,7 +27,9 @@ class Package(unittest.TestCase):
 
     @unittest.skipIf(find_spec("pip") is None, "pip isn't installed")
     def test_it_installs_without_a_network(self) -> None:
-        with tempfile.TemporaryDirectory() as folder:
+        with tempfile.TemporaryDirectory() as top:
+            # (the front looks for the machine beside the folder that it is installed in)
+            folder = f"{top}/lib/packages"
             words = ("install", "--quiet", "--no-index", "--no-warn-script-location", "--target", folder, str(TOP))
             ran = run("-m", "pip", *words, PIP_DISABLE_PIP_VERSION_CHECK="1")
             self.assertEqual(ran.returncode, 0, ran.stderr)

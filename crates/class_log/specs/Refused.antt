@@ -10,8 +10,7 @@ use Rattle.class_table.specs.Keys.{table_keys}
 use Rattle.class_table.specs.OneBase.{refused_single}
 use Rattle.class_table.specs.Rebase.{Refusal, refused_rebase}
 use Rattle.class_table.specs.Refused.{AreThere, refused_attr, refused_bases}
-use Rattle.class_log.specs.Change.{Made, Change}
-use Rattle.class_log.specs.Change.Change.{Make, SetOwn, DelOwn, SetBases}
+use Rattle.class_log.specs.Change.{Made, Change, Make, SetOwn, DelOwn, SetBases}
 use Rattle.class_log.specs.Shown.{is_of_script, changed}
 
 -- a script's class has the flags that a script gives it. A static class has no `__slots__`, and one base

@@ -10,8 +10,7 @@ use Rattle.class_model.specs.Change.{with_class, with_class_attr, without_class_
 use Rattle.class_model.specs.Start.{built_in_classes}
 use Rattle.class_table.specs.Keys.{table_keys}
 use Rattle.class_table.specs.OneBase.{says_so, static_flags}
-use Rattle.class_log.specs.Change.{Made, Change}
-use Rattle.class_log.specs.Change.Change.{Make, SetOwn, DelOwn, SetBases}
+use Rattle.class_log.specs.Change.{Made, Change, Make, SetOwn, DelOwn, SetBases}
 
 -- a script makes the class: else it is a static class
 abbrev pub is_of_script : Made → Bool

@@ -1,6 +1,6 @@
 //! A reader over any pane.
 
-ghost use Rattle.std.specs.Prelude.{◌≡◌, ◌<◌, ◌≤◌, List, IfOk, OnErr, option_map};
+ghost use Rattle.std.specs.Prelude.{◌≡◌, ◌<◌, ◌≤◌, List, IfOk, OnErr, option_map, is_some};
 ghost use Rattle.left_right.specs.Sides.{view};
 ghost use Rattle.py_node.specs.Attributes.{is_same_name};
 ghost use Rattle.class_model.specs.Class.{found, is_sub, lin};
@@ -97,10 +97,14 @@ impl<P: Pane + Drop> ClassReader<P> {
 }
 
 impl ClassReader<RuledPane> {
-    /// Takes in what a writer told. The lists of later answers begin with it.
+    /// Takes in what a writer told. The lists of later answers begin with it. Where the pane can lend nothing any more, as
+    /// once the writer has ended, its count of faults rises.
     pub fn learn(&mut self, told: Told)
         ensures kept { IsKept (knows_of self.old.pane.reader) (knows_of self.new.pane.reader) }
         ensures told { knows_of self.new.pane.reader (view told.reader.place).seen }
+        ensures faults { self.old.pane.faults ≤ self.new.pane.faults }
+        ensures lost { self.old.pane.faults ≡ self.new.pane.faults →
+            is_some self.new.pane.reader ≡ is_some self.old.pane.reader }
     {
         self.pane.learn(told);
     }

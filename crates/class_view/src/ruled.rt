@@ -1,6 +1,6 @@
 //! A pane over the reader of what is published.
 
-ghost use Rattle.std.specs.Prelude.{◌≡◌, List, IfOk, OnErr, IfSome};
+ghost use Rattle.std.specs.Prelude.{◌≡◌, ◌≤◌, List, IfOk, OnErr, IfSome, is_some};
 ghost use Rattle.std.specs.Fn.{FnOnceReturnsAt};
 ghost use Rattle.left_right.specs.Sides.{view};
 ghost use Rattle.class_log.specs.Shown.{shown};
@@ -57,14 +57,20 @@ fn follow(first: Looker, second: Looker) -> Option<Looker>
 }
 
 impl RuledPane {
-    // Takes in what a writer of the same view told. What is lent from now on begins with it.
+    // Takes in what a writer of the same view told. What is lent from now on begins with it. Where nothing can be lent any
+    // more, the count of faults rises.
     pub(crate) fn learn(&mut self, told: Told)
         ensures kept { IsKept (knows_of self.old.reader) (knows_of self.new.reader) }
         ensures told { knows_of self.new.reader (view told.reader.place).seen }
+        ensures faults { self.old.faults ≤ self.new.faults }
+        ensures lost { self.old.faults ≡ self.new.faults → is_some self.new.reader ≡ is_some self.old.reader }
     {
         if let Some(first) = self.reader.take() {
             let Told { reader: second } = told;
             self.reader = follow(first, second);
+            if self.reader.is_none() {
+                self.faults.raise();
+            }
         }
     }
 

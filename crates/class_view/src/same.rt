@@ -2,8 +2,7 @@
 
 ghost use Rattle.std.specs.Prelude.{◌≡◌, IsTrue, map};
 ghost use Rattle.class_table.specs.Keys.{numbers, slot_names};
-ghost use Rattle.class_log.specs.Change.{change_of, made_of};
-ghost use Rattle.class_log.specs.Change.Change.{Make, SetOwn, DelOwn, SetBases};
+ghost use Rattle.class_log.specs.Change.{change_of, made_of, Make, SetOwn, DelOwn, SetBases};
 ghost use Rattle.class_log.specs.Following.{BeginsWith};
 
 use class_log::{ClassChange, Replica};
