@@ -5,7 +5,7 @@ use Rattle.std.proofs.lemmas.List.Sums.{fold-append}
 use Rattle.std.proofs.Math.Seq.{drop-append_seam}
 use Rattle.py_node.specs.declared.refs.PyStrInterned.{PyStrInterned}
 use Rattle.class_model.specs.Class.{Classes}
-use Rattle.class_model.specs.Start.{built_in_classes}
+use Rattle.class_table.specs.Start.{start_classes}
 use Rattle.class_log.specs.declared.change.ClassChange.{ClassChange}
 use Rattle.class_log.specs.Change.{Change, change_of}
 use Rattle.class_log.specs.Shown.{shown, changed, first_classes}
@@ -13,7 +13,7 @@ use Rattle.class_log.specs.Refused.{AreMade}
 use Rattle.class_log.specs.Following.{BeginsWith, CanFollow, Continues}
 
 -- before any change
-pub opens : (t : Classes PyStrInterned) (changes : List ClassChange) → changes ≡ [] → t ≡ built_in_classes → t ≡ shown (map change_of changes)
+pub opens : (t : Classes PyStrInterned) (changes : List ClassChange) → changes ≡ [] → t ≡ start_classes → t ≡ shown (map change_of changes)
 unfolding first_classes
 opens t changes none is = subst (λ (cs : List ClassChange). t ≡ shown (map change_of cs)) (sym none) is
 

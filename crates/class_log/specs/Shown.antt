@@ -7,7 +7,7 @@ use Rattle.py_node.specs.BuiltIns.{heap_type}
 use Rattle.class_model.specs.Class.{Class, Classes}
 use Rattle.class_model.specs.Dict.{heap_class, any_has_dict}
 use Rattle.class_model.specs.Change.{with_class, with_class_attr, without_class_attr, with_bases}
-use Rattle.class_model.specs.Start.{built_in_classes}
+use Rattle.class_table.specs.Start.{start_classes}
 use Rattle.class_table.specs.Keys.{table_keys}
 use Rattle.class_table.specs.OneBase.{says_so, static_flags}
 use Rattle.class_log.specs.Change.{Made, Change, Make, SetOwn, DelOwn, SetBases}
@@ -31,9 +31,9 @@ changed t (SetOwn c n v) = with_class_attr is_same_name t c n v
 changed t (DelOwn c n) = without_class_attr is_same_name t c n
 changed t (SetBases c bs) = with_bases t c bs
 
--- the classes before any change
+-- the classes before any change: those of a new world
 unfoldable pub first_classes : Classes PyStrInterned
-first_classes = built_in_classes
+first_classes = start_classes
 
 -- the classes after these changes, one after the other
 abbrev pub shown : List Change → Classes PyStrInterned

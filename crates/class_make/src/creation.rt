@@ -159,7 +159,7 @@ fn new_class(
     match world.new_heap_slots(name.as_str(), bases, attrs, slots, meta) {
         Err(ClassFault::OutOfMemory) => Err(OutOfMemory),
         Err(ClassFault::Refused(cause)) => Ok(Step::raise(cause)),
-        Err(ClassFault::RefusedAt(cause, _)) => Ok(Step::raise(cause)),
+        Err(ClassFault::RefusedAt(_, _)) => unreachable!(),
         Ok(class) => {
             define_functions(world, class, &values);
             add_own_members(world, class, &members)?;

@@ -9,6 +9,7 @@ pub mod Edited
 pub mod Rebased
 pub mod Rebases
 pub mod Trials
+pub mod Descended
 pub mod Blames
 pub mod Swapped
 pub mod Renewing
@@ -20,6 +21,7 @@ pub mod Bests
 pub mod Passed
 pub mod KeptLayouts
 pub mod Orders
+pub mod Owned
 pub mod Noted
 pub mod Single
 pub mod Renames

@@ -1,20 +1,17 @@
 -- The trial of other bases, class by class.
-use Rattle.std.proofs.Common.{◌≡◌, ℕ, ◌+◌, ◌<◌, ◌≤◌, ◌⊎◌, true, false, cond, List, [], ◌∷◌, map, length, get_or, set, eqb, Result, Ok, Err, Option, Some, None, inl, inr, refl, sym, ap, subst, ◌∙◌, arith}
+use Rattle.std.proofs.Common.{◌≡◌, ℕ, ◌+◌, ◌<◌, ◌≤◌, true, false, cond, List, [], ◌∷◌, map, length, get_or, eqb, Result, Ok, Err, Option, Some, None, inl, inr, refl, sym, ap, subst, ◌∙◌, arith}
 use Rattle.std.specs.Prelude.{slice_get, IfOk, is_some, option_map, option_and_then}
 use Rattle.std.proofs.lemmas.Bool.{false≢true, cases_eq, eq-eqb, ne_eqb}
 use Rattle.std.proofs.lemmas.Option.{get_or_from_slice_get, slice_get-get_or, slice_get_within}
-use Rattle.std.proofs.lemmas.List.{length-map, length-set}
 use Rattle.py_node.specs.declared.raised.Cause.{Cause}
 use Rattle.py_node.specs.declared.refs.PyStrInterned.{PyStrInterned}
-use Rattle.class_model.specs.Order.{has, least_order, all_some, Includes, Distinct, BeginsWith}
+use Rattle.class_model.specs.Order.{has, least_order, all_some, Includes, Distinct}
 use Rattle.class_model.specs.Class.{Class, Classes, class_at, is_class, bases_of, lin, is_along}
 use Rattle.class_model.specs.Change.{with_bases, order_cause}
-use Rattle.class_model.specs.Numbers.{numbers_of}
-use Rattle.class_model.proofs.Held.{Includes-equal, Subsequence-length, distinct-fewer}
-use Rattle.class_model.proofs.Numbers.{at-held}
+use Rattle.class_model.proofs.Held.{Includes-equal, Subsequence-length}
 use Rattle.class_model.proofs.Tests.{Decides-has}
 use Rattle.class_model.proofs.Linear.{all_some-has, all_some-holds}
-use Rattle.class_model.proofs.Rule.{lin-rule, lin-begins, lin-distinct, lin-classes, lin-bases, lin-member}
+use Rattle.class_model.proofs.Rule.{lin-rule, lin-begins, lin-bases, lin-member}
 use Rattle.class_model.proofs.Changed.{lin-by}
 use Rattle.class_model.proofs.Lines.{all_some-some, bases-distinct, keeps-members}
 use Rattle.mro_merge.specs.Merge.{IsApart, IsRest, HasNoOrder}
@@ -23,11 +20,13 @@ use Rattle.class_table.specs.Coherent.{IsCoherent}
 use Rattle.class_table.specs.Refused.{AreThere}
 use Rattle.class_table.specs.Rebase.{any_derives}
 use Rattle.class_table.specs.declared.trial.Trial.{Trial}
-use Rattle.class_table.specs.Trial.{bases_under, IsTrial, IsToBlame, IsWithout, IsKnown, AreKnown, AreTried}
+use Rattle.class_table.specs.declared.trial.Trial.TheVariants.{Line, Failed, Without}
+use Rattle.class_table.specs.declared.descendants.Ranked.{Ranked}
+use Rattle.class_table.specs.Descendants.{AreRanked}
+use Rattle.class_table.specs.Trial.{bases_under, trial_at, line_tried, IsTrial, HasTrial, IsToBlame, IsWithout, IsKnown, AreKnown, AreTried}
 use Rattle.class_table.proofs.Found.{place-class}
 use Rattle.class_table.proofs.Pushed.{each-there}
 use Rattle.class_table.proofs.Passed.{none-derives}
-use Rattle.class_table.proofs.Places.{get-set_cases}
 use Rattle.class_table.proofs.Rebased.{own-base, past-head, base-apart, bases-away, bases-here, line-away}
 
 -- a class that does not derive from the changed one keeps what is kept of it
@@ -87,7 +86,7 @@ module _ (t : Classes PyStrInterned) (x : ℕ) (ds : List ℕ) (lines : List (Li
   }
 
 -- a base has a shorter linearisation
-shorter : {K : Type 0} (t : Classes K) (x : ℕ) (line bs : List ℕ) (b : ℕ) (l : List ℕ) → lin t x ≡ Some line → bases_of t x ≡ Some bs → Includes bs b → lin t b ≡ Some l → length l < length line
+pub shorter : {K : Type 0} (t : Classes K) (x : ℕ) (line bs : List ℕ) (b : ℕ) (l : List ℕ) → lin t x ≡ Some line → bases_of t x ≡ Some bs → Includes bs b → lin t b ≡ Some l → length l < length line
 shorter t x [] bs b l e f h g = absurd (lin-begins t x [] e)
 shorter t x (y ∷ rest) bs b l e f h g =
     let is : y ≡ x = lin-begins t x (y ∷ rest) e in
@@ -101,6 +100,9 @@ under-here c x bs ds e = ap (λ b. cond b bs ds) (eq-eqb x c e)
 
 under-away : (c x : ℕ) (bs ds : List ℕ) → (x ≡ c → ⊥) → cond (eqb x c) bs ds ≡ ds
 under-away c x bs ds n = ap (λ b. cond b bs ds) (ne_eqb x c n)
+
+first-of : (n j a b x y : ℕ) → a ≡ x → b ≡ y → y < x → (n ≤ j → a ≤ b) → j < n
+first-of n j a b x y p q l h = grind (arith, h)
 
 module _ (kept : List StoredClass) (ok : IsCoherent kept) (c : ℕ) (bs : List ℕ) (i : ℕ) (k : StoredClass) (at : slice_get kept i ≡ Some k) where
   class-is : class_at (classes_of kept) k.number ≡ Some (class_of k)
@@ -150,13 +152,24 @@ module _ (kept : List StoredClass) (ok : IsCoherent kept) (c : ℕ) (bs : List �
               shorter (classes_of kept) k.number k.mro k.bases b m.mro (ok.mro i k at) own-bases (subst P (under-away c k.number bs k.bases n) h) line
         ]
 
-    -- so the trials of the bases are known
-    pub known-now : (trials : List Trial) → AreTried kept c bs (length k.mro) i trials → (b : ℕ) → Includes (bases_under c bs k) b → IsKnown kept c bs trials b
-    known-now trials tried b h = record {
-      count = tried.count;
-      at = λ j m r e f num d.
-          let Q : ℕ → Type 0 = λ x. IsTrial (with_bases (classes_of kept) c bs) x r in
-          subst Q num (tried.at j m r e f d (inl (before b j m h e num d)));
+    -- so where the classes before it were tried, the trials of its bases are known
+    pub known-now : (ranked : List Ranked) (n : ℕ) (r : Ranked) (trials : List (ℕ × Trial)) → AreRanked kept c ranked → slice_get ranked n ≡ Some r → r.place ≡ i → AreTried kept c bs ranked n trials → (b : ℕ) → Includes (bases_under c bs k) b → IsKnown kept c bs trials b
+    known-now ranked n r trials are here place tried b h = record {
+      at = λ j m e num d.
+          let s = are.all j m e d in
+          let own = are.within n r here in
+          let same : own.class ≡ k = let q : slice_get kept i ≡ Some own.class = ap (slice_get kept) (sym place) ∙ own.at in cc in
+          let long : r.length ≡ length k.mro = own.length ∙ ap (λ (z : StoredClass). length z.mro) same in
+          let other = are.within s.index s.one s.at in
+          let same-other : other.class ≡ m = let q : slice_get kept j ≡ Some other.class = ap (slice_get kept) (sym s.place) ∙ other.at in cc in
+          let short : s.one.length ≡ length m.mro = other.length ∙ ap (λ (z : StoredClass). length z.mro) same-other in
+          let less = before b j m h e num d in
+          let rises : n ≤ s.index → r.length ≤ s.one.length = λ l. are.rises n s.index r s.one l here s.at in
+          let first : s.index < n = first-of n s.index r.length s.one.length (length k.mro) (length m.mro) long short less rises in
+          let t = tried.at s.index s.one m first s.at (ap (slice_get kept) s.place ∙ e) in
+          let Q : ℕ → Type 0 = λ x. HasTrial (with_bases (classes_of kept) c bs) x (trial_at trials j) in
+          let R : ℕ → Type 0 = λ p. HasTrial (with_bases (classes_of kept) c bs) m.number (trial_at trials p) in
+          subst Q num (subst R s.place t);
     }
 
 -- what is so of an answer, as far as there is one
@@ -164,73 +177,48 @@ pub if-ok : {T E : Type 0} (P Q : T → Type 0) (r : Result T E) → ((x : T) �
 if-ok P Q (Ok x) f h = f x h
 if-ok P Q (Err e) f h = tt
 
-module _ (kept : List StoredClass) (c : ℕ) (bs : List ℕ) where
+-- a trial and the linearisation that it found
+pub line-of_trial : (u : Classes PyStrInterned) (x : ℕ) (o : Option Trial) (r : Trial) → HasTrial u x o → o ≡ Some r → lin u x ≡ line_tried r
+line-of_trial u x None r h e = absurd h
+line-of_trial u x (Some q) r h e =
+    let same : q ≡ r = cc in
+    let P : Trial → Type 0 = λ z. IsTrial u x z in
+    found r (subst P same h)
+  where
+    found : (z : Trial) → IsTrial u x z → lin u x ≡ line_tried z
+    found (Line line) t = t
+    found (Failed cause) t = t.none
+    found Without t = none-without u x t
+
+pub some-trial : (u : Classes PyStrInterned) (x : ℕ) (o : Option Trial) → HasTrial u x o → o ≡ None → ⊥
+some-trial u x None h e = h
+some-trial u x (Some q) h e = cc
+
+module _ (kept : List StoredClass) (c : ℕ) (bs : List ℕ) (ranked : List Ranked) where
+  -- none is tried
+  pub tried-start : (trials : List (ℕ × Trial)) → AreTried kept c bs ranked 0 trials
+  tried-start trials = record { at = λ j r k l. absurd (omega (arith, l)) }
+
   -- one more trial
-  pub tried-set : (size at : ℕ) (trials : List Trial) (r : Trial) → AreTried kept c bs size at trials → ((k : StoredClass) → slice_get kept at ≡ Some k → IsTrial (with_bases (classes_of kept) c bs) k.number r) → AreTried kept c bs size (at + 1) (set trials at r)
-  tried-set size at trials r tried is = record {
-    count = length-set trials at r ∙ tried.count;
-    at = λ j k q e f d l. elim (get-set_cases trials at r j q f) [
-      | inl p ↦
-          let P : Trial → Type 0 = λ z. IsTrial (with_bases (classes_of kept) c bs) k.number z in
-          subst P p.1 (is k (ap (slice_get kept) (sym p.0) ∙ e))
-      | inr p ↦ tried.at j k q e p.1 d (elim l [ inl m ↦ inl m | inr m ↦ let n = p.0 in inr (m.0, let o = m.1 in next j at n o) ])
+  pub tried-more : (n : ℕ) (trials new : List (ℕ × Trial)) (y : Ranked) (r : Trial) → AreTried kept c bs ranked n trials → slice_get ranked n ≡ Some y → ((i : ℕ) → trial_at new i ≡ cond (eqb y.place i) (Some r) (trial_at trials i)) → ((k : StoredClass) → slice_get kept y.place ≡ Some k → IsTrial (with_bases (classes_of kept) c bs) k.number r) → AreTried kept c bs ranked (n + 1) new
+  tried-more n trials new y r tried here noted is = record {
+    at = λ j z k l e f. elim (cases_eq y.place z.place) [
+      | inl q ↦
+          let P : Option Trial → Type 0 = λ o. HasTrial (with_bases (classes_of kept) c bs) k.number o in
+          subst P (sym (noted z.place ∙ ap (λ b. cond b (Some r) (trial_at trials z.place)) (eq-eqb y.place z.place q))) (is k (ap (slice_get kept) q ∙ f))
+      | inr q ↦
+          let P : Option Trial → Type 0 = λ o. HasTrial (with_bases (classes_of kept) c bs) k.number o in
+          let other : j ≡ n → ⊥ = λ w. q (let v : slice_get ranked n ≡ Some z = ap (slice_get ranked) (sym w) ∙ e in let s : y ≡ z = cc in ap (λ (x : Ranked). x.place) s) in
+          subst P (sym (noted z.place ∙ ap (λ b. cond b (Some r) (trial_at trials z.place)) (ne_eqb y.place z.place q))) (tried.at j z k (omega (arith, l, other)) e f)
     ];
   }
-    where
-      next : (j at : ℕ) → (j ≡ at → ⊥) → j < at + 1 → j < at
-      next j at n o = omega (arith, n, o)
 
-  -- one that is not needed
-  pub tried-skip : (size at : ℕ) (trials : List Trial) → AreTried kept c bs size at trials → ((k : StoredClass) → slice_get kept at ≡ Some k → has k.mro c ≡ true → length k.mro ≡ size → ⊥) → AreTried kept c bs size (at + 1) trials
-  tried-skip size at trials tried unneeded = record {
-    count = tried.count;
-    at = λ j k q e f d l. elim l [
-      | inl m ↦ tried.at j k q e f d (inl m)
-      | inr m ↦ elim (cases_eq j at) [
-        | inl p ↦ absurd (unneeded k (ap (slice_get kept) (sym p) ∙ e) d m.0)
-        | inr n ↦ tried.at j k q e f d (inr (m.0, let o = m.1 in next j at n o))
-      ]
-    ];
+  -- all
+  pub tried-end : (n : ℕ) (trials : List (ℕ × Trial)) → AreRanked kept c ranked → AreTried kept c bs ranked n trials → length ranked ≤ n → AreKnown kept c bs trials
+  tried-end n trials are tried all = record {
+    at = λ i k e d.
+        let s = are.all i k e d in
+        let w = slice_get_within ranked s.index s.one s.at in
+        let P : ℕ → Type 0 = λ p. HasTrial (with_bases (classes_of kept) c bs) k.number (trial_at trials p) in
+        subst P s.place (tried.at s.index s.one k (omega (arith, w, all)) s.at (ap (slice_get kept) s.place ∙ e));
   }
-    where
-      next : (j at : ℕ) → (j ≡ at → ⊥) → j < at + 1 → j < at
-      next j at n o = omega (arith, n, o)
-
-  -- all of a length
-  pub tried-size : (size at : ℕ) (trials : List Trial) → AreTried kept c bs size at trials → length kept ≤ at → AreTried kept c bs (size + 1) 0 trials
-  tried-size size at trials tried all = record {
-    count = tried.count;
-    at = λ j k q e f d l. tried.at j k q e f d (elim l [
-      | inl m ↦ elim (cases_eq (length k.mro) size) [ inl p ↦ inr (p, let n = slice_get_within kept j k e in omega (arith, n, all)) | inr p ↦ inl (omega (arith, m, p)) ]
-      | inr m ↦ let n = m.1 in absurd (omega (arith, n))
-    ]);
-  }
-
-  module _ (ok : IsCoherent kept) where
-    -- none is shorter than one
-    pub tried-start : (trials : List Trial) → length trials ≡ length kept → AreTried kept c bs 1 0 trials
-    tried-start trials count = record {
-      count = count;
-      at = λ j k q e f d l. absurd (none k.number j k.mro (lin-begins (classes_of kept) k.number k.mro (ok.mro j k e)) l);
-    }
-      where
-        none : (x j : ℕ) (line : List ℕ) → BeginsWith x line → (length line < 1) ⊎ ((length line ≡ 1) × (j < 0)) → ⊥
-        none x j [] b l = b
-        none x j (y ∷ line) b (inl m) = omega (arith, m)
-        none x j (y ∷ line) b (inr m) = let n = m.1 in omega (arith, n)
-
-    -- none is longer than the table
-    fits : (i : ℕ) (k : StoredClass) → slice_get kept i ≡ Some k → length k.mro ≤ length kept
-    fits i k e =
-        let t = classes_of kept in
-        let line = ok.mro i k e in
-        let few = distinct-fewer k.mro (numbers_of t) (lin-distinct t k.number k.mro line) (λ x h. at-held t x (lin-classes t k.number k.mro x line h)) in
-        let a = length-map t (λ (j : Class PyStrInterned). j.number) in
-        let b = length-map kept class_of in
-        omega (arith, few, a, b)
-
-    pub tried-end : (n : ℕ) (trials : List Trial) → AreTried kept c bs (n + 1) 0 trials → length kept ≤ n → AreKnown kept c bs trials
-    tried-end n trials tried all = record {
-      count = tried.count;
-      at = λ j k q e f d. tried.at j k q e f d (inl (let m = fits j k e in omega (arith, m, all)));
-    }

@@ -14,5 +14,8 @@ pub mod OneBase
 pub mod Name
 pub mod Rebase
 pub mod Steps
+pub mod Descendants
+pub mod Start
 pub mod Trial
+pub mod Blame
 pub mod Renewed

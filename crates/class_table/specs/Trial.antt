@@ -1,6 +1,7 @@
 -- What other bases of a class make of the linearisations.
-use Rattle.std.specs.Prelude.{◌≡◌, ℕ, ◌<◌, ◌⊎◌, true, cond, eqb, List, map, length, Option, Some, None, slice_get}
+use Rattle.std.specs.Prelude.{◌≡◌, ℕ, ◌<◌, true, cond, eqb, List, map, Option, Some, None, slice_get}
 use Rattle.std.specs.Borrow.{Bor}
+use Rattle.std.specs.Map.{lookup}
 use Rattle.std.specs.Global.{Vec}
 use Rattle.py_node.specs.declared.refs.PyStrInterned.{PyStrInterned}
 use Rattle.py_node.specs.declared.refs.PyTypeRef.{PyTypeRef}
@@ -11,6 +12,7 @@ use Rattle.class_model.specs.Change.{with_bases, order_cause}
 use Rattle.mro_merge.specs.Lists.{rows}
 use Rattle.class_table.specs.Keys.{numbers}
 use Rattle.class_table.specs.Stored.{StoredClass, classes_of}
+use Rattle.class_table.specs.declared.descendants.Ranked.{Ranked}
 use Rattle.class_table.specs.declared.trial.Change.{Change}
 use Rattle.class_table.specs.declared.trial.Trial.{Trial}
 use Rattle.class_table.specs.declared.trial.Trial.TheVariants.{Line, Failed, Without}
@@ -44,20 +46,38 @@ IsTrial t x (Line line) = lin t x ≡ Some (numbers line.items)
 IsTrial t x (Failed cause) = IsToBlame t x cause
 IsTrial t x Without = IsWithout t x
 
+-- the trial of the class at a place, if there is one
+abbrev pub trial_at : List (ℕ × Trial) → ℕ → Option Trial
+trial_at trials i = lookup (eqb i) trials
+
+-- a class has a trial
+abbrev pub HasTrial : Classes PyStrInterned → ℕ → Option Trial → Type 0
+HasTrial t x None = ⊥
+HasTrial t x (Some r) = IsTrial t x r
+
 -- the trial of a class is known, where it derives from the changed one
-pub record IsKnown (kept : List StoredClass) (c : ℕ) (bs : List ℕ) (trials : List Trial) (x : ℕ) : Type 0 where
-  pub count : length trials ≡ length kept
-  pub at : (i : ℕ) (k : StoredClass) (r : Trial) → slice_get kept i ≡ Some k → slice_get trials i ≡ Some r → k.number ≡ x → has k.mro c ≡ true → IsTrial (with_bases (classes_of kept) c bs) x r
+pub record IsKnown (kept : List StoredClass) (c : ℕ) (bs : List ℕ) (trials : List (ℕ × Trial)) (x : ℕ) : Type 0 where
+  pub at : (i : ℕ) (k : StoredClass) → slice_get kept i ≡ Some k → k.number ≡ x → has k.mro c ≡ true → HasTrial (with_bases (classes_of kept) c bs) x (trial_at trials i)
 
 -- it is known of each class that derives from the changed one
-pub record AreKnown (kept : List StoredClass) (c : ℕ) (bs : List ℕ) (trials : List Trial) : Type 0 where
-  pub count : length trials ≡ length kept
-  pub at : (i : ℕ) (k : StoredClass) (r : Trial) → slice_get kept i ≡ Some k → slice_get trials i ≡ Some r → has k.mro c ≡ true → IsTrial (with_bases (classes_of kept) c bs) k.number r
+pub record AreKnown (kept : List StoredClass) (c : ℕ) (bs : List ℕ) (trials : List (ℕ × Trial)) : Type 0 where
+  pub at : (i : ℕ) (k : StoredClass) → slice_get kept i ≡ Some k → has k.mro c ≡ true → HasTrial (with_bases (classes_of kept) c bs) k.number (trial_at trials i)
 
--- it is known of those whose linearisations of now are shorter than this, and of the first of those that are as long
-pub record AreTried (kept : List StoredClass) (c : ℕ) (bs : List ℕ) (size first : ℕ) (trials : List Trial) : Type 0 where
-  pub count : length trials ≡ length kept
-  pub at : (i : ℕ) (k : StoredClass) (r : Trial) → slice_get kept i ≡ Some k → slice_get trials i ≡ Some r → has k.mro c ≡ true → (length k.mro < size) ⊎ ((length k.mro ≡ size) × (i < first)) → IsTrial (with_bases (classes_of kept) c bs) k.number r
+-- it is known of the first of some
+pub record AreTried (kept : List StoredClass) (c : ℕ) (bs : List ℕ) (ranked : List Ranked) (n : ℕ) (trials : List (ℕ × Trial)) : Type 0 where
+  pub at : (j : ℕ) (r : Ranked) (k : StoredClass) → j < n → slice_get ranked j ≡ Some r → slice_get kept r.place ≡ Some k → HasTrial (with_bases (classes_of kept) c bs) k.number (trial_at trials r.place)
+
+-- the linearisation that was found, if one was
+abbrev pub line_tried : Trial → Option (List ℕ)
+line_tried (Line line) = Some (numbers line.items)
+line_tried (Failed cause) = None
+line_tried Without = None
+
+-- why a class has none, while all its bases have one
+abbrev pub cause_tried : Trial → Option Cause
+cause_tried (Line line) = None
+cause_tried (Failed cause) = Some cause
+cause_tried Without = None
 
 -- a line that is lent, by its numbers
 abbrev pub line_lent : Option (Bor (List PyTypeRef)) → Option (List ℕ)

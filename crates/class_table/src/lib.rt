@@ -2,11 +2,13 @@
 #![tactic(auto)]
 
 pub mod add;
+mod attributes_of_built_ins;
 pub mod blame;
 pub mod candidates;
 pub mod chain;
 pub mod collect;
 pub mod count;
+pub mod descendants;
 pub mod dict;
 pub mod entries;
 pub mod fault;
@@ -18,6 +20,7 @@ pub mod name;
 pub mod natives;
 pub mod one_base;
 pub mod place;
+pub mod place_set;
 pub mod put;
 pub mod read;
 pub mod rebase;
@@ -31,6 +34,7 @@ pub mod stored;
 pub mod table;
 pub mod take;
 pub mod trial;
+pub mod trial_map;
 
 pub use candidates::Candidates;
 pub use chain::BaseChain;

@@ -1,6 +1,6 @@
 //! Other bases for a class: all or nothing.
 
-ghost use Rattle.std.specs.Prelude.{◌≡◌, true, None, Some, IfOk, OnOk, OnErr, IsSome};
+ghost use Rattle.std.specs.Prelude.{◌≡◌, true, length, None, Some, IfOk, OnOk, OnErr, IsSome};
 ghost use Rattle.class_model.specs.Order.{is_distinct};
 ghost use Rattle.class_model.specs.Class.{is_class};
 ghost use Rattle.class_model.specs.Layout.{best_of};
@@ -10,11 +10,13 @@ ghost use Rattle.class_table.specs.Stored.{StoredClass, classes_of};
 ghost use Rattle.class_table.specs.Coherent.{IsCoherent};
 ghost use Rattle.class_table.specs.Refused.{cause_of, WithMemory, AreThere};
 ghost use Rattle.class_table.specs.Rebase.{any_derives, is_same, refused_shape, refused_change, refused_rebase, told, IsToldFirst};
-ghost use Rattle.class_table.specs.Steps.{NoneFalls};
+ghost use Rattle.class_table.specs.Steps.{RiseBy};
+ghost use Rattle.class_table.specs.Descendants.{descendants};
 ghost use Rattle.class_table.specs.Renewed.{AreRenewed};
 
 use crate::blame::blamed;
 use crate::chain::base_of;
+use crate::descendants::in_order;
 use crate::dict::keeps_dict;
 use crate::fault::ClassFault;
 use crate::heap::is_heap;
@@ -134,13 +136,18 @@ fn plan<L: Ledger>(
         AreRenewed change.entry.classes.now change.entry.class.0 (numbers change.entry.bases.now) v.items) }
     ensures refused { WithMemory result (told result ≡
         refused_rebase (classes_of change.entry.classes.now) change.entry.class.0 (numbers change.entry.bases.now)) }
-    ensures steps { NoneFalls steps.old steps.new }
+    ensures steps { RiseBy (length (descendants (classes_of change.entry.classes.now) change.entry.class.0)) 0
+        steps.old steps.new }
 {
-    let trials = match trials(change, alloc, steps) {
+    let ranked = match in_order(change.classes, alloc, change.class) {
+        Ok(ranked) => ranked,
+        Err(_) => return Err(ClassFault::OutOfMemory),
+    };
+    let trials = match trials(change, alloc, &ranked, steps) {
         Ok(trials) => trials,
         Err(_) => return Err(ClassFault::OutOfMemory),
     };
-    match blamed(change, &trials) {
+    match blamed(change, &ranked, &trials) {
         Ok(()) => {}
         Err(fault) => return Err(fault),
     }
@@ -165,7 +172,7 @@ fn change_bases<L: Ledger>(
     requires renewed { AreRenewed classes.old class.0 (numbers bases.items) renewed.items }
     ensures coherent { IsCoherent classes.new }
     ensures set { classes_of classes.new ≡ with_bases (classes_of classes.old) class.0 (numbers bases.items) }
-    ensures steps { NoneFalls steps.old steps.new }
+    ensures steps { RiseBy 0 (length classes.old) steps.old steps.new }
 {
     let at = place(classes, class);
     classes[at].set_bases(bases);
@@ -189,7 +196,7 @@ fn prepare<L: Ledger>(
     ensures early { IsToldFirst (classes_of classes.now) class.0 (numbers bases.now) (told result) }
     ensures refused { WithMemory result (told result ≡
         refused_rebase (classes_of classes.now) class.0 (numbers bases.now)) }
-    ensures steps { NoneFalls steps.old steps.new }
+    ensures steps { RiseBy (length (descendants (classes_of classes.now) class.0)) 0 steps.old steps.new }
     ensures uncounted { IsSome (refused_change (classes_of classes.now) class.0 (numbers bases.now)) →
         steps.new ≡ steps.old }
 {
@@ -227,7 +234,8 @@ pub(crate) fn rebase<L: Ledger>(
     ensures set { OnOk result (classes_of classes.new.items ≡
         with_bases (classes_of classes.old.items) class.0 (numbers bases.items)) }
     ensures err { OnErr result (classes.new.items ≡ classes.old.items) }
-    ensures steps { NoneFalls steps.old steps.new }
+    ensures steps { RiseBy (length (descendants (classes_of classes.old.items) class.0)) (length classes.old.items)
+        steps.old steps.new }
     ensures uncounted { IsSome (refused_change (classes_of classes.old.items) class.0 (numbers bases.items)) →
         steps.new ≡ steps.old }
 {

@@ -7,7 +7,7 @@ ghost use Rattle.class_model.specs.BuiltIn.{natives_of};
 ghost use Rattle.class_table.specs.Stored.{StoredClass, classes_of};
 ghost use Rattle.class_table.specs.Keys.{table_keys};
 ghost use Rattle.class_table.specs.Coherent.{HasLines};
-ghost use Rattle.class_table.specs.Steps.{NoneFalls};
+ghost use Rattle.class_table.specs.Steps.{RiseBy};
 ghost use Rattle.class_table.specs.Patch.{IsNear, AreNear, IsRefreshed, settled};
 
 use crate::entries::entry;
@@ -103,7 +103,7 @@ pub(crate) fn settle_all<L: Ledger>(classes: &mut [Stored], class: PyTypeRef, st
     requires lines { HasLines classes.old }
     requires full { (i : ℕ) (k : StoredClass) → slice_get classes.old i ≡ Some k → length k.slots ≡ slot_count }
     ensures refreshed { IsRefreshed class.0 classes.old classes.new }
-    ensures steps { NoneFalls steps.old steps.new }
+    ensures steps { RiseBy 0 (length classes.old) steps.old steps.new }
 {
     for at in 0..classes.len() {
         if classes[at].derives(class) {

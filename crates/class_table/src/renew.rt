@@ -15,7 +15,8 @@ ghost use Rattle.class_table.specs.Renewed.{IsRenewed, AreRenewed, AreSwapped};
 use crate::count::count_along;
 use crate::place::find_place;
 use crate::stored::{Stored, has};
-use crate::trial::{Change, Trial, bases_under, line_of};
+use crate::trial::{Change, bases_under, line_of};
+use crate::trial_map::Trials;
 use py_node::{OutOfMemory, PyTypeRef};
 use std::alloc::Global;
 
@@ -105,7 +106,7 @@ fn base_under(change: Change<'_>, best: PyTypeRef, at: usize) -> Option<PyTypeRe
 }
 
 // The linearisation of a class under the change, which leaves each an order.
-fn line_under<'a>(change: Change<'a>, trials: &'a [Trial], class: PyTypeRef) -> &'a [PyTypeRef]
+fn line_under<'a>(change: Change<'a>, trials: &'a Trials, class: PyTypeRef) -> &'a [PyTypeRef]
     requires coherent { IsCoherent change.classes.now }
     requires own { is_class (classes_of change.classes.now) change.class.0 ≡ true }
     requires there { AreThere (classes_of change.classes.now) (numbers change.bases.now) }
@@ -124,7 +125,7 @@ fn line_under<'a>(change: Change<'a>, trials: &'a [Trial], class: PyTypeRef) -> 
 pub(crate) fn renew_all(
     change: Change<'_>,
     alloc: Global,
-    trials: &[Trial],
+    trials: &Trials,
     best: PyTypeRef,
 ) -> Result<Vec<Renewed>, OutOfMemory>
     requires coherent { IsCoherent change.classes.now }

@@ -3,10 +3,14 @@
 ghost use Rattle.std.specs.Prelude.{◌≡◌, map, IfOk};
 ghost use Rattle.py_node.specs.Known.{known_texts};
 ghost use Rattle.py_node.specs.Texts.{AreDistinct};
-ghost use Rattle.class_model.specs.Start.{built_class};
+ghost use Rattle.class_model.specs.Start.{built_class, built_in_classes};
 ghost use Rattle.class_table.specs.New.{class_of_new};
+ghost use Rattle.class_table.specs.Start.{start_classes};
 
+use crate::attributes_of_built_ins::add_own_attrs;
 use crate::stored::NewClass;
+use crate::table::ClassTable;
+use py_node::built_in::built_ins;
 use py_node::known::all_known;
 use py_node::{BuiltIn, Known, Names, OutOfMemory, PyAttributes, PyTypeFlags};
 use std::alloc::Global;
@@ -30,8 +34,33 @@ fn table_of(alloc: Global, rows: &[(Known, &str)]) -> Result<Names, OutOfMemory>
     Ok(names)
 }
 
+impl ClassTable {
+    /// A table of the classes with which a world begins: the built-in ones with their own attributes. Each attribute has
+    /// the number of its name and that of the object that it holds there.
+    pub fn new(alloc: Global) -> Result<ClassTable, OutOfMemory>
+        ensures { IfOk result (λ t. t ≡ start_classes) }
+    {
+        let mut table = ClassTable::bare(alloc)?;
+        add_own_attrs(&mut table)?;
+        Ok(table)
+    }
+
+    /// A table of the built-in classes without any attributes, for a world that makes the objects that these hold and
+    /// puts each attribute by `put_attr`.
+    pub fn bare(alloc: Global) -> Result<ClassTable, OutOfMemory>
+        ensures { IfOk result (λ t. t ≡ built_in_classes) }
+    {
+        let mut table = ClassTable::empty(alloc);
+        for row in built_ins() {
+            let new = new_class(alloc, row.0)?;
+            table.add_class(new)?;
+        }
+        Ok(table)
+    }
+}
+
 // A built-in class, to be put into the table.
-pub(crate) fn new_class(alloc: Global, class: BuiltIn) -> Result<NewClass, OutOfMemory>
+fn new_class(alloc: Global, class: BuiltIn) -> Result<NewClass, OutOfMemory>
     ensures { IfOk result (λ n. class_of_new n ≡ built_class class) }
 {
     let name = String::from_str(alloc, class.name())?;

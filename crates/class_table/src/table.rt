@@ -1,6 +1,6 @@
 //! The table of classes.
 
-ghost use Rattle.std.specs.Prelude.{◌≡◌, ◌<◌, ◌≤◌, [], true, false, length, Ok, OnOk, OnErr, IfOk, ◌↔◌, IsTrue, Some, is_some, leb, option_map, slice_get, None, IfSome, IsSome};
+ghost use Rattle.std.specs.Prelude.{◌≡◌, ◌+◌, ◌<◌, ◌≤◌, [], true, false, length, Ok, OnOk, OnErr, IfOk, ◌↔◌, IsTrue, Some, is_some, leb, option_map, slice_get, None, IfSome, IsSome};
 ghost use Rattle.std.specs.List.{All};
 ghost use Rattle.py_node.specs.declared.raised.Cause.TheVariants.{EmptyBases, NotBaseType, LayoutConflict, DuplicateBase, LocalPrecedence, MroConflict};
 ghost use Rattle.py_node.specs.Attributes.{is_same_name, AreNamesDistinct};
@@ -13,13 +13,13 @@ ghost use Rattle.class_model.specs.Collect.{all_attributes};
 ghost use Rattle.class_model.specs.Sound.{AreSound};
 ghost use Rattle.class_model.specs.Slot.{entry, slot as slot_read, is_heap_at};
 ghost use Rattle.class_model.specs.BuiltIn.{natives_of};
-ghost use Rattle.class_model.specs.Start.{built_in_classes};
 ghost use Rattle.class_model.specs.Change.{with_class, with_class_attr, without_class_attr, with_class_name, with_bases};
 ghost use Rattle.class_table.specs.Keys.{numbers, number_of, table_keys, slot_names};
 ghost use Rattle.class_table.specs.Stored.{classes_of};
 ghost use Rattle.class_table.specs.New.{IsBelow, class_of_new};
 ghost use Rattle.class_table.specs.Refused.{refusal, cause_of, refused_layout, refused_bases, refused_attr, WithMemory, NeedsNoMemory, IsEarly, AreThere, NamesNoClass};
 ghost use Rattle.class_table.specs.Rebase.{refused_change, refused_rebase, told, IsToldFirst};
+ghost use Rattle.class_table.specs.Descendants.{descendants};
 ghost use Rattle.class_table.specs.Causes.{LacksBase, HasLayoutConflict, HasDuplicate, BreaksOrder, HasNoLine};
 ghost use Rattle.class_table.specs.Given.{AreGiven};
 
@@ -35,10 +35,8 @@ use crate::put::put_in;
 use crate::read::{own_entry, read, value_along, value_past};
 use crate::rebase::rebase;
 use crate::rename::rename_in;
-use crate::start::new_class;
 use crate::steps::Steps;
 use crate::stored::{NewClass, Stored};
-use py_node::built_in::built_ins;
 use py_node::{
     Cause, OutOfMemory, PyAttributes, PyObjectRef, PyStrInterned, PyTypeFlags, PyTypeRef,
     SlotEntry, SlotId,
@@ -70,18 +68,6 @@ impl Model for ClassTable {
 }
 
 impl ClassTable {
-    /// A table of the built-in classes, which have no attributes yet.
-    pub fn new(alloc: Global) -> Result<ClassTable, OutOfMemory>
-        ensures { IfOk result (λ t. t ≡ built_in_classes) }
-    {
-        let mut table = ClassTable::empty(alloc);
-        for row in built_ins() {
-            let new = new_class(alloc, row.0)?;
-            table.add_class(new)?;
-        }
-        Ok(table)
-    }
-
     // What the table takes its memory from.
     pub(crate) fn alloc(&self) -> Global {
         self.alloc
@@ -267,9 +253,10 @@ impl ClassTable {
     /// Other bases for a class that a script made. They are refused for the first of these causes: no script made
     /// the class; there are none; one is the class or derives from it; base by base, one may have no subclasses or its
     /// layout conflicts with those before it; the solid class of the best of them is not that of the best base of now, or
-    /// the class gives its objects a dict and would not, or the other way round; one stands twice; and then at the least-numbered class that they leave without an order while all its bases have
-    /// one. Where they are refused or memory runs out, the table stays as it was. `steps` counts the merges and the
-    /// classes whose slots are found anew; where they are refused before any order is looked at, it counts nothing.
+    /// the class gives its objects a dict and would not, or the other way round; one stands twice; and then at the
+    /// least-numbered class that they leave without an order while all its bases have one. Where they are refused or
+    /// memory runs out, the table stays as it was. No count of merges or of probes falls; at most one merge is counted for
+    /// the class and for each that derives from it; and where a test fails that needs no order, nothing is counted.
     pub fn set_bases<L: Ledger>(
         &mut self,
         class: PyTypeRef,
@@ -284,6 +271,7 @@ impl ClassTable {
         ensures err { OnErr result (self.new ≡ self.old) }
         ensures merges { steps.old.merges ≤ steps.new.merges }
         ensures probes { steps.old.probes ≤ steps.new.probes }
+        ensures few_merges { steps.new.merges ≤ steps.old.merges + length (descendants self.old class.0) }
         ensures uncounted { IsSome (refused_change self.old class.0 (numbers bases.items)) → steps.new ≡ steps.old }
     {
         let alloc = self.alloc;

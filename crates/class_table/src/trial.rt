@@ -1,6 +1,6 @@
 //! The linearisations that other bases of a class would give, before anything is changed.
 
-ghost use Rattle.std.specs.Prelude.{◌≡◌, ◌+◌, ℕ, ◌<◌, List, false, true, length, IfOk, OnOk, None, Some, slice_get};
+ghost use Rattle.std.specs.Prelude.{◌≡◌, ℕ, ◌<◌, List, false, true, length, IfOk, None, Some, slice_get};
 ghost use Rattle.class_model.specs.Order.{Includes, Distinct, has};
 ghost use Rattle.class_model.specs.Class.{is_class, bases_of, lin};
 ghost use Rattle.class_table.specs.Keys.{numbers};
@@ -8,14 +8,17 @@ ghost use Rattle.class_table.specs.Stored.{StoredClass, classes_of};
 ghost use Rattle.class_table.specs.Coherent.{IsCoherent};
 ghost use Rattle.class_table.specs.Refused.{AreThere};
 ghost use Rattle.class_table.specs.Rebase.{any_derives};
-ghost use Rattle.class_table.specs.Steps.{NoneFalls};
+ghost use Rattle.class_table.specs.Steps.{RiseBy};
+ghost use Rattle.class_table.specs.Descendants.{AreRanked};
 ghost use Rattle.class_table.specs.declared.trial.Trial.{Trial};
-ghost use Rattle.class_table.specs.Trial.{changed, bases_under, IsTrial, IsKnown, AreKnown, AreTried, line_lent, AreLinesFor};
+ghost use Rattle.class_table.specs.Trial.{changed, bases_under, trial_at, IsTrial, HasTrial, IsKnown, AreKnown, line_lent, line_tried, AreLinesFor};
 
 use crate::add::line;
+use crate::descendants::Ranked;
 use crate::place::place;
 use crate::steps::Steps;
 use crate::stored::Stored;
+use crate::trial_map::Trials;
 use mro_merge::MroFault;
 use mro_merge::laws::resolve_mro;
 use py_node::{Cause, OutOfMemory, PyTypeRef};
@@ -52,15 +55,23 @@ pub(crate) fn bases_under<'a>(change: Change<'a>, stored: &'a Stored) -> &'a [Py
     }
 }
 
+// The linearisation that was found, if one was.
+fn line_in(trial: &Trial) -> Option<&[PyTypeRef]>
+    ensures { line_lent result ≡ line_tried trial.now }
+{
+    match trial {
+        Trial::Line(line) => Some(line),
+        Trial::Failed(_) | Trial::Without => None,
+    }
+}
+
 // The linearisation that the class at a place has under the trial, if it has one: its own of now, where it does not
 // derive from the changed class.
-fn line_at<'a>(change: Change<'a>, trials: &'a [Trial], at: usize) -> Option<&'a [PyTypeRef]>
+fn line_at<'a>(change: Change<'a>, trials: &'a Trials, at: usize) -> Option<&'a [PyTypeRef]>
     requires coherent { IsCoherent change.classes.now }
     requires inside { at < length change.classes.now }
-    requires count { length trials.now ≡ length change.classes.now }
-    requires known { (k : StoredClass) (r : Trial) → slice_get change.classes.now at ≡ Some k →
-        slice_get trials.now at ≡ Some r → has k.mro change.class.0 ≡ true →
-        IsTrial (changed change) k.number r }
+    requires known { (k : StoredClass) → slice_get change.classes.now at ≡ Some k → has k.mro change.class.0 ≡ true →
+        HasTrial (changed change) k.number (trial_at trials.now at) }
     ensures { (k : StoredClass) → slice_get change.entry.classes.now at ≡ Some k → line_lent result ≡
         lin (changed change.entry) k.number }
 {
@@ -68,16 +79,16 @@ fn line_at<'a>(change: Change<'a>, trials: &'a [Trial], at: usize) -> Option<&'a
     if !stored.derives(change.class) {
         return Some(stored.mro());
     }
-    match &trials[at] {
-        Trial::Line(line) => Some(line),
-        Trial::Failed(_) | Trial::Without => None,
+    match trials.get(at) {
+        None => None,
+        Some(trial) => line_in(trial),
     }
 }
 
 // The linearisation that a class has under the trial, if it has one.
 pub(crate) fn line_of<'a>(
     change: Change<'a>,
-    trials: &'a [Trial],
+    trials: &'a Trials,
     class: PyTypeRef,
 ) -> Option<&'a [PyTypeRef]>
     requires coherent { IsCoherent change.classes.now }
@@ -93,7 +104,7 @@ pub(crate) fn line_of<'a>(
 fn lines_of(
     change: Change<'_>,
     alloc: Global,
-    trials: &[Trial],
+    trials: &Trials,
     bases: &[PyTypeRef],
 ) -> Result<Option<Vec<Vec<PyTypeRef>>>, OutOfMemory>
     requires coherent { IsCoherent change.classes.now }
@@ -141,7 +152,7 @@ fn merged(
 fn attempt<L: Ledger>(
     change: Change<'_>,
     alloc: Global,
-    trials: &[Trial],
+    trials: &Trials,
     at: usize,
     steps: &mut Steps<L>,
 ) -> Result<Trial, OutOfMemory>
@@ -150,11 +161,12 @@ fn attempt<L: Ledger>(
     requires apart { any_derives (classes_of change.classes.now) (numbers change.bases.now) change.class.0 ≡ false }
     requires distinct { Distinct (numbers change.bases.now) }
     requires inside { at < length change.classes.now }
-    requires tried { (k : StoredClass) → slice_get change.classes.now at ≡ Some k →
-        AreTried change.classes.now change.class.0 (numbers change.bases.now) (length k.mro) at trials.now }
+    requires known { (k : StoredClass) (b : ℕ) → slice_get change.classes.now at ≡ Some k →
+        Includes (bases_under change.class.0 (numbers change.bases.now) k) b →
+        IsKnown change.classes.now change.class.0 (numbers change.bases.now) trials.now b }
     ensures trial { IfOk result (λ r. (k : StoredClass) → slice_get change.entry.classes.now at ≡ Some k →
         IsTrial (changed change.entry) k.number r) }
-    ensures steps { NoneFalls steps.old steps.new }
+    ensures steps { RiseBy 1 0 steps.old steps.new }
 {
     let stored = &change.classes[at];
     let bases = bases_under(change, stored);
@@ -167,84 +179,27 @@ fn attempt<L: Ledger>(
     }
 }
 
-// Tries the class at a place, where it derives from the changed one and its linearisation of now is this long.
-fn try_at<L: Ledger>(
-    change: Change<'_>,
-    alloc: Global,
-    trials: &mut Vec<Trial>,
-    size: usize,
-    at: usize,
-    steps: &mut Steps<L>,
-) -> Result<(), OutOfMemory>
-    requires coherent { IsCoherent change.classes.now }
-    requires there { AreThere (classes_of change.classes.now) (numbers change.bases.now) }
-    requires apart { any_derives (classes_of change.classes.now) (numbers change.bases.now) change.class.0 ≡ false }
-    requires distinct { Distinct (numbers change.bases.now) }
-    requires inside { at < length change.classes.now }
-    requires tried { AreTried change.classes.now change.class.0 (numbers change.bases.now) size at trials.old.items }
-    ensures tried { OnOk result (AreTried change.entry.classes.now change.entry.class.0 (numbers change.entry.bases.now)
-        size (at + 1) trials.new.items) }
-    ensures steps { NoneFalls steps.old steps.new }
-{
-    let stored = &change.classes[at];
-    if stored.line_length() == size && stored.derives(change.class) {
-        trials[at] = attempt(change, alloc, trials, at, steps)?;
-    }
-    Ok(())
-}
-
-// Tries the classes that derive from the changed one and whose linearisations of now are this long.
-fn try_size<L: Ledger>(
-    change: Change<'_>,
-    alloc: Global,
-    trials: &mut Vec<Trial>,
-    size: usize,
-    steps: &mut Steps<L>,
-) -> Result<(), OutOfMemory>
-    requires coherent { IsCoherent change.classes.now }
-    requires there { AreThere (classes_of change.classes.now) (numbers change.bases.now) }
-    requires apart { any_derives (classes_of change.classes.now) (numbers change.bases.now) change.class.0 ≡ false }
-    requires distinct { Distinct (numbers change.bases.now) }
-    requires tried { AreTried change.classes.now change.class.0 (numbers change.bases.now) size 0 trials.old.items }
-    ensures tried { OnOk result (AreTried change.entry.classes.now change.entry.class.0 (numbers change.entry.bases.now)
-        (size + 1) 0 trials.new.items) }
-    ensures steps { NoneFalls steps.old steps.new }
-{
-    for at in 0..change.classes.len() {
-        try_at(change, alloc, trials, size, at, steps)?;
-    }
-    Ok(())
-}
-
-// As many trials as there are classes.
-fn untried(alloc: Global, count: usize) -> Result<Vec<Trial>, OutOfMemory>
-    ensures { IfOk result (λ v. length v.items ≡ count) }
-{
-    let mut trials = Vec::new(alloc);
-    for _place in 0..count {
-        trials.push(Trial::Without)?;
-    }
-    Ok(trials)
-}
-
-// The trials of all classes that derive from the changed one: those with shorter linearisations of now first, so that
-// each comes after its bases.
+// The trials of the class and of all that derive from it, of which these are the places, each after its bases. It counts
+// at most one merge for each.
 pub(crate) fn trials<L: Ledger>(
     change: Change<'_>,
     alloc: Global,
+    ranked: &[Ranked],
     steps: &mut Steps<L>,
-) -> Result<Vec<Trial>, OutOfMemory>
+) -> Result<Trials, OutOfMemory>
     requires coherent { IsCoherent change.classes.now }
     requires there { AreThere (classes_of change.classes.now) (numbers change.bases.now) }
     requires apart { any_derives (classes_of change.classes.now) (numbers change.bases.now) change.class.0 ≡ false }
     requires distinct { Distinct (numbers change.bases.now) }
+    requires ranked { AreRanked change.classes.now change.class.0 ranked.now }
     ensures known { IfOk result (λ v.
-        AreKnown change.entry.classes.now change.entry.class.0 (numbers change.entry.bases.now) v.items) }
-    ensures steps { NoneFalls steps.old steps.new }
+        AreKnown change.entry.classes.now change.entry.class.0 (numbers change.entry.bases.now) v) }
+    ensures steps { RiseBy (length ranked.now) 0 steps.old steps.new }
 {
-    let mut trials = untried(alloc, change.classes.len())?;
-    for shorter in 0..change.classes.len() {
-        try_size(change, alloc, &mut trials, shorter + 1, steps)?;
+    let mut trials = Trials::new(alloc);
+    for next in ranked {
+        let trial = attempt(change, alloc, &trials, next.place, steps)?;
+        trials.insert(next.place, trial)?;
     }
     Ok(trials)
 }

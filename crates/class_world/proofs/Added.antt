@@ -1,5 +1,5 @@
 -- Objects that are put into a world with their dicts.
-use Rattle.std.proofs.Common.{◌≡◌, ◌+◌, cond, List, [], ◌∷◌, ◌++◌, length, map, Option, Some, None, Result, Ok, Err, IfOk, IfSome, OnOk, OnErr, refl, sym, ap, ◌∙◌, subst, arith, length-append}
+use Rattle.std.proofs.Common.{◌≡◌, suc, ◌+◌, cond, List, [], ◌∷◌, ◌++◌, length, map, Option, Some, None, Result, Ok, Err, IfOk, IfSome, OnOk, OnErr, refl, sym, ap, ◌∙◌, subst, arith, length-append}
 use Rattle.std.specs.Prelude.{◌&&◌, true, is_some, is_none, option_map}
 use Rattle.std.proofs.lemmas.List.{length-map}
 use Rattle.py_node.specs.declared.refs.PyObjectRef.{PyObjectRef}
@@ -161,6 +161,15 @@ module _ (w : Held) (c : PyTypeRef) (p : Payload) where
   object-number t (Some d) r h e =
       e ∙ ap (λ n. ref (n + 1)) (sym (length-map w.nodes (node_of t))) ∙ sym (ap (λ b. ref (cond b (length (plain t w).nodes + 1) (length (plain t w).nodes))) h)
 
+  -- it comes last
+  object-last : (o : Option Node) (r : PyObjectRef) → r ≡ number_of_object w.nodes o → length (with_object w.nodes o c p) ≡ suc r.0
+  object-last None r e = let l = length-append w.nodes (stored None ∷ []) in let n : r.0 ≡ length w.nodes = ap (λ (r : PyObjectRef). r.0) e in omega (arith, l, n)
+  object-last (Some d) r e =
+      let l = length-append w.nodes (d ∷ []) in
+      let m = length-append (w.nodes ++ d ∷ []) (stored (Some (ref (length w.nodes))) ∷ []) in
+      let n : r.0 ≡ length w.nodes + 1 = ap (λ (r : PyObjectRef). r.0) e in
+      omega (arith, l, m, n)
+
   -- an object is added, or memory ran out and nothing changed
   module _ {E : Type 0} (o : Option Node) (ns : List Node) where
     pub added-sound : (r : Result PyObjectRef E) → has_dict w.classes c.0 ≡ is_some o → OnOk r (ns ≡ with_object w.nodes o c p) → OnErr r (ns ≡ w.nodes) → IfSome o IsEmptyDict → AllHold w (of_option of_node o) → Holds w (IsClass c.0) → Holds w (IsOf c.0 (home_of p)) → class_in p ≡ None → AllHold w (of_payload p) → Sound w → Sound (record w { nodes = ns })
@@ -189,3 +198,7 @@ module _ (w : Held) (c : PyTypeRef) (p : Payload) where
     pub added-holding : (r : Result PyObjectRef E) → OnOk r (ns ≡ with_object w.nodes o c p) → IfOk r (λ n. n ≡ number_of_object w.nodes o) → IfOk r (λ n. Holds (record w { nodes = ns }) (Holding n (home_of p)))
     added-holding (Ok n) q e = subst (λ ns. Holds (record w { nodes = ns }) (Holding n (home_of p))) (sym q) (object-holding o n e)
     added-holding (Err a) q e = tt
+
+    pub added-last : (r : Result PyObjectRef E) → OnOk r (ns ≡ with_object w.nodes o c p) → IfOk r (λ n. n ≡ number_of_object w.nodes o) → IfOk r (λ n. length ns ≡ suc n.0)
+    added-last (Ok n) q e = ap (λ (ns : List Node). length ns) q ∙ object-last o n e
+    added-last (Err a) q e = tt

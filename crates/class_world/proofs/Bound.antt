@@ -162,8 +162,8 @@ module _ (w : Held) where
 pub other-lasts : (w : Held) (vars : Bound) (scopes : List Scope) (calls : List Started) → Lasts w (record w { vars = vars; scopes = scopes; calls = calls })
 other-lasts w vars scopes calls = same-lasts w (record w { vars = vars; scopes = scopes; calls = calls }) refl refl refl refl
 
-pub other-grows : (w : Held) (vars : Bound) (scopes : List Scope) (calls : List Started) → length scopes ≡ length w.scopes → Grows w (record w { vars = vars; scopes = scopes; calls = calls })
-other-grows w vars scopes calls e = record { still = (other-lasts w vars scopes calls).still; bodies = e }
+other-grows : (w : Held) (vars : Bound) (scopes : List Scope) → length scopes ≡ length w.scopes → Grows w (record w { vars = vars; scopes = scopes })
+other-grows w vars scopes e = record { still = (other-lasts w vars scopes w.calls).still; bodies = e; notes = refl }
 
 length-bound : (ss : List Scope) (x : PyStrInterned) (r : PyObjectRef) → length (bound_scopes ss x r) ≡ length ss
 length-bound [] x r = refl
@@ -188,8 +188,8 @@ module _ {A E : Type 0} (w : Held) (x : PyStrInterned) (r : PyObjectRef) (vars :
       (subst (λ vs. AreNamesDistinct vs) (sym f) s.apart) (subst (λ ss. All (λ (s : Scope). AreNamesDistinct s.vars) ss) (sym g) s.scopes_apart)
 
   pub bind-grows : (o : Result A E) → OnOk o (scopes ≡ bound_scopes w.scopes x r) → OnErr o (scopes ≡ w.scopes) → Grows w (record w { vars = vars; scopes = scopes })
-  bind-grows (Ok a) q g = other-grows w vars scopes w.calls (ap length q ∙ length-bound w.scopes x r)
-  bind-grows (Err e) q g = other-grows w vars scopes w.calls (ap length g)
+  bind-grows (Ok a) q g = other-grows w vars scopes (ap length q ∙ length-bound w.scopes x r)
+  bind-grows (Err e) q g = other-grows w vars scopes (ap length g)
 
   pub bind-read : (now : Held) (o : Result A E) → OnOk o (vars ≡ bound_vars w.scopes w.vars x r) → OnOk o (scopes ≡ bound_scopes w.scopes x r) → w ≡ now → OnOk o ((t : Reading) → plain t (record w { vars = vars; scopes = scopes }) ≡ with_binding (plain t now) (t.text x.0) r)
   bind-read now (Ok a) p q v = λ t.

@@ -65,7 +65,7 @@ attr-there ks c d x r = at-changed (λ (k : Class PyStrInterned). record k { att
 
 -- as many classes as before
 pub classes-grow : (w : Held) (ks : HeldClasses) → Like w.classes ks → Grows w (record w { classes = ks })
-classes-grow w ks k = grows w (record w { classes = ks }) refl (omega arith) (omega arith) (λ m f h. h) (omega arith) (keep-itself w.classes w.nodes) k
+classes-grow w ks k = grows w (record w { classes = ks }) refl refl (omega arith) (omega arith) (λ m f h. h) (omega arith) (keep-itself w.classes w.nodes) k
 
 abbrev pub AreStanding : Held → HeldClasses → Type 0
 AreStanding w ks = (c : ℕ) → is_class ks c ≡ true → Holds w (Standing c (record { 0 = c }))
@@ -102,6 +102,10 @@ module _ {A E : Type 0} (w : Held) (c : ℕ) (x : PyStrInterned) (r : PyObjectRe
       (ap (λ (ks : HeldClasses). record (plain t w) { classes = renamed (spelled t) ks }) p ∙ ap (λ (ks : Classes Text). record (plain t w) { classes = ks }) (attr-read t w.classes c x r))
   set-read now (Err e) p v = tt
 
+  pub set-held : (now : Held) (o : Result A E) → OnOk o (ks ≡ with_class_attr is_same_name w.classes c x r) → w ≡ now → OnOk o (record w { classes = ks } ≡ record now { classes = with_class_attr is_same_name now.classes c x r })
+  set-held now (Ok a) p v = ap (λ (ks : HeldClasses). record w { classes = ks }) p ∙ ap (λ (u : Held). record u { classes = with_class_attr is_same_name u.classes c x r }) v
+  set-held now (Err e) p v = tt
+
 -- every class's number is that of a node, so a further node has room for one
 pub room : (w : Held) (ks : HeldClasses) → AllHold w (of_each of_class ks) → limit ks ≤ length w.nodes
 unfolding Holds
@@ -130,7 +134,7 @@ module _ (w : Held) (meta : PyTypeRef) (k : Class PyStrInterned) where
   pub made-grows : (c : PyTypeRef) → Grows w (class_made c)
   made-grows c =
       let n = length-append w.nodes (record { class = meta; dict = None; members = []; payload = payload.Class c } ∷ []) in
-      grows w (class_made c) refl (omega arith) (omega arith) (λ m f h. h) (omega arith) (keep-push w.classes w.nodes (record { class = meta; dict = None; members = []; payload = payload.Class c })) (like-push w.classes k)
+      grows w (class_made c) refl refl (omega arith) (omega arith) (λ m f h. h) (omega arith) (keep-push w.classes w.nodes (record { class = meta; dict = None; members = []; payload = payload.Class c })) (like-push w.classes k)
 
   pub node-made : (c : PyTypeRef) (r : PyObjectRef) → r.0 ≡ length w.nodes → Holds (class_made c) (IsNode r)
   unfolding Holds

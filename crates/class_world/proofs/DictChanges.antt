@@ -205,7 +205,7 @@ module _ (w : Held) (r : PyObjectRef) (n new : StoredNode) where
   pub other-grows : (es : Entries) → n ≡ get_or w.nodes r.0 n → home_of n.payload ≡ Dict → HasOther n new es → Grows w changed
   other-grows es e d o =
       let l = set-length w.nodes r.0 new in
-      grows w changed refl (omega arith) (omega arith) (λ m f h. h) (omega arith) (record { stays = stays-set w.classes w.nodes r.0 n new e (same-lasting es d o) (λ h. o.0) }) (like-itself w.classes)
+      grows w changed refl refl (omega arith) (omega arith) (λ m f h. h) (omega arith) (record { stays = stays-set w.classes w.nodes r.0 n new e (same-lasting es d o) (λ h. o.0) }) (like-itself w.classes)
 
   pub other-sound : (es : Entries) → r.0 < length w.nodes → n ≡ get_or w.nodes r.0 n → home_of n.payload ≡ Dict → HasOther n new es → AllHold w (of_entries es) → Sound w → Sound changed
   other-sound es l e d o h s =

@@ -214,18 +214,18 @@ grows-at old new x e s n p l (GetsDict o c b) h = (l.there c h.0, h.1 ∙ sym (a
 lasts : (old new : Held) → length old.names ≤ length new.names → length old.forms ≤ length new.forms → Stays old.forms new.forms → length old.nodes ≤ length new.nodes → Keep old.classes old.nodes new.nodes → Like old.classes new.classes → Lasts old new
 lasts old new x e s n p l = record { still = grows-at old new x e s n p l }
 
--- and the same bodies run
-pub grows : (old new : Held) → old.scopes ≡ new.scopes → length old.names ≤ length new.names → length old.forms ≤ length new.forms → Stays old.forms new.forms → length old.nodes ≤ length new.nodes → Keep old.classes old.nodes new.nodes → Like old.classes new.classes → Grows old new
-grows old new b x e s n p l = record { still = grows-at old new x e s n p l; bodies = ap length (sym b) }
+-- and the same bodies run, and the same notes stand
+pub grows : (old new : Held) → old.scopes ≡ new.scopes → old.calls ≡ new.calls → length old.names ≤ length new.names → length old.forms ≤ length new.forms → Stays old.forms new.forms → length old.nodes ≤ length new.nodes → Keep old.classes old.nodes new.nodes → Like old.classes new.classes → Grows old new
+grows old new b q x e s n p l = record { still = grows-at old new x e s n p l; bodies = ap length (sym b); notes = sym q }
 
 pub grows-lasts : (old new : Held) → Grows old new → Lasts old new
 grows-lasts old new g = record { still = g.still }
 
 pub grows-itself : (w : Held) → Grows w w
-grows-itself w = record { still = λ c h. h; bodies = refl }
+grows-itself w = record { still = λ c h. h; bodies = refl; notes = refl }
 
 pub grows-on : (a b c : Held) → Grows a b → Grows b c → Grows a c
-grows-on a b c g h = record { still = λ k p. h.still k (g.still k p); bodies = h.bodies ∙ g.bodies }
+grows-on a b c g h = record { still = λ k p. h.still k (g.still k p); bodies = h.bodies ∙ g.bodies; notes = h.notes ∙ g.notes }
 
 pub lasts-on : (a b c : Held) → Lasts a b → Lasts b c → Lasts a c
 lasts-on a b c g h = record { still = λ k p. h.still k (g.still k p) }
@@ -245,10 +245,10 @@ pub lasts-seen : (w now new : Held) → w ≡ now → Lasts w new → Lasts now 
 lasts-seen w now new e g = subst (λ w. Lasts w new) e g
 
 pub node-grows : (w : Held) (n : Node) → Grows w (record w { nodes = w.nodes ++ n ∷ [] })
-node-grows w n = let l = length-append w.nodes (n ∷ []) in grows w (record w { nodes = w.nodes ++ n ∷ [] }) refl (omega arith) (omega arith) (λ m f h. h) (omega arith) (keep-push w.classes w.nodes n) (like-itself w.classes)
+node-grows w n = let l = length-append w.nodes (n ∷ []) in grows w (record w { nodes = w.nodes ++ n ∷ [] }) refl refl (omega arith) (omega arith) (λ m f h. h) (omega arith) (keep-push w.classes w.nodes n) (like-itself w.classes)
 
 pub form-grows : (w : Held) (f : Form) → Grows w (record w { forms = w.forms ++ f ∷ [] })
-form-grows w f = let l = length-append w.forms (f ∷ []) in grows w (record w { forms = w.forms ++ f ∷ [] }) refl (omega arith) (omega arith) (λ m g h. get-pushed w.forms f m g h) (omega arith) (keep-itself w.classes w.nodes) (like-itself w.classes)
+form-grows w f = let l = length-append w.forms (f ∷ []) in grows w (record w { forms = w.forms ++ f ∷ [] }) refl refl (omega arith) (omega arith) (λ m g h. get-pushed w.forms f m g h) (omega arith) (keep-itself w.classes w.nodes) (like-itself w.classes)
 
 pub names-grow : (w : Held) (names : List (List ℕ)) → length w.names ≤ length names → Grows w (record w { names = names })
-names-grow w names l = grows w (record w { names = names }) refl l (omega arith) (λ m f h. h) (omega arith) (keep-itself w.classes w.nodes) (like-itself w.classes)
+names-grow w names l = grows w (record w { names = names }) refl refl l (omega arith) (λ m f h. h) (omega arith) (keep-itself w.classes w.nodes) (like-itself w.classes)

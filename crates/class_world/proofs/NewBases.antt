@@ -1,6 +1,6 @@
 -- Other bases for a class: why they are refused, as a reading has the classes, and what they make of a world.
 use Rattle.std.proofs.Common.{◌≡◌, ℕ, Bool, true, cond, ◌||◌, ◌&&◌, List, [], ◌∷◌, map, Option, Some, None, Result, Ok, Err, OnOk, OnErr, refl, sym, ap, ◌∙◌, subst}
-use Rattle.std.specs.Prelude.{is_some, is_none, option_map, option_and_then}
+use Rattle.std.specs.Prelude.{is_some, IsSome, is_none, option_map, option_and_then}
 use Rattle.std.specs.Option.{option_or}
 use Rattle.py_node.specs.declared.raised.Cause.{Cause}
 use Rattle.py_node.specs.declared.raised.Cause.TheVariants.{EmptyBases, ImmutableType, InheritanceCycle, LayoutDiffers, DuplicateBase}
@@ -108,6 +108,13 @@ module _ (w now : Held) (v : w ≡ now) (c : ℕ) (bs : List ℕ) where
   unfolding plain
   first-seen answer h t =
       subst (λ n. IsToldFirst (plain t n).classes c bs answer) v (λ cause e. h cause (sym (change-alike (spelled t) w.classes c bs) ∙ e))
+
+  -- what is so wherever a test fails that needs no order
+  pub early-seen : {P : Type 0} → (IsSome (refused_change w.classes c bs) → P) → (t : Reading) → IsSome (refused_change (plain t now).classes c bs) → P
+  unfolding plain
+  early-seen h t e =
+      let same : refused_change (plain t now).classes c bs ≡ refused_change w.classes c bs = subst (λ n. refused_change (plain t n).classes c bs ≡ refused_change w.classes c bs) v (change-alike (spelled t) w.classes c bs) in
+      h (ap is_some (sym same) ∙ e)
 
   rebase-seen : (t : Reading) → refused_rebase (plain t now).classes c bs ≡ refused_rebase w.classes c bs
   unfolding plain

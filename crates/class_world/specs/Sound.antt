@@ -191,10 +191,11 @@ AllHold w (c ∷ cs) = Holds w c × AllHold w cs
 pub record Lasts (old new : Held) : Type 0 where
   pub still : (c : Claim) → Holds old c → Holds new c
 
--- the same, and as many bodies run
+-- the same; as many bodies run, and the notes of those that were started are as before
 pub record Grows (old new : Held) : Type 0 where
   pub still : (c : Claim) → Holds old c → Holds new c
   pub bodies : length new.scopes ≡ length old.scopes
+  pub notes : new.calls ≡ old.calls
 
 -- what the parts of a world say
 

@@ -1,10 +1,12 @@
 //! The own attributes of the built-in classes, as a new machine gets them.
 
-ghost use Rattle.std.specs.Prelude.{◌≡◌, fold, Some, None, IfOk, OnOk};
+ghost use Rattle.std.specs.Prelude.{◌≡◌, suc, length, fold, Some, None, IfOk, OnOk};
 ghost use Rattle.py_node.specs.BuiltIns.{place_of, all_built_ins};
 ghost use Rattle.plain_machine.specs.Plain.{AMethodDescriptor, AGetSet};
-ghost use Rattle.plain_machine.specs.World.{with_node, next_node};
+ghost use Rattle.plain_machine.specs.World.{ref, with_node, next_node};
+ghost use Rattle.class_table.specs.Start.{value_number, number_past, with_own, with_all_own, with_each_own};
 ghost use Rattle.plain_machine.specs.Start.{attr_class, attr_datum, with_value, value_in, with_attr, with_attrs};
+ghost use Rattle.class_world.specs.Held.{numbered};
 ghost use Rattle.class_world.specs.Reading.{Reading, Reads, datum, plain};
 ghost use Rattle.py_node.specs.declared.built_in.BuiltIn.TheVariants as built_in;
 ghost use Rattle.plain_machine.specs.Sound.{holds_as};
@@ -27,6 +29,7 @@ use py_node::{
 pub(crate) fn add_own_attrs(world: &mut World) -> Result<(), OutOfMemory>
     ensures added { OnOk result ((t : Reading) → Reads t world.new → plain t world.new ≡
         fold with_attrs (plain t world.old) all_built_ins) }
+    ensures held { OnOk result (numbered world.new ≡ with_each_own (numbered world.old)) }
     ensures reads { (t : Reading) → Reads t world.new → Reads t world.old }
 {
     for row in built_ins() {
@@ -39,6 +42,7 @@ pub(crate) fn add_own_attrs(world: &mut World) -> Result<(), OutOfMemory>
 fn add_attrs(world: &mut World, class: BuiltIn) -> Result<(), OutOfMemory>
     ensures added { OnOk result ((t : Reading) → Reads t world.new → plain t world.new ≡
         with_attrs (plain t world.old) class) }
+    ensures held { OnOk result (numbered world.new ≡ with_all_own (numbered world.old) class) }
     ensures reads { (t : Reading) → Reads t world.new → Reads t world.old }
 {
     for attr in attrs_of(class) {
@@ -52,6 +56,7 @@ fn add_attrs(world: &mut World, class: BuiltIn) -> Result<(), OutOfMemory>
 fn add_attr(world: &mut World, class: BuiltIn, attr: OwnAttr) -> Result<(), OutOfMemory>
     ensures added { OnOk result ((t : Reading) → Reads t world.new → plain t world.new ≡
         with_attr class (plain t world.old) attr) }
+    ensures held { OnOk result (numbered world.new ≡ with_own class (numbered world.old) attr) }
     ensures reads { (t : Reading) → Reads t world.new → Reads t world.old }
 {
     let name = world.known(attr.0);
@@ -71,6 +76,9 @@ fn add_value(
     ensures made { OnOk result ((t : Reading) → plain t world.new ≡
         with_value class (plain t world.old) (t.text name.0) attr) }
     ensures number { IfOk result (λ r. (t : Reading) → r ≡ value_in (plain t world.old) attr) }
+    ensures classes { world.new.classes ≡ world.old.classes }
+    ensures value { IfOk result (λ r. r ≡ ref (value_number (length world.old.nodes) attr)) }
+    ensures past { OnOk result (length world.new.nodes ≡ number_past (length world.old.nodes) attr) }
     ensures reads { (t : Reading) → Reads t world.new → Reads t world.old }
     ensures grows { Grows world.old world.new }
     ensures node { IfOk result (λ r. Holds world.new (IsNode r)) }
@@ -92,10 +100,15 @@ fn add_object(
     ensures made { OnOk result ((t : Reading) → plain t world.new ≡
         with_node (plain t world.old) (place_of (attr_class attr)) (attr_datum class (t.text name.0) attr)) }
     ensures number { IfOk result (λ r. (t : Reading) → r ≡ next_node (plain t world.old) (place_of (attr_class attr))) }
+    ensures classes { world.new.classes ≡ world.old.classes }
+    ensures next { IfOk result (λ r. r ≡ ref (length world.old.nodes)) }
+    ensures past { OnOk result (length world.new.nodes ≡ suc (length world.old.nodes)) }
     ensures reads { (t : Reading) → Reads t world.new → Reads t world.old }
     ensures grows { Grows world.old world.new }
     ensures node { IfOk result (λ r. Holds world.new (IsNode r)) }
 {
+    world.readable();
+    world.keeps_built_ins();
     let payload = payload_of(world, class, name, attr);
     let holder = world.built_in(class_of(attr));
     world.make_node(holder, payload)

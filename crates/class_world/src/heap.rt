@@ -4,7 +4,8 @@ ghost use Rattle.std.specs.Prelude.{◌≡◌, ℕ, ◌<◌, ◌≤◌, ◌∷�
 ghost use Rattle.std.specs.Option.{option_or};
 ghost use Rattle.py_node.specs.declared.built_in.BuiltIn.{BuiltIn};
 ghost use Rattle.py_node.specs.declared.built_in.BuiltIn.TheVariants.{TypeType};
-ghost use Rattle.class_model.specs.Change.{with_class};
+ghost use Rattle.py_node.specs.Attributes.{is_same_name};
+ghost use Rattle.class_model.specs.Change.{with_class, with_class_attr};
 ghost use Rattle.class_model.specs.Layout.{built_ins, best_of};
 ghost use Rattle.class_model.specs.Numbers.{limit};
 ghost use Rattle.class_model.specs.Dict.{heap_class};
@@ -62,6 +63,9 @@ impl World {
         requires value { Holds self.old (IsNode value) }
         ensures set { OnOk result ((t : Reading) → plain t self.new ≡
             with_own_attr (plain t self.old) class.0 (t.text name.0) value) }
+        ensures held { OnOk result (self.new ≡ record self.old {
+          classes = with_class_attr is_same_name self.old.classes class.0 name value;
+        }) }
         ensures err { OnErr result (self.new ≡ self.old) }
         ensures reads { (t : Reading) → Reads t self.new → Reads t self.old }
         ensures grows { Grows self.old self.new }

@@ -1,7 +1,7 @@
 //! Names: their numbers and their texts.
 
 ghost use Rattle.std.specs.Prelude.{◌≡◌, IfOk, OnOk, OnErr, string_bytes};
-ghost use Rattle.py_node.specs.Known.{known_text};
+ghost use Rattle.py_node.specs.Known.{known_text, number_of};
 ghost use Rattle.class_world.specs.Names.{AddsName};
 ghost use Rattle.class_world.specs.Reading.{Reading, Reads, plain};
 ghost use Rattle.class_world.specs.Sound.{IsName, Holds, Grows};
@@ -21,6 +21,7 @@ impl World {
     /// A name that every world knows.
     pub fn known(&self, name: Known) -> PyStrInterned
         ensures spelled { (t : Reading) → Reads t self.now → t.text result.0 ≡ known_text name }
+        ensures number { result ≡ record { 0 = number_of name } }
         ensures holds { Holds self.now (IsName result) }
     {
         let _names = &self.names;

@@ -1,6 +1,6 @@
 //! Objects: what is read of one, how one is made, and how what it holds is changed.
 
-ghost use Rattle.std.specs.Prelude.{◌≡◌, is_some, Some, None, IfOk, OnOk, OnErr, IfSome, ◌<◌, ◌∷◌, [], ◌++◌, length, vec_len, vec_capacity, false};
+ghost use Rattle.std.specs.Prelude.{◌≡◌, is_some, Some, None, IfOk, OnOk, OnErr, IfSome, ◌<◌, ◌∷◌, [], ◌++◌, suc, length, vec_len, vec_capacity, false};
 ghost use Rattle.plain_machine.specs.World.{with_node, next_node, has_dict, class_at, datum_at, number_of, ref};
 ghost use Rattle.class_model.specs.Dict.{has_dict as class_has_dict};
 ghost use Rattle.plain_machine.specs.Known.{the_dict};
@@ -77,6 +77,8 @@ impl World {
         ensures grows { Grows self.old self.new }
         ensures node { IfOk result (λ r. Holds self.new (IsNode r)) }
         ensures holding { IfOk result (λ r. Holds self.new (Holding r (home_of payload))) }
+        ensures classes { self.new.classes ≡ self.old.classes }
+        ensures last { IfOk result (λ r. length self.new.nodes ≡ suc r.0) }
     {
         let dict = self.new_dict(class);
         add_object(&mut self.nodes, self.alloc, dict, class, payload)

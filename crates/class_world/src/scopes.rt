@@ -1,6 +1,6 @@
 //! Running bodies and variables.
 
-ghost use Rattle.std.specs.Prelude.{◌≡◌, ◌-◌, suc, map, length, take, OnOk, OnErr, IfSome};
+ghost use Rattle.std.specs.Prelude.{◌≡◌, ◌-◌, [], suc, map, length, take, OnOk, OnErr, IfSome};
 ghost use Rattle.py_node.specs.Replies.{started_of};
 ghost use Rattle.plain_machine.specs.World.{at_depth, without_calls, variable, with_binding, with_scope, without_scope};
 ghost use Rattle.class_world.specs.Reading.{Reading, Reads, bindings, plain};
@@ -31,12 +31,14 @@ impl World {
         self.scopes.truncate(depth);
     }
 
-    /// Takes the notes of the bodies that were started.
+    /// Takes the notes of the bodies that were started: none are left.
     pub fn take_calls(&mut self) -> Vec<BodyCall>
         ensures calls { (t : Reading) → map started_of result.items ≡ (plain t self.old).calls }
         ensures taken { (t : Reading) → plain t self.new ≡ without_calls (plain t self.old) }
+        ensures rests { self.new.calls ≡ [] }
+        ensures bodies { self.new.scopes ≡ self.old.scopes }
         ensures reads { (t : Reading) → Reads t self.new → Reads t self.old }
-        ensures grows { Grows self.old self.new }
+        ensures lasts { Lasts self.old self.new }
     {
         let alloc = self.alloc;
         mem::replace(&mut self.calls, Vec::new(alloc))

@@ -2,15 +2,17 @@
 
 ghost use Rattle.std.specs.Prelude.{◌≡◌, ◌<◌, ℕ, List, map, Some, IfOk, slice_get};
 ghost use Rattle.py_node.specs.declared.built_in.BuiltIn.{BuiltIn};
-ghost use Rattle.py_node.specs.BuiltIns.{place_of, flags_of};
+ghost use Rattle.py_node.specs.BuiltIns.{place_of, flags_of, fixed_node_count};
 ghost use Rattle.py_node.specs.Replies.{started_of};
 ghost use Rattle.py_node.specs.Known.{known_texts};
+ghost use Rattle.class_model.specs.Start.{built_in_classes};
+ghost use Rattle.class_table.specs.Start.{start_classes};
 ghost use Rattle.plain_machine.specs.Known.{the_none_type};
 ghost use Rattle.plain_machine.specs.Row.{none};
 ghost use Rattle.plain_machine.specs.World.{class_at};
 ghost use Rattle.plain_machine.specs.Start.{bare, start};
 ghost use Rattle.plain_machine.specs.Sound.{IsSound};
-ghost use Rattle.class_world.specs.Held.{Held};
+ghost use Rattle.class_world.specs.Held.{Held, numbered};
 ghost use Rattle.class_world.specs.Reading.{Reading, Reads, plain, IsReadable};
 ghost use Rattle.class_world.specs.Sound.{flags_at};
 
@@ -70,11 +72,12 @@ impl Model for World {
 #[tactic(auto, unfolding(crate::specs::Reading::plain))]
 impl World {
     /// The world of a new machine: the names that are known, the built-in classes with their nodes and their
-    /// own attributes, and None, NotImplemented, False and True.
+    /// own attributes, and None, NotImplemented, False and True. The classes are those of a new table of classes.
     pub fn new(alloc: Global) -> Result<World, OutOfMemory>
         ensures start { IfOk result (λ w. (t : Reading) → Reads t w → plain t w ≡ start) }
         ensures known { IfOk result (λ w. (n : ℕ) (x : List ℕ) → slice_get known_texts n ≡ Some x →
             slice_get w.names n ≡ Some x) }
+        ensures classes { IfOk result (λ w. w.classes ≡ start_classes) }
     {
         let mut world = World::bare(alloc)?;
         add_own_attrs(&mut world)?;
@@ -84,11 +87,12 @@ impl World {
 
     // The same without attributes.
     fn bare(alloc: Global) -> Result<World, OutOfMemory>
-        ensures { IfOk result (λ w. (t : Reading) → plain t w ≡ bare) }
+        ensures plain { IfOk result (λ w. (t : Reading) → plain t w ≡ bare) }
+        ensures held { IfOk result (λ w. numbered w ≡ (built_in_classes, fixed_node_count)) }
     {
         let names = known_names(alloc)?;
         let nodes = start_nodes(alloc)?;
-        let classes = ClassTable::new(alloc)?;
+        let classes = ClassTable::bare(alloc)?;
         Ok(World {
             names,
             forms: Vec::new(alloc),

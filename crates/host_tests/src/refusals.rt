@@ -55,7 +55,8 @@ fn refusal(
     let metaclass = world.built_in(BuiltIn::TypeType);
     match world.new_heap_slots("A", bases, attrs, None, metaclass) {
         Ok(_) => Ok(None),
-        Err(ClassFault::Refused(cause) | ClassFault::RefusedAt(cause, _)) => Ok(Some(cause)),
+        Err(ClassFault::Refused(cause)) => Ok(Some(cause)),
+        Err(ClassFault::RefusedAt(_, _)) => unreachable!(),
         Err(ClassFault::OutOfMemory) => Err(OutOfMemory),
     }
 }

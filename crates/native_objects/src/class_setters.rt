@@ -9,10 +9,9 @@ ghost use Rattle.class_model.specs.Slot.{is_heap_at};
 ghost use Rattle.plain_machine.specs.Change.{SetName, SetOwn};
 ghost use Rattle.plain_machine.specs.Plain.{Said, Ends};
 ghost use Rattle.plain_machine.specs.World.{datum_at};
-ghost use Rattle.class_world.specs.Claims.{of_ended};
 ghost use Rattle.class_world.specs.Reading.{Reading, plain};
 ghost use Rattle.class_world.specs.Rows.{EndsAs, LeavesEnd};
-ghost use Rattle.class_world.specs.Sound.{AllHold, Grows, IsClass, IsNode, Holds};
+ghost use Rattle.class_world.specs.Sound.{IsClass, IsNode, Holds};
 ghost use Rattle.native_objects.specs.Names.{has_null, text_of};
 ghost use Rattle.native_objects.specs.Setters.{changes, class_written, on_heap, renamed, set_name, set_qualname, take_own, with_heap_value};
 
@@ -166,7 +165,7 @@ pub(crate) fn set_annotations(
     ensures safe { LeavesEnd world.old world.new result }
 {
     match given {
-        None => Ok(take_own(world, class, Known::Annotations)),
+        None => take_own(world, class, Known::Annotations),
         Some(value) => set_own(world, class, Known::Annotations, value),
     }
 }
@@ -188,25 +187,28 @@ fn set_own(
     match world.set_attr(class, name, value) {
         Ok(()) => Ok(Ok(Answer::Value(world.fixed(Fixed::None)))),
         Err(ClassFault::Refused(cause)) => Ok(Err(Raised::new(cause))),
-        Err(ClassFault::RefusedAt(cause, _)) => Ok(Err(Raised::new(cause))),
+        Err(ClassFault::RefusedAt(_, _)) => unreachable!(),
         Err(ClassFault::OutOfMemory) => Err(OutOfMemory),
     }
 }
 
 // An own attribute of a class that a script made is taken out, where it is there.
-fn take_own(world: &mut World, class: PyTypeRef, name: Known) -> Result<Answer, Raised>
+fn take_own(
+    world: &mut World,
+    class: PyTypeRef,
+    name: Known,
+) -> Result<Result<Answer, Raised>, OutOfMemory>
     requires { Holds world.old (IsClass class.0) }
-    ensures ends { EndsAs (λ t u. on_heap u class.0 (take_own u class.0 (known_text name)))
-        world.old world.new result }
-    ensures grows { Grows world.old world.new }
-    ensures holds { AllHold world.new (of_ended result) }
+    ensures ends { IfOk result (λ r. EndsAs (λ t u. on_heap u class.0 (take_own u class.0 (known_text name)))
+        world.old world.new r) }
+    ensures safe { LeavesEnd world.old world.new result }
 {
-    if !world.class_is_heap(class) {
-        return Err(Raised::new(Cause::ImmutableType));
-    }
     let name = world.known(name);
     match world.del_attr_direct(class, name) {
-        Ok(true) => Ok(Answer::Value(world.fixed(Fixed::None))),
-        _ => Err(Raised::new(Cause::NoAttribute)),
+        Ok(true) => Ok(Ok(Answer::Value(world.fixed(Fixed::None)))),
+        Ok(false) => Ok(Err(Raised::new(Cause::NoAttribute))),
+        Err(ClassFault::Refused(cause)) => Ok(Err(Raised::new(cause))),
+        Err(ClassFault::RefusedAt(_, _)) => unreachable!(),
+        Err(ClassFault::OutOfMemory) => Err(OutOfMemory),
     }
 }

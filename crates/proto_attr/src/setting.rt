@@ -122,14 +122,14 @@ fn own_set(
         PySetterValue::Assign(value) => match world.set_attr(class, name, value) {
             Ok(()) => Ok(Step::End(Ok(Answer::Done))),
             Err(ClassFault::Refused(_)) => Ok(Step::raise(Cause::ImmutableType)),
-            Err(ClassFault::RefusedAt(_, _)) => Ok(Step::raise(Cause::ImmutableType)),
+            Err(ClassFault::RefusedAt(_, _)) => unreachable!(),
             Err(ClassFault::OutOfMemory) => Err(OutOfMemory),
         },
         PySetterValue::Delete => match world.del_attr_direct(class, name) {
             Ok(true) => Ok(Step::End(Ok(Answer::Done))),
             Ok(false) => Ok(no_attribute()),
             Err(ClassFault::Refused(_)) => Ok(Step::raise(Cause::ImmutableType)),
-            Err(ClassFault::RefusedAt(_, _)) => Ok(Step::raise(Cause::ImmutableType)),
+            Err(ClassFault::RefusedAt(_, _)) => unreachable!(),
             Err(ClassFault::OutOfMemory) => Err(OutOfMemory),
         },
     }

@@ -6,6 +6,7 @@ pub mod BuiltIns
 pub mod Replies
 pub mod Attributes
 pub mod Places
+pub mod Members
 pub mod Texts
 pub mod Known
 pub mod Operators

@@ -1,5 +1,8 @@
 //! What the nodes of the machine hold.
 
+ghost use Rattle.std.specs.Prelude.{◌≡◌};
+ghost use Rattle.py_node.specs.Members.{kind_number};
+
 use crate::entry::NativeEntry;
 use crate::members::PyMembers;
 use crate::refs::{PyObjectRef, PyStrInterned, PyTypeRef};
@@ -98,9 +101,18 @@ pub struct GetSet {
 #[derive(Clone, Copy, PartialEq, Eq)]
 pub enum MemberKind {
     /// A bool, and False while it is empty.
-    Bool,
+    Bool = 14,
     /// Any object, and a fault while it is empty.
-    ObjectEx,
+    ObjectEx = 16,
+}
+
+impl MemberKind {
+    /// The kind's number.
+    pub fn number(self) -> u64
+        ensures { result ≡ kind_number self }
+    {
+        self as u64
+    }
 }
 
 /// What reads a member of an object.

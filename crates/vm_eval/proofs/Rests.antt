@@ -1,7 +1,8 @@
--- That no body runs: in a world, and as the world is read.
-use Rattle.std.proofs.Common.{◌≡◌, List, [], ◌∷◌, length, map, refl, ap, ◌∙◌, arith}
+-- That no body runs and none is noted: in a world, and as the world is read.
+use Rattle.std.proofs.Common.{◌≡◌, List, [], ◌∷◌, length, map, refl, ap, sym, ◌∙◌, arith}
 use Rattle.class_world.specs.Held.{Held}
 use Rattle.class_world.specs.Reading.{Reading, plain, scope_of}
+use Rattle.class_world.specs.Sound.{Lasts, Grows}
 use Rattle.vm_eval.specs.Stack.{AsDeep}
 
 none-short : {A : Type 0} (xs : List A) → length xs ≡ 0 → xs ≡ []
@@ -22,3 +23,16 @@ none-held t w h = none-mapped (scope_of t) w.scopes h
 
 pub still-none : (old new : Held) → old.scopes ≡ [] → AsDeep old new → new.scopes ≡ []
 still-none old new h n = none-short new.scopes (n ∙ ap length h)
+
+-- no start of a body is noted, in a world and as the world is read
+pub quiet-read : (t : Reading) (w : Held) → w.calls ≡ [] → (plain t w).calls ≡ []
+unfolding plain
+quiet-read t w h = h
+
+pub quiet-held : (t : Reading) (w : Held) → (plain t w).calls ≡ [] → w.calls ≡ []
+unfolding plain
+quiet-held t w h = h
+
+-- from rest to rest
+pub rest-grows : (old new : Held) → Lasts old new → old.scopes ≡ [] → new.scopes ≡ [] → old.calls ≡ [] → new.calls ≡ [] → Grows old new
+rest-grows old new l a b p q = record { still = l.still; bodies = ap length b ∙ sym (ap length a); notes = q ∙ sym p }

@@ -24,6 +24,7 @@ impl VirtualMachine {
         ensures holds { IfOk result (λ end. AllHold self.new.world (of_done of_answer end)) }
         ensures grows { Grows self.old.world self.new.world }
         ensures rests { (t : Reading) → (plain t self.new.world).scopes ≡ [] }
+        ensures quiet { (t : Reading) → (plain t self.new.world).calls ≡ [] }
         ensures readable { OnOk result (IsReadable self.new.world) }
         ensures works { OnOk result (self.new.failed ≡ self.old.failed) }
         ensures gives_up { OnErr result (IsTrue self.new.failed) }
@@ -45,6 +46,7 @@ impl VirtualMachine {
             }
             Err(_) => {
                 self.world.end_bodies(0);
+                let _left = self.world.take_calls();
                 self.failed = true;
                 self.world.sound();
                 Err(RunFault::OutOfMemory)

@@ -43,8 +43,8 @@ impl Model for VirtualMachine {
 
     ghost view = { λ a. record { world = a.world; failed = a.failed; frames = vec_capacity a.stack } };
 
-    // No body runs, and there is room for 1,000 frames.
-    ghost invariant = { λ a. (a.world.scopes ≡ []) × (1000 ≤ vec_capacity a.stack) };
+    // No body runs, no start of one is noted, and there is room for 1,000 frames.
+    ghost invariant = { λ a. (a.world.scopes ≡ []) × (a.world.calls ≡ []) × (1000 ≤ vec_capacity a.stack) };
 }
 
 impl VirtualMachine {
@@ -53,6 +53,7 @@ impl VirtualMachine {
     pub fn new(alloc: Global) -> Result<VirtualMachine, OutOfMemory>
         ensures start { IfOk result (λ vm. (t : Reading) → Reads t vm.world → plain t vm.world ≡ start) }
         ensures rests { IfOk result (λ vm. (t : Reading) → (plain t vm.world).scopes ≡ []) }
+        ensures quiet { IfOk result (λ vm. (t : Reading) → (plain t vm.world).calls ≡ []) }
         ensures clear { IfOk result (λ vm. vm.failed ≡ false) }
         ensures frames { IfOk result (λ vm. 1000 ≤ vm.frames) }
     {
@@ -73,6 +74,14 @@ impl VirtualMachine {
         let _frames = self.stack.len();
     }
 
+    /// Between calls no body runs, and no note of one is left that a later reply could tell.
+    pub fn is_at_rest(&self)
+        ensures rests { (t : Reading) → (plain t self.now.world).scopes ≡ [] }
+        ensures quiet { (t : Reading) → (plain t self.now.world).calls ≡ [] }
+    {
+        let _frames = self.stack.len();
+    }
+
     /// The machine's world.
     pub fn world(&self) -> &World
         ensures { result.now ≡ self.now.world }
@@ -81,13 +90,14 @@ impl VirtualMachine {
     }
 
     /// Runs commands, each of which may use so many units. The replies are the plain machine's, and so
-    /// is the world after them, which is sound; however the commands end, no body is left running.
+    /// is the world after them, which is sound; however the commands end, no body is left running and none noted.
     /// Where memory cannot be had, this run and every later one fails, and the world is sound all the
     /// same; no commands take no memory.
     pub fn run(&mut self, commands: &[Command], units: u64) -> Result<Vec<Reply>, RunFault>
         ensures runs { IfOk result (λ replies. Runs commands.now self.old.world units self.new.world replies.items) }
         ensures grows { Grows self.old.world self.new.world }
         ensures rests { (t : Reading) → (plain t self.new.world).scopes ≡ [] }
+        ensures quiet { (t : Reading) → (plain t self.new.world).calls ≡ [] }
         ensures readable { OnOk result (IsReadable self.new.world) }
         ensures works { OnOk result (self.new.failed ≡ self.old.failed) }
         ensures gives_up { OnErr result (IsTrue self.new.failed) }
@@ -109,6 +119,7 @@ impl VirtualMachine {
             }
             Err(_) => {
                 self.world.end_bodies(0);
+                let _left = self.world.take_calls();
                 self.failed = true;
                 self.world.sound();
                 Err(RunFault::OutOfMemory)

@@ -26,6 +26,7 @@ pub(crate) fn replies(
     ensures runs { IfOk result (λ replies. Runs commands.now world.old units world.new replies.items) }
     ensures lasts { Lasts world.old world.new }
     ensures bodies { OnOk result (AsDeep world.old world.new) }
+    ensures quiet { OnOk result (world.old.calls ≡ [] → world.new.calls ≡ []) }
     ensures room { vec_capacity stack.old ≤ vec_capacity stack.new }
     ensures idle { commands.now ≡ [] → IfErr result (λ _. ⊥) }
 {
@@ -57,6 +58,7 @@ fn reply(
         Replied (tree_of command.now.expr) world.old units world.new (reply_of reply)) }
     ensures lasts { Lasts world.old world.new }
     ensures bodies { OnOk result (AsDeep world.old world.new) }
+    ensures quiet { OnOk result (world.new.calls ≡ []) }
     ensures room { vec_capacity stack.old ≤ vec_capacity stack.new }
 {
     let number = add_expr(world, &command.expr)?;

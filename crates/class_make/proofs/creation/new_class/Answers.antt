@@ -1,4 +1,4 @@
-use Rattle.std.proofs.Common.{◌∙◌, [], ap, refl, sym, subst, length, map, None, Some, string_bytes}
+use Rattle.std.proofs.Common.{◌∙◌, [], ap, refl, sym, length, map, None, Some, string_bytes}
 use Rattle.std.proofs.lemmas.List.{length-map}
 use Rattle.class_table.specs.Keys.{numbers}
 use Rattle.plain_machine.specs.Plain.{Ends, Made}
@@ -7,7 +7,6 @@ use Rattle.plain_machine.specs.World.{ref, text_keys, with_new_class}
 use Rattle.class_model.specs.Dict.{heap_class}
 use Rattle.class_world.specs.NewHeap.{slot_texts}
 use Rattle.class_world.specs.Reading.{plain, bindings, spelled}
-use Rattle.class_world.specs.Sound.{AreNames, Holds}
 use Rattle.class_world.proofs.Growth.{grows-on}
 use Rattle.class_world.proofs.Claims.{all-grow}
 use Rattle.class_make.specs.Say.{made_in, refusal, tell, with_own_members}
@@ -29,22 +28,6 @@ returns-in-Err-Refused-clause-goes c =
     makes-from c.args.kw.items (λ t u. made_in p.meta.0 n b (slot_texts t c.args.slots) (bindings t c.args.kw.items) (u, bindings t p.attrs)) (λ t u. Ends u (fault cause)) old new new _ (λ t r.
     let q = e.reads t r in
     let why = rw c.in-Err-Refused.field-0-is at (e.refused t q) in
-    (q, ap (λ u. Ends u (fault cause)) (ap (plain t) e.err) ∙ made-refused (plain t old) cause (refusal (plain t old) b (bindings t p.attrs)) p.meta.0 n b (slot_texts t c.args.slots) (bindings t c.args.kw.items) (bindings t p.attrs) (refused-next (plain t old) b (bindings t p.attrs) (Some cause) (c.requires.layout t q) why)))
-    (λ meta args t r. (r, (refl, refl))))
-
-pub returns-in-Err-RefusedAt-clause-goes : goal.returns-in-Err-RefusedAt-clause-goes
-returns-in-Err-RefusedAt-clause-goes c =
-    let e = c.in-Err-RefusedAt.ensures in
-    let cause = c.in-Err-RefusedAt.cause in
-    let old = c.args.world.now in
-    let new = c.new_heap_slots.new.self in
-    let p = c.args.plan in
-    let n = string_bytes p.name in
-    let b = numbers p.bases.items in
-    rw c.raise-in-Err-RefusedAt.ensures (
-    makes-from c.args.kw.items (λ t u. made_in p.meta.0 n b (slot_texts t c.args.slots) (bindings t c.args.kw.items) (u, bindings t p.attrs)) (λ t u. Ends u (fault cause)) old new new _ (λ t r.
-    let q = e.reads t r in
-    let why = rw c.in-Err-RefusedAt.field-0-is at (e.refused t q) in
     (q, ap (λ u. Ends u (fault cause)) (ap (plain t) e.err) ∙ made-refused (plain t old) cause (refusal (plain t old) b (bindings t p.attrs)) p.meta.0 n b (slot_texts t c.args.slots) (bindings t c.args.kw.items) (bindings t p.attrs) (refused-next (plain t old) b (bindings t p.attrs) (Some cause) (c.requires.layout t q) why)))
     (λ meta args t r. (r, (refl, refl))))
 

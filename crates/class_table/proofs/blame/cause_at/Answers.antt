@@ -1,66 +1,39 @@
-use Rattle.std.proofs.Common.{◌≡◌, ℕ, ◌<◌, List, length, get_or, true, Some, sym, ap, subst, ◌∙◌, arith}
+use Rattle.std.proofs.Common.{◌≡◌, true, false, Some, sym, ◌∙◌}
 use Rattle.std.specs.Prelude.{slice_get}
-use Rattle.class_model.specs.Order.{has}
-use Rattle.class_model.specs.Change.{with_bases}
+use Rattle.py_node.specs.declared.raised.Cause.{Cause}
+use Rattle.class_model.specs.Change.{with_bases, is_blamed, caused}
 use Rattle.class_table.specs.Keys.{numbers}
 use Rattle.class_table.specs.Stored.{StoredClass, classes_of}
-use Rattle.class_table.specs.Coherent.{IsCoherent}
-use Rattle.class_table.specs.declared.trial.Trial.{Trial}
-use Rattle.class_table.specs.Trial.{bases_under, IsTrial, AreKnown}
-use Rattle.class_table.proofs.Trials.{read-is, read-at, bases-now, kept-away}
-use Rattle.class_table.proofs.Blames.{blamed-is, lined-is, spared}
+use Rattle.class_table.specs.Trial.{bases_under, trial_at}
+use Rattle.class_table.proofs.Trials.{bases-now, some-trial}
+use Rattle.class_table.proofs.Blames.{tried-blamed, tried-spared, if-some, if-none}
 use Rattle.class_table.proofs.blame.cause_at.Goals as goal
 
--- the trial that was read
-tried : (kept : List StoredClass) (ok : IsCoherent kept) (c : ℕ) (bs : List ℕ) (trials : List Trial) → AreKnown kept c bs trials → (at : ℕ) → at < length kept → (x k : StoredClass) (r : Trial) → x ≡ get_or kept at x → r ≡ get_or trials at r → slice_get kept at ≡ Some k → has (get_or kept at x).mro c ≡ true → IsTrial (with_bases (classes_of kept) c bs) k.number r
-tried kept ok c bs trials known at inside x k r h j e d =
-    let n = known.count in
-    let l : at < length trials = omega (arith, n, inside) in
-    known.at at k r e (read-at trials at r l j) (ap (λ (z : StoredClass). has z.mro c) (sym (read-is kept at x k h e) ∙ h) ∙ d)
+pub returns-in-None-clause-none : goal.returns-in-None-clause-none
+returns-in-None-clause-none c = λ k e.
+    let u = with_bases (classes_of c.args.change.classes.now) c.args.change.class.0 (numbers c.args.change.bases.now) in
+    absurd (some-trial u k.number (trial_at c.args.trials.now c.args.at) (c.requires.known.at c.args.at k e (c.requires.derives k e)) (sym c.in-None.ensures))
 
-pub returns-then-not-derives-clause-none : goal.returns-then-not-derives-clause-none
-returns-then-not-derives-clause-none c = λ k e.
+pub returns-in-Some-clause-blamed : goal.returns-in-Some-clause-blamed
+returns-in-Some-clause-blamed c =
     let kept = c.args.change.classes.now in
     let class = c.args.change.class.0 in
     let bs = numbers c.args.change.bases.now in
-    let u = with_bases (classes_of kept) class bs in
-    let away = ap (λ (z : StoredClass). has z.mro class) (sym (read-is kept c.args.at c.index-change-at.result k c.index-change-at.is e) ∙ c.index-change-at.is) ∙ sym c.derives.ensures ∙ c.if-not-derives.true in
-    lined-is u k.number (bases_under class bs k) (bases-now kept c.requires.coherent class bs c.args.at k e) k.mro (kept-away kept c.requires.coherent class bs c.args.at k e away)
+    let P : Cause → Type 0 = λ cause. (k : StoredClass) → slice_get kept c.args.at ≡ Some k → is_blamed (with_bases (classes_of kept) class bs) k.number (bases_under class bs k) ≡ true in
+    if-some c.cause_in.result P (λ cause q k e. (tried-blamed (with_bases (classes_of kept) class bs) k.number (bases_under class bs k) (bases-now kept c.requires.coherent class bs c.args.at k e) (trial_at c.args.trials.now c.args.at) c.in-Some.trial.now cause (c.requires.known.at c.args.at k e (c.requires.derives k e)) c.in-Some.ensures (q ∙ c.cause_in.ensures)).0)
 
-pub returns-in-Failed-clause-blamed : goal.returns-in-Failed-clause-blamed
-returns-in-Failed-clause-blamed c = λ k e.
+pub returns-in-Some-clause-caused : goal.returns-in-Some-clause-caused
+returns-in-Some-clause-caused c =
     let kept = c.args.change.classes.now in
     let class = c.args.change.class.0 in
     let bs = numbers c.args.change.bases.now in
-    let u = with_bases (classes_of kept) class bs in
-    let r = tried kept c.requires.coherent class bs c.args.trials.now c.requires.known c.args.at c.requires.inside c.index-change-at.result k c.index-trials-at.result c.index-change-at.is c.index-trials-at.is e (sym c.derives.ensures ∙ c.if-not-derives.false) in
-    let P : Trial → Type 0 = λ z. IsTrial u k.number z in
-    (blamed-is u k.number (bases_under class bs k) (bases-now kept c.requires.coherent class bs c.args.at k e) c.in-Failed.cause (subst P c.in-Failed.is r)).0
+    let P : Cause → Type 0 = λ cause. (k : StoredClass) → slice_get kept c.args.at ≡ Some k → caused (with_bases (classes_of kept) class bs) k.number ≡ Some (k.number, cause) in
+    if-some c.cause_in.result P (λ cause q k e. (tried-blamed (with_bases (classes_of kept) class bs) k.number (bases_under class bs k) (bases-now kept c.requires.coherent class bs c.args.at k e) (trial_at c.args.trials.now c.args.at) c.in-Some.trial.now cause (c.requires.known.at c.args.at k e (c.requires.derives k e)) c.in-Some.ensures (q ∙ c.cause_in.ensures)).1)
 
-pub returns-in-Failed-clause-caused : goal.returns-in-Failed-clause-caused
-returns-in-Failed-clause-caused c = λ k e.
+pub returns-in-Some-clause-none : goal.returns-in-Some-clause-none
+returns-in-Some-clause-none c =
     let kept = c.args.change.classes.now in
     let class = c.args.change.class.0 in
     let bs = numbers c.args.change.bases.now in
-    let u = with_bases (classes_of kept) class bs in
-    let r = tried kept c.requires.coherent class bs c.args.trials.now c.requires.known c.args.at c.requires.inside c.index-change-at.result k c.index-trials-at.result c.index-change-at.is c.index-trials-at.is e (sym c.derives.ensures ∙ c.if-not-derives.false) in
-    let P : Trial → Type 0 = λ z. IsTrial u k.number z in
-    (blamed-is u k.number (bases_under class bs k) (bases-now kept c.requires.coherent class bs c.args.at k e) c.in-Failed.cause (subst P c.in-Failed.is r)).1
-
-pub returns-in-Line-clause-none : goal.returns-in-Line-clause-none
-returns-in-Line-clause-none c = λ k e.
-    let kept = c.args.change.classes.now in
-    let class = c.args.change.class.0 in
-    let bs = numbers c.args.change.bases.now in
-    let u = with_bases (classes_of kept) class bs in
-    let r = tried kept c.requires.coherent class bs c.args.trials.now c.requires.known c.args.at c.requires.inside c.index-change-at.result k c.index-trials-at.result c.index-change-at.is c.index-trials-at.is e (sym c.derives.ensures ∙ c.if-not-derives.false) in
-    spared u k.number (bases_under class bs k) (bases-now kept c.requires.coherent class bs c.args.at k e) c.index-trials-at.result r c.in-Line.is
-
-pub returns-in-Line-2-clause-none : goal.returns-in-Line-2-clause-none
-returns-in-Line-2-clause-none c = λ k e.
-    let kept = c.args.change.classes.now in
-    let class = c.args.change.class.0 in
-    let bs = numbers c.args.change.bases.now in
-    let u = with_bases (classes_of kept) class bs in
-    let r = tried kept c.requires.coherent class bs c.args.trials.now c.requires.known c.args.at c.requires.inside c.index-change-at.result k c.index-trials-at.result c.index-change-at.is c.index-trials-at.is e (sym c.derives.ensures ∙ c.if-not-derives.false) in
-    spared u k.number (bases_under class bs k) (bases-now kept c.requires.coherent class bs c.args.at k e) c.index-trials-at.result r c.in-Line.is
+    let P : Type 0 = (k : StoredClass) → slice_get kept c.args.at ≡ Some k → is_blamed (with_bases (classes_of kept) class bs) k.number (bases_under class bs k) ≡ false in
+    if-none c.cause_in.result P (λ q k e. tried-spared (with_bases (classes_of kept) class bs) k.number (bases_under class bs k) (bases-now kept c.requires.coherent class bs c.args.at k e) (trial_at c.args.trials.now c.args.at) c.in-Some.trial.now (c.requires.known.at c.args.at k e (c.requires.derives k e)) c.in-Some.ensures (q ∙ c.cause_in.ensures))

@@ -1,9 +1,10 @@
-use Rattle.std.proofs.Common.{◌≡◌, ℕ, List, get_or, set, sym, ap, subst, ◌∙◌}
+use Rattle.std.proofs.Common.{◌≡◌, ℕ, List, length, get_or, set, sym, ap, subst, ◌∙◌, arith}
 use Rattle.std.proofs.lemmas.List.{length-set}
 use Rattle.class_table.specs.Keys.{numbers}
 use Rattle.class_table.specs.Stored.{StoredClass}
 use Rattle.class_table.specs.Renewed.{AreSwapped}
 use Rattle.class_table.proofs.Found.{number-within}
+use Rattle.class_table.proofs.Counted.{rise-within}
 use Rattle.class_table.proofs.Renewing.{lines-mid, full-mid, plain-final, coherent-final}
 use Rattle.class_table.proofs.rebase.change_bases.Goals as goal
 
@@ -69,4 +70,7 @@ pub swap_in-requires : goal.swap_in-requires
 swap_in-requires g c = c.requires.renewed.count ∙ sym (length-set c.args.classes.now c.place-at.result c.set_bases.new.self)
 
 pub returns-clause-steps : goal.returns-clause-steps
-returns-clause-steps g c = c.settle_all.ensures.steps
+returns-clause-steps g c =
+    let a = c.swap_in.ensures.count in
+    let b = length-set c.args.classes.now c.place-at.result c.set_bases.new.self in
+    rise-within 0 (length c.swap_in.new.classes) 0 (length c.args.classes.now) c.args.steps.now c.settle_all.new.steps c.settle_all.ensures.steps (omega arith) (omega (arith, a, b))

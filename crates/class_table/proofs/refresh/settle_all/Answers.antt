@@ -1,4 +1,4 @@
-use Rattle.std.proofs.Common.{◌≡◌, ◌<◌, List, set, get_or, length, cond, Some, refl, sym, ap, subst, ◌∙◌, arith}
+use Rattle.std.proofs.Common.{◌≡◌, ◌+◌, ◌<◌, List, set, get_or, length, cond, Some, refl, sym, ap, subst, ◌∙◌, arith}
 use Rattle.std.proofs.lemmas.Bool.{lt-ltb, le-ltb}
 use Rattle.std.specs.Prelude.{slice_get}
 use Rattle.std.proofs.lemmas.Option.{slice_get_within, slice_get-get_or, get_or_from_slice_get}
@@ -6,14 +6,14 @@ use Rattle.class_model.specs.Order.{has}
 use Rattle.class_table.specs.Stored.{StoredClass, classes_of}
 use Rattle.class_table.specs.Coherent.{HasLines}
 use Rattle.class_table.specs.Patch.{refreshed_one, settled}
-use Rattle.class_table.specs.Steps.{NoneFalls}
-use Rattle.class_table.proofs.Counted.{probed, none-falls}
+use Rattle.class_table.specs.Steps.{Counts, RiseBy}
+use Rattle.class_table.proofs.Counted.{rise-none, rise-probe, rise-then, rise-within}
 use Rattle.class_table.proofs.Refreshed.{plain-set, lines-set, refreshed-then, refreshed-else, stands}
 use Rattle.class_table.proofs.refresh.settle_all.Goals as goal
 use Rattle.class_table.proofs.refresh.settle_all.Goals.{then-derives, else-derives}
 
 pub loop-at-init : goal.loop-at-init
-loop-at-init g c = record { lines = c.requires.lines; same = refl; at = λ i k e. e ∙ sym (ap (λ b. Some (cond b (refreshed_one (classes_of c.args.classes.now) c.args.class.0 k) k)) (le-ltb i 0 (omega arith))); steps = none-falls c.args.steps.now }
+loop-at-init g c = record { lines = c.requires.lines; same = refl; at = λ i k e. e ∙ sym (ap (λ b. Some (cond b (refreshed_one (classes_of c.args.classes.now) c.args.class.0 k) k)) (le-ltb i 0 (omega arith))); steps = rise-none c.args.steps.now }
 
 pub loop-at-preserved : goal.loop-at-preserved
 loop-at-preserved g c =
@@ -31,7 +31,7 @@ loop-at-preserved g c =
             lines = subst P (sym is) (lines-set cur n x (settled (classes_of cur) x) c.loop-at.invariant.lines inside held refl refl);
             same = ap classes_of is ∙ plain-set cur n x (settled (classes_of cur) x) inside held refl ∙ c.loop-at.invariant.same;
             at = refreshed-then c.args.class.0 n orig cur c.if-derives.classes c.loop-at.invariant.same c.loop-at.invariant.at x inside held (ap (λ (z : StoredClass). has z.mro c.args.class.0) held ∙ sym c.derives.ensures ∙ w.if-derives.true) is;
-            steps = probed c.args.steps.now c.loop-at.steps c.if-derives.steps c.loop-at.invariant.steps (w.steps-is ∙ w.probe.ensures);
+            steps = rise-then 0 n 0 1 c.args.steps.now c.loop-at.steps c.if-derives.steps c.loop-at.invariant.steps (rise-probe c.loop-at.steps c.if-derives.steps (w.steps-is ∙ w.probe.ensures));
           }
       | else-derives w ↦
           let P : List StoredClass → Type 0 = λ ys. HasLines ys in
@@ -39,7 +39,7 @@ loop-at-preserved g c =
             lines = subst P (sym w.classes-is) c.loop-at.invariant.lines;
             same = ap classes_of w.classes-is ∙ c.loop-at.invariant.same;
             at = refreshed-else c.args.class.0 n orig cur c.if-derives.classes c.loop-at.invariant.same c.loop-at.invariant.at x held (ap (λ (z : StoredClass). has z.mro c.args.class.0) held ∙ sym c.derives.ensures ∙ w.if-derives.false) w.classes-is;
-            steps = subst (NoneFalls c.args.steps.now) (sym w.steps-is) c.loop-at.invariant.steps;
+            steps = let Q : Counts → Type 0 = λ s. RiseBy 0 (n + 1) c.args.steps.now s in subst Q (sym w.steps-is) (rise-within 0 n 0 (n + 1) c.args.steps.now c.loop-at.steps c.loop-at.invariant.steps (omega arith) (omega arith));
           }
     ]
 
@@ -64,3 +64,9 @@ returns-clause-refreshed g c = record {
       let b : i < c.loop-at.at = omega arith in
       c.loop-at.invariant.at i k e ∙ ap (λ b. Some (cond b (refreshed_one (classes_of c.args.classes.now) c.args.class.0 k) k)) (lt-ltb i c.loop-at.at b);
 }
+
+pub returns-clause-steps : goal.returns-clause-steps
+returns-clause-steps g c =
+    let end = c.loop-at.auto.at-end in
+    let count = c.loop-at.auto.classes in
+    rise-within 0 c.loop-at.at 0 (length c.args.classes.now) c.args.steps.now c.loop-at.steps c.loop-at.invariant.steps (omega arith) (omega (arith, end, count))

@@ -2,7 +2,7 @@ use Rattle.std.proofs.Common.{◌≡◌, ℕ, cond, ltb, Some}
 use Rattle.std.specs.Prelude.{slice_get}
 use Rattle.class_table.specs.Stored.{StoredClass, classes_of}
 use Rattle.class_table.specs.Coherent.{HasLines}
-use Rattle.class_table.specs.Steps.{NoneFalls}
+use Rattle.class_table.specs.Steps.{RiseBy}
 use Rattle.class_table.specs.Patch.{refreshed_one}
 use Rattle.class_table.proofs.refresh.settle_all.Given as goal
 
@@ -11,5 +11,5 @@ invariant-loop-at g l = record {
   lines : HasLines l.classes;
   same : classes_of l.classes ≡ classes_of l.fn.classes;
   at : (i : ℕ) (k : StoredClass) → slice_get l.fn.classes i ≡ Some k → slice_get l.classes i ≡ Some (cond (ltb i l.at) (refreshed_one (classes_of l.fn.classes) l.class.0 k) k);
-  steps : NoneFalls l.fn.steps l.steps;
+  steps : RiseBy 0 l.at l.fn.steps l.steps;
 }

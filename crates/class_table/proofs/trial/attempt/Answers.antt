@@ -5,7 +5,7 @@ use Rattle.class_model.specs.Change.{with_bases}
 use Rattle.class_table.specs.Keys.{numbers}
 use Rattle.class_table.specs.Stored.{StoredClass, classes_of}
 use Rattle.class_table.specs.Trial.{bases_under, IsTrial, IsWithout}
-use Rattle.class_table.proofs.Trials.{read-is, read-at, bases-now, distinct-now, there-now, known-now, if-ok}
+use Rattle.class_table.proofs.Trials.{read-is, read-at, bases-now, distinct-now, there-now, if-ok}
 use Rattle.class_table.proofs.trial.attempt.Goals as goal
 
 -- the bases of the class, as they were read
@@ -32,7 +32,7 @@ lines_of-requires-clause-known g c = λ b h.
     let e = read-at kept c.args.at k c.requires.inside c.index-change-at.is in
     let u = under class bs _ k _ c.index-change-at.is c.bases_under-bases.ensures in
     let P : List ℕ → Type 0 = λ ds. Includes ds b in
-    known-now kept c.requires.coherent class bs c.args.at k e c.requires.there c.requires.apart c.args.trials.now (c.requires.tried k e) b (subst P u h)
+    c.requires.known k b e (subst P u h)
 
 pub merged-requires-clause-distinct : goal.merged-requires-clause-distinct
 merged-requires-clause-distinct g c =

@@ -1,4 +1,4 @@
-use Rattle.std.proofs.Common.{◌≡◌, ◌≤◌, ◌++◌, map, drop}
+use Rattle.std.proofs.Common.{◌≡◌, ◌≤◌, [], ◌++◌, map, drop}
 use Rattle.std.specs.Prelude.{vec_capacity}
 use Rattle.py_node.specs.Replies.{reply_of}
 use Rattle.plain_machine.specs.Answer.{plain_run}
@@ -17,5 +17,6 @@ invariant-loop-command l = record {
       Reads t l.fn.world × (plain_run say (plain t l.fn.world) (trees_in l.commands) l.units ≡ record { world = rest.world; replies = map reply_of l.replies.items ++ rest.replies });
   lasts : Lasts l.fn.world l.world;
   bodies : AsDeep l.fn.world l.world;
+  quiet : l.fn.world.calls ≡ [] → l.world.calls ≡ [];
   room : vec_capacity l.fn.stack ≤ vec_capacity l.stack;
 }

@@ -1,4 +1,4 @@
-use Rattle.std.proofs.Common.{◌≡◌, sym, subst}
+use Rattle.std.proofs.Common.{◌≡◌, sym, ap, subst}
 use Rattle.std.specs.Prelude.{is_some}
 use Rattle.class_model.specs.Dict.{has_dict}
 use Rattle.class_world.specs.Held.{Held}
@@ -6,7 +6,7 @@ use Rattle.class_world.specs.contracts.world.World.{the_view}
 use Rattle.class_world.specs.Sound.{IsClass, IsOf, home_of, of_node, of_option, of_payload}
 use Rattle.class_world.proofs.Claims.{opened, opened-one}
 use Rattle.class_world.proofs.Growth.{grows-seen}
-use Rattle.class_world.proofs.Added.{added-sound, added-grows, added-read, added-number, added-there, added-holding}
+use Rattle.class_world.proofs.Added.{added-sound, added-grows, added-read, added-number, added-there, added-holding, added-last}
 use Rattle.class_world.proofs.world.World.make_node.Goals as goal
 
 pub invariant_of-self : goal.invariant_of-self
@@ -42,3 +42,10 @@ returns-clause-node c =
 pub returns-clause-holding : goal.returns-clause-holding
 returns-clause-holding c =
     added-holding (the_view c.self.inside) c.args.class c.args.payload c.new_dict-dict.result c.add_object.new.nodes.items c.add_object.result c.add_object.ensures.added c.add_object.ensures.number
+
+pub returns-clause-classes : goal.returns-clause-classes
+returns-clause-classes c = ap (λ (u : Held). u.classes) c.self.view_is
+
+pub returns-clause-last : goal.returns-clause-last
+returns-clause-last c =
+    added-last (the_view c.self.inside) c.args.class c.args.payload c.new_dict-dict.result c.add_object.new.nodes.items c.add_object.result c.add_object.ensures.added c.add_object.ensures.number

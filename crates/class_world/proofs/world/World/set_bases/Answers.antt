@@ -6,7 +6,7 @@ use Rattle.class_world.specs.Sound.{IsClass, of_class_ref, of_each}
 use Rattle.class_world.proofs.Claims.{opened, opened-one}
 use Rattle.class_world.proofs.Growth.{grows-seen}
 use Rattle.class_world.proofs.ClassChanges.{classes-grow, bases-there}
-use Rattle.class_world.proofs.NewBases.{first-seen, told-seen, bases-like, bases-sound, bases-set}
+use Rattle.class_world.proofs.NewBases.{first-seen, early-seen, told-seen, bases-like, bases-sound, bases-set}
 use Rattle.class_world.proofs.OneBase.{class-there}
 use Rattle.class_world.proofs.world.World.set_bases.Goals as goal
 
@@ -32,6 +32,10 @@ returns-clause-early g c =
 pub returns-clause-refused : goal.returns-clause-refused
 returns-clause-refused g c =
     told-seen (the_view c.self.inside) c.args.self.now c.self.view_is c.args.class.0 (numbers c.args.bases.items) c.set_bases.result c.set_bases.ensures.refused
+
+pub returns-clause-uncounted : goal.returns-clause-uncounted
+returns-clause-uncounted g c =
+    early-seen (the_view c.self.inside) c.args.self.now c.self.view_is c.args.class.0 (numbers c.args.bases.items) c.set_bases.ensures.uncounted
 
 pub returns-clause-set : goal.returns-clause-set
 returns-clause-set g c =

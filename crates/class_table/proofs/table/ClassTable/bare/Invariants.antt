@@ -1,7 +1,7 @@
 use Rattle.std.proofs.Common.{◌≡◌, map, take}
 use Rattle.py_node.specs.BuiltIns.{all_built_ins}
 use Rattle.class_model.specs.Start.{built_class}
-use Rattle.class_table.proofs.table.ClassTable.new.Given as goal
+use Rattle.class_table.proofs.table.ClassTable.bare.Given as goal
 
 abbrev pub invariant-loop-row : goal.invariant-loop-row
 invariant-loop-row l = l.table ≡ map built_class (take l.row-index all_built_ins)

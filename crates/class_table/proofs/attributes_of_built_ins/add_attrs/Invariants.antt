@@ -1,0 +1,6 @@
+use Rattle.std.proofs.Common.{◌≡◌, take, fold}
+use Rattle.class_table.specs.Start.{with_own}
+use Rattle.class_table.proofs.attributes_of_built_ins.add_attrs.Given as goal
+
+abbrev pub invariant-loop-attr : goal.invariant-loop-attr
+invariant-loop-attr l = (l.table, l.next) ≡ fold (with_own l.fn.class) (l.initial.table, l.fn.first) (take l.attr-index l.attr-items)

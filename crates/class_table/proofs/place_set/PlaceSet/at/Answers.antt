@@ -1,0 +1,7 @@
+use Rattle.std.proofs.Common.{subst}
+use Rattle.class_model.specs.Order.{Distinct}
+use Rattle.class_table.proofs.Descended.{distinct-keys}
+use Rattle.class_table.proofs.place_set.PlaceSet.at.Goals as goal
+
+pub returns-clause-distinct : goal.returns-clause-distinct
+returns-clause-distinct c = subst Distinct c.self.view_is (distinct-keys c.self.inside.places.keys c.len-count.ensures.unique)

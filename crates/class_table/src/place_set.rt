@@ -1,0 +1,60 @@
+//! Places, each once.
+
+ghost use Rattle.std.specs.Prelude.{◌≡◌, ℕ, List, [], ◌∷◌, ◌++◌, cond, OnOk, slice_get};
+ghost use Rattle.class_model.specs.Order.{has, Distinct};
+
+use indexmap::IndexSet;
+use py_node::OutOfMemory;
+use std::alloc::Global;
+use std::marker::Model;
+
+/// Places in the order in which they were found, each once.
+#[derive(Drop)]
+pub(crate) struct PlaceSet {
+    places: IndexSet<usize>,
+}
+
+impl Model for PlaceSet {
+    ghost use Rattle.std.specs.Prelude.{ℕ, List};
+
+    ghost Value = { List ℕ };
+
+    ghost view = { λ a. a.places.keys };
+}
+
+impl PlaceSet {
+    // No places.
+    pub(crate) fn new(alloc: Global) -> PlaceSet
+        ensures { result ≡ [] }
+    {
+        PlaceSet {
+            places: IndexSet::new(alloc),
+        }
+    }
+
+    // Adds a place, where it is not there yet.
+    pub(crate) fn add(&mut self, place: usize) -> Result<(), OutOfMemory>
+        ensures { OnOk result (self.new ≡ cond (has self.old place) self.old (self.old ++ place ∷ [])) }
+    {
+        self.places.insert(place)?;
+        Ok(())
+    }
+
+    // The place at an index, if there are so many.
+    pub(crate) fn at(&self, index: usize) -> Option<usize>
+        ensures place { result ≡ slice_get self.now index }
+        ensures distinct { Distinct self.now }
+    {
+        let _count = self.places.len();
+        self.places.get_index(index).copied()
+    }
+
+    // All places.
+    pub(crate) fn all(&self) -> &[usize]
+        ensures all { result.now ≡ self.now }
+        ensures distinct { Distinct self.now }
+    {
+        let _count = self.places.len();
+        self.places.as_slice()
+    }
+}
