@@ -102,7 +102,7 @@ fn at_the_end(
 
 /// Two readers look in threads of their own while the writer publishes in this one, and once more when they were told of
 /// all.
-pub fn beside<R: Threads + Wait + Sync>(
+pub fn look_beside<R: Threads + Wait + Sync>(
     rt: &R,
     alloc: Global,
     writer: &mut ClassWriter,

@@ -7,12 +7,13 @@ mod beside;
 mod changes;
 mod rows;
 mod stop;
+mod told;
 
-use beside::{Newest, beside};
+use beside::{Newest, look_beside};
 use class_table::ClassTable;
 use class_view::{ClassReader, ClassView, ClassWriter, RuledPane};
 use py_node::{PyObjectRef, PyTypeRef};
-use rows::{Both, attribute_row, bases_row};
+use rows::{Lines, attribute_row, bases_row};
 use std::alloc::Global;
 use std::io;
 use std::sync::Wait;
@@ -25,8 +26,9 @@ const READERS: u32 = 3;
 // What the readers found.
 #[derive(Drop)]
 struct Shown {
-    attribute: Both<Option<PyObjectRef>>,
-    bases: Both<Vec<PyTypeRef>>,
+    before: Option<PyObjectRef>,
+    after: Option<PyObjectRef>,
+    lines: Lines,
     newest: (Newest, Newest),
 }
 
@@ -60,24 +62,26 @@ fn show<R: Threads + Wait + Sync>(
     ) else {
         return Err(Stop::OutOfMemory);
     };
-    let (attribute, mut first) = attribute_row(rt, alloc, writer, first)?;
-    let bases = bases_row(rt, alloc, writer, &mut first)?;
-    let newest = beside(rt, alloc, writer, &mut second, &mut third)?;
+    let values = attribute_row(rt, alloc, writer, first)?;
+    let mut first = values.reader;
+    let lines = bases_row(rt, alloc, writer, &mut first)?;
+    let newest = look_beside(rt, alloc, writer, &mut second, &mut third)?;
     Ok(Shown {
-        attribute,
-        bases,
+        before: values.before,
+        after: values.after,
+        lines,
         newest,
     })
 }
 
 fn write_shown(rt: &HostRuntime, classes: &ClassTable, shown: &Shown) -> io::Result<()> {
     print!(rt; "A.x:")?;
-    write_value(rt, shown.attribute.before)?;
+    write_value(rt, shown.before)?;
     print!(rt; ", then")?;
-    write_value(rt, shown.attribute.after)?;
+    write_value(rt, shown.after)?;
     println!(rt; "")?;
-    write_line(rt, classes, &shown.bases.before)?;
-    write_line(rt, classes, &shown.bases.after)?;
+    write_line(rt, classes, &shown.lines.before)?;
+    write_line(rt, classes, &shown.lines.after)?;
     write_newest(rt, shown.newest.0)?;
     write_newest(rt, shown.newest.1)
 }

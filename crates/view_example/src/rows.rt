@@ -1,67 +1,28 @@
-//! What a reader finds before and after changes are published.
-
-ghost use Rattle.std.specs.Prelude.{◌≡◌, IfOk, List, OnOk};
-ghost use Rattle.left_right.specs.Sides.{view};
-ghost use Rattle.py_node.specs.Attributes.{is_same_name};
-ghost use Rattle.class_model.specs.Class.{found};
-ghost use Rattle.class_log.specs.Change.{Change};
-ghost use Rattle.class_log.specs.Shown.{shown};
-ghost use Rattle.class_log.specs.Following.{BeginsWith};
+//! What a reader finds before changes are published, and what it finds after.
 
 use crate::changes::{A, D, NAME_X, OBJECT, P, Q, X, append, made};
 use crate::stop::Stop;
+use crate::told::{find_apart, publish_and_find};
 use class_log::ClassChange;
-use class_view::{ClassReader, ClassWriter, Gone, RuledPane, Told};
+use class_view::{ClassReader, ClassWriter, RuledPane};
 use py_node::{PyObjectRef, PyTypeRef};
 use std::alloc::Global;
 use std::sync::Wait;
-use std::thread::{Threads, join};
+use std::thread::Threads;
 
-/// What a reader found, and the reader.
+/// The values of an attribute that a reader found before and after, and the reader.
 #[derive(Drop)]
-pub struct Found {
-    pub value: Option<PyObjectRef>,
+pub struct Values {
+    pub before: Option<PyObjectRef>,
+    pub after: Option<PyObjectRef>,
     pub reader: ClassReader<RuledPane>,
 }
 
-/// What a reader finds before and after changes are published.
+/// The linearisations of a class that a reader found before and after.
 #[derive(Drop)]
-pub struct Both<T: Drop> {
-    pub before: T,
-    pub after: T,
-}
-
-// What a reader finds as the value of `A.x`.
-fn find(mut reader: ClassReader<RuledPane>) -> Result<Found, Gone> {
-    let value = reader.find(A, NAME_X)?;
-    Ok(Found { value, reader })
-}
-
-// What it finds once it has learnt what a writer told: so it is after a list of changes that begins with those.
-fn learn_and_find(mut reader: ClassReader<RuledPane>, told: Told) -> Result<Found, Gone>
-    ensures { IfOk result (λ f. (list : List Change) × (f.value ≡ found is_same_name (shown list) A.0 NAME_X) ×
-        BeginsWith (view told.reader.place).seen list) }
-{
-    reader.learn(told);
-    let value = reader.find(A, NAME_X)?;
-    Ok(Found { value, reader })
-}
-
-// Publishes what is pending, and tells a reader, which then finds `A.x` in a thread of its own. What it finds is so after
-// a list of changes that begins with all that are published.
-fn publish_and_find<R: Threads + Wait>(
-    rt: &R,
-    writer: &mut ClassWriter,
-    reader: ClassReader<RuledPane>,
-) -> Result<Found, Stop>
-    ensures published { OnOk result (writer.new.published ≡ writer.old.changes) }
-    ensures found { IfOk result (λ f. (list : List Change) × (f.value ≡ found is_same_name (shown list) A.0 NAME_X) ×
-        BeginsWith writer.new.published list) }
-{
-    writer.publish(rt)?;
-    let told = writer.tell()?;
-    let (found, _) = join(rt, move || learn_and_find(reader, told), || ());
-    Ok(found?)
+pub struct Lines {
+    pub before: Vec<PyTypeRef>,
+    pub after: Vec<PyTypeRef>,
 }
 
 /// `A` is made and gets `A.x`. A reader, in a thread of its own, finds it once it is published and the reader was told.
@@ -70,7 +31,7 @@ pub fn attribute_row<R: Threads + Wait>(
     alloc: Global,
     writer: &mut ClassWriter,
     reader: ClassReader<RuledPane>,
-) -> Result<(Both<Option<PyObjectRef>>, ClassReader<RuledPane>), Stop> {
+) -> Result<Values, Stop> {
     append(writer, &made(alloc, A, "A", &[OBJECT])?)?;
     let set = ClassChange::SetOwn {
         class: A,
@@ -78,14 +39,13 @@ pub fn attribute_row<R: Threads + Wait>(
         value: PyObjectRef(7),
     };
     append(writer, &set)?;
-    let (before, _) = join(rt, move || find(reader), || ());
-    let before = before?;
+    let before = find_apart(rt, reader)?;
     let after = publish_and_find(rt, writer, before.reader)?;
-    let both = Both {
+    Ok(Values {
         before: before.value,
         after: after.value,
-    };
-    Ok((both, after.reader))
+        reader: after.reader,
+    })
 }
 
 /// `D` gets other bases. A reader finds the new linearisation once it is published and the reader was told.
@@ -94,7 +54,7 @@ pub fn bases_row<R: Wait>(
     alloc: Global,
     writer: &mut ClassWriter,
     reader: &mut ClassReader<RuledPane>,
-) -> Result<Both<Vec<PyTypeRef>>, Stop> {
+) -> Result<Lines, Stop> {
     append(writer, &made(alloc, P, "P", &[OBJECT])?)?;
     append(writer, &made(alloc, Q, "Q", &[OBJECT])?)?;
     append(writer, &made(alloc, X, "X", &[P])?)?;
@@ -102,16 +62,19 @@ pub fn bases_row<R: Wait>(
     writer.publish(rt)?;
     let bases = Vec::from_slice(alloc, &[X, Q, P]).map_err(|_| Stop::OutOfMemory)?;
     append(writer, &ClassChange::SetBases { class: D, bases })?;
-    reader.learn(writer.tell()?);
-    let before = line_of(alloc, reader)?;
+    let before = told_line(alloc, writer, reader)?;
     writer.publish(rt)?;
-    reader.learn(writer.tell()?);
-    let after = line_of(alloc, reader)?;
-    Ok(Both { before, after })
+    let after = told_line(alloc, writer, reader)?;
+    Ok(Lines { before, after })
 }
 
-// The linearisation of `D`, and of a class that isn't there none.
-fn line_of(alloc: Global, reader: &mut ClassReader<RuledPane>) -> Result<Vec<PyTypeRef>, Stop> {
+// The linearisation of `D` that a reader finds once it was told of what is published: none where it finds no such class.
+fn told_line(
+    alloc: Global,
+    writer: &mut ClassWriter,
+    reader: &mut ClassReader<RuledPane>,
+) -> Result<Vec<PyTypeRef>, Stop> {
+    reader.learn(writer.tell()?);
     match reader.linearisation(D)? {
         Some(line) => Ok(line),
         None => Ok(Vec::new(alloc)),
