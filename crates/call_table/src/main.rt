@@ -1,61 +1,15 @@
-//! A table of calls with their values, of the world and what stands below it: each public call that can find no memory,
-//! and that no script reaches by itself, is called once with ample memory. A line tells its name and its value; the table
-//! ends early at a call that has none.
+//! Writes a table of calls with their values, of the world and what stands below it (`call_lines`).
 #![tactic(auto)]
 
-mod changes;
-mod classes;
-mod definitions;
-mod descriptors;
-mod members;
-mod merges;
-mod nodes;
-mod payloads;
-mod texts;
-mod world_classes;
-mod worlds;
-
-use class_table::ClassTable;
-use class_world::World;
-use std::alloc::Global;
 use std::io;
 use std::process::ExitCode;
 use table_lines::Table;
 
 fn main(rt: HostRuntime) -> io::Result<ExitCode> {
     let mut table = Table::new(rt.alloc());
-    nodes::put(&mut table, rt.alloc());
-    merges::put(&mut table, rt.alloc());
-    texts::put(&mut table, rt.alloc());
-    put_classes(&mut table, rt.alloc());
-    put_world(&mut table, rt.alloc());
+    call_lines::put(&mut table, rt.alloc());
     let text = table.text();
     print!(rt; "{text}")?;
     let status = if table.is_ended() { 1 } else { 0 };
     Ok(ExitCode::from(status))
-}
-
-// The calls of a table of classes.
-fn put_classes(table: &mut Table, alloc: Global) {
-    match ClassTable::new(alloc) {
-        Ok(mut classes) => {
-            classes::put(table, &mut classes, alloc);
-            changes::put(table, &mut classes, alloc);
-        }
-        Err(_) => table.end(),
-    }
-}
-
-// The calls of a world.
-fn put_world(table: &mut Table, alloc: Global) {
-    match World::new(alloc) {
-        Ok(mut world) => {
-            worlds::put(table, &mut world);
-            world_classes::put(table, &mut world);
-            members::put(table, &mut world);
-            definitions::put(table, &mut world, alloc);
-            descriptors::put(table, &mut world, alloc);
-        }
-        Err(_) => table.end(),
-    }
 }

@@ -1,6 +1,6 @@
 use Rattle.std.proofs.Common.{refl}
 use Rattle.class_world.specs.Sound.{Holds}
-use Rattle.call_table.proofs.descriptors.member.Goals as goal
+use Rattle.machine_lines.proofs.makers.member.Goals as goal
 
 -- a native reads it, and nothing sets it: it names no place
 pub new_member-made-requires-clause-read : goal.new_member-made-requires-clause-read

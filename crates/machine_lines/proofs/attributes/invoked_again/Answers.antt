@@ -1,5 +1,5 @@
-use Rattle.machine_table.proofs.Methods.{with-nothing}
-use Rattle.machine_table.proofs.attributes.invoked_again.Goals as goal
+use Rattle.machine_lines.proofs.Methods.{with-nothing}
+use Rattle.machine_lines.proofs.attributes.invoked_again.Goals as goal
 
 pub invoke_ref-told-requires : goal.invoke_ref-told-requires
 invoke_ref-told-requires c =

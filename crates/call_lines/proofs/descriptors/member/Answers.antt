@@ -1,6 +1,6 @@
 use Rattle.std.proofs.Common.{refl}
 use Rattle.class_world.specs.Sound.{Holds}
-use Rattle.machine_table.proofs.makers.member.Goals as goal
+use Rattle.call_lines.proofs.descriptors.member.Goals as goal
 
 -- a native reads it, and nothing sets it: it names no place
 pub new_member-made-requires-clause-read : goal.new_member-made-requires-clause-read

@@ -1,4 +1,4 @@
-use Rattle.call_table.proofs.world_classes.counted.Given as goal
+use Rattle.machine_lines.proofs.changes.counted.Given as goal
 
 abbrev pub ghosts-rebased : goal.ghosts-rebased
 ghosts-rebased a = record { name = a.blank.name; parts = a.blank.parts }

@@ -1,5 +1,5 @@
-use Rattle.machine_table.proofs.Methods.{with-nothing}
-use Rattle.machine_table.proofs.attributes.invoked.Goals as goal
+use Rattle.machine_lines.proofs.Methods.{with-nothing}
+use Rattle.machine_lines.proofs.attributes.invoked.Goals as goal
 
 pub invoke-told-requires : goal.invoke-told-requires
 invoke-told-requires c =
