@@ -2,9 +2,10 @@
 use Rattle.std.proofs.Common.{◌≡◌, ℕ, zero, suc, ◌+◌, ◌==◌, ◌<◌, ◌≤◌, false, List, [], ◌∷◌, ◌++◌, length, get_or, map, take, drop, inl, inr, refl, sym, ap, ap₂, ◌∙◌, subst, arith}
 use Rattle.std.specs.Prelude.{min, vec_len, slice_get, zip, Some, Vec}
 use Rattle.std.specs.List.{All}
+use Rattle.std.specs.Vec.{with_items}
 use Rattle.std.specs.declared.alloc.Global.{Global}
 use Rattle.std.proofs.lemmas.Bool.{cases_lt}
-use Rattle.std.proofs.lemmas.List.{append-nil, get_or_append_left, get_or_push, length_push, get_or-map, length-map, map_push}
+use Rattle.std.proofs.lemmas.List.{append-nil, get_or_append_left, get_or_push, length_push, get_or-map, length-map, map_push, with_items_is}
 use Rattle.std.proofs.lemmas.List.Elements.{All-head, All-same, All-rest, filter-append}
 use Rattle.std.proofs.lemmas.Option.{get_or_from_slice_get}
 use Rattle.std.proofs.lemmas.Slice.Zip.{length-zip, get_or-zip}
@@ -173,6 +174,16 @@ module _ (id : TableId) (k : ℕ) (seats : List (Known Entry)) (sessions : List 
       let one : IsReady id opening (get_or (session_trees sessions) k []) k w = met_ready id k opening sessions old w next_fresh stays free own met few p.1 p.3 in
       let P : ℕ → Worker → Type 0 = λ k w. IsReady id opening (get_or (session_trees sessions) k []) k w in
       subst (λ (ws : List Worker). AllReady id opening (session_trees sessions) ws) (sym is) (each_push P crew w ready (subst (λ (m : ℕ). P m w) (sym len) one))
+
+-- the crew has what its slice was left with
+pub kept_len : (crew : Vec Worker Global) (new : List Worker) → length (with_items crew new).items ≡ length crew.items
+kept_len crew new = sym (with_items crew new).ok.0 ∙ crew.ok.0
+
+pub worked_in : (id : TableId) (budget : ℕ) (crew : Vec Worker Global) (lent new : List Worker) → lent ≡ crew.items → length new ≡ crew.len
+    → ((k : ℕ) (d : Worker) → k < length lent → Worked id budget (get_or lent k d) (get_or new k d))
+    → (k : ℕ) (d : Worker) → k < length crew.items → Worked id budget (get_or crew.items k d) (get_or (with_items crew new).items k d)
+worked_in id budget crew lent new is len worked =
+    subst (λ (p : List Worker × List Worker). (k : ℕ) (d : Worker) → k < length p.0 → Worked id budget (get_or p.0 k d) (get_or p.1 k d)) (λ i. (is i, sym (with_items_is crew new len) i)) worked
 
 -- a seat more is gathered
 pub gathered_more : (first : Known Entry) (done : List Worker) (w : Worker) (seats all : List (Known Entry)) → seats ≡ first ∷ map (λ (w : Worker). w.seat) done → all ≡ seats ++ w.seat ∷ [] → all ≡ first ∷ map (λ (w : Worker). w.seat) (done ++ w ∷ [])
