@@ -1,5 +1,6 @@
-//! Sessions of callers who share a machine: that they run at once, and what they see of each other.
-// (a draft for crates/host_tests/src; unchecked. host_tests then lists shared_vm and shared_run, tests_may=Threads+Wait)
+//! Sessions of callers who share a machine: that they run at once.
+
+ghost use Rattle.std.specs.Prelude.{◌<◌};
 
 use script_text::read_sessions;
 use shared_run::share_run;
@@ -7,10 +8,10 @@ use shared_vm::{Closed, Gate};
 use std::sync::{Mutex, Wait};
 use std::test::Fail;
 
-// How often a session looks for the other, before it gives up.
+// How often a session looks for the other one before it gives up.
 const LOOKS: u64 = 100_000_000;
 
-// Which of two sessions have begun, and which saw that the other had.
+// Which of two sessions have begun, and which saw that the other one had.
 #[derive(Drop)]
 struct Flags {
     begun: [bool; 2],
@@ -18,6 +19,7 @@ struct Flags {
 }
 
 // Before its first command each of the first two sessions says that it has begun, and then looks whether the other has.
+#[derive(Drop)]
 struct MeetingGate<'a, R> {
     rt: &'a R,
     flags: Mutex<Flags>,
@@ -35,7 +37,8 @@ impl<'a, R: Wait> Gate for MeetingGate<'a, R> {
 
 impl<'a, R: Wait> MeetingGate<'a, R> {
     fn meet(&self, own: usize, other: usize)
-        requires { (own < 2) × (other < 2) }
+        requires own { own < 2 }
+        requires other { other < 2 }
     {
         self.flags.lock(self.rt).begun[own] = true;
         for _ in 0..LOOKS {
@@ -48,10 +51,10 @@ impl<'a, R: Wait> MeetingGate<'a, R> {
     }
 }
 
-// Each session sees, before its first command, that the other has begun: no order on one thread gives that.
+// Each session sees, before its first command, that the other one has begun: no order on one thread gives that.
 #[test]
 fn sessions_run_at_once(rt: HostRuntime) -> Result<(), Fail> {
-    let sessions = read_sessions(rt.alloc(), b"[[],[[\"const\",1]],[[\"const\",2]]]")?;
+    let sessions = read_sessions(rt.alloc(), b"[[],[1],[2]]")?;
     let gate = MeetingGate {
         rt: &rt,
         flags: Mutex::new(Flags {
