@@ -1,10 +1,13 @@
-//! Tests of what no script reaches: what hosts are refused, scripts, words and streams, and the ends of `serve`.
+//! Tests of what no script reaches: what hosts are refused, scripts, words and streams, the ends of `serve`, and that
+//! sessions run at once.
 #![tactic(auto)]
 
 #[cfg(test)]
 mod refusals;
 #[cfg(test)]
 mod scripts;
+#[cfg(test)]
+mod sessions;
 #[cfg(test)]
 mod streams;
 #[cfg(test)]

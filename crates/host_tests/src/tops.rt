@@ -5,6 +5,7 @@ use script_text::ScriptError;
 use serve::Status;
 use serve::top::serve;
 use std::alloc::AllocError;
+use std::sync::Wait;
 use std::test::Fail;
 use std::thread::Threads;
 
@@ -13,7 +14,7 @@ const FIRST_RUN: &str =
     r#"[["bind","A",["class","A",[],[]]],["bind","B",["class","B",[["name","A"]],[]]],["setattr",["name","A"],"__add__",["func","add",["s","o"],42]],["op","+",["call",["name","B"],[]],1]]"#;
 
 // How the words `run 5` end, and what is written. A byte is moved in a call, and none fails.
-fn served<R: AllocGlobal + Threads + Sync>(
+fn served<R: AllocGlobal + Threads + Wait + Sync>(
     rt: &R,
     script: &[u8],
 ) -> Result<(Status, Vec<u8>), AllocError> {

@@ -16,12 +16,13 @@ mod questions;
 mod sequences;
 
 use std::alloc::Global;
+use std::sync::Wait;
 use std::thread::Threads;
 use table_lines::Table;
 use vm_eval::VirtualMachine;
 
 /// Adds all lines.
-pub fn put<R: AllocGlobal + Threads + Sync>(table: &mut Table, rt: &R) {
+pub fn put<R: AllocGlobal + Threads + Wait + Sync>(table: &mut Table, rt: &R) {
     put_machine(table, rt.alloc());
     programs::put(table, rt);
 }

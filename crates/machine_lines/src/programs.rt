@@ -7,10 +7,11 @@ use py_node::{Expr, OutOfMemory};
 use serve::Status;
 use serve::top::serve;
 use std::alloc::{AllocError, Global};
+use std::sync::Wait;
 use std::thread::Threads;
 use table_lines::{NoValue, Table};
 
-pub fn put<R: AllocGlobal + Threads + Sync>(table: &mut Table, rt: &R) {
+pub fn put<R: AllocGlobal + Threads + Wait + Sync>(table: &mut Table, rt: &R) {
     let alloc = rt.alloc();
     table.put("generator::class_command", class(alloc));
     table.put("generator::change_command", change(alloc));
@@ -20,6 +21,10 @@ pub fn put<R: AllocGlobal + Threads + Sync>(table: &mut Table, rt: &R) {
         served(rt, &["run", "1000"], b"[33]"),
     );
     table.put_bytes("serve::serve with gen", served(rt, &["gen", "1", "3"], b""));
+    table.put_bytes(
+        "serve::serve with share",
+        served(rt, &["share", "1000"], b"[[33],[1]]"),
+    );
 }
 
 // The name that the second class is bound to.
@@ -48,7 +53,7 @@ fn words(alloc: Global, texts: &[&str]) -> Result<Vec<String>, AllocError> {
 }
 
 // What is written where all is well.
-fn served<R: AllocGlobal + Threads + Sync>(
+fn served<R: AllocGlobal + Threads + Wait + Sync>(
     rt: &R,
     texts: &[&str],
     script: &[u8],

@@ -6,7 +6,7 @@ use Rattle.std.specs.Str.Parse.{digits_value}
 use Rattle.outside.specs.declared.words.Generation.{Generation}
 use Rattle.outside.specs.declared.words.Pace.TheVariants.{Single, Parallel}
 use Rattle.outside.specs.declared.words.Question.{Question}
-use Rattle.outside.specs.declared.words.Question.TheVariants.{Run, Check}
+use Rattle.outside.specs.declared.words.Question.TheVariants.{Run, Share, Check}
 use Rattle.outside.specs.declared.words.Job.{Job}
 use Rattle.outside.specs.declared.words.Job.TheVariants.{Answer, Generate}
 
@@ -33,11 +33,16 @@ number_written low high text = if is_numeral text && is_in_range low high (digit
 abbrev pub question_alone : Text → Option Question
 question_alone command = if bytes_eq command (codes "check") then Some (Check Single) else None
 
--- what two words ask of a text: the units N of `run N`, or the orders by as many threads as there are processors
+-- the units that a word writes
+abbrev pub units_written : Text → Option ℕ
+units_written word = number_written 1 1000000000 word
+
+-- what two words ask of a text: the units N of `run N` or of `share N`, or the orders by as many threads as there are processors
 abbrev pub question_in : Text → Text → Option Question
 question_in command word =
-    if bytes_eq command (codes "run") then option_map Run (number_written 1 1000000000 word)
-    else (if bytes_eq command (codes "check") && bytes_eq word (codes "par") then Some (Check Parallel) else None)
+    if bytes_eq command (codes "run") then option_map Run (units_written word)
+    else (if bytes_eq command (codes "share") then option_map Share (units_written word)
+    else (if bytes_eq command (codes "check") && bytes_eq word (codes "par") then Some (Check Parallel) else None))
 
 -- both numbers, where there are both
 abbrev pub generation_by : Option ℕ → Option ℕ → Option Generation

@@ -27,6 +27,8 @@ pub enum Pace {
 pub enum Question {
     /// `run N`: the text is a script, and each of its commands has N units.
     Run(u64),
+    /// `share N`: the text is an opening and sessions of callers who share a machine, and each command has N units.
+    Share(u64),
     /// `check` or `check par`: the text is a hierarchy, whose report is wanted.
     Check(Pace),
 }
@@ -40,7 +42,7 @@ pub enum Job {
     Generate(Generation),
 }
 
-/// What the words ask for: `run N` with a decimal numeral from 1 to 1_000_000_000, `check`, `check par`, or
+/// What the words ask for: `run N` or `share N` with a decimal numeral from 1 to 1_000_000_000, `check`, `check par`, or
 /// `gen SEED COUNT` with decimal numerals, the seed one of 64 bits, the count at most 100_000; `None` for any other words.
 pub fn job_of(words: &[String]) -> Option<Job>
     ensures job { result ≡ job_in (map string_bytes words.now) }
@@ -81,6 +83,9 @@ fn question_of(command: &str, word: &str) -> Option<Question>
     if command == "run" {
         let units = number(word, 1, 1_000_000_000)?;
         Some(Question::Run(units))
+    } else if command == "share" {
+        let units = number(word, 1, 1_000_000_000)?;
+        Some(Question::Share(units))
     } else if command == "check" && word == "par" {
         Some(Question::Check(Pace::Parallel))
     } else {

@@ -1,7 +1,7 @@
 -- What is spelled is not refused, and ends that can't come leave two.
 use Rattle.std.proofs.Common.{◌≡◌, ℕ, List, refl}
 use Rattle.outside.specs.declared.words.Question.{Question}
-use Rattle.outside.specs.declared.words.Question.TheVariants.{Run, Check}
+use Rattle.outside.specs.declared.words.Question.TheVariants.{Run, Share, Check}
 use Rattle.json_text.specs.declared.error.ScriptError.{ScriptError as Refusal}
 use Rattle.serve.specs.declared.status.Status.{Status as End}
 use Rattle.serve.specs.declared.status.Status.TheVariants.{Done, Usage, Script, ReadFault, WriteFault, OutOfMemory, TooLarge}
@@ -10,6 +10,7 @@ use Rattle.serve.specs.Status.{IsDoneOrPoor}
 
 pub spelled-not_refused : (q : Question) (bytes : List ℕ) (e : Refusal) → IsSpelled q bytes → IsRefused q bytes e → ⊥
 spelled-not_refused (Run units) bytes e (commands, spelled) refused = cc
+spelled-not_refused (Share units) bytes e (sessions, spelled) refused = cc
 spelled-not_refused (Check pace) bytes e (classes, spelled) refused = cc
 
 pub done-or-poor : (s : End) → (s ≡ Usage → ⊥) → ((e : Refusal) → s ≡ Script e → ⊥) → (s ≡ ReadFault → ⊥) → (s ≡ TooLarge → ⊥) → (s ≡ WriteFault → ⊥) → IsDoneOrPoor s

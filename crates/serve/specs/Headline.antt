@@ -1,10 +1,11 @@
 -- What the program writes: what answers the text that was read, or what the replies to generated commands add up to.
 use Rattle.std.specs.Prelude.{◌≡◌, ℕ, ◌≤◌, ◌++◌, List, length, Ok, Err}
 use Rattle.outside.specs.declared.words.Question.{Question}
-use Rattle.outside.specs.declared.words.Question.TheVariants.{Run as RunQuestion, Check}
+use Rattle.outside.specs.declared.words.Question.TheVariants.{Run as RunQuestion, Share, Check}
 use Rattle.py_node.specs.Tree.{Text, Tree}
 use Rattle.plain_machine.specs.Lines.{replies_text}
 use Rattle.script_text.specs.Script.{script_of}
+use Rattle.script_text.specs.Sessions.{sessions_of}
 use Rattle.json_text.specs.declared.error.ScriptError.{ScriptError as Refusal}
 use Rattle.plain_machine.specs.Answer.{Run, plain_run}
 use Rattle.plain_machine.specs.ClassText.{classes_text}
@@ -12,6 +13,9 @@ use Rattle.plain_machine.specs.Start.{start}
 use Rattle.hierarchy_text.specs.Spelled.{PlainClass, hierarchy_of}
 use Rattle.report_text.specs.PlainReport.{plain_report}
 use Rattle.vm_eval.specs.Say.{say}
+use Rattle.shared_vm.specs.Journal.{PlainEntry, Legal}
+use Rattle.shared_run.specs.Mix.{Mix}
+use Rattle.shared_run.specs.JournalText.{journal_text}
 use Rattle.generator.specs.Commands.{generated}
 use Rattle.generator.specs.Summary.{summary}
 
@@ -27,6 +31,14 @@ run_text commands units = text_of (plain_run say start commands units)
 abbrev pub IsTextOf : Text → ℕ → Text → Type 0
 IsTextOf bytes units text = (commands : List Tree) × (script_of bytes ≡ Ok commands) × (text ≡ run_text commands units)
 
+-- this is the text of a legal journal that is a mix of an opening and sessions, of whose commands each had so many units
+abbrev pub IsMixText : List (List Tree) → ℕ → Text → Type 0
+IsMixText sessions units text = (j : List PlainEntry) × Legal j × Mix j sessions units × (text ≡ journal_text j)
+
+-- bytes spell an opening and sessions, and this is such a text of them
+abbrev pub IsMixOf : Text → ℕ → Text → Type 0
+IsMixOf bytes units text = (sessions : List (List Tree)) × (sessions_of bytes ≡ Ok sessions) × IsMixText sessions units text
+
 -- bytes spell a hierarchy, and this is the text of the orders and cycles of its classes
 abbrev pub IsReportOf : Text → Text → Type 0
 IsReportOf bytes text = (classes : List PlainClass) × (hierarchy_of bytes ≡ Ok classes) × (text ≡ plain_report classes)
@@ -34,6 +46,7 @@ IsReportOf bytes text = (classes : List PlainClass) × (hierarchy_of bytes ≡ O
 -- bytes spell what the question asks of, and this text answers it
 abbrev pub IsAnswer : Question → Text → Text → Type 0
 IsAnswer (RunQuestion units) bytes text = IsTextOf bytes units text
+IsAnswer (Share units) bytes text = IsMixOf bytes units text
 IsAnswer (Check pace) bytes text = IsReportOf bytes text
 
 -- no text that answers is longer than this
@@ -43,11 +56,13 @@ IsRoomFor room question bytes = (text : Text) → IsAnswer question bytes text �
 -- bytes spell what the question asks of
 abbrev pub IsSpelled : Question → Text → Type 0
 IsSpelled (RunQuestion units) bytes = (commands : List Tree) × (script_of bytes ≡ Ok commands)
+IsSpelled (Share units) bytes = (sessions : List (List Tree)) × (sessions_of bytes ≡ Ok sessions)
 IsSpelled (Check pace) bytes = (classes : List PlainClass) × (hierarchy_of bytes ≡ Ok classes)
 
 -- bytes don't spell what the question asks of, and this is the word for it
 abbrev pub IsRefused : Question → Text → Refusal → Type 0
 IsRefused (RunQuestion units) bytes e = script_of bytes ≡ Err e
+IsRefused (Share units) bytes e = sessions_of bytes ≡ Err e
 IsRefused (Check pace) bytes e = hierarchy_of bytes ≡ Err e
 
 -- what the replies to the commands of a seed add up to: a new plain machine runs them, each with 10,000 units

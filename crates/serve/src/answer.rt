@@ -9,16 +9,18 @@ ghost use Rattle.serve.specs.Status.{HasReadAll, IsDoneOrPoor};
 
 use crate::checking::check_text;
 use crate::script::script_text;
+use crate::sessions::sessions_text;
 use crate::status::Status;
 use json_text::ScriptFault;
 use outside::read_all::read_all;
 use outside::words::Question;
 use outside::write_all::write_all;
 use outside::{ReadEnd, Sink, Source};
+use std::sync::Wait;
 use std::thread::Threads;
 
 // Reads a text to the source's end, and answers what is asked of it.
-pub(crate) fn answer_source<R: AllocGlobal + Threads + Sync, S: Source, K: Sink>(
+pub(crate) fn answer_source<R: AllocGlobal + Threads + Wait + Sync, S: Source, K: Sink>(
     rt: &R,
     question: Question,
     source: &mut S,
@@ -63,7 +65,7 @@ pub(crate) fn answer_source<R: AllocGlobal + Threads + Sync, S: Source, K: Sink>
 }
 
 // Writes the text that answers what is asked of bytes.
-fn answer<R: AllocGlobal + Threads + Sync, K: Sink>(
+fn answer<R: AllocGlobal + Threads + Wait + Sync, K: Sink>(
     rt: &R,
     bytes: &[u8],
     question: Question,
@@ -96,7 +98,7 @@ fn answer<R: AllocGlobal + Threads + Sync, K: Sink>(
 }
 
 // The text that answers what is asked of bytes.
-fn text_of<R: AllocGlobal + Threads + Sync>(
+fn text_of<R: AllocGlobal + Threads + Wait + Sync>(
     rt: &R,
     bytes: &[u8],
     question: Question,
@@ -106,6 +108,7 @@ fn text_of<R: AllocGlobal + Threads + Sync>(
 {
     match question {
         Question::Run(units) => script_text(rt.alloc(), bytes, units),
+        Question::Share(units) => sessions_text(rt, bytes, units),
         Question::Check(pace) => check_text(rt, bytes, pace),
     }
 }

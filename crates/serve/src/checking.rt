@@ -15,8 +15,8 @@ use py_node::OutOfMemory;
 use report_text::write_report;
 use std::thread::Threads;
 
-// The report of the hierarchy that bytes spell.
-pub(crate) fn check_text<R: AllocGlobal + Threads + Sync>(
+/// The report of the hierarchy that bytes spell.
+pub fn check_text<R: AllocGlobal + Threads + Sync>(
     rt: &R,
     bytes: &[u8],
     pace: Pace,

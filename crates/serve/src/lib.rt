@@ -2,9 +2,10 @@
 #![tactic(auto)]
 
 mod answer;
-mod checking;
+pub mod checking;
 mod generation;
-mod script;
+pub mod script;
+mod sessions;
 pub mod status;
 pub mod top;
 

@@ -13,8 +13,8 @@ use std::alloc::Global;
 use vm_eval::VirtualMachine;
 use world_text::write_classes;
 
-// The text of the run of the script that bytes spell: each command has so many units.
-pub(crate) fn script_text(alloc: Global, bytes: &[u8], units: u64) -> Result<Vec<u8>, ScriptFault>
+/// The text of the run of the script that bytes spell: each command has so many units.
+pub fn script_text(alloc: Global, bytes: &[u8], units: u64) -> Result<Vec<u8>, ScriptFault>
     ensures text { IfOk result (λ v. IsTextOf bytes.now units v.items) }
     ensures script { (e : Refusal) → result ≡ Err (ScriptFault.Script e) → script_of bytes.now ≡ Err e }
 {

@@ -15,21 +15,25 @@ use crate::generation::generate;
 use crate::status::Status;
 use outside::words::{Job, job_of};
 use outside::{Sink, Source};
+use std::sync::Wait;
 use std::thread::Threads;
 
 /// With the words `run N`, reads a script to the source's end, runs each command of it with N units, and writes the
-/// replies and the classes that it made to the sink. With `check`, reads a hierarchy, and writes the report of its
-/// classes' orders; with `check par` as many threads as there are processors find the orders, and what is written is the
-/// same. With `gen SEED COUNT`, runs the commands that the seed generates, and writes what their replies add up to.
-/// Nothing is written before all was read and run.
-pub fn serve<R: AllocGlobal + Threads + Sync, S: Source, K: Sink>(
+/// replies and the classes that it made to the sink. With `share N`, reads an opening and sessions, runs the opening and
+/// then all sessions at once on one machine, each of their commands with N units, and writes the journal; it alone waits,
+/// where a session waits for its turn. With `check`, reads a hierarchy, and writes the report of its classes' orders; with
+/// `check par` as many threads as there are processors find the orders, and what is written is the same. With
+/// `gen SEED COUNT`, runs the commands that the seed generates, and writes what their replies add up to. Nothing is
+/// written before all was read and run.
+pub fn serve<R: AllocGlobal + Threads + Wait + Sync, S: Source, K: Sink>(
     rt: &R,
     words: &[String],
     source: &mut S,
     sink: &mut K,
 ) -> Status
     // What is written answers the text that was read, and nothing else is: with `run N` it is the text of the plain
-    // machine's run, with `check` and `check par` the report of the hierarchy.
+    // machine's run, with `share N` the text of a legal journal that is a mix of the sessions, with `check` and `check par`
+    // the report of the hierarchy.
     ensures done { (q : Question) → job_in (map string_bytes words.now) ≡ Some (Job.Answer q) → result ≡ Status.Done
         → ForSome (S.left source.old) (λ bytes. (length bytes ≤ 2 ^ 24) × (text : List ℕ) × IsAnswer q bytes text
         × ForSome (K.taken sink.old) (λ old. K.taken sink.new ≡ Some (old ++ text))) }

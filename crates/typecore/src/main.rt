@@ -1,10 +1,11 @@
-//! The program: it reads a script or a hierarchy from standard input and writes what answers it.
+//! The program: it reads a script, sessions or a hierarchy from standard input and writes what answers it.
 #![tactic(auto)]
 
 use outside::{StdSink, StdSource};
 use serve::Status;
 use serve::top::serve;
 use std::process::ExitCode;
+use std::sync::Wait;
 use std::thread::Threads;
 use std::{env, io};
 
@@ -17,8 +18,8 @@ fn main(rt: HostRuntime) -> ExitCode {
     ExitCode::from(status.code())
 }
 
-// Serves standard input, with a handle that may start threads. Words that are no text are none that the program knows.
-fn run<R: AllocGlobal + Threads + Sync>(rt: &HostRuntime, threads: &R) -> Status {
+// Serves standard input, with a handle that may start threads and wait for them. Words that are no text are none that the program knows.
+fn run<R: AllocGlobal + Threads + Wait + Sync>(rt: &HostRuntime, threads: &R) -> Status {
     match words(rt) {
         Ok(words) => {
             let mut source = StdSource::new(rt.stdin());

@@ -5,6 +5,7 @@ use outside::{MemorySink, MemorySource};
 use serve::Status;
 use serve::top::serve;
 use std::alloc::{AllocError, Global};
+use std::sync::Wait;
 use std::thread::Threads;
 
 /// How a call ended, and what the sink has taken.
@@ -15,7 +16,7 @@ pub struct Told {
 }
 
 /// A call of which one read or one write may fail.
-pub fn once<R: AllocGlobal + Threads + Sync>(
+pub fn once<R: AllocGlobal + Threads + Wait + Sync>(
     rt: &R,
     case: &Case,
     script: &[u8],
@@ -42,7 +43,7 @@ fn calls(alloc: Global, call: Option<u64>) -> Result<Vec<u64>, AllocError> {
 
 /// What is written of a call each of whose reads fails in turn, the one that would tell the end too: whether each ended as
 /// it should, and how the call ends whose reads don't reach the failing one.
-pub fn each_read<R: AllocGlobal + Threads + Sync>(
+pub fn each_read<R: AllocGlobal + Threads + Wait + Sync>(
     rt: &R,
     case: &Case,
     script: &[u8],
@@ -64,7 +65,7 @@ pub fn each_read<R: AllocGlobal + Threads + Sync>(
 }
 
 /// The same of its writes: what was taken then is a front of the text.
-pub fn each_write<R: AllocGlobal + Threads + Sync>(
+pub fn each_write<R: AllocGlobal + Threads + Wait + Sync>(
     rt: &R,
     case: &Case,
     script: &[u8],

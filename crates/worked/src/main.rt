@@ -12,6 +12,7 @@ use outside::StdSink;
 use outside::write_all::write_all;
 use std::alloc::{AllocError, Global};
 use std::process::ExitCode;
+use std::sync::Wait;
 use std::thread::Threads;
 use std::{env, fs, io};
 
@@ -40,7 +41,7 @@ fn path(alloc: Global, folder: &str, name: &str) -> Result<String, AllocError> {
 }
 
 // What is written of a call.
-fn told<R: AllocGlobal + Threads + Sync>(
+fn told<R: AllocGlobal + Threads + Wait + Sync>(
     rt: &R,
     case: &Case,
     script: &[u8],

@@ -1,0 +1,5 @@
+mod Entries
+mod Mixes
+mod Crews
+mod Texts
+mod Sent
