@@ -1,11 +1,13 @@
 -- Those classes that are gone through get the slots of their definitions, and all others stay.
-use Rattle.std.proofs.Common.{◌≡◌, ℕ, zero, suc, ◌+◌, ◌*◌, ◌<◌, ◌≤◌, Bool, true, false, cond, ◌&&◌, ◌||◌, not, eqb, List, [], ◌∷◌, ◌++◌, map, length, get_or, set, Option, Some, inl, inr, refl, sym, ap, subst, ◌∙◌, arith}
-use Rattle.std.specs.Prelude.{slice_get}
+use Rattle.std.proofs.Common.{◌≡◌, ℕ, zero, suc, ◌+◌, ◌*◌, ◌<◌, ◌≤◌, Bool, true, false, cond, ◌&&◌, ◌||◌, not, eqb, List, [], ◌∷◌, ◌++◌, map, length, get_or, set, take, Option, Some, inl, inr, refl, sym, ap, subst, ◌∙◌, arith}
+use Rattle.std.specs.Prelude.{slice_get, option_and_then}
+use Rattle.std.specs.List.{sum_by}
 use Rattle.std.proofs.lemmas.Bool.{cases_eq, eq-eqb, ne_eqb, false≢true}
-use Rattle.std.proofs.lemmas.List.{length-set, map-append}
-use Rattle.std.proofs.lemmas.Option.{slice_get_within}
+use Rattle.std.proofs.lemmas.List.{length-set, map-append, take_more, take_all}
+use Rattle.std.proofs.lemmas.List.Sums.{sum_by_push}
+use Rattle.std.proofs.lemmas.Option.{slice_get_within, get_or_from_slice_get}
 use Rattle.class_model.specs.Numbers.{is_ascending}
-use Rattle.class_model.specs.Slot.{is_by_itself, heap_entry, entry, entries}
+use Rattle.class_model.specs.Slot.{is_by_itself, heap_entry, given_entry, entry, entries}
 use Rattle.class_model.specs.BuiltIn.{natives_of}
 use Rattle.class_table.specs.Keys.{table_keys}
 use Rattle.class_table.specs.Coherent.{HasLines}
@@ -15,14 +17,15 @@ use Rattle.py_node.specs.Slots.{place_of, all_slots, sort_of}
 use Rattle.std.proofs.lemmas.List.{get_or-set_same}
 use Rattle.class_table.proofs.Along.{entry-given, given-heap}
 use Rattle.class_table.proofs.Found.{place-class}
-use Rattle.class_table.proofs.Refreshed.{part, part-then, plain-set, length-entries}
+use Rattle.py_node.proofs.SlotTables.{slot-at_place}
+use Rattle.class_table.proofs.Refreshed.{part, part-then, plain-set, length-entries, entries-at}
 use Rattle.py_node.specs.declared.refs.PyStrInterned.{PyStrInterned}
 use Rattle.class_model.specs.Order.{has, Includes, Distinct, without}
 use Rattle.class_model.specs.Class.{Classes, is_heap, lin}
 use Rattle.class_model.proofs.Held.{Includes-equal, Includes-without}
-use Rattle.class_table.specs.Stored.{StoredClass, class_of, classes_of}
+use Rattle.class_table.specs.Stored.{StoredClass, IsHere, class_of, classes_of}
 use Rattle.class_table.specs.Patch.{settled}
-use Rattle.class_table.specs.Settle.{line_length, line_places, is_ranked, is_heap_ranked, AreHeapsSettled, AreSettled}
+use Rattle.class_table.specs.Settle.{line_length, line_places, line_kept, places_kept, is_ranked, is_heap_ranked, is_static_ranked, AreHeapsSettled, AreSettled}
 use Rattle.class_table.specs.declared.descendants.Ranked.{Ranked}
 use Rattle.class_table.proofs.Places.{get-set_cases, get-set_at, get-set_away, same-maps}
 
@@ -153,6 +156,21 @@ module _ (is : ℕ → StoredClass → Bool) (orig cur : List StoredClass) (a : 
   kept-parts true k = (refl, refl, refl)
   kept-parts false k = (refl, refl, refl)
 
+  -- so many places its linearisation has as it had
+  pub line-settled : (i : ℕ) (x : StoredClass) → slice_get cur i ≡ Some x → line_kept (slice_get orig i) ≡ length x.mro
+  line-settled i x e =
+      let r = settled-from i x e in
+      let q = kept-parts (is i r.0) r.0 in
+      ap line_kept r.1 ∙ sym (ap (λ (z : StoredClass). length z.mro) r.2 ∙ ap length q.1)
+
+  -- and a script made it if one had
+  pub kind-settled : (i : ℕ) (x k : StoredClass) → slice_get cur i ≡ Some x → slice_get orig i ≡ Some k → is_heap (class_of x) ≡ is_heap (class_of k)
+  kind-settled i x k e f =
+      let r = settled-from i x e in
+      let q = kept-parts (is i r.0) r.0 in
+      let same : r.0 ≡ k = let h = r.1 in cc in
+      ap (λ (z : StoredClass). is_heap (class_of z)) r.2 ∙ q.2 ∙ ap (λ (z : StoredClass). is_heap (class_of z)) same
+
   -- linearisations stay
   pub settled-lines : HasLines orig → HasLines cur
   settled-lines ok = record {
@@ -234,3 +252,42 @@ module _ {K : Type 0} (t : Classes K) where
       let rest = distinct-places xs (without x ms) d.1 (λ y k. Includes-without x y ms (h y (inr k)) (λ e. d.0 (Includes-equal xs y x e k))) in
       let held = places-held x ms (h x (inl refl)) in
       omega (arith, rest, held)
+
+-- what is kept of a class that a script made is what it has itself
+pub kept-heap : (kept : List StoredClass) → HasLines kept → AreHeapsSettled kept → (c : ℕ) (k : StoredClass) → IsHere kept c k → is_heap (class_of k) ≡ true → (s : SlotId) → option_and_then (λ e. e) (slice_get k.slots (place_of s)) ≡ given_entry table_keys natives_of (classes_of kept) s c
+kept-heap kept lines heaps c k here heap s =
+    ap (λ ys. option_and_then (λ (e : Option SlotEntry). e) (slice_get ys (place_of s))) (heaps here.place k here.at heap)
+    ∙ ap (option_and_then (λ (e : Option SlotEntry). e)) (entries-at (classes_of kept) k.number (place_of s) s (slot-at_place s))
+    ∙ entry-given (classes_of kept) k.number (class_of k) k.mro (place-class kept lines.ascending here.place k here.at) (lines.mro here.place k here.at) s (ap (λ b. not b && is_by_itself (sort_of s)) heap)
+    ∙ ap (given_entry table_keys natives_of (classes_of kept) s) here.number
+
+-- while a class that no script made is settled, those that a script made have their slots
+pub part-heaps : (kept : List StoredClass) (at : ℕ) (k : StoredClass) → at < length kept → k ≡ get_or kept at k → is_heap (class_of k) ≡ false → AreHeapsSettled kept → (i : ℕ) → AreHeapsSettled (set kept at (part (classes_of kept) i k))
+part-heaps kept at k within here static heaps i j x e heap = elim (get-set_cases kept at (part (classes_of kept) i k) j x e) [
+  | inl r ↦ absurd (false≢true (sym static ∙ ap (λ (z : StoredClass). is_heap (class_of z)) r.1 ∙ heap))
+  | inr r ↦ heaps j x r.1 heap ∙ ap (λ t. entries table_keys natives_of t x.number) (sym (plain-set kept at k (part (classes_of kept) i k) within here refl))
+]
+
+-- those that a script made keep their slots where only others are settled
+pub heaps-keep : (rs : List Ranked) (orig cur : List StoredClass) → AreSettled (is_static_ranked rs) orig cur → classes_of cur ≡ classes_of orig → AreHeapsSettled orig → AreHeapsSettled cur
+heaps-keep rs orig cur a plain heaps i x e heap =
+    let r = settled-from (is_static_ranked rs) orig cur a plain i x e in
+    let q = kept-parts (is_static_ranked rs) orig cur a plain (is_static_ranked rs i r.0) r.0 in
+    let h : is_heap (class_of r.0) ≡ true = sym q.2 ∙ ap (λ (z : StoredClass). is_heap (class_of z)) (sym r.2) ∙ heap in
+    ap (λ (z : StoredClass). z.slots) r.2
+    ∙ go (is_ranked rs i) (is_heap (class_of r.0)) h r.0
+    ∙ heaps i r.0 r.1 h
+    ∙ ap (entries table_keys natives_of (classes_of orig)) (sym (ap (λ (z : StoredClass). z.number) r.2 ∙ q.0))
+    ∙ ap (λ t. entries table_keys natives_of t x.number) (sym plain)
+  where
+    go : (b d : Bool) → d ≡ true → (k : StoredClass) → (cond (b && not d) (settled (classes_of orig) k) k).slots ≡ k.slots
+    go true true h k = refl
+    go true false h k = cc
+    go false d h k = refl
+
+-- the first of some that are gone through
+module _ (rs : List Ranked) (i : ℕ) (d : Ranked) where
+  -- one more adds its places
+  pub places-more : (kept : List StoredClass) → i < length rs → places_kept kept (take (i + 1) rs) ≡ places_kept kept (take i rs) + line_kept (slice_get kept (get_or rs i d).place)
+  places-more kept l =
+      ap (λ ys. places_kept kept ys) (take_more rs i d l) ∙ sum_by_push (λ (r : Ranked). line_kept (slice_get kept r.place)) (take i rs) (get_or rs i d)

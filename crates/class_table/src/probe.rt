@@ -1,6 +1,6 @@
 //! The special names, each looked for once along a linearisation, and what they give in the slots.
 
-ghost use Rattle.std.specs.Prelude.{◌≡◌, ◌<◌, ◌*◌, length, slice_index_or};
+ghost use Rattle.std.specs.Prelude.{◌≡◌, ◌<◌, ◌*◌, true, length, slice_index_or};
 ghost use Rattle.py_node.specs.Attributes.{is_same_name};
 ghost use Rattle.py_node.specs.Slots.{names_of};
 ghost use Rattle.class_model.specs.Class.{class_at, own_of, along};

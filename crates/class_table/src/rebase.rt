@@ -124,7 +124,7 @@ fn test_shape(classes: &[Stored], class: PyTypeRef, bases: &[PyTypeRef]) -> Resu
 
 /// What other bases make of each class, and the places of those whose slots are found anew.
 #[derive(Drop)]
-struct Plan {
+struct Planned {
     renewed: Vec<Renewed>,
     ranked: Vec<Ranked>,
 }
@@ -135,7 +135,7 @@ fn plan<L: Ledger>(
     alloc: Global,
     best: PyTypeRef,
     steps: &mut Steps<L>,
-) -> Result<Plan, ClassFault>
+) -> Result<Planned, ClassFault>
     requires coherent { IsCoherent change.classes.now }
     requires own { is_class (classes_of change.classes.now) change.class.0 ≡ true }
     requires there { AreThere (classes_of change.classes.now) (numbers change.bases.now) }
@@ -162,7 +162,7 @@ fn plan<L: Ledger>(
         Err(fault) => return Err(fault),
     }
     match renew_all(change, alloc, &trials, best) {
-        Ok(renewed) => Ok(Plan { renewed, ranked }),
+        Ok(renewed) => Ok(Planned { renewed, ranked }),
         Err(_) => Err(ClassFault::OutOfMemory),
     }
 }
@@ -172,7 +172,7 @@ fn change_bases<L: Ledger>(
     classes: &mut [Stored],
     class: PyTypeRef,
     bases: Vec<PyTypeRef>,
-    plan: Plan,
+    plan: Planned,
     steps: &mut Steps<L>,
 )
     requires coherent { IsCoherent classes.old }
@@ -189,7 +189,7 @@ fn change_bases<L: Ledger>(
 {
     let at = place(classes, class);
     classes[at].set_bases(bases);
-    let Plan { renewed, ranked } = plan;
+    let Planned { renewed, ranked } = plan;
     swap_in(classes, renewed);
     settle_all(classes, &ranked, steps);
 }
@@ -202,7 +202,7 @@ fn prepare<L: Ledger>(
     class: PyTypeRef,
     bases: &[PyTypeRef],
     steps: &mut Steps<L>,
-) -> Result<Plan, ClassFault>
+) -> Result<Planned, ClassFault>
     requires coherent { IsCoherent classes.now }
     requires own { is_class (classes_of classes.now) class.0 ≡ true }
     requires there { AreThere (classes_of classes.now) (numbers bases.now) }

@@ -106,7 +106,7 @@ fn settle_static(classes: &mut [Stored], at: usize)
     requires heaps { AreHeapsSettled classes.old }
     requires inside { at < length classes.old }
     requires full { (d : StoredClass) → length (slice_index_or classes.old at d).slots ≡ slot_count }
-    requires static { (d : StoredClass) → is_heap (class_of (slice_index_or classes.old at d)) ≡ false }
+    requires not_heap { (d : StoredClass) → is_heap (class_of (slice_index_or classes.old at d)) ≡ false }
     ensures { (d : StoredClass) → classes.new ≡
         slice_set classes.old at (settled (classes_of classes.old) (slice_index_or classes.old at d)) }
 {
