@@ -219,7 +219,6 @@ module _ (kept : List StoredClass) (ok : IsCoherent kept) (c : ℕ) (bs : List �
           omega (arith, few, sums)
         where
           lined : (i : ℕ) (x : StoredClass) → Includes all.places i → slice_get kept i ≡ Some x → line_kept (slice_get mid i) ≡ line_length (lin (with_bases (classes_of kept) c bs) x.number)
-          unfolding u
           lined i x h e =
               let l = slice_get_within kept i x e in
               let n = swapped.count in
