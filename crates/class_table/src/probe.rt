@@ -87,11 +87,7 @@ fn value_for<L: Ledger>(
 }
 
 // What each special name finds for the class at a place.
-pub(crate) fn values_for<L: Ledger>(
-    classes: &[Stored],
-    at: usize,
-    steps: &mut Steps<L>,
-) -> Values
+pub(crate) fn values_for<L: Ledger>(classes: &[Stored], at: usize, steps: &mut Steps<L>) -> Values
     requires lines { HasLines classes.now }
     requires inside { at < length classes.now }
     ensures found { (d : StoredClass) → AreFound (classes_of classes.now)

@@ -158,11 +158,7 @@ fn settle_statics(classes: &mut [Stored], ranked: &[Ranked])
 
 // Finds every slot of the classes at some places: first of those that a script made, from which the others take what
 // they lack.
-pub(crate) fn settle_all<L: Ledger>(
-    classes: &mut [Stored],
-    ranked: &[Ranked],
-    steps: &mut Steps<L>,
-)
+pub(crate) fn settle_all<L: Ledger>(classes: &mut [Stored], ranked: &[Ranked], steps: &mut Steps<L>)
     requires lines { HasLines classes.old }
     requires full { (i : ℕ) (k : StoredClass) → slice_get classes.old i ≡ Some k → length k.slots ≡ slot_count }
     requires inside { (j : ℕ) (r : Ranked) → slice_get ranked.now j ≡ Some r → r.place < length classes.old }

@@ -257,7 +257,8 @@ impl ClassTable {
     /// the class gives its objects a dict and would not, or the other way round; one stands twice; and then at the
     /// least-numbered class that they leave without an order while all its bases have one. Where they are refused or
     /// memory runs out, the table stays as it was. No count of merges or of probes falls; at most one merge is counted for
-    /// the class and for each that derives from it; and where a test fails that needs no order, nothing is counted.
+    /// the class and for each that derives from it, and at most 70 probes for each place of their new linearisations; and
+    /// where a test fails that needs no order, nothing is counted.
     pub fn set_bases<L: Ledger>(
         &mut self,
         class: PyTypeRef,

@@ -14,7 +14,6 @@ use Rattle.class_table.proofs.Settles.{settled-start, settled-plain, settled-ski
 use Rattle.class_table.proofs.settle.settle_heaps.Goals as goal
 use Rattle.class_table.proofs.settle.settle_heaps.Goals.{then-is_heap_at, else-is_heap_at}
 
-
 pub loop-next-init : goal.loop-next-init
 loop-next-init g c = record {
   settled = settled-start (λ k. is_heap (class_of k)) (λ t k. refl) c.args.classes.now;
