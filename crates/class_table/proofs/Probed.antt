@@ -17,7 +17,7 @@ use Rattle.py_node.specs.declared.known.Known.TheVariants as known
 use Rattle.py_node.specs.Attributes.{is_same_name}
 use Rattle.py_node.specs.Known.{number_of}
 use Rattle.py_node.specs.Slots.{is_slot, slot_names, place_of, names_of}
-use Rattle.class_model.specs.Class.{Class, Classes, class_at, own_of, or_else, first_along, along}
+use Rattle.class_model.specs.Class.{Class, Classes, class_at, own_of, or_else, along}
 use Rattle.class_model.specs.Slot.{is_one_of, is_name_of, wrapped, heap_entry}
 use Rattle.class_table.specs.Keys.{table_keys}
 use Rattle.class_model.specs.Order.{Includes}

@@ -1,6 +1,6 @@
 //! Slots that are found anew after the bases of a class were changed.
 
-ghost use Rattle.std.specs.Prelude.{◌≡◌, ◌<◌, ◌*◌, ℕ, true, false, length, Some, map, slice_get, slice_set, slice_index_or};
+ghost use Rattle.std.specs.Prelude.{◌≡◌, ◌<◌, ◌*◌, ℕ, true, false, length, Some, slice_get, slice_set, slice_index_or};
 ghost use Rattle.py_node.specs.Slots.{place_of, slot_count};
 ghost use Rattle.class_model.specs.Class.{first_along, is_heap};
 ghost use Rattle.class_model.specs.Slot.{given_entry, entry, entries};

@@ -1,5 +1,4 @@
-use Rattle.std.proofs.Common.{List, get_or, drop, ◌∷◌, sym, ap, ◌∙◌, arith}
-use Rattle.std.proofs.lemmas.List.{drop_more}
+use Rattle.std.proofs.Common.{List, sym, ap, ◌∙◌, arith}
 use Rattle.py_node.specs.declared.known.Known.{Known}
 use Rattle.class_table.specs.Probe.{slot_by, value_at}
 use Rattle.class_table.proofs.Probed.{slot-by_found, slot-by_next, slot-by_end}

@@ -1,11 +1,11 @@
-use Rattle.std.proofs.Common.{◌≡◌, ℕ, ◌+◌, drop, List, Option, Some, None, sym, ap, ◌∙◌, arith}
+use Rattle.std.proofs.Common.{ℕ, ◌+◌, drop, Option, sym, ap, ◌∙◌, arith}
 use Rattle.py_node.specs.declared.refs.PyObjectRef.{PyObjectRef}
 use Rattle.py_node.specs.Attributes.{is_same_name}
 use Rattle.class_model.specs.Class.{class_at, own_of, or_else, along}
 use Rattle.class_table.specs.Keys.{numbers}
 use Rattle.class_table.specs.Stored.{classes_of}
 use Rattle.class_table.proofs.Along.{first_along-at}
-use Rattle.class_table.proofs.Counted.{rise-then, rise-within}
+use Rattle.class_table.proofs.Counted.{rise-then}
 use Rattle.class_table.proofs.probe.value_along.Goals as goal
 
 pub returns-in-Some-clause-value : goal.returns-in-Some-clause-value

@@ -1,7 +1,7 @@
 use Rattle.std.proofs.Common.{◌≡◌, ◌+◌, ◌*◌, ◌<◌, ℕ, length, get_or, refl, sym, ap, subst, ◌∙◌, add-one, arith}
 use Rattle.std.proofs.lemmas.List.{length-set}
 use Rattle.std.proofs.Math.Nat.{suc-mul}
-use Rattle.class_table.specs.Stored.{StoredClass, classes_of}
+use Rattle.class_table.specs.Stored.{classes_of}
 use Rattle.class_table.specs.Steps.{RiseBy}
 use Rattle.class_table.proofs.Counted.{rise-none, rise-then, rise-within}
 use Rattle.class_table.proofs.Probed.{found-more}

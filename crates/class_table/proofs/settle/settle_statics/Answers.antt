@@ -3,7 +3,7 @@ use Rattle.std.specs.Prelude.{slice_get}
 use Rattle.std.proofs.lemmas.List.{take_more, take_all}
 use Rattle.std.proofs.lemmas.Option.{slice_get-get_or}
 use Rattle.class_model.specs.Class.{is_heap}
-use Rattle.class_table.specs.Stored.{StoredClass, class_of, classes_of}
+use Rattle.class_table.specs.Stored.{StoredClass, class_of}
 use Rattle.class_table.specs.Settle.{AreSettled, is_static_ranked}
 use Rattle.class_table.specs.declared.descendants.Ranked.{Ranked}
 use Rattle.class_table.proofs.Found.{element}
