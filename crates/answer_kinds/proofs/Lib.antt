@@ -1,0 +1,5 @@
+pub mod Base
+pub mod Worlds
+pub mod Law
+pub mod Said
+pub mod Columns
