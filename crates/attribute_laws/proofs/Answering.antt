@@ -26,7 +26,7 @@ use Rattle.native_base.specs.Called.{call_native}
 use Rattle.proto_call.specs.Say.{call_job_say, call_by, asked_of_native}
 use Rattle.attribute_laws.specs.Methods.{GoesByRows, IsUsual, method_class, method_made, ReadIsAMethod, TargetIsFirst, MethodAsksIt, NativeIsAsked}
 use Rattle.attribute_laws.proofs.Loading.{Loaded, loaded, has-class}
-use Rattle.attribute_laws.proofs.Fast.{fast-kind, function-gets, native-gets, native-calls, method-calls, bound-calls, of-function, of-native, type-known, not-none}
+use Rattle.attribute_laws.proofs.Fast.{fast-kind, known-kind, function-gets, native-gets, native-calls, method-calls, bound-calls, of-function, of-native, type-known, not-none}
 
 -- a descriptor that makes a method of an object and itself
 abbrev MakesMethod : PlainWorld → PyObjectRef → PyObjectRef → Type 0
@@ -116,7 +116,7 @@ read-method say w u o p a x left depth goes usual kind deep e =
     let c = has-class w o _ _ l.entry in
     let v = with_node w (method_class (datum_at w a)) (method_made (datum_at w a) o a) in
     let r = value (next_node w (method_class (datum_at w a))) in
-    let both : (is_some (slot_at w a DescrGet) ≡ true) × MakesMethod w o a = elim (fast-kind w a usual kind l.fast) [
+    let both : (is_some (slot_at w a DescrGet) ≡ true) × MakesMethod w o a = elim (fast-kind w a usual (known-kind w a usual kind) l.fast) [
       | inl f ↦ (gets (slot_at w a DescrGet) _ (function-gets w a usual f), function-bound w o a c.0 usual c.1 f)
       | inr f ↦ (gets (slot_at w a DescrGet) _ (native-gets w a usual f.0), native-bound w o a c.0 usual c.1 f.0 f.1)
     ] in (

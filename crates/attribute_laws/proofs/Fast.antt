@@ -1,5 +1,5 @@
 -- What the class of a fast method has, and what such a method holds.
-use Rattle.std.proofs.Common.{◌≡◌, ℕ, Bool, true, false, cond, not, ◌&&◌, eqb, nat_lt, List, [], ◌∷◌, Option, Some, None, ◌⊎◌, inl, inr, refl, sym, ap, ◌∙◌}
+use Rattle.std.proofs.Common.{◌≡◌, ℕ, Bool, true, false, cond, not, ◌&&◌, eqb, nat_lt, List, [], ◌∷◌, Option, Some, None, ◌⊎◌, inl, inr, refl, sym, ap, ◌∙◌, subst}
 use Rattle.std.specs.Prelude.{option_map, option_and_then, slice_get}
 use Rattle.std.proofs.lemmas.Bool.{false≢true, and_parts}
 use Rattle.std.proofs.lemmas.Bool.Decides.{eqb_tells}
@@ -12,7 +12,7 @@ use Rattle.py_node.specs.declared.slots.Sort.TheVariants.{Nearest}
 use Rattle.py_node.specs.declared.entry.NativeEntry.{NativeEntry}
 use Rattle.py_node.specs.declared.entry.NativeEntry.TheVariants.{OfCallable}
 use Rattle.py_node.specs.declared.entry.CallableNative.TheVariants as callable
-use Rattle.py_node.specs.BuiltIns.{place_of, flags_of, all_built_ins, fixed_none, method_descriptor}
+use Rattle.py_node.specs.BuiltIns.{place_of, flags_of, all_built_ins, fixed_none, heap_type, method_descriptor}
 use Rattle.py_node.specs.OwnAttrs.{own_attrs}
 use Rattle.py_node.specs.Slots.{sort_of, slot_sorts, names_of, slot_names, filling_of, slot_fillings}
 use Rattle.py_node.specs.Slots.{place_of as slot_place}
@@ -29,7 +29,7 @@ use Rattle.plain_machine.specs.Objects.{class_has_flag, or_false, is_fast, is_fo
 use Rattle.plain_machine.specs.Known.{the_none_type, the_method, the_builtin_method}
 use Rattle.plain_machine.specs.Sound.{IsSound, home, holds_as, held_by}
 use Rattle.proto_descr.specs.Say.{is_object_none}
-use Rattle.attribute_laws.specs.Methods.{IsUsual, IsBuiltIn, IsUnmarked, method_class, method_made}
+use Rattle.attribute_laws.specs.Methods.{IsUsual, IsBuiltIn, IsKnown, IsUnmarked, method_class, method_made}
 use Rattle.attribute_laws.proofs.Standing.{with_flag, node-of, class-there, some-of, own-slot, marks-methods}
 
 -- what the classes of methods have in the slots that bind and call
@@ -84,6 +84,14 @@ bound-calls w m u at = own-slot w m built_in.BuiltinMethod Call (Native (OfCalla
 flagged : (flag : ℕ) (o : Option (Class Text)) → or_false (option_map (λ k. has_flag flag k) o) ≡ true → (k : Class Text) × (o ≡ Some k) × (has_flag flag k ≡ true)
 flagged flag None e = absurd (false≢true e)
 flagged flag (Some k) e = (k, refl, e)
+
+-- a class that a script made doesn't
+pub known-kind : (w : PlainWorld) (a : PyObjectRef) → IsUsual w → IsKnown w a → IsBuiltIn w a ⊎ IsUnmarked w a
+known-kind w a u (inl b) = inl b
+known-kind w a u (inr (inl s)) =
+    let both : (has_flag heap_type s.1 && has_flag method_descriptor s.1) ≡ false = u.unmarked s.0 s.1.flags (ap (option_map (λ (k : Class Text). k.flags)) s.3) in
+    inr (s.0, s.1, s.2, s.3, subst (λ b. (b && has_flag method_descriptor s.1) ≡ false) s.4 both)
+known-kind w a u (inr (inr m)) = inr m
 
 pub fast-kind : (w : PlainWorld) (a : PyObjectRef) → IsUsual w → IsBuiltIn w a ⊎ IsUnmarked w a → is_fast w a ≡ true → (class_at w a ≡ Some (place_of built_in.Function)) ⊎ ((class_at w a ≡ Some (place_of built_in.MethodDescriptor)) × (is_for_objects (datum_at w a) ≡ true))
 fast-kind w a u of fast =

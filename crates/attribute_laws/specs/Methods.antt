@@ -1,10 +1,10 @@
 -- Methods that are loaded to be called at once.
-use Rattle.std.specs.Prelude.{◌≡◌, ℕ, suc, ◌<◌, false, List, [], ◌∷◌, Option, Some, Ok, ◌⊎◌}
+use Rattle.std.specs.Prelude.{◌≡◌, ℕ, suc, ◌<◌, true, false, List, [], ◌∷◌, Option, Some, Ok, ◌⊎◌}
 use Rattle.py_node.specs.declared.refs.PyObjectRef.{PyObjectRef}
 use Rattle.py_node.specs.declared.built_in.BuiltIn.{BuiltIn}
 use Rattle.py_node.specs.declared.built_in.BuiltIn.TheVariants as built_in
 use Rattle.py_node.specs.declared.entry.NativeEntry.{NativeEntry}
-use Rattle.py_node.specs.BuiltIns.{place_of, flags_of, method_descriptor}
+use Rattle.py_node.specs.BuiltIns.{place_of, flags_of, heap_type, method_descriptor}
 use Rattle.py_node.specs.Tree.{Text}
 use Rattle.class_model.specs.Class.{Class, class_at as class_numbered, has_flag}
 use Rattle.plain_machine.specs.Plain.{Datum, AMethod, ABuiltinMethod, AMethodDescriptor, PlainWorld, PlainTask, Bindings, AttributeJob, DescriptorJob, DoGetAttr, DoLoadMethod, DoInvoke, DoCall, ToAttribute, ToDescriptor, ToCall, AsFunction, Told, Asks, Ends, Saying}
@@ -14,6 +14,7 @@ use Rattle.plain_machine.specs.Native.{native_task}
 use Rattle.plain_machine.specs.Row.{none, value}
 use Rattle.plain_machine.specs.Sound.{IsSound}
 use Rattle.plain_machine.specs.Answer.{answer, Out, Over}
+use Rattle.class_world.specs.Sound.{flags_at, is_marked_heap}
 use Rattle.proto_attr.specs.Say.{attribute_say}
 use Rattle.proto_descr.specs.Say.{descriptor_say}
 use Rattle.proto_call.specs.Say.{call_job_say}
@@ -23,18 +24,25 @@ pub record GoesByRows (say : Saying PlainTask) : Type 0 where
   pub attributes : (w : PlainWorld) (job : AttributeJob) (told : Told) → say w (ToAttribute job) told ≡ attribute_say w job told
   pub descriptors : (w : PlainWorld) (job : DescriptorJob) (told : Told) → say w (ToDescriptor job) told ≡ descriptor_say w job told
 
--- a sound world where the built-in classes have the flags of their table, and None is of its own class
+-- a sound world where the built-in classes have the flags of their table, None is of its own class, and no class that a script made marks its objects as methods
 pub record IsUsual (w : PlainWorld) : Type 0 where
   pub sound : IsSound w
   pub flags : (b : BuiltIn) (k : Class Text) → class_numbered w.classes (place_of b) ≡ Some k → k.flags ≡ flags_of b
   pub of_none : class_at w none ≡ Some the_none_type
+  pub unmarked : (c n : ℕ) → flags_at w.classes c ≡ Some n → is_marked_heap n ≡ false
 
--- an object's class is built in, or doesn't mark what it makes as methods, as no class that a script makes does
+-- an object's class is built in, was made by a script, or doesn't mark its objects as methods: so it is unless a host made a static class that marks them
 abbrev pub IsBuiltIn : PlainWorld → PyObjectRef → Type 0
 IsBuiltIn w a = (b : BuiltIn) × (class_at w a ≡ Some (place_of b))
 
+abbrev pub IsScripted : PlainWorld → PyObjectRef → Type 0
+IsScripted w a = (c : ℕ) × (k : Class Text) × (class_at w a ≡ Some c) × (class_numbered w.classes c ≡ Some k) × (has_flag heap_type k ≡ true)
+
 abbrev pub IsUnmarked : PlainWorld → PyObjectRef → Type 0
 IsUnmarked w a = (c : ℕ) × (k : Class Text) × (class_at w a ≡ Some c) × (class_numbered w.classes c ≡ Some k) × (has_flag method_descriptor k ≡ false)
+
+abbrev pub IsKnown : PlainWorld → PyObjectRef → Type 0
+IsKnown w a = IsBuiltIn w a ⊎ (IsScripted w a ⊎ IsUnmarked w a)
 
 -- the method that is made of an object and what its class has under a name: its class, and what it holds. A native is bound with its name, its class and its doc
 abbrev pub method_class : Option Datum → ℕ
@@ -49,7 +57,7 @@ method_made d o a = AMethod o a
 abbrev pub ReadIsAMethod : Type 0
 ReadIsAMethod =
     (say : Saying PlainTask) (w u : PlainWorld) (o p a : PyObjectRef) (x : Text) (left depth : ℕ) →
-    GoesByRows say → IsUsual w → IsBuiltIn w a ⊎ IsUnmarked w a → suc (suc depth) < 1000 →
+    GoesByRows say → IsUsual w → IsKnown w a → suc (suc depth) < 1000 →
     attribute_say w (DoLoadMethod o x) [] ≡ Ends u (Ok (AsFunction p a)) →
     (u ≡ w) × (p ≡ o) × (
     let c = method_class (datum_at w a) in

@@ -18,7 +18,7 @@ use Rattle.class_world.proofs.Claims.{all-append, all-first, all-rest}
 use Rattle.class_world.proofs.Homes.{by_line}
 use Rattle.class_world.proofs.Growth.{Like, like-itself}
 use Rattle.class_world.proofs.Bound.{without_key-read, without_key-holds}
-use Rattle.class_world.proofs.ClassChanges.{AreStanding, classes-sound}
+use Rattle.class_world.proofs.ClassChanges.{AreStanding, SameFlags, classes-sound}
 use Rattle.class_world.proofs.OfClasses.{own-seen}
 
 abbrev HeldClass : Type 0
@@ -69,10 +69,10 @@ module _ (f : HeldClass → HeldClass) (number : (k : HeldClass) → (f k).numbe
 
     pub change-sound : (o : Result A E) → OnOk o (ks ≡ with_changed f w.classes c) → OnErr o (ks ≡ w.classes) → ((k : HeldClass) → AllHold w (of_class k) → AllHold w (of_class (f k))) → Sound w → Sound (record w { classes = ks })
     change-sound (Ok a) p q keep s =
-        classes-sound w ks (change-like (Ok a) p q) (subst (λ ks. AllHold w (of_each of_class ks)) (sym p) (changed-holds w f keep w.classes c s.classes))
+        classes-sound w ks (change-like (Ok a) p q) (subst (SameFlags w.classes) (sym p) (λ d. at-changed f number (option_map (λ (k : HeldClass). k.flags)) (λ k. ap Some (flags k)) w.classes c d)) (subst (λ ks. AllHold w (of_each of_class ks)) (sym p) (changed-holds w f keep w.classes c s.classes))
         (subst (AreStanding w) (sym p) (λ d e. s.standing d (sym (is_class-kept f number w.classes c d) ∙ e))) s
     change-sound (Err e) p q keep s =
-        classes-sound w ks (change-like (Err e) p q) (subst (λ ks. AllHold w (of_each of_class ks)) (sym q) s.classes) (subst (AreStanding w) (sym q) s.standing) s
+        classes-sound w ks (change-like (Err e) p q) (subst (SameFlags w.classes) (sym q) (λ d. refl)) (subst (λ ks. AllHold w (of_each of_class ks)) (sym q) s.classes) (subst (AreStanding w) (sym q) s.standing) s
 
 -- a class without one of its own attributes
 abbrev pub without : PyStrInterned → HeldClass → HeldClass

@@ -106,16 +106,16 @@ module _ (w : Held) (s : Sound w) where
   node-sound n q h =
       let new = record w { nodes = w.nodes ++ n ∷ [] } in
       let go = all-grow w new (node-grows w n) in
-      record { forms = go _ s.forms; below = s.below; nodes = each-push new of_node w.nodes n (go _ s.nodes) (go (of_node n) h); classes = go _ s.classes; vars = go _ s.vars; scopes = go _ s.scopes; fixed = fixed-grow w new s.fixed (grows-lasts w new (node-grows w n)); built_in = built_in-grow w new s.built_in (grows-lasts w new (node-grows w n)); own = λ b. (node-grows w n).still _ (s.own b); flags = λ b. (node-grows w n).still _ (s.flags b); of_none = (node-grows w n).still _ s.of_none; standing = λ c e. (node-grows w n).still _ (s.standing c e); itself = other-push w.nodes n q s.itself; apart = s.apart; scopes_apart = s.scopes_apart; known = s.known }
+      record { forms = go _ s.forms; below = s.below; nodes = each-push new of_node w.nodes n (go _ s.nodes) (go (of_node n) h); classes = go _ s.classes; vars = go _ s.vars; scopes = go _ s.scopes; fixed = fixed-grow w new s.fixed (grows-lasts w new (node-grows w n)); built_in = built_in-grow w new s.built_in (grows-lasts w new (node-grows w n)); own = λ b. (node-grows w n).still _ (s.own b); flags = λ b. (node-grows w n).still _ (s.flags b); of_none = (node-grows w n).still _ s.of_none; unmarked = s.unmarked; standing = λ c e. (node-grows w n).still _ (s.standing c e); itself = other-push w.nodes n q s.itself; apart = s.apart; scopes_apart = s.scopes_apart; known = s.known }
 
   pub form-sound : (f : Form) → AllHold w (of_form f) → Sound (record w { forms = w.forms ++ f ∷ [] })
   form-sound f h =
       let new = record w { forms = w.forms ++ f ∷ [] } in
       let go = all-grow w new (form-grows w f) in
-      record { forms = each-push new of_form w.forms f (go _ s.forms) (go (of_form f) h); below = below-push w.forms f s.below (form-below w f h); nodes = go _ s.nodes; classes = go _ s.classes; vars = go _ s.vars; scopes = go _ s.scopes; fixed = fixed-grow w new s.fixed (grows-lasts w new (form-grows w f)); built_in = built_in-grow w new s.built_in (grows-lasts w new (form-grows w f)); own = λ b. (form-grows w f).still _ (s.own b); flags = λ b. (form-grows w f).still _ (s.flags b); of_none = (form-grows w f).still _ s.of_none; standing = λ c e. (form-grows w f).still _ (s.standing c e); itself = s.itself; apart = s.apart; scopes_apart = s.scopes_apart; known = s.known }
+      record { forms = each-push new of_form w.forms f (go _ s.forms) (go (of_form f) h); below = below-push w.forms f s.below (form-below w f h); nodes = go _ s.nodes; classes = go _ s.classes; vars = go _ s.vars; scopes = go _ s.scopes; fixed = fixed-grow w new s.fixed (grows-lasts w new (form-grows w f)); built_in = built_in-grow w new s.built_in (grows-lasts w new (form-grows w f)); own = λ b. (form-grows w f).still _ (s.own b); flags = λ b. (form-grows w f).still _ (s.flags b); of_none = (form-grows w f).still _ s.of_none; unmarked = s.unmarked; standing = λ c e. (form-grows w f).still _ (s.standing c e); itself = s.itself; apart = s.apart; scopes_apart = s.scopes_apart; known = s.known }
 
   pub names-sound : (names : List (List ℕ)) → length w.names ≤ length names → ((n : ℕ) (x : List ℕ) → slice_get w.names n ≡ Some x → slice_get names n ≡ Some x) → Sound (record w { names = names })
   names-sound names l k =
       let new = record w { names = names } in
       let go = all-grow w new (names-grow w names l) in
-      record { forms = go _ s.forms; below = s.below; nodes = go _ s.nodes; classes = go _ s.classes; vars = go _ s.vars; scopes = go _ s.scopes; fixed = fixed-grow w new s.fixed (grows-lasts w new (names-grow w names l)); built_in = built_in-grow w new s.built_in (grows-lasts w new (names-grow w names l)); own = λ b. (names-grow w names l).still _ (s.own b); flags = λ b. (names-grow w names l).still _ (s.flags b); of_none = (names-grow w names l).still _ s.of_none; standing = λ c e. (names-grow w names l).still _ (s.standing c e); itself = s.itself; apart = s.apart; scopes_apart = s.scopes_apart; known = λ n x e. k n x (s.known n x e) }
+      record { forms = go _ s.forms; below = s.below; nodes = go _ s.nodes; classes = go _ s.classes; vars = go _ s.vars; scopes = go _ s.scopes; fixed = fixed-grow w new s.fixed (grows-lasts w new (names-grow w names l)); built_in = built_in-grow w new s.built_in (grows-lasts w new (names-grow w names l)); own = λ b. (names-grow w names l).still _ (s.own b); flags = λ b. (names-grow w names l).still _ (s.flags b); of_none = (names-grow w names l).still _ s.of_none; unmarked = s.unmarked; standing = λ c e. (names-grow w names l).still _ (s.standing c e); itself = s.itself; apart = s.apart; scopes_apart = s.scopes_apart; known = λ n x e. k n x (s.known n x e) }

@@ -1,5 +1,5 @@
 -- Classes that are changed or made.
-use Rattle.std.proofs.Common.{◌≡◌, ℕ, suc, ◌^◌, ◌<◌, ◌≤◌, Bool, true, false, cond, eqb, inl, inr, List, [], ◌∷◌, ◌++◌, length, Some, None, Result, Ok, Err, OnOk, OnErr, refl, sym, ap, ◌∙◌, subst, arith, length-append}
+use Rattle.std.proofs.Common.{◌≡◌, ℕ, suc, ◌^◌, ◌<◌, ◌≤◌, Bool, true, false, cond, eqb, inl, inr, List, [], ◌∷◌, ◌++◌, length, Option, Some, None, Result, Ok, Err, OnOk, OnErr, refl, sym, ap, ◌∙◌, subst, arith, length-append}
 use Rattle.std.specs.Prelude.{is_some, nat_lt, option_map, option_and_then}
 use Rattle.py_node.specs.declared.payload.Node.{Node}
 use Rattle.py_node.specs.declared.refs.PyObjectRef.{PyObjectRef}
@@ -8,20 +8,20 @@ use Rattle.py_node.specs.declared.refs.PyTypeRef.{PyTypeRef}
 use Rattle.py_node.specs.declared.payload.Payload.TheVariants as payload
 use Rattle.py_node.specs.Attributes.{with_value, is_same_name}
 use Rattle.py_node.specs.Tree.{Text}
-use Rattle.class_model.specs.Class.{Class, Classes, is_class, has_flag, rekeyed, renamed}
+use Rattle.class_model.specs.Class.{Class, Classes, class_at, is_class, has_flag, rekeyed, renamed}
 use Rattle.class_model.specs.Numbers.{limit}
 use Rattle.class_model.specs.Layout.{best_of}
 use Rattle.class_model.specs.Sound.{AreSound}
 use Rattle.class_table.proofs.Pushed.{each-there}
 use Rattle.class_model.specs.Change.{with_class_attr}
-use Rattle.class_model.proofs.Numbers.{at-changed, at-last, old-or-last}
+use Rattle.class_model.proofs.Numbers.{at-before, at-changed, at-last, old-or-last}
 use Rattle.class_model.proofs.Kept.{is_place-kept}
 use Rattle.class_table.specs.Refused.{AreThere}
 use Rattle.class_table.specs.Keys.{numbers}
 use Rattle.plain_machine.specs.World.{is_text, with_own_attr, with_new_class}
 use Rattle.class_world.specs.Held.{Held}
 use Rattle.class_world.specs.Reading.{Reading, spelled, node_of, plain}
-use Rattle.class_world.specs.Sound.{IsName, IsNode, IsClass, IsOf, GetsDict, Standing, AreNames, class_in, held_class, Holds, AllHold, Grows, Sound, of_binding, of_class, of_class_ref, of_dict, of_node, of_each}
+use Rattle.class_world.specs.Sound.{IsName, IsNode, IsClass, IsOf, GetsDict, Standing, AreNames, class_in, held_class, Holds, AllHold, Grows, Sound, flags_at, is_marked_heap, of_binding, of_class, of_class_ref, of_dict, of_node, of_each}
 use Rattle.class_world.proofs.Claims.{all-grow, all-append, all-first, all-rest, each-push, get-end}
 use Rattle.class_world.proofs.MemberPlaces.{no-members}
 use Rattle.py_node.specs.declared.built_in.BuiltIn.{BuiltIn}
@@ -70,12 +70,16 @@ classes-grow w ks k = grows w (record w { classes = ks }) refl refl (omega arith
 abbrev pub AreStanding : Held → HeldClasses → Type 0
 AreStanding w ks = (c : ℕ) → is_class ks c ≡ true → Holds w (Standing c (record { 0 = c }))
 
-pub classes-sound : (w : Held) (ks : HeldClasses) → Like w.classes ks → AllHold w (of_each of_class ks) → AreStanding w ks → Sound w → Sound (record w { classes = ks })
-classes-sound w ks k h a s =
+-- each class has the flags that it had
+abbrev pub SameFlags : HeldClasses → HeldClasses → Type 0
+SameFlags old new = (c : ℕ) → flags_at new c ≡ flags_at old c
+
+pub classes-sound : (w : Held) (ks : HeldClasses) → Like w.classes ks → SameFlags w.classes ks → AllHold w (of_each of_class ks) → AreStanding w ks → Sound w → Sound (record w { classes = ks })
+classes-sound w ks k f h a s =
     let new = record w { classes = ks } in
     let more = classes-grow w ks k in
     let go = all-grow w new more in
-    record { forms = go _ s.forms; below = s.below; nodes = go _ s.nodes; classes = go _ h; vars = go _ s.vars; scopes = go _ s.scopes; fixed = fixed-grow w new s.fixed (grows-lasts w new more); built_in = built_in-grow w new s.built_in (grows-lasts w new more); own = λ b. more.still _ (s.own b); flags = λ b. more.still _ (s.flags b); of_none = more.still _ s.of_none; standing = λ d e. more.still _ (a d e); itself = s.itself; apart = s.apart; scopes_apart = s.scopes_apart; known = s.known }
+    record { forms = go _ s.forms; below = s.below; nodes = go _ s.nodes; classes = go _ h; vars = go _ s.vars; scopes = go _ s.scopes; fixed = fixed-grow w new s.fixed (grows-lasts w new more); built_in = built_in-grow w new s.built_in (grows-lasts w new more); own = λ b. more.still _ (s.own b); flags = λ b. more.still _ (s.flags b); of_none = more.still _ s.of_none; unmarked = λ c n e. s.unmarked c n (sym (f c) ∙ e); standing = λ d e. more.still _ (a d e); itself = s.itself; apart = s.apart; scopes_apart = s.scopes_apart; known = s.known }
 
 -- an attribute is set, or memory ran out and nothing changed
 module _ {A E : Type 0} (w : Held) (c : ℕ) (x : PyStrInterned) (r : PyObjectRef) (ks : HeldClasses) where
@@ -91,9 +95,9 @@ module _ {A E : Type 0} (w : Held) (c : ℕ) (x : PyStrInterned) (r : PyObjectRe
 
   pub set-sound : (o : Result A E) → OnOk o (ks ≡ with_class_attr is_same_name w.classes c x r) → OnErr o (ks ≡ w.classes) → Sound w → Holds w (IsName x) → Holds w (IsNode r) → Sound (record w { classes = ks })
   set-sound (Ok a) p f s n k =
-      classes-sound w ks (set-like (Ok a) p f) (subst (λ ks. AllHold w (of_each of_class ks)) (sym p) (attr-holds w w.classes c x r s.classes n k))
+      classes-sound w ks (set-like (Ok a) p f) (subst (SameFlags w.classes) (sym p) (λ d. at-changed (λ (k : Class PyStrInterned). record k { attrs = with_value is_same_name k.attrs x r }) (λ k. refl) (option_map (λ (k : Class PyStrInterned). k.flags)) (λ k. refl) w.classes c d)) (subst (λ ks. AllHold w (of_each of_class ks)) (sym p) (attr-holds w w.classes c x r s.classes n k))
       (subst (AreStanding w) (sym p) (λ d e. s.standing d (sym (attr-there w.classes c d x r) ∙ e))) s
-  set-sound (Err e) p f s n k = classes-sound w ks (set-like (Err e) p f) (subst (λ ks. AllHold w (of_each of_class ks)) (sym f) s.classes) (subst (AreStanding w) (sym f) s.standing) s
+  set-sound (Err e) p f s n k = classes-sound w ks (set-like (Err e) p f) (subst (SameFlags w.classes) (sym f) (λ d. refl)) (subst (λ ks. AllHold w (of_each of_class ks)) (sym f) s.classes) (subst (AreStanding w) (sym f) s.standing) s
 
   pub set-read : (now : Held) (o : Result A E) → OnOk o (ks ≡ with_class_attr is_same_name w.classes c x r) → w ≡ now → OnOk o ((t : Reading) → plain t (record w { classes = ks }) ≡ with_own_attr (plain t now) c (t.text x.0) r)
   unfolding plain
@@ -125,6 +129,14 @@ bases-there w (b ∷ bs) h = (h.0, bases-there w bs h.1)
 no-dict : (w : Held) (meta c : ℕ) → Holds w (IsClass meta) → Holds w (GetsDict (Some c) meta false)
 unfolding Holds
 no-dict w meta c h = (h, refl)
+
+-- a class with flags is there
+flags-there : (t : HeldClasses) (c n : ℕ) → flags_at t c ≡ Some n → is_class t c ≡ true
+flags-there t c n e = go (class_at t c) e
+  where
+    go : (o : Option (Class PyStrInterned)) → option_map (λ (k : Class PyStrInterned). k.flags) o ≡ Some n → is_some o ≡ true
+    go None e = cc
+    go (Some k) e = refl
 
 -- a class with its node
 module _ (w : Held) (meta : PyTypeRef) (k : Class PyStrInterned) where
@@ -169,13 +181,25 @@ module _ (w : Held) (meta : PyTypeRef) (k : Class PyStrInterned) where
     stands : (d : ℕ) → is_class (w.classes ++ k ∷ []) d ≡ true → Holds (class_made c) (Standing d (record { 0 = d }))
     stands d h = elim (old-or-last w.classes k d h) [ inl a ↦ (made-grows c).still _ (s.standing d a) | inr a ↦ subst (λ n. Holds (class_made c) (Standing n (record { 0 = n }))) (sym a) class-stands ]
 
+    -- its flags are those of k or of a class that was there
+    unmarked : is_marked_heap k.flags ≡ false → (d n : ℕ) → flags_at (w.classes ++ k ∷ []) d ≡ Some n → is_marked_heap n ≡ false
+    unmarked u d n e =
+        let there : is_class (w.classes ++ k ∷ []) d ≡ true = flags-there (w.classes ++ k ∷ []) d n e in
+        elim (old-or-last w.classes k d there) [
+          | inl a ↦ s.unmarked d n (sym (ap (option_map (λ (j : Class PyStrInterned). j.flags)) (at-before w.classes k d a)) ∙ e)
+          | inr a ↦
+              let own : flags_at (w.classes ++ k ∷ []) d ≡ Some k.flags = ap (flags_at (w.classes ++ k ∷ [])) a ∙ ap (option_map (λ (j : Class PyStrInterned). j.flags)) (at-last w.classes k fresh) in
+              let same : k.flags ≡ n = cc in
+              subst (λ m. is_marked_heap m ≡ false) same u
+        ]
+
     itself : (n d : ℕ) → held_class (class_made c).nodes (record { 0 = n }) ≡ Some d → n ≡ d
     itself n d q =
         let at = itself-push 0 w.nodes (record { class = meta; dict = None; members = []; payload = payload.Class c }) (λ d p. let same : c.0 ≡ d = cc in omega arith) (λ m d p. let r = s.itself m d p in omega arith) n d q in
         omega arith
 
-    pub made-sound : Holds w (AreNames k.members) → Holds w (IsClass meta.0) → Holds w (IsOf meta.0 TypeType) → AllHold w (of_each of_binding k.attrs) → Sound (class_made c)
-    made-sound q m p a =
+    pub made-sound : is_marked_heap k.flags ≡ false → Holds w (AreNames k.members) → Holds w (IsClass meta.0) → Holds w (IsOf meta.0 TypeType) → AllHold w (of_each of_binding k.attrs) → Sound (class_made c)
+    made-sound u q m p a =
         let new = class_made c in
         let more = made-grows c in
         let go = all-grow w new more in
@@ -195,6 +219,7 @@ module _ (w : Held) (meta : PyTypeRef) (k : Class PyStrInterned) where
           own = λ b. more.still _ (s.own b);
           flags = λ b. more.still _ (s.flags b);
           of_none = more.still _ s.of_none;
+          unmarked = unmarked u;
           standing = stands;
           itself = itself;
           apart = s.apart;

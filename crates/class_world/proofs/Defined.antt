@@ -151,7 +151,7 @@ module _ (w : Held) (c : PyTypeRef) (r : PyObjectRef) (n new : StoredNode) where
       let here = each-get w of_node w.nodes r.0 n (got w.nodes r.0 n l e) s.nodes in
       let there = subst (λ m. AllHold w (of_node m)) (sym k) (node-holds w c n h here) in
       let same : class_in new.payload ≡ class_in n.payload = ap (λ (x : StoredNode). class_in x.payload) k ∙ ap (λ (l : Lasting). l.class) (lasting-stays c n.payload) in
-      record { forms = go _ s.forms; below = s.below; nodes = go _ (each-set w of_node w.nodes r.0 new s.nodes there); classes = go _ s.classes; vars = go _ s.vars; scopes = go _ s.scopes; fixed = fixed-grow w defined s.fixed (grows-lasts w defined more); built_in = built_in-grow w defined s.built_in (grows-lasts w defined more); own = λ b. more.still _ (s.own b); flags = λ b. more.still _ (s.flags b); of_none = more.still _ s.of_none; standing = λ d e. more.still _ (s.standing d e); itself = λ m d q. s.itself m d (class-set w.nodes r.0 n new e same m d q); apart = s.apart; scopes_apart = s.scopes_apart; known = s.known }
+      record { forms = go _ s.forms; below = s.below; nodes = go _ (each-set w of_node w.nodes r.0 new s.nodes there); classes = go _ s.classes; vars = go _ s.vars; scopes = go _ s.scopes; fixed = fixed-grow w defined s.fixed (grows-lasts w defined more); built_in = built_in-grow w defined s.built_in (grows-lasts w defined more); own = λ b. more.still _ (s.own b); flags = λ b. more.still _ (s.flags b); of_none = more.still _ s.of_none; unmarked = s.unmarked; standing = λ d e. more.still _ (s.standing d e); itself = λ m d q. s.itself m d (class-set w.nodes r.0 n new e same m d q); apart = s.apart; scopes_apart = s.scopes_apart; known = s.known }
 
   pub define-read : (now : Held) → w ≡ now → r.0 < length w.nodes → n ≡ get_or w.nodes r.0 n → new ≡ defined_node c n → (t : Reading) → plain t defined ≡ with_definer (plain t now) c.0 r
   unfolding plain

@@ -221,7 +221,7 @@ module _ (w : Held) (r : PyObjectRef) (n new : StoredNode) where
       let gets : Holds w (GetsDict (class_in new.payload) new.class.0 (is_some new.dict)) = subst (λ o. Holds w (GetsDict o new.class.0 (is_some new.dict))) (ap (λ (l : Lasting). l.class) (sym q)) (subst (λ d. Holds w (GetsDict (class_in n.payload) new.class.0 (is_some d))) (sym o.1) (subst (λ c. Holds w (GetsDict (class_in n.payload) c.0 (is_some n.dict))) (sym o.0) all.1.1.1.0)) in
       let there : AllHold w (of_node new) = (class.0, (like, (members, (gets, all-append w (of_option of_dict_ref new.dict) _ dict (has-holds es w new.payload o.3 h))))) in
       let same : class_in new.payload ≡ class_in n.payload = ap (λ (l : Lasting). l.class) q in
-      record { forms = go _ s.forms; below = s.below; nodes = go _ (each-set w of_node w.nodes r.0 new s.nodes there); classes = go _ s.classes; vars = go _ s.vars; scopes = go _ s.scopes; fixed = fixed-grow w changed s.fixed (grows-lasts w changed more); built_in = built_in-grow w changed s.built_in (grows-lasts w changed more); own = λ b. more.still _ (s.own b); flags = λ b. more.still _ (s.flags b); of_none = more.still _ s.of_none; standing = λ c e. more.still _ (s.standing c e); itself = λ m c q. s.itself m c (class-set w.nodes r.0 n new e same m c q); apart = s.apart; scopes_apart = s.scopes_apart; known = s.known }
+      record { forms = go _ s.forms; below = s.below; nodes = go _ (each-set w of_node w.nodes r.0 new s.nodes there); classes = go _ s.classes; vars = go _ s.vars; scopes = go _ s.scopes; fixed = fixed-grow w changed s.fixed (grows-lasts w changed more); built_in = built_in-grow w changed s.built_in (grows-lasts w changed more); own = λ b. more.still _ (s.own b); flags = λ b. more.still _ (s.flags b); of_none = more.still _ s.of_none; unmarked = s.unmarked; standing = λ c e. more.still _ (s.standing c e); itself = λ m c q. s.itself m c (class-set w.nodes r.0 n new e same m c q); apart = s.apart; scopes_apart = s.scopes_apart; known = s.known }
 
   node-read : (t : Reading) (es : Entries) → HasOther n new es → node_of t new ≡ record (node_of t n) { datum = ADict es }
   node-read t es o =

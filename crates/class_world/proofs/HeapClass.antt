@@ -18,7 +18,7 @@ use Rattle.plain_machine.specs.World.{is_text, text_keys}
 use Rattle.class_world.specs.Held.{Held}
 use Rattle.class_world.specs.NewHeap.{slot_texts, of_slots}
 use Rattle.class_world.specs.Reading.{Reading, Reads, spelled, bindings, plain}
-use Rattle.class_world.specs.Sound.{AreNames, Holds, AllHold, Sound}
+use Rattle.class_world.specs.Sound.{is_marked_heap, AreNames, Holds, AllHold, Sound}
 use Rattle.class_world.proofs.Look.{known-read}
 
 -- the members are among the names
@@ -26,6 +26,11 @@ pub members-named : (w : Held) (slots : Option (Vec PyStrInterned)) → AllHold 
 unfolding Holds
 members-named w None h = λ i d l. absurd (omega (arith, l))
 members-named w (Some v) h = All-filter (λ n. not (is_dict table_keys n)) (λ x. x.0 < length w.names) v.items h.0
+
+-- its flags don't mark its objects as methods
+pub heap-unmarked : (dict : Bool) → is_marked_heap (heap_flags dict) ≡ false
+heap-unmarked true = refl
+heap-unmarked false = refl
 
 module _ (w old : Held) (v : w ≡ old) (s : Sound w) (t : Reading) (r : Reads t old) where
   is_dict-read : (n : PyStrInterned) → is_dict text_keys (spelled t n) ≡ is_dict table_keys n

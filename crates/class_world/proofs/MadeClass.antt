@@ -1,5 +1,5 @@
 -- A class is made with its node, or neither is.
-use Rattle.std.proofs.Common.{◌≡◌, ℕ, [], ◌∷◌, ◌++◌, List, length, Some, Result, Ok, Err, IfOk, OnOk, OnErr, sym, ap, ◌∙◌, subst}
+use Rattle.std.proofs.Common.{◌≡◌, ℕ, false, [], ◌∷◌, ◌++◌, List, length, Some, Result, Ok, Err, IfOk, OnOk, OnErr, sym, ap, ◌∙◌, subst}
 use Rattle.std.proofs.lemmas.List.{length-map}
 use Rattle.py_node.specs.declared.built_in.BuiltIn.{BuiltIn}
 use Rattle.py_node.specs.declared.built_in.BuiltIn.TheVariants.{TypeType}
@@ -15,7 +15,7 @@ use Rattle.plain_machine.specs.World.{ref, with_new_class}
 use Rattle.class_world.specs.Held.{Held}
 use Rattle.class_world.specs.NewHeap.{class_node}
 use Rattle.class_world.specs.Reading.{Reading, Reads, node_of, spelled, plain}
-use Rattle.class_world.specs.Sound.{IsNode, IsClass, IsOf, AreNames, Holds, AllHold, Grows, Sound, of_binding, of_each}
+use Rattle.class_world.specs.Sound.{IsNode, IsClass, IsOf, AreNames, Holds, AllHold, Grows, Sound, is_marked_heap, of_binding, of_each}
 use Rattle.class_world.proofs.Growth.{grows-itself}
 use Rattle.class_world.proofs.ClassChanges.{class_made, made-grows, class-made, class-made-of, node-made, made-sound, made-read}
 
@@ -42,9 +42,9 @@ module _ (w : Held) (meta : PyTypeRef) (k : Class PyStrInterned) (i : k.number �
   same : ks ≡ w.classes → ns ≡ w.nodes → w ≡ after
   same p q = λ j. record w { nodes = sym q j; classes = sym p j }
 
-  pub sound-after : {E : Type 0} (o : Result PyTypeRef E) → IsMade w meta k ks ns o → Sound w → Holds w (AreNames k.members) → Holds w (IsClass meta.0) → Holds w (IsOf meta.0 TypeType) → AllHold w (of_each of_binding k.attrs) → Sound after
-  sound-after (Ok c) h s m p q a = subst Sound (whole c h.added h.node) (made-sound w meta k c h.number i s m p q a)
-  sound-after (Err x) h s m p q a = subst Sound (same h.err h.no_node) s
+  pub sound-after : {E : Type 0} (o : Result PyTypeRef E) → IsMade w meta k ks ns o → Sound w → is_marked_heap k.flags ≡ false → Holds w (AreNames k.members) → Holds w (IsClass meta.0) → Holds w (IsOf meta.0 TypeType) → AllHold w (of_each of_binding k.attrs) → Sound after
+  sound-after (Ok c) h s u m p q a = subst Sound (whole c h.added h.node) (made-sound w meta k c h.number i s u m p q a)
+  sound-after (Err x) h s u m p q a = subst Sound (same h.err h.no_node) s
 
   pub grows-after : {E : Type 0} (o : Result PyTypeRef E) → IsMade w meta k ks ns o → Grows w after
   grows-after (Ok c) h = subst (Grows w) (whole c h.added h.node) (made-grows w meta k c)

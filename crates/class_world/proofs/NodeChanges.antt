@@ -30,7 +30,7 @@ module _ (w : Held) (r : PyObjectRef) (n new : StoredNode) (is : n ≡ get_or w.
       let more = change-grows in
       let go = all-grow w changed more in
       let class : class_in new.payload ≡ class_in n.payload = ap (λ (l : Lasting). l.class) same in
-      record { forms = go _ s.forms; below = s.below; nodes = go _ (each-set w of_node w.nodes r.0 new s.nodes there); classes = go _ s.classes; vars = go _ s.vars; scopes = go _ s.scopes; fixed = fixed-grow w changed s.fixed (grows-lasts w changed more); built_in = built_in-grow w changed s.built_in (grows-lasts w changed more); own = λ b. more.still _ (s.own b); flags = λ b. more.still _ (s.flags b); of_none = more.still _ s.of_none; standing = λ c e. more.still _ (s.standing c e); itself = λ m c q. s.itself m c (class-set w.nodes r.0 n new is class m c q); apart = s.apart; scopes_apart = s.scopes_apart; known = s.known }
+      record { forms = go _ s.forms; below = s.below; nodes = go _ (each-set w of_node w.nodes r.0 new s.nodes there); classes = go _ s.classes; vars = go _ s.vars; scopes = go _ s.scopes; fixed = fixed-grow w changed s.fixed (grows-lasts w changed more); built_in = built_in-grow w changed s.built_in (grows-lasts w changed more); own = λ b. more.still _ (s.own b); flags = λ b. more.still _ (s.flags b); of_none = more.still _ s.of_none; unmarked = s.unmarked; standing = λ c e. more.still _ (s.standing c e); itself = λ m c q. s.itself m c (class-set w.nodes r.0 n new is class m c q); apart = s.apart; scopes_apart = s.scopes_apart; known = s.known }
 
 nodes-read : (t : Reading) (f : Node → Node) (n new : StoredNode) → node_of t new ≡ f (node_of t n) → (ns : List StoredNode) (i : ℕ) → i < length ns → n ≡ get_or ns i n → map (node_of t) (slice_set ns i new) ≡ with_node_changed f (map (node_of t) ns) i
 nodes-read t f n new e [] i l is = absurd (omega arith)

@@ -1,6 +1,6 @@
 -- The world of a new machine is sound, and is the plain machine's.
-use Rattle.std.proofs.Common.{◌≡◌, ℕ, zero, suc, ◌+◌, ◌^◌, ◌<◌, ◌≤◌, Bool, true, false, cond, List, [], ◌∷◌, ◌++◌, length, Some, None, refl, sym, ap, subst, arith, map}
-use Rattle.std.specs.Prelude.{◌&&◌, eqb, ltb, is_some}
+use Rattle.std.proofs.Common.{◌≡◌, ℕ, zero, suc, ◌+◌, ◌^◌, ◌<◌, ◌≤◌, Bool, true, false, cond, List, [], ◌∷◌, ◌++◌, length, Option, Some, None, refl, sym, ap, subst, arith, map}
+use Rattle.std.specs.Prelude.{◌&&◌, eqb, ltb, is_some, option_map}
 use Rattle.std.specs.List.{IsDistinct}
 use Rattle.std.proofs.lemmas.Bool.{eqb-true, eqb-false, ltb-true}
 use Rattle.py_node.specs.declared.refs.PyStrInterned.{PyStrInterned}
@@ -19,7 +19,7 @@ use Rattle.plain_machine.specs.Row.{none}
 use Rattle.class_world.specs.Held.{Held}
 use Rattle.class_world.specs.StartNodes.{class_node, fixed_nodes, start_nodes}
 use Rattle.class_world.specs.Reading.{Reading, node_of, spelled, plain}
-use Rattle.class_world.specs.Sound.{Standing, HasFlags, OfStatic, GetsDict, held_class, Holds, AllHold, Sound, of_node, of_dict, of_class, of_each}
+use Rattle.class_world.specs.Sound.{Standing, HasFlags, OfStatic, GetsDict, held_class, flags_at, is_marked_heap, Holds, AllHold, Sound, of_node, of_dict, of_class, of_each}
 use Rattle.class_world.proofs.Claims.{each-append, all-append}
 use Rattle.class_table.proofs.StartParts.{split}
 
@@ -122,6 +122,41 @@ started-flags built_in.Super = refl
 started-flags built_in.Iterator = refl
 started-flags built_in.Slice = refl
 
+-- none of them is a script's class
+no-script : (b : BuiltIn) → is_marked_heap (flags_of b) ≡ false
+unfolding place_of flags_of built_in_flags
+no-script built_in.Object = refl
+no-script built_in.TypeType = refl
+no-script built_in.NoneType = refl
+no-script built_in.NotImplementedType = refl
+no-script built_in.Int = refl
+no-script built_in.Bool = refl
+no-script built_in.Str = refl
+no-script built_in.Tuple = refl
+no-script built_in.List = refl
+no-script built_in.Dict = refl
+no-script built_in.Function = refl
+no-script built_in.Method = refl
+no-script built_in.BuiltinFunctionOrMethod = refl
+no-script built_in.BuiltinMethod = refl
+no-script built_in.MethodDescriptor = refl
+no-script built_in.GetSetDescriptor = refl
+no-script built_in.MemberDescriptor = refl
+no-script built_in.Property = refl
+no-script built_in.ClassMethod = refl
+no-script built_in.StaticMethod = refl
+no-script built_in.Super = refl
+no-script built_in.Iterator = refl
+no-script built_in.Slice = refl
+
+starts-unmarked : (bs : List BuiltIn) (c n : ℕ) → flags_at (map built bs) c ≡ Some n → is_marked_heap n ≡ false
+starts-unmarked [] c n e = cc
+starts-unmarked (b ∷ bs) c n e = go (eqb (place_of b) c) e (starts-unmarked bs c n)
+  where
+    go : (v : Bool) → option_map (λ k. k.flags) (cond v (Some (built b)) (class_at (map built bs) c)) ≡ Some n → (flags_at (map built bs) c ≡ Some n → is_marked_heap n ≡ false) → is_marked_heap n ≡ false
+    go true e h = let same : flags_of b ≡ n = cc in subst (λ m. is_marked_heap m ≡ false) same (no-script b)
+    go false e h = h e
+
 started-plain_2 : has_dict started.classes 2 ≡ false
 unfolding all_built_ins place_of flags_of built_in_flags
 started-plain_2 = refl
@@ -221,6 +256,7 @@ started-sound = record {
   own = started-own;
   flags = started-flags;
   of_none = started-none;
+  unmarked = starts-unmarked all_built_ins;
   apart = tt;
   scopes_apart = λ i d l. absurd (omega arith);
   standing = λ c e. places-stand 0 all_built_ins refl c e;

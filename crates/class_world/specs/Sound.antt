@@ -1,5 +1,6 @@
 -- What is said of numbers, and that all that a world says of them is so.
-use Rattle.std.specs.Prelude.{◌≡◌, ℕ, ◌<◌, ◌≤◌, Bool, true, false, ◌&&◌, List, [], ◌∷◌, ◌++◌, Option, Some, None, is_some, is_none, length, map, slice_get, option_map, option_and_then, string_bytes}
+use Rattle.std.specs.Int.RustNames.{bit_and}
+use Rattle.std.specs.Prelude.{◌≡◌, ℕ, ◌<◌, ◌≤◌, Bool, true, false, ◌&&◌, ◌==◌, List, [], ◌∷◌, ◌++◌, Option, Some, None, is_some, is_none, length, map, slice_get, option_map, option_and_then, string_bytes}
 use Rattle.std.specs.List.{All, AllByRecursion}
 use Rattle.py_node.specs.declared.refs.PyObjectRef.{PyObjectRef}
 use Rattle.py_node.specs.declared.refs.PyStrInterned.{PyStrInterned}
@@ -14,7 +15,7 @@ use Rattle.py_node.specs.Attributes.{value_of, is_same_name, AreNamesDistinct}
 use Rattle.py_node.specs.Known.{known_texts}
 use Rattle.py_node.specs.declared.built_in.BuiltIn.{BuiltIn}
 use Rattle.py_node.specs.declared.built_in.BuiltIn.TheVariants as built_in
-use Rattle.py_node.specs.BuiltIns.{place_of, flags_of, built_in_count, fixed_node_count, has_dict as dict_flag}
+use Rattle.py_node.specs.BuiltIns.{place_of, flags_of, built_in_count, fixed_node_count, has_dict as dict_flag, heap_type, method_descriptor}
 use Rattle.class_model.specs.Class.{Class, Classes, class_at, is_class, has_flag}
 use Rattle.class_model.specs.Dict.{has_dict}
 use Rattle.class_model.specs.Layout.{is_place}
@@ -156,6 +157,10 @@ IsMember w c m = (is_place w.classes c m.0.class.0 m.0.index ≡ true) × Stands
 -- the flags of a class
 abbrev pub flags_at : {K : Type 0} → Classes K → ℕ → Option ℕ
 flags_at t c = option_map (λ k. k.flags) (class_at t c)
+
+-- flags of a class that a script made, and that marks its objects as methods
+abbrev pub is_marked_heap : ℕ → Bool
+is_marked_heap n = (bit_and n heap_type == heap_type) && (bit_and n method_descriptor == method_descriptor)
 
 -- the class of a node
 abbrev pub class_ref_at : List Node → ℕ → Option ℕ
@@ -313,4 +318,6 @@ pub record Sound (w : Held) : Type 0 where
   pub own : (b : BuiltIn) → Holds w (IsOf (place_of b) (holds_as b))
   pub flags : (b : BuiltIn) → Holds w (HasFlags (place_of b) (flags_of b))
   pub of_none : Holds w (OfStatic none the_none_type)
+  -- no class that a script made marks its objects as methods
+  pub unmarked : (c n : ℕ) → flags_at w.classes c ≡ Some n → is_marked_heap n ≡ false
   pub known : (n : ℕ) (x : List ℕ) → slice_get known_texts n ≡ Some x → slice_get w.names n ≡ Some x

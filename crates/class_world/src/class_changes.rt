@@ -1,8 +1,9 @@
 //! Another name and other bases for a class of a world.
 
-ghost use Rattle.std.specs.Prelude.{◌≡◌, ◌≤◌, true, OnOk, OnErr, IsSome};
+ghost use Rattle.std.specs.Prelude.{◌≡◌, ◌+◌, ◌≤◌, true, length, OnOk, OnErr, IsSome};
 ghost use Rattle.class_model.specs.Class.{class_at as class_numbered};
 ghost use Rattle.class_model.specs.Slot.{is_heap_at};
+ghost use Rattle.class_table.specs.Descendants.{descendants};
 ghost use Rattle.class_table.specs.Keys.{numbers};
 ghost use Rattle.class_table.specs.Refused.{WithMemory};
 ghost use Rattle.class_table.specs.Rebase.{refused_change, refused_rebase, told, IsToldFirst};
@@ -35,8 +36,8 @@ impl World {
     /// layout goes with those before it; the class keeps its solid class and gives its
     /// objects a dict as before; none stands twice. Then the least-numbered
     /// class is told that would have no order while all its bases have one. Where it is refused, and where memory runs
-    /// out, the world stays as it was. No count of merges or of probes falls, and where a test fails that needs no
-    /// order, nothing is counted.
+    /// out, the world stays as it was. No count of merges or of probes falls; at most one merge is counted for the class
+    /// and for each that derives from it; and where a test fails that needs no order, nothing is counted.
     pub fn set_bases<L: Ledger>(
         &mut self,
         class: PyTypeRef,
@@ -54,6 +55,8 @@ impl World {
         ensures err { OnErr result (self.new ≡ self.old) }
         ensures merges { steps.old.merges ≤ steps.new.merges }
         ensures probes { steps.old.probes ≤ steps.new.probes }
+        ensures few_merges { steps.new.merges ≤
+            steps.old.merges + length (descendants self.old.classes class.0) }
         ensures uncounted { (t : Reading) →
             IsSome (refused_change (plain t self.old).classes class.0 (numbers bases.items)) → steps.new ≡ steps.old }
         ensures reads { (t : Reading) → Reads t self.new → Reads t self.old }

@@ -1,7 +1,7 @@
 //! Classes with one base and no members: simple ones as scripts make them, and static ones, which scripts can't change. And
 //! whether a class gives its objects a dict.
 
-ghost use Rattle.std.specs.Prelude.{◌≡◌, ◌≤◌, ◌||◌, true, ◌∷◌, [], ◌++◌, length, IfOk, OnOk, OnErr, IsTrue, Some, None};
+ghost use Rattle.std.specs.Prelude.{◌≡◌, ◌≤◌, ◌||◌, true, false, ◌∷◌, [], ◌++◌, length, IfOk, OnOk, OnErr, IsTrue, Some, None};
 ghost use Rattle.py_node.specs.declared.built_in.BuiltIn.{BuiltIn as Home};
 ghost use Rattle.py_node.specs.declared.built_in.BuiltIn.TheVariants.{TypeType};
 ghost use Rattle.class_model.specs.Change.{with_class};
@@ -14,7 +14,7 @@ ghost use Rattle.plain_machine.specs.Known.{the_type, the_dict};
 ghost use Rattle.plain_machine.specs.World.{ref, text_keys, has_dict, with_new_class, with_own_attr};
 ghost use Rattle.class_world.specs.NewHeap.{class_node};
 ghost use Rattle.class_world.specs.Reading.{Reading, Reads, bindings, plain};
-ghost use Rattle.class_world.specs.Sound.{IsNode, IsClass, IsOf, Holds, AllHold, Grows, flags_at, of_binding, of_each};
+ghost use Rattle.class_world.specs.Sound.{IsNode, IsClass, IsOf, Holds, AllHold, Grows, flags_at, is_marked_heap, of_binding, of_each};
 
 use crate::heap::push_class_node;
 use crate::world::World;
@@ -38,6 +38,7 @@ impl World {
         requires base { Holds self.old (IsClass base.0) }
         requires attrs { AllHold self.old (of_each of_binding attrs) }
         requires dict { says_so flags.0 ≡ (brings || class_has_dict self.old.classes base.0) }
+        requires unmarked { is_marked_heap flags.0 ≡ false }
         requires metaclass { Holds self.old (IsClass metaclass.0) }
         requires of_classes { Holds self.old (IsOf metaclass.0 TypeType) }
         ensures made { OnOk result ((t : Reading) → plain t self.new ≡

@@ -1,6 +1,6 @@
 //! The world, and how it begins.
 
-ghost use Rattle.std.specs.Prelude.{◌≡◌, ◌<◌, ℕ, List, map, Some, IfOk, slice_get};
+ghost use Rattle.std.specs.Prelude.{◌≡◌, ◌<◌, ℕ, List, false, map, Some, IfOk, slice_get};
 ghost use Rattle.py_node.specs.declared.built_in.BuiltIn.{BuiltIn};
 ghost use Rattle.py_node.specs.BuiltIns.{place_of, flags_of, fixed_node_count};
 ghost use Rattle.py_node.specs.Replies.{started_of};
@@ -14,7 +14,7 @@ ghost use Rattle.plain_machine.specs.Start.{bare, start};
 ghost use Rattle.plain_machine.specs.Sound.{IsSound};
 ghost use Rattle.class_world.specs.Held.{Held, numbered};
 ghost use Rattle.class_world.specs.Reading.{Reading, Reads, plain, IsReadable};
-ghost use Rattle.class_world.specs.Sound.{flags_at};
+ghost use Rattle.class_world.specs.Sound.{flags_at, is_marked_heap};
 
 use crate::attributes_of_built_ins::add_own_attrs;
 use crate::scope::Scope;
@@ -140,11 +140,14 @@ impl World {
         self.classes.sound();
     }
 
-    /// Each built-in class has the flags of its row, and None is of its own class.
+    /// Each built-in class has the flags of its row, None is of its own class, and no class that a script made marks its
+    /// objects as methods.
     pub fn keeps_built_ins(&self)
         ensures flags { (t : Reading) (b : BuiltIn) →
             flags_at (plain t self.now).classes (place_of b) ≡ Some (flags_of b) }
         ensures of_none { (t : Reading) → class_at (plain t self.now) none ≡ Some the_none_type }
+        ensures unmarked { (t : Reading) (c n : ℕ) → flags_at (plain t self.now).classes c ≡ Some n →
+            is_marked_heap n ≡ false }
     {
         let _nodes = &self.nodes;
     }

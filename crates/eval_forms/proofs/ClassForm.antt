@@ -1,6 +1,6 @@
 -- The class form: names with their values, and the new objects of a class.
 use Rattle.std.proofs.Common.{◌≡◌, ℕ, zero, suc, List, [], ◌∷◌, ◌++◌, length, take, drop, map, Some, None, Ok, Err, arith, refl, sym, ap, ◌∙◌, subst}
-use Rattle.std.specs.Prelude.{slice_get, Option, Result, IfOk, IfSome}
+use Rattle.std.specs.Prelude.{slice_get, Option, Result, IfOk, IfSome, true, cond, nat_le}
 use Rattle.std.proofs.lemmas.List.{length-map}
 use Rattle.py_node.specs.Tree.{Text}
 use Rattle.py_node.specs.declared.memory.OutOfMemory.{OutOfMemory}
@@ -11,7 +11,8 @@ use Rattle.py_node.specs.declared.refs.PyObjectRef.{PyObjectRef}
 use Rattle.py_node.specs.declared.refs.PyStrInterned.{PyStrInterned}
 use Rattle.plain_machine.specs.Plain.{PlainWorld, Bindings, AText, ATuple, DoCall, ToCall, Said, Asks}
 use Rattle.plain_machine.specs.Args.{filled}
-use Rattle.plain_machine.specs.Row.{Row, start, end}
+use Rattle.py_node.specs.declared.raised.Cause.TheVariants.{TooLong}
+use Rattle.plain_machine.specs.Row.{Row, start, end, fault, most_items}
 use Rattle.plain_machine.specs.World.{with_node, next_node}
 use Rattle.class_world.specs.Held.{Held}
 use Rattle.class_world.specs.Reading.{Reading, Reads, bindings, spelled, plain, task_of}
@@ -19,7 +20,7 @@ use Rattle.class_world.specs.declared.world.World.{World}
 use Rattle.class_world.specs.Sound.{Grows, Holds, AllHold, IsName, IsNode, AreNodes, of_each, of_binding, of_option, of_node_ref}
 use Rattle.class_world.proofs.Claims.{each-get, no-nodes, more-nodes, node-in}
 use Rattle.class_world.proofs.Stored.{map-push}
-use Rattle.eval_forms.specs.Say.{Pairs, keyed, metaclass, given_metaclass, other_keywords, on_keywords, unrepeated, with_dict, call_with, class_by, class_say, eval_say}
+use Rattle.eval_forms.specs.Say.{Pairs, keyed, metaclass, given_metaclass, other_keywords, on_keywords, unrepeated, with_dict, call_with, class_by, class_say, class_within, eval_say}
 use Rattle.plain_machine.specs.Known.{the_str, the_tuple}
 use Rattle.eval_forms.specs.declared.EvalKept.{EvalKept}
 use Rattle.eval_forms.specs.declared.EvalKept.TheVariants.{Pass}
@@ -67,18 +68,25 @@ class-made u0 u1 u2 u3 x bs kw es meta name bases dict m e1 n1 e2 n2 k =
     ∙ ap (λ r. call_with meta r (next_node u1 the_tuple) others (u3, dict)) (sym n1)
     ∙ ap (λ r. call_with meta name r others (u3, dict)) (sym n2)
 
+-- where neither the bases nor the entries are too many, nothing else is asked
+pub within-is : (u : PlainWorld) (x : Text) (bs : List PyObjectRef) (kw es : Bindings) → nat_le (length bs) most_items ≡ true → nat_le (length es) most_items ≡ true → start (class_by u x bs kw es) (end u) ≡ class_within u x bs kw es
+within-is u x bs kw es b e =
+    let row : Row = start (class_by u x bs kw es) (end u) in
+    let late : Row = end u (fault TooLong) in
+    ap (λ v. cond v row late) (sym e) ∙ ap (λ v. cond v (cond (nat_le (length es) most_items) row late) late) (sym b)
+
 -- what a class says once its keywords and its entries have their values
 pub class-said : (t : Reading) (u : PlainWorld) (x : Text) (n : ℕ) (keys names : List PyStrInterned) (vs bs given rest : List PyObjectRef) (kw entries : Bindings) → bs ≡ take n vs → given ≡ take (length keys) (drop n vs) → rest ≡ drop (length keys) (drop n vs)
-    → unrepeated [] (map (spelled t) keys) given ≡ Some kw → entries ≡ filled [] (map (spelled t) names) rest → start (class_by u x bs kw entries) (end u) ≡ class_say u x n (map (spelled t) keys) (map (spelled t) names) vs
+    → unrepeated [] (map (spelled t) keys) given ≡ Some kw → entries ≡ filled [] (map (spelled t) names) rest → class_within u x bs kw entries ≡ class_say u x n (map (spelled t) keys) (map (spelled t) names) vs
 class-said t u x n keys names vs bs given rest kw entries b g r k e =
     let ks = map (spelled t) keys in
     let ns = map (spelled t) names in
     let long : length ks ≡ length keys = length-map keys (spelled t) in
     let all : entries ≡ filled [] ns (drop (length ks) (drop n vs)) = e ∙ ap (filled [] ns) (r ∙ ap (λ m. drop m (drop n vs)) (sym long)) in
     let once : unrepeated [] ks (take (length ks) (drop n vs)) ≡ Some kw = ap (unrepeated [] ks) (ap (λ m. take m (drop n vs)) long ∙ sym g) ∙ k in
-    ap (λ bs. start (class_by u x bs kw entries) (end u)) b
-    ∙ ap (λ es. start (class_by u x (take n vs) kw es) (end u)) all
-    ∙ ap (λ o. on_keywords u o (λ kw. start (class_by u x (take n vs) kw (filled [] ns (drop (length ks) (drop n vs)))) (end u))) (sym once)
+    ap (λ bs. class_within u x bs kw entries) b
+    ∙ ap (λ es. class_within u x (take n vs) kw es) all
+    ∙ ap (λ o. on_keywords u o (λ kw. class_within u x (take n vs) kw (filled [] ns (drop (length ks) (drop n vs))))) (sym once)
 
 pub given-holds : (w : Held) (o : Option PyObjectRef) → IfSome o (λ r. Holds w (IsNode r)) → AllHold w (of_option of_node_ref o)
 given-holds w None h = tt

@@ -27,7 +27,7 @@ const_say w LNone = end w (value none)
 const_say w LFalse = end w (value (truth false))
 const_say w LTrue = end w (value (truth true))
 const_say w (LInt z) = make w the_int (ANumber z)
-const_say w (LText x) = make w the_str (AText x)
+const_say w (LText x) = limited w x (make w the_str (AText x))
 
 -- the built-in classes that every body can name, with their names
 unfoldable pub class_names : List (Text × BuiltIn)
@@ -197,11 +197,15 @@ class_by w x bases kw entries =
     let named = with_node w the_str (AText x) in
     call_with (metaclass w (given_metaclass kw) (slice_get bases 0)) (next_node w the_str) (next_node named the_tuple) (other_keywords kw) (with_dict (keyed (with_node named the_tuple (ATuple bases)) [] entries))
 
+-- the same, where neither the bases nor the entries are too many
+abbrev pub class_within : PlainWorld → Text → List PyObjectRef → Bindings → Bindings → Row
+class_within w x bases kw entries = limited w bases (limited w entries (start (class_by w x bases kw entries) (end w)))
+
 -- the values of so many bases, of the keywords, and of the entries
 abbrev pub class_say : PlainWorld → Text → ℕ → List Text → List Text → List PyObjectRef → Row
 class_say w x bases keys names vs =
     on_keywords w (unrepeated [] keys (take (length keys) (drop bases vs))) (λ kw.
-    start (class_by w x (take bases vs) kw (filled [] names (drop (length keys) (drop bases vs)))) (end w))
+    class_within w x (take bases vs) kw (filled [] names (drop (length keys) (drop bases vs))))
 
 -- a condition, and then the one branch or the other
 abbrev pub branch_say : PlainWorld → Tree → Tree → Ended → Row

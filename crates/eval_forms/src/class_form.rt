@@ -9,7 +9,7 @@ ghost use Rattle.class_world.specs.Sound.{AllHold, Grows, Holds, IsName, IsNode,
 ghost use Rattle.class_world.specs.Claims.{Leaves};
 ghost use Rattle.class_world.specs.Reading.{Reading, Reads, bindings, plain, spelled};
 ghost use Rattle.py_node.specs.Attributes.{is_same_name};
-ghost use Rattle.eval_forms.specs.Say.{class_by, class_say, keyed, metaclass, with_dict};
+ghost use Rattle.eval_forms.specs.Say.{class_by, class_say, class_within, keyed, metaclass, with_dict};
 ghost use Rattle.plain_machine.specs.Known.{the_str, the_tuple};
 ghost use Rattle.eval_forms.specs.ClassForm.{ArePairs};
 ghost use Rattle.eval_forms.specs.Rows.{Takes, of_eval_kept};
@@ -18,6 +18,7 @@ use crate::EvalKept;
 use crate::keywords::{list_of, unrepeated, without};
 use class_world::World;
 use class_world::args::{copy_args, filled};
+use class_world::limits::is_within_limit;
 use py_node::{
     BuiltIn, CallTask, Cause, Known, OutOfMemory, Payload, PyAttributes, PyObjectRef,
     PyStrInterned, Step, Task,
@@ -50,9 +51,35 @@ pub(crate) fn class_step(
         None => Ok(Step::raise(Cause::RepeatedKeyword)),
         Some(keywords) => {
             let entries = filled(alloc, names, values)?;
-            call_metaclass(world, name, bases, &keywords, &entries)
+            class_within(world, name, bases, &keywords, &entries)
         }
     }
+}
+
+// The same once the keywords and the entries have their values, where neither the bases nor the entries are too many.
+fn class_within(
+    world: &mut World,
+    name: PyStrInterned,
+    bases: &[PyObjectRef],
+    keywords: &PyAttributes,
+    entries: &PyAttributes,
+) -> Result<Step<EvalKept>, OutOfMemory>
+    requires name { Holds world.old (IsName name) }
+    requires bases { Holds world.old (AreNodes bases.now) }
+    requires keywords { AllHold world.old (of_each of_binding keywords.now) }
+    requires entries { AllHold world.old (of_each of_binding entries.now) }
+    ensures goes { IfOk result (λ step.
+        Takes (λ t u. class_within u (t.text name.0) bases.now (bindings t keywords.now) (bindings t entries.now))
+        world.old world.new step) }
+    ensures safe { Leaves of_eval_kept world.old world.new result }
+{
+    if !is_within_limit(bases.len()) {
+        return Ok(Step::raise(Cause::TooLong));
+    }
+    if !is_within_limit(entries.len()) {
+        return Ok(Step::raise(Cause::TooLong));
+    }
+    call_metaclass(world, name, bases, keywords, entries)
 }
 
 // A metaclass is called with a class's name, bases and entries, and with the keywords that do not give it.

@@ -331,6 +331,9 @@ fn const_step(world: &mut World, constant: Constant) -> Result<Step<EvalKept>, O
             Ok(Step::End(Ok(Answer::Value(node))))
         }
         Constant::Str(text) => {
+            if !is_within_limit(text.len()) {
+                return Ok(Step::raise(Cause::TooLong));
+            }
             let class = world.built_in(BuiltIn::Str);
             let node = world.make_node(class, Payload::Text(text))?;
             Ok(Step::End(Ok(Answer::Value(node))))

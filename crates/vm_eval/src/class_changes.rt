@@ -1,11 +1,12 @@
 //! Classes that a host makes and changes on a machine. Each call is the world's own: its refusals and what it changes are
 //! those. Want of memory sets the machine's mark.
 
-ghost use Rattle.std.specs.Prelude.{◌≡◌, ◌≤◌, ◌∷◌, [], ℕ, Ok, None, Some, IfOk, OnOk, OnErr, IsSome, is_some, length, false};
+ghost use Rattle.std.specs.Prelude.{◌≡◌, ◌+◌, ◌≤◌, ◌∷◌, [], ℕ, Ok, None, Some, IfOk, OnOk, OnErr, IsSome, is_some, length, false};
 ghost use Rattle.py_node.specs.declared.built_in.BuiltIn.{BuiltIn};
 ghost use Rattle.py_node.specs.declared.built_in.BuiltIn.TheVariants.{TypeType};
 ghost use Rattle.class_model.specs.Class.{class_at as class_numbered, own_of};
 ghost use Rattle.class_model.specs.Layout.{best_of};
+ghost use Rattle.class_table.specs.Descendants.{descendants};
 ghost use Rattle.class_table.specs.Keys.{numbers};
 ghost use Rattle.class_model.specs.Dict.{heap_class};
 ghost use Rattle.class_table.specs.OneBase.{refused_single, single_class, says_so, static_flags};
@@ -237,7 +238,8 @@ impl VirtualMachine {
     /// layout goes with those before it; the class keeps its solid class and gives its objects a dict as before; none
     /// stands twice. Then the least-numbered class is told that would have no order while all its bases have one. Where
     /// it is refused, and where memory runs out, the machine's world stays as it was. No count of merges or of probes
-    /// falls, and where a test fails that needs no order, nothing is counted.
+    /// falls; at most one merge is counted for the class and for each that derives from it; and where a test fails that
+    /// needs no order, nothing is counted.
     pub fn set_bases<L: Ledger>(
         &mut self,
         class: PyTypeRef,
@@ -255,6 +257,8 @@ impl VirtualMachine {
         ensures err { OnErr result (self.new.world ≡ self.old.world) }
         ensures merges { steps.old.merges ≤ steps.new.merges }
         ensures probes { steps.old.probes ≤ steps.new.probes }
+        ensures few_merges { steps.new.merges ≤
+            steps.old.merges + length (descendants self.old.world.classes class.0) }
         ensures uncounted { (t : Reading) →
             IsSome (refused_change (plain t self.old.world).classes class.0 (numbers bases.items)) →
             steps.new ≡ steps.old }

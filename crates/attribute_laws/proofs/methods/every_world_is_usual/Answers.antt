@@ -13,4 +13,5 @@ returns c = λ t. record {
   sound = c.sound.ensures t;
   flags = λ b k e. its-flags _ k _ (c.keeps_built_ins.ensures.flags t b) e;
   of_none = c.keeps_built_ins.ensures.of_none t;
+  unmarked = c.keeps_built_ins.ensures.unmarked t;
 }

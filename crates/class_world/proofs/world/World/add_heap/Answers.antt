@@ -1,9 +1,9 @@
-use Rattle.std.proofs.Common.{◌≡◌, ℕ, Some, IfOk, refl, ap, subst, ◌∙◌, length}
+use Rattle.std.proofs.Common.{◌≡◌, ℕ, Some, IfOk, refl, ap, subst, ◌∙◌, ◌||◌, length}
 use Rattle.std.proofs.lemmas.Result.{on_ok_weaker}
 use Rattle.class_model.specs.Layout.{best_of}
 use Rattle.py_node.specs.declared.built_in.BuiltIn.{BuiltIn}
 use Rattle.py_node.specs.declared.built_in.BuiltIn.TheVariants.{TypeType}
-use Rattle.class_model.specs.Dict.{heap_class}
+use Rattle.class_model.specs.Dict.{any_has_dict, heap_class, slots_bring}
 use Rattle.class_table.specs.Keys.{numbers, table_keys, slot_names}
 use Rattle.class_table.specs.Refused.{refused_bases, refusal, WithMemory}
 use Rattle.plain_machine.specs.World.{with_new_class}
@@ -15,7 +15,7 @@ use Rattle.class_world.specs.Sound.{IsClass, IsOf, Holds, of_binding, of_class_r
 use Rattle.class_world.proofs.Claims.{opened, opened-one}
 use Rattle.class_world.proofs.Growth.{grows-seen}
 use Rattle.class_world.proofs.ClassChanges.{room, bases-there}
-use Rattle.class_world.proofs.HeapClass.{members-named, class-read}
+use Rattle.class_world.proofs.HeapClass.{heap-unmarked, members-named, class-read}
 use Rattle.class_world.proofs.MadeClass.{IsMade, sound-after, plain-after, number-after, not-after, reads-after, grows-after, class-after, node-after, of-after}
 use Rattle.class_world.proofs.world.World.add_heap.Goals as goal
 
@@ -35,7 +35,7 @@ invariant_of-self c =
     let meta = opened-one w c.args.self.now (IsClass c.args.metaclass.0) c.self.view_is c.requires.metaclass in
     let of = opened-one w c.args.self.now (IsOf c.args.metaclass.0 TypeType) c.self.view_is c.requires.of_classes in
     let attrs = opened w c.args.self.now (of_each of_binding c.args.attrs) c.self.view_is c.requires.attrs in
-    sound-after w c.args.metaclass k refl c.heap_with_node-made.new.classes c.heap_with_node-made.new.nodes.items c.heap_with_node-made.result made c.self.invariant (members-named w c.args.slots (opened w c.args.self.now (of_slots c.args.slots) c.self.view_is c.requires.slots)) meta of attrs
+    sound-after w c.args.metaclass k refl c.heap_with_node-made.new.classes c.heap_with_node-made.new.nodes.items c.heap_with_node-made.result made c.self.invariant (heap-unmarked (slots_bring table_keys (slot_names c.args.slots) || any_has_dict w.classes (numbers c.args.bases.items))) (members-named w c.args.slots (opened w c.args.self.now (of_slots c.args.slots) c.self.view_is c.requires.slots)) meta of attrs
 
 pub returns-clause-made : goal.returns-clause-made
 returns-clause-made c =

@@ -32,7 +32,7 @@ invariant_of-self c =
     let meta = opened-one w c.args.self.now (IsClass c.args.metaclass.0) c.self.view_is c.requires.metaclass in
     let of = opened-one w c.args.self.now (IsOf c.args.metaclass.0 TypeType) c.self.view_is c.requires.of_classes in
     let attrs = opened w c.args.self.now (of_each of_binding c.args.attrs) c.self.view_is c.requires.attrs in
-    sound-after w c.args.metaclass k refl c.single_with_node-made.new.classes c.single_with_node-made.new.nodes.items c.single_with_node-made.result made c.self.invariant (no-names w) meta of attrs
+    sound-after w c.args.metaclass k refl c.single_with_node-made.new.classes c.single_with_node-made.new.nodes.items c.single_with_node-made.result made c.self.invariant c.requires.unmarked (no-names w) meta of attrs
 
 pub returns-clause-made : goal.returns-clause-made
 returns-clause-made c =

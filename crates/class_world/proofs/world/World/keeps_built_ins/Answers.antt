@@ -1,4 +1,4 @@
-use Rattle.std.proofs.Common.{◌≡◌, ℕ, Option, Some, None, refl, ap, ◌∙◌, subst}
+use Rattle.std.proofs.Common.{◌≡◌, ℕ, Option, Some, None, refl, sym, ap, ◌∙◌, subst}
 use Rattle.std.specs.Prelude.{slice_get, option_map}
 use Rattle.py_node.specs.declared.refs.PyObjectRef.{PyObjectRef}
 use Rattle.py_node.specs.declared.refs.PyStrInterned.{PyStrInterned}
@@ -16,6 +16,7 @@ use Rattle.class_world.specs.Reading.{Reading, spelled, plain}
 use Rattle.class_world.specs.Sound.{Holds, class_ref_at, flags_at}
 use Rattle.class_world.specs.contracts.world.World.{the_view}
 use Rattle.class_world.proofs.Look.{node-read}
+use Rattle.class_world.proofs.OneBase.{flags-seen}
 use Rattle.class_world.proofs.world.World.keeps_built_ins.Goals as goal
 
 flags-read : (w now : Held) → w ≡ now → (t : Reading) (c n : ℕ) → flags_at w.classes c ≡ Some n → flags_at (plain t now).classes c ≡ Some n
@@ -39,3 +40,8 @@ pub returns-clause-of_none : goal.returns-clause-of_none
 unfolding Holds
 returns-clause-of_none c = λ t.
     class-read (the_view c.self.inside) c.args.self.now c.self.view_is t none the_none_type c.self.invariant.of_none.0
+
+pub returns-clause-unmarked : goal.returns-clause-unmarked
+returns-clause-unmarked c = λ t k n e.
+    let w = the_view c.self.inside in
+    c.self.invariant.unmarked k n (sym (flags-seen w c.args.self.now c.self.view_is t k) ∙ e)

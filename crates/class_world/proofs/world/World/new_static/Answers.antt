@@ -1,7 +1,8 @@
-use Rattle.std.proofs.Common.{refl, sym, ap, ◌∙◌}
+use Rattle.std.proofs.Common.{◌≡◌, false, refl, sym, ap, ◌∙◌, subst}
 use Rattle.class_table.specs.OneBase.{says_so}
 use Rattle.class_table.proofs.Dicts.{static-says}
-use Rattle.class_world.proofs.OneBase.{single-seen}
+use Rattle.class_world.specs.Sound.{is_marked_heap}
+use Rattle.class_world.proofs.OneBase.{single-seen, static-unmarked}
 use Rattle.class_world.proofs.world.World.new_static.Goals as goal
 
 pub add_single-requires-clause-dict : goal.add_single-requires-clause-dict
@@ -9,6 +10,10 @@ add_single-requires-clause-dict c =
     let brings = c.has_feature-brings.ensures in
     let dict = c.has_dict.ensures.given in
     rw (brings, dict) (ap says_so c.flags_of_static-flags.ensures ∙ static-says c.args.flags.0 c.has_dict.result)
+
+pub add_single-requires-clause-unmarked : goal.add_single-requires-clause-unmarked
+add_single-requires-clause-unmarked c =
+    subst (λ n. is_marked_heap n ≡ false) (sym c.flags_of_static-flags.ensures) (static-unmarked c.args.flags.0 c.has_dict.result)
 
 pub returns-clause-refused : goal.returns-clause-refused
 returns-clause-refused c = λ t. c.add_single.ensures.refused ∙ sym (single-seen c.args.self.now c.args.self.now refl t c.args.base.0)

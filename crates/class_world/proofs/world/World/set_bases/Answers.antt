@@ -1,5 +1,7 @@
-use Rattle.std.proofs.Common.{subst}
+use Rattle.std.proofs.Common.{◌+◌, ◌≤◌, length, subst}
+use Rattle.class_table.specs.Descendants.{descendants}
 use Rattle.class_table.specs.Keys.{numbers}
+use Rattle.class_world.specs.Held.{Held}
 use Rattle.class_world.specs.contracts.world.World.{the_view}
 use Rattle.class_world.specs.Reading.{Reads}
 use Rattle.class_world.specs.Sound.{IsClass, of_class_ref, of_each}
@@ -50,3 +52,7 @@ returns-clause-grows g c =
     let here = class-there w c.args.class.0 (opened-one w c.args.self.now (IsClass c.args.class.0) c.self.view_is c.requires.class) in
     let there = bases-there w c.args.bases.items (opened w c.args.self.now (of_each of_class_ref c.args.bases.items) c.self.view_is c.requires.bases) in
     grows-seen w _ _ c.self.view_is (classes-grow w c.set_bases.new.self (bases-like w c.args.class.0 (numbers c.args.bases.items) c.sound.ensures.sound here there c.set_bases.new.self c.set_bases.result c.set_bases.ensures.set c.set_bases.ensures.err c.set_bases.ensures.refused))
+
+pub returns-clause-few_merges : goal.returns-clause-few_merges
+returns-clause-few_merges g c =
+    subst (λ (n : Held). c.set_bases.new.steps.merges ≤ c.args.steps.now.merges + length (descendants n.classes c.args.class.0)) c.self.view_is c.set_bases.ensures.few_merges
