@@ -3,3 +3,10 @@ pub mod Worlds
 pub mod Law
 pub mod Said
 pub mod Columns
+pub mod Tables
+pub mod Gives
+pub mod Own
+pub mod Objects
+pub mod Attributes
+pub mod Descriptors
+pub mod Calls
