@@ -13,16 +13,17 @@ use Rattle.py_node.specs.declared.entry.WrapperNative.TheVariants as wrapper
 use  Rattle.py_node.specs.declared.entry.NativeEntry.{NativeEntry}
 use  Rattle.py_node.specs.declared.entry.NativeEntry.TheVariants.{OfObject, OfCallable, OfType, OfWrapper}
 use Rattle.py_node.specs.declared.known.Known.TheVariants as known
+use  Rattle.py_node.specs.Tree.{Tree}
 use Rattle.answer_kinds.specs.Kinds as kinds
-use Rattle.proto_call.specs.Say.{is_empty, asked_of_native, call_by, named_end, call_say, single, left_over, all_filled, started, when_filled, rest_fits, by_place, body_by, body_say, initialised, type_call_say, new_found, new_by, new_say, init_by, init_rest, init_say, is_abstract, unless_abstract, created, new_of_class, object_new, object_init, unspecified, turned, object_by, object_say, call_job_say}
-use Rattle.native_base.specs.Called.{with_self, call_native}
 use Rattle.answer_kinds.specs.Kinds.{Kind, kind_of_native, kind_of_call, kind_of, ReadsObjects}
-use Rattle.answer_kinds.proofs.Base.{So, Fits, within, wider, Kinded, ended, Says, ends, asks, at_once, on_way, forked, asking, finished, passed, one_of, on-value, on-truth, on-done, started_so, native-kind, native-asked, any-native, through}
+use Rattle.answer_kinds.proofs.Base.{So, Fits, within, wider, Kinded, ended, Says, ends, asks, at_once, on_way, started, forked, asking, finished, passed, one_of, on-value, on-truth, on-done, started_so, native-kind, native-asked, any-native, through}
 use Rattle.answer_kinds.proofs.Said.{either, takes-one, takes-two, takes-three, takes-text}
 use Rattle.answer_kinds.proofs.Worlds.{same-nodes, node-made}
 use Rattle.answer_kinds.proofs.Columns.{gives_in, slot-gives, slot-at-gives}
-use Rattle.answer_kinds.proofs.Objects.{object-native}
 use Rattle.answer_kinds.proofs.Tables.{new-column, init-column}
+use Rattle.answer_kinds.proofs.Objects.{object-native}
+use Rattle.proto_call.specs.Say.{is_empty, asked_of_native, call_by, named_end, call_say, single, left_over, all_filled, when_filled, rest_fits, by_place, body_by, body_say, initialised, type_call_say, new_found, new_by, new_say, init_by, init_rest, init_say, is_abstract, unless_abstract, created, new_of_class, object_new, object_init, unspecified, turned, object_by, object_say, call_job_say}
+use Rattle.native_base.specs.Called.{with_self, call_native}
 use Rattle.plain_machine.specs.Plain.{Datum, AnObject, AClass, ANumber, AFunction, AMethod, ANativeFunction, ABuiltinMethod, AMethodDescriptor, AStaticMethod, Bindings, PlainWorld, CallJob, DoCall, DoBody, DoTypeCall, DoNew, DoInit, DoObject, DoIsTrue, PlainTask, ToCall, ToProtocol, AsValue, AsDone, AsNumber, Ended, Chose, Told}
 use Rattle.plain_machine.specs.World.{is_text, text_keys, datum_at, slot_at, without_scope}
 use Rattle.plain_machine.specs.Objects.{class_object, class_number, nearest_built_in}
@@ -165,7 +166,7 @@ unspecified-said : (w : PlainWorld) (o : PyObjectRef) (x : Text) → ReadsObject
 unspecified-said w o [] g = asks g tt
 unspecified-said w o (b ∷ bs) g = ends g tt
 
-native-end : (r : Ended) → Fits kinds.DoneOrValue r → Kinded kinds.Value (λ w. native_end w r)
+pub native-end : (r : Ended) → Fits kinds.DoneOrValue r → Kinded kinds.Value (λ w. native_end w r)
 native-end (Ok AsDone) f = ended kinds.Value (value none) tt
 native-end (Ok (AsValue v)) f = ended kinds.Value (value v) tt
 native-end (Ok a) f = absurd f

@@ -4,11 +4,11 @@ use  Rattle.py_node.specs.declared.refs.PyObjectRef.{PyObjectRef}
 use  Rattle.py_node.specs.declared.raised.Raised.{Raised as Fault}
 use  Rattle.py_node.specs.declared.raised.Cause.{Cause}
 use Rattle.answer_kinds.specs.Kinds as kinds
-use Rattle.native_base.specs.Say.{object_made, size_of, sized_made, int_made, text_made, iterator_made, number_in, with_number, with_lone_number, with_number_and, both_numbers, numbers_of, with_numbers}
 use Rattle.answer_kinds.specs.Kinds.{Kind, ReadsObjects}
 use Rattle.answer_kinds.proofs.Base.{Says, ends}
 use Rattle.answer_kinds.proofs.Said.{either, takes-one, takes-two}
 use Rattle.answer_kinds.proofs.Worlds.{IsFine, node-made}
+use Rattle.native_base.specs.Say.{object_made, size_of, sized_made, int_made, text_made, iterator_made, number_in, with_number, with_lone_number, with_number_and, both_numbers, numbers_of, with_numbers}
 use Rattle.plain_machine.specs.Plain.{Datum, ANumber, AText, Bindings, PlainWorld, Told, Said}
 use Rattle.plain_machine.specs.World.{datum_at, number_of}
 use Rattle.plain_machine.specs.Known.{the_int, the_str}

@@ -5,16 +5,16 @@ use  Rattle.py_node.specs.declared.raised.Cause.{Cause}
 use  Rattle.py_node.specs.declared.raised.Cause.TheVariants.{SelfType}
 use  Rattle.py_node.specs.declared.built_in.BuiltIn.{BuiltIn}
 use Rattle.answer_kinds.specs.Kinds as kinds
-use Rattle.native_objects.specs.Takes.{there_or, with_own, with_class, with_lone_class, with_class_and, with_one_or_two, with_class_and_given}
-use Rattle.native_objects.specs.Makers.{safe_for, with_heir}
-use Rattle.py_node.specs.BuiltIns.{place_of}
 use Rattle.answer_kinds.specs.Kinds.{Kind, ReadsObjects}
 use Rattle.answer_kinds.proofs.Base.{Says, ends}
 use Rattle.answer_kinds.proofs.Said.{either, no-keywords, takes-one, takes-two}
+use Rattle.native_objects.specs.Takes.{there_or, with_own, with_class, with_lone_class, with_class_and, with_one_or_two, with_class_and_given}
+use Rattle.native_objects.specs.Makers.{safe_for, with_heir}
 use Rattle.plain_machine.specs.Plain.{Datum, Bindings, PlainWorld, Told, Said}
 use Rattle.plain_machine.specs.World.{datum_at}
 use Rattle.plain_machine.specs.Objects.{class_number, nearest_built_in}
 use Rattle.plain_machine.specs.Takes.{with_one, with_two}
+use Rattle.py_node.specs.Slots.{place_of}
 
 pub there-or : {A : Type 0} {q : Told → Kind → Bool} {k : Kind} (w : PlainWorld) (cause : Cause) (o : Option A) (go : A → Said) → ReadsObjects w → ((x : A) → Says q k (go x)) → Says q k (there_or w cause o go)
 there-or w cause None go g p = ends g tt

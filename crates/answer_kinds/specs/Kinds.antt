@@ -128,7 +128,8 @@ kind_of_compare _ = Value
 abbrev pub kind_of_protocol : ProtocolJob → Kind
 kind_of_protocol (DoIsTrue o) = Truth
 kind_of_protocol (DoLength o) = Number
-kind_of_protocol (DoHint o d) = NumberOrNone
+kind_of_protocol (DoHint o None) = NumberOrNone
+kind_of_protocol (DoHint o (Some z)) = Number
 kind_of_protocol (DoSetItem o k v) = Done
 kind_of_protocol (DoDelItem o k) = Done
 kind_of_protocol (DoSetSlice o i j v) = Done
