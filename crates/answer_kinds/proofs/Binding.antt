@@ -20,7 +20,7 @@ use  Rattle.native_calls.specs.declared.way.Wrapper.{Wrapper}
 use  Rattle.native_calls.specs.declared.way.Wrapper.TheVariants.{Class, Static}
 use  Rattle.native_calls.specs.declared.way.Way.{Way}
 use Rattle.native_calls.specs.declared.way.Way.TheVariants as way
-use Rattle.native_calls.specs.Say.{with_kind as of_kind}
+use Rattle.native_calls.specs.Say.{with_kind as of_kind, kind_of as setting_kind}
 use Rattle.native_calls.specs.Parts.{wrapped_in as wrapped_callable}
 use  Rattle.native_base.specs.Called.{call_native}
 use  Rattle.proto_descr.specs.Say.{class_of_option, function_get, native_get, getset_get, getset_set, class_for, class_method_get, class_method_by, static_method_get, start_with, read_by}
@@ -208,10 +208,10 @@ bind-row kind.Super n args kw =
     (λ m t o r h. started kinds.Value kinds.Value (λ w. super_bound w t o r) (λ w. native_end w) (λ w g. super-bound w t o r h g) object-end)
 
 pub set-row : (k : Setting) (n : NativeEntry) (args : List PyObjectRef) (kw : Bindings) → Kinded kinds.Value (Going (way.Sets k) n args kw)
-set-row k n args kw = any-row kinds.Value (λ w. set_by_name w k args kw) (λ w rs r. way_rest w rs (way.Sets k) r) (λ w g. none-said (set_so w k args kw) (kind-taken w (is_of_kind (kind_of k)) args _ g (λ m rest. takes-two w rest kw _ g (λ o v. set-as w k m o (Some v) g)))) none-end
+set-row k n args kw = any-row kinds.Value (λ w. set_by_name w k args kw) (λ w rs r. way_rest w rs (way.Sets k) r) (λ w g. none-said (set_so w k args kw) (kind-taken w (is_of_kind (setting_kind k)) args _ g (λ m rest. takes-two w rest kw _ g (λ o v. set-as w k m o (Some v) g)))) none-end
 
 pub delete-row : (k : Setting) (n : NativeEntry) (args : List PyObjectRef) (kw : Bindings) → Kinded kinds.Value (Going (way.Deletes k) n args kw)
-delete-row k n args kw = any-row kinds.Value (λ w. delete_by_name w k args kw) (λ w rs r. way_rest w rs (way.Deletes k) r) (λ w g. none-said (delete_so w k args kw) (kind-taken w (is_of_kind (kind_of k)) args _ g (λ m rest. takes-one w rest kw _ g (λ o. set-as w k m o None g)))) none-end
+delete-row k n args kw = any-row kinds.Value (λ w. delete_by_name w k args kw) (λ w rs r. way_rest w rs (way.Deletes k) r) (λ w g. none-said (delete_so w k args kw) (kind-taken w (is_of_kind (setting_kind k)) args _ g (λ m rest. takes-one w rest kw _ g (λ o. set-as w k m o None g)))) none-end
 
 pub looks-row : (n : NativeEntry) (args : List PyObjectRef) (kw : Bindings) → Kinded kinds.Value (Going way.Looks n args kw)
 looks-row n args kw = once-row kinds.Value kinds.Value (λ w. super_attribute_by_name w args kw) (λ w rs r. way_rest w rs way.Looks r) (λ w g. kind-taken w is_super args _ g (λ s rest. takes-one w rest kw _ g (λ x. takes-text w x _ g (λ x. asks g tt)))) object-end

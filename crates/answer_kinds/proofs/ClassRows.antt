@@ -9,11 +9,11 @@ use Rattle.py_node.specs.declared.entry.TypeNative.TheVariants as type
 use Rattle.py_node.specs.declared.known.Known.TheVariants as known
 use  Rattle.class_table.specs.Refused.{refused_layout}
 use Rattle.class_model.specs.Class.{class_at as class_numbered}
-use Rattle.class_make.specs.Say.{dict_of as dict_in, is_class as is_of_class, hook as class_hook, with_self as with_type, values_of as bound_values}
+use Rattle.class_make.specs.Say.{one_of as one_argument, dict_of as dict_in, is_class as is_of_class, hook as class_hook, with_self as with_type, values_of as bound_values}
 use  Rattle.py_node.specs.Attributes.{value_of}
 use Rattle.answer_kinds.specs.Kinds as kinds
 use Rattle.answer_kinds.specs.Kinds.{ReadsObjects}
-use Rattle.answer_kinds.proofs.Base.{Family, GoesOn, Kinded, ended, Says, ends, asks, at_once, stepped, goes-on, started, one_of, read_objects_once, read_names_once, on-value, on-done, started_so, either-fits}
+use Rattle.answer_kinds.proofs.Base.{Family, GoesOn, Kinded, ended, Says, ends, asks, at_once, stepped, goes-on, started, read_objects_once, read_names_once, on-value, on-done, started_so, either-fits}
 use Rattle.answer_kinds.proofs.Said.{either, takes-two, takes-three, takes-text}
 use Rattle.answer_kinds.proofs.Worlds.{IsFine, either-world, same-nodes, node-made, definer-set, class-made}
 use Rattle.answer_kinds.proofs.Objects.{type-native}
@@ -123,7 +123,7 @@ functions-kept c w [] g = g
 functions-kept c w (v ∷ vs) g = functions-kept c _ vs (defined-kept c w (functions_of v (datum_at w v)) g)
 
 member-kept : (c n : ℕ) (x : Text) (w : PlainWorld) → ReadsObjects w → ReadsObjects (with_member c n x w)
-unfolding with_member put_member a_member
+unfolding with_member put_member
 member-kept c n x w g = either-world (is_some (found is_text w.classes c x)) w _ g (same-nodes (with_node w the_member (a_member c n x)) _ refl (node-made w the_member (a_member c n x) g tt))
 
 members-kept : (c n : ℕ) (xs : List Text) (w : PlainWorld) → ReadsObjects w → ReadsObjects (with_members c n xs w)
@@ -213,7 +213,7 @@ module _ (c : ℕ) (args : List PyObjectRef) (kw : Bindings) where
   one-said w meta None g = three-said w meta (three_of args) g
 
   make-row : Kinded kinds.Value (λ w. make_class_say w c args kw)
-  make-row = stepped kinds.Value (λ w. make_class_say w c args kw) (λ w g. one-said w c (one_of args kw) g)
+  make-row = stepped kinds.Value (λ w. make_class_say w c args kw) (λ w g. one-said w c (one_argument args kw) g)
 
 -- the natives of `type`
 

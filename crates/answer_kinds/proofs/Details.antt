@@ -25,7 +25,7 @@ use  Rattle.class_table.specs.Rebase.{refused_class, refused_rebase}
 use  Rattle.signatures.specs.Signature.{signature_of}
 use  Rattle.native_base.specs.Say.{in_length}
 use  Rattle.native_objects.specs.Takes.{method_in, member_in, super_in, static_in, property_in, with_own, there_or}
-use Rattle.native_objects.specs.Descriptors.{initialised as property_filled}
+use Rattle.native_objects.specs.Descriptors.{property_part as property_with_part}
 use Rattle.native_objects.specs.Names.{text_of as name_of}
 use Rattle.py_node.specs.declared.known.Known.TheVariants as known
 use Rattle.answer_kinds.specs.Kinds as kinds
@@ -36,7 +36,7 @@ use Rattle.answer_kinds.proofs.Worlds.{IsFine, same-nodes, node-made, datum-set,
 use Rattle.answer_kinds.proofs.Gives.{object-given, sized-given, int-given, text-given}
 use Rattle.answer_kinds.proofs.Own.{there-or, takes-own, takes-lone-class, takes-one-or-two, takes-class-and-given, takes-heir}
 use Rattle.answer_kinds.proofs.Objects.{dict-given}
-use Rattle.native_objects.specs.Details.{Part, NamePart, DottedPart, WholePart, ClassPart, ObjectPart, SignaturePart, LaterPart, property_part, part_of, dotted_text, whole_text, signature_given, part_given, getter_of_say}
+use Rattle.native_objects.specs.Details.{Part, NamePart, DottedPart, WholePart, ClassPart, ObjectPart, SignaturePart, LaterPart, part_of, dotted_text, whole_text, signature_given, part_given, getter_of_say}
 use Rattle.native_objects.specs.Getters.{given_or, tuple_made, or_zero, class_read, dict_or_fault, own_dict, getter_say}
 use Rattle.native_objects.specs.Setters.{unless_refused, renamed, set_annotations, classes_in, rebased, set_bases, set_class_dict, with_heap_value, set_name, set_qualname, class_written, reclassed, set_class, is_dict, redicted, set_dict, setter_say}
 use Rattle.native_objects.specs.DetailSetters.{with_doc, set_of_property, setter_of_say}
@@ -85,7 +85,7 @@ property-given : {q : Told → Kind → Bool} (w : PlainWorld) (c : Option ℕ) 
 property-given w None p g = ends g tt
 property-given w (Some c) p g = object-given w c (AProperty p) g tt
 
-part-given : {q : Told → Kind → Bool} (w : PlainWorld) (n : PropertyNative) (args : List PyObjectRef) (kw : Bindings) → ReadsObjects w → Says q kinds.Value (property_part w n args kw)
+part-given : {q : Told → Kind → Bool} (w : PlainWorld) (n : PropertyNative) (args : List PyObjectRef) (kw : Bindings) → ReadsObjects w → Says q kinds.Value (property_with_part w n args kw)
 part-given w n args kw g = takes-own property_in w args _ g (λ o p. takes-two w args kw _ g (λ a r. property-given w (class_at w o) (part_set n (bare p) r) g))
 
 pub property-native : {q : Told → Kind → Bool} (w : PlainWorld) (n : PropertyNative) (args : List PyObjectRef) (kw : Bindings) → ReadsObjects w → Says q kinds.Value (property_say w n args kw)

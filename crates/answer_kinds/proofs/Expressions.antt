@@ -17,13 +17,13 @@ use  Rattle.eval_forms.specs.declared.bounds.Counted.{Counted}
 use Rattle.eval_forms.specs.declared.bounds.Counted.TheVariants as counted
 use  Rattle.eval_forms.specs.declared.bounds.Part.{Part}
 use Rattle.eval_forms.specs.declared.bounds.Part.TheVariants as part
-use Rattle.eval_forms.specs.Words.{on_objects as on_collected, made as made_of, asked as word_asked, one_of as lone, index_by as number_by}
+use Rattle.eval_forms.specs.Words.{is_of as same_of, on_objects as on_collected, made as made_of, asked as word_asked, one_of as lone, index_by as number_by}
 use  Rattle.eval_forms.specs.Say.{keyed}
 use  Rattle.py_node.specs.Tree.{Text, Tree, TAttr, TConst, TName, TBind, TTuple, TList, TDict, TFunc, TSetAttr, TDelAttr, TCall, TOp, TIf, TSeq, TRaise, TClass, KeyedTrees, no_keyed, Trees, Entries, Literal, LNone, LFalse, LTrue, LInt, LText, list_of, entry_trees}
 use Rattle.py_node.specs.Tree.{keyed as keyed_tree}
 use  Rattle.std.specs.Prelude.{slice_get}
 use Rattle.answer_kinds.specs.Kinds as kinds
-use Rattle.answer_kinds.specs.Kinds.{Kind, is_of, kind_of, ReadsObjects}
+use Rattle.answer_kinds.specs.Kinds.{Kind, kind_of, ReadsObjects}
 use Rattle.answer_kinds.proofs.Base.{So, Fits, within, Kinded, ended, Says, ends, asks, at_once, never, started, asking, finished, passed, on-value, on-truth, on-number, on-done, ended-by}
 use Rattle.answer_kinds.proofs.Said.{either, takes-text}
 use Rattle.answer_kinds.proofs.Worlds.{IsFine, same-nodes, node-made}
@@ -276,7 +276,7 @@ del-slice-row : (vs : List PyObjectRef) → Kinded kinds.Value (λ w. del_slice_
 del-slice-row (o ∷ i ∷ j ∷ []) = part-row part.Delete o i j
 del-slice-row vs = ended kinds.Value (fault ArgCount) tt
 
-same-row : (p : Option (PyObjectRef × PyObjectRef)) → Kinded kinds.Value (λ w. is_of w p)
+same-row : (p : Option (PyObjectRef × PyObjectRef)) → Kinded kinds.Value (λ w. same_of w p)
 same-row None = ended kinds.Value (fault ArgCount) tt
 same-row (Some p) = ended kinds.Value (value (truth (eqb p.0.0 p.1.0))) tt
 

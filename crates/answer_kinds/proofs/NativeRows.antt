@@ -46,7 +46,6 @@ use Rattle.answer_kinds.proofs.Sequences.{tuple-get-item, list-get-item, list-se
 use Rattle.answer_kinds.proofs.Parts.{str-new, tuple-new, list-init, int-new, bool-new, tuple-hash, container-repr, wrapper-repr, sequences-row, dicts-row, repeat-row, property-abstract, member-qualname}
 use Rattle.answer_kinds.proofs.Binding.{bind-row, set-row, delete-row, looks-row, starts-row, reads-row, marked-row, marks-row, wraps-row, makes-row, calls-row, number-end, value-end}
 use Rattle.plain_machine.specs.Plain.{Bindings, PlainWorld, Said}
-use Rattle.plain_machine.specs.World.{bound}
 use Rattle.plain_machine.specs.Row.{start, end}
 
 -- a native that ends at once

@@ -10,6 +10,7 @@ use  Rattle.py_node.specs.declared.entry.CompareNative.{CompareNative}
 use Rattle.py_node.specs.declared.entry.CompareNative.TheVariants as compare
 use  Rattle.py_node.specs.declared.task.PyNumberBinaryOp.TheVariants.{Or}
 use Rattle.py_node.specs.declared.known.Known.TheVariants as known
+use Rattle.native_containers.specs.Take.{is_of as is_container}
 use  Rattle.native_containers.specs.declared.take.Kind.{Kind as Container}
 use Rattle.native_containers.specs.declared.take.Kind.TheVariants as kind
 use  Rattle.native_parts.specs.declared.take.Container.{Container as Shown}
@@ -28,7 +29,7 @@ use Rattle.native_compare.specs.Containers.{answered as way_answered, in_turn as
 use Rattle.native_details.specs.Say.{with_name as named_datum}
 use Rattle.py_node.specs.declared.payload.MemberGetter.TheVariants as getter
 use Rattle.answer_kinds.specs.Kinds as kinds
-use Rattle.answer_kinds.specs.Kinds.{Kind, is_of, kind_of, reads_object, ReadsObjects}
+use Rattle.answer_kinds.specs.Kinds.{Kind, kind_of, reads_object, ReadsObjects}
 use Rattle.answer_kinds.proofs.Base.{So, Fits, within, wider, Family, GoesOn, Kinded, ended, Says, ends, asks, at_once, never, stepped, goes-on, started, asking, finished, passed, one_of, read_objects_once, on-value, on-truth, on-maybe, either-fits}
 use Rattle.answer_kinds.proofs.Said.{either, no-keywords, takes-one, takes-two}
 use Rattle.answer_kinds.proofs.Worlds.{IsFine, reads-at, datum-set}
@@ -199,13 +200,13 @@ compares-either false p q = q
 
 both-taken : {n : CompareNative} (c : Container) (w : PlainWorld) (args : List PyObjectRef) (kw : Bindings) (go : PyObjectRef → PyObjectRef → Said) → ReadsObjects w → ((o a : PyObjectRef) → Compares n (go o a)) → Compares n (with_own_and c w args kw go)
 both-taken c w [] kw go g p = over (ends g tt)
-both-taken c w (o ∷ []) kw go g p = compares-either (is_of c (datum_at w o)) (over (ends g tt)) (over (ends g tt))
-both-taken c w (o ∷ (a ∷ [])) [] go g p = compares-either (is_of c (datum_at w o)) (p o a) (over (ends g tt))
-both-taken c w (o ∷ (a ∷ [])) (x ∷ kw) go g p = compares-either (is_of c (datum_at w o)) (over (ends g tt)) (over (ends g tt))
-both-taken c w (o ∷ (a ∷ (b ∷ args))) kw go g p = compares-either (is_of c (datum_at w o)) (over (ends g tt)) (over (ends g tt))
+both-taken c w (o ∷ []) kw go g p = compares-either (is_container c (datum_at w o)) (over (ends g tt)) (over (ends g tt))
+both-taken c w (o ∷ (a ∷ [])) [] go g p = compares-either (is_container c (datum_at w o)) (p o a) (over (ends g tt))
+both-taken c w (o ∷ (a ∷ [])) (x ∷ kw) go g p = compares-either (is_container c (datum_at w o)) (over (ends g tt)) (over (ends g tt))
+both-taken c w (o ∷ (a ∷ (b ∷ args))) kw go g p = compares-either (is_container c (datum_at w o)) (over (ends g tt)) (over (ends g tt))
 
 same-taken : {n : CompareNative} (c : Container) (w : PlainWorld) (args : List PyObjectRef) (kw : Bindings) (go : PyObjectRef → PyObjectRef → Said) → ReadsObjects w → ((o a : PyObjectRef) → Compares n (go o a)) → Compares n (with_both c w args kw go)
-same-taken c w args kw go g p = both-taken c w args kw (λ o a. with_same c w a (go o a)) g (λ o a. compares-either (is_of c (datum_at w a)) (p o a) (over (ends g tt)))
+same-taken c w args kw go g p = both-taken c w args kw (λ o a. with_same c w a (go o a)) g (λ o a. compares-either (is_container c (datum_at w a)) (p o a) (over (ends g tt)))
 
 pub sequences-row : (c : Container) (n : CompareNative) (args : List PyObjectRef) (kw : Bindings) → Kinded kinds.Value (λ w. sequences_say c w n args kw)
 sequences-row c n args kw = with-items n (λ w. sequences_by c w n args kw) (λ w g. same-taken c w args kw (λ o a. both_read w n (items_at w o) (items_at w a)) g (λ o a. both w (items_at w o) (items_at w a) g))

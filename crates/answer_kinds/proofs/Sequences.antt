@@ -4,6 +4,7 @@ use  Rattle.py_node.specs.declared.refs.PyObjectRef.{PyObjectRef}
 use  Rattle.py_node.specs.declared.raised.Cause.TheVariants.{IndexOut, IterEnd, SelfType}
 use  Rattle.py_node.specs.declared.payload.PySlice.{PySlice}
 use  Rattle.py_node.specs.declared.payload.SequenceIterator.{SequenceIterator}
+use Rattle.native_containers.specs.Take.{is_of as is_container}
 use  Rattle.native_containers.specs.declared.take.Kind.{Kind as Container}
 use Rattle.native_containers.specs.declared.take.Kind.TheVariants as kind
 use  Rattle.native_items.specs.declared.next.Found.{Found}
@@ -15,7 +16,7 @@ use  Rattle.std.specs.Str.{chars}
 use  Rattle.std.specs.Prelude.{slice_get, slice_set}
 use  Rattle.native_texts.specs.Say.{text_of, with_text_and, with_own_text}
 use Rattle.answer_kinds.specs.Kinds as kinds
-use Rattle.answer_kinds.specs.Kinds.{Kind, is_of, kind_of, ReadsObjects}
+use Rattle.answer_kinds.specs.Kinds.{Kind, kind_of, ReadsObjects}
 use Rattle.answer_kinds.proofs.Base.{So, Fits, within, wider, Family, GoesOn, Kinded, ended, Says, ends, asks, at_once, never, stepped, goes-on, started, finished, read_objects_once, on-value, either-fits}
 use Rattle.answer_kinds.proofs.Said.{either, takes-two, takes-text}
 use Rattle.answer_kinds.proofs.Worlds.{node-made, datum-set}
@@ -60,42 +61,42 @@ tested-row k said go p h = stepped k (λ w. tested_first (said w) (go w)) (λ w 
 
 lone-tested : {k : Kind} (c : Container) (w : PlainWorld) (args : List PyObjectRef) (kw : Bindings) (row : PyObjectRef → Row) → ReadsObjects w → (with_lone c w args kw (λ o. row o []) ≡ row (argument args 0) []) ⊎ Says never k (with_lone c w args kw (λ o. row o []))
 lone-tested c w [] kw row g = inr (ends g tt)
-lone-tested c w (o ∷ []) [] row g = alone (is_of c (datum_at w o))
+lone-tested c w (o ∷ []) [] row g = alone (is_container c (datum_at w o))
   where
     alone : {k : Kind} (b : Bool) → (cond b (row o []) (Ends w (fault SelfType)) ≡ row o []) ⊎ Says never k (cond b (row o []) (Ends w (fault SelfType)))
     alone true = inl refl
     alone false = inr (ends g tt)
-lone-tested c w (o ∷ []) (x ∷ kw) row g = inr (either (is_of c (datum_at w o)) (ends g tt) (ends g tt))
-lone-tested c w (o ∷ (a ∷ args)) kw row g = inr (either (is_of c (datum_at w o)) (ends g tt) (ends g tt))
+lone-tested c w (o ∷ []) (x ∷ kw) row g = inr (either (is_container c (datum_at w o)) (ends g tt) (ends g tt))
+lone-tested c w (o ∷ (a ∷ args)) kw row g = inr (either (is_container c (datum_at w o)) (ends g tt) (ends g tt))
 
 pub one-taken : (k : Kind) (c : Container) (args : List PyObjectRef) (kw : Bindings) (row : PlainWorld → PyObjectRef → Row) → ((o : PyObjectRef) → Kinded k (λ w. row w o)) → Kinded k (λ w. taking_one c w args kw (row w))
 one-taken k c args kw row p = tested-row k (λ w. with_lone c w args kw (λ o. row w o [])) (λ w. row w (argument args 0)) (p (argument args 0)) (λ w g. lone-tested c w args kw (row w) g)
 
 two-tested : {k : Kind} (c : Container) (w : PlainWorld) (args : List PyObjectRef) (kw : Bindings) (row : PyObjectRef → PyObjectRef → Row) → ReadsObjects w → (with_own_and c w args kw (λ o a. row o a []) ≡ row (argument args 0) (argument args 1) []) ⊎ Says never k (with_own_and c w args kw (λ o a. row o a []))
 two-tested c w [] kw row g = inr (ends g tt)
-two-tested c w (o ∷ []) kw row g = inr (either (is_of c (datum_at w o)) (ends g tt) (ends g tt))
-two-tested c w (o ∷ (a ∷ [])) [] row g = both (is_of c (datum_at w o))
+two-tested c w (o ∷ []) kw row g = inr (either (is_container c (datum_at w o)) (ends g tt) (ends g tt))
+two-tested c w (o ∷ (a ∷ [])) [] row g = both (is_container c (datum_at w o))
   where
     both : {k : Kind} (b : Bool) → (cond b (row o a []) (Ends w (fault SelfType)) ≡ row o a []) ⊎ Says never k (cond b (row o a []) (Ends w (fault SelfType)))
     both true = inl refl
     both false = inr (ends g tt)
-two-tested c w (o ∷ (a ∷ [])) (x ∷ kw) row g = inr (either (is_of c (datum_at w o)) (ends g tt) (ends g tt))
-two-tested c w (o ∷ (a ∷ (b ∷ args))) kw row g = inr (either (is_of c (datum_at w o)) (ends g tt) (ends g tt))
+two-tested c w (o ∷ (a ∷ [])) (x ∷ kw) row g = inr (either (is_container c (datum_at w o)) (ends g tt) (ends g tt))
+two-tested c w (o ∷ (a ∷ (b ∷ args))) kw row g = inr (either (is_container c (datum_at w o)) (ends g tt) (ends g tt))
 
 pub two-taken : (k : Kind) (c : Container) (args : List PyObjectRef) (kw : Bindings) (row : PlainWorld → PyObjectRef → PyObjectRef → Row) → ((o a : PyObjectRef) → Kinded k (λ w. row w o a)) → Kinded k (λ w. taking_two c w args kw (row w))
 two-taken k c args kw row p = tested-row k (λ w. with_own_and c w args kw (λ o a. row w o a [])) (λ w. row w (argument args 0) (argument args 1)) (p (argument args 0) (argument args 1)) (λ w g. two-tested c w args kw (row w) g)
 
 three-tested : {k : Kind} (c : Container) (w : PlainWorld) (args : List PyObjectRef) (kw : Bindings) (row : PyObjectRef → PyObjectRef → PyObjectRef → Row) → ReadsObjects w → (with_own_and_two c w args kw (λ o a b. row o a b []) ≡ row (argument args 0) (argument args 1) (argument args 2) []) ⊎ Says never k (with_own_and_two c w args kw (λ o a b. row o a b []))
 three-tested c w [] kw row g = inr (ends g tt)
-three-tested c w (o ∷ []) kw row g = inr (either (is_of c (datum_at w o)) (ends g tt) (ends g tt))
-three-tested c w (o ∷ (a ∷ [])) kw row g = inr (either (is_of c (datum_at w o)) (ends g tt) (ends g tt))
-three-tested c w (o ∷ (a ∷ (b ∷ []))) [] row g = all (is_of c (datum_at w o))
+three-tested c w (o ∷ []) kw row g = inr (either (is_container c (datum_at w o)) (ends g tt) (ends g tt))
+three-tested c w (o ∷ (a ∷ [])) kw row g = inr (either (is_container c (datum_at w o)) (ends g tt) (ends g tt))
+three-tested c w (o ∷ (a ∷ (b ∷ []))) [] row g = all (is_container c (datum_at w o))
   where
     all : {k : Kind} (t : Bool) → (cond t (row o a b []) (Ends w (fault SelfType)) ≡ row o a b []) ⊎ Says never k (cond t (row o a b []) (Ends w (fault SelfType)))
     all true = inl refl
     all false = inr (ends g tt)
-three-tested c w (o ∷ (a ∷ (b ∷ []))) (x ∷ kw) row g = inr (either (is_of c (datum_at w o)) (ends g tt) (ends g tt))
-three-tested c w (o ∷ (a ∷ (b ∷ (d ∷ args)))) kw row g = inr (either (is_of c (datum_at w o)) (ends g tt) (ends g tt))
+three-tested c w (o ∷ (a ∷ (b ∷ []))) (x ∷ kw) row g = inr (either (is_container c (datum_at w o)) (ends g tt) (ends g tt))
+three-tested c w (o ∷ (a ∷ (b ∷ (d ∷ args)))) kw row g = inr (either (is_container c (datum_at w o)) (ends g tt) (ends g tt))
 
 pub three-taken : (k : Kind) (c : Container) (args : List PyObjectRef) (kw : Bindings) (row : PlainWorld → PyObjectRef → PyObjectRef → PyObjectRef → Row) → ((o a b : PyObjectRef) → Kinded k (λ w. row w o a b)) → Kinded k (λ w. taking_three c w args kw (row w))
 three-taken k c args kw row p = tested-row k (λ w. with_own_and_two c w args kw (λ o a b. row w o a b [])) (λ w. row w (argument args 0) (argument args 1) (argument args 2)) (p (argument args 0) (argument args 1) (argument args 2)) (λ w g. three-tested c w args kw (row w) g)
@@ -183,7 +184,7 @@ pub list-set-item : (args : List PyObjectRef) (kw : Bindings) → Kinded kinds.V
 list-set-item args kw = three-taken kinds.Value kind.List args kw (λ w. set_item w) set-item-row
 
 del-asked : (w : PlainWorld) (s : Option PySlice) (o k : PyObjectRef) → ReadsObjects w → Says (read_or is_object) kinds.Value (del_asked w s o k)
-del-asked w (Some s) o k g = list-changed w o _ g
+del-asked w (Some s) o k g = list-changed w o (put_part w s (items_at w o) []) g
 del-asked w None o k g = stood-asked is_object w (is_number w k) o (ToProtocol (DoIndex k)) g tt
 
 del-item-row : (o k : PyObjectRef) → Kinded kinds.Value (λ w. del_item w o k)
