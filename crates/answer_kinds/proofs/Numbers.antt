@@ -134,7 +134,7 @@ length-row o =
     (λ way r f. length-rest way r f)
 
 -- where a number is given, there is one
-abbrev hint_kind : Option ℤ → Kind
+abbrev pub hint_kind : Option ℤ → Kind
 hint_kind None = kinds.NumberOrNone
 hint_kind (Some z) = kinds.Number
 
