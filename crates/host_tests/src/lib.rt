@@ -1,6 +1,9 @@
-//! Tests of what no script reaches: what hosts are refused, scripts, words and streams, and the ends of `serve`.
+//! Tests of what no script reaches: what hosts are refused, scripts, words and streams, the orders of hierarchies, and the
+//! ends of `serve`.
 #![tactic(auto)]
 
+#[cfg(test)]
+mod orders;
 #[cfg(test)]
 mod refusals;
 #[cfg(test)]
