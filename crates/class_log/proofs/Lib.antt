@@ -1,2 +1,4 @@
 pub mod Followed
+pub mod Logged
 pub mod Lone
+pub mod Unnamed
