@@ -1,8 +1,8 @@
 -- A change that is made to the classes that a log shows but for their names is one that the log shows next.
-use Rattle.std.proofs.Common.{◌≡◌, ℕ, ◌≤◌, Bool, true, false, cond, ◌||◌, List, [], ◌∷◌, ◌++◌, map, fold, Option, Some, None, Result, Ok, Err, OnOk, OnErr, refl, sym, ap, ◌∙◌, subst, append_assoc}
+use Rattle.std.proofs.Common.{◌≡◌, ℕ, zero, suc, ◌≤◌, Bool, true, false, cond, ◌||◌, List, [], ◌∷◌, ◌++◌, map, fold, Option, Some, None, Result, Ok, Err, OnOk, OnErr, refl, sym, ap, ◌∙◌, subst, rules}
 use Rattle.std.specs.Prelude.{◌==◌}
 use Rattle.std.specs.Int.RustNames.{bit_and}
-use Rattle.std.proofs.lemmas.List.{append-nil, map-append}
+use Rattle.std.proofs.lemmas.List.{map-append}
 use Rattle.py_node.specs.declared.raised.Cause.TheVariants.{NotBaseType}
 use Rattle.py_node.specs.declared.refs.PyStrInterned.{PyStrInterned}
 use Rattle.py_node.specs.declared.refs.PyObjectRef.{PyObjectRef}
@@ -22,7 +22,7 @@ use Rattle.class_table.specs.Start.{start_classes}
 use Rattle.class_table.proofs.Single.{one-allowed}
 use Rattle.class_log.specs.declared.change.ClassChange.{ClassChange}
 use Rattle.class_log.specs.Change.{Made, Change, Make, SetOwn, DelOwn, SetBases, change_of}
-use Rattle.class_log.specs.Following.{BeginsWith, CanFollow}
+use Rattle.class_log.specs.Following.{BeginsWith, Keeps, CanFollow}
 use Rattle.class_log.specs.Shown.{is_of_script, static_class, made_class, changed, shown, first_classes}
 use Rattle.class_log.specs.Refused.{IsOfItsKind, CanBeMade, IsFit, by_cause, refused_static, refused_made, refused, IsMade, AreMade}
 use Rattle.class_log.specs.Logged.{unnamed, AreSameButForNames, IsLogged, made_by_script, made_single, IsGivenTo, IsGiven}
@@ -197,23 +197,38 @@ module _ (t : HeldClasses) where
     pub single-changed : IsGiven given flags brings (has_dict t b) → with_class t (single_class x n b attrs flags brings) ≡ changed t (made_single n x b attrs given)
     single-changed h = ap (λ (k : Class PyStrInterned). t ++ k ∷ []) (single-class (is_of_script single) h)
 
--- a log begins with itself, and with what a log begins with that it begins with
-pub begins-itself : (log : List Change) → BeginsWith log log
-begins-itself log = ([], append-nil log)
+-- the changes that were there stand in their places
+pub keeps-itself : (log : List Change) → Keeps log log
+keeps-itself log = λ n c h. h
 
-pub begins-on : (a b c : List Change) → BeginsWith a b → BeginsWith b c → BeginsWith a c
-begins-on a b c g h = (g.0 ++ h.0, sym (append_assoc a g.0 h.0) ∙ ap (λ (z : List Change). z ++ h.0) g.1 ∙ h.1)
+pub keeps-on : (a b c : List Change) → Keeps a b → Keeps b c → Keeps a c
+keeps-on a b c g h = λ n k p. h n k (g n k p)
+
+keeps-push : (log : List Change) (c : Change) → Keeps log (log ++ c ∷ [])
+keeps-push [] c n x e = cc
+keeps-push (d ∷ log) c zero x e = e
+keeps-push (d ∷ log) c (suc n) x e = keeps-push log c n x e
 
 -- one change was noted, or none
-pub begins-more : {A E : Type 0} (old new : List Change) (c : Change) (o : Result A E) → OnOk o (new ≡ old ++ c ∷ []) → OnErr o (new ≡ old) → BeginsWith old new
-begins-more old new c (Ok a) p q = (c ∷ [], sym p)
-begins-more old new c (Err e) p q = subst (BeginsWith old) (sym q) (begins-itself old)
+pub keeps-more : {A E : Type 0} (old new : List Change) (c : Change) (o : Result A E) → OnOk o (new ≡ old ++ c ∷ []) → OnErr o (new ≡ old) → Keeps old new
+keeps-more old new c (Ok a) p q = subst (Keeps old) (sym p) (keeps-push old c)
+keeps-more old new c (Err e) p q = subst (Keeps old) (sym q) (keeps-itself old)
 
 -- one was noted where something was taken out
-pub begins-taken : {E : Type 0} (old new : List Change) (c : Change) (o : Result Bool E) → (o ≡ Ok true → new ≡ old ++ c ∷ []) → (o ≡ Ok false → new ≡ old) → OnErr o (new ≡ old) → BeginsWith old new
-begins-taken old new c (Ok true) p n q = (c ∷ [], sym (p refl))
-begins-taken old new c (Ok false) p n q = subst (BeginsWith old) (sym (n refl)) (begins-itself old)
-begins-taken old new c (Err e) p n q = subst (BeginsWith old) (sym q) (begins-itself old)
+pub keeps-taken : {E : Type 0} (old new : List Change) (c : Change) (o : Result Bool E) → (o ≡ Ok true → new ≡ old ++ c ∷ []) → (o ≡ Ok false → new ≡ old) → OnErr o (new ≡ old) → Keeps old new
+keeps-taken old new c (Ok true) p n q = subst (Keeps old) (sym (p refl)) (keeps-push old c)
+keeps-taken old new c (Ok false) p n q = subst (Keeps old) (sym (n refl)) (keeps-itself old)
+keeps-taken old new c (Err e) p n q = subst (Keeps old) (sym q) (keeps-itself old)
+
+-- so what is after begins with what was before
+pub keeps-begins : (old new : List Change) → Keeps old new → BeginsWith old new
+keeps-begins [] new h = (new, refl)
+keeps-begins (x ∷ old) [] h = let none : None ≡ Some x = h 0 x refl in absurd (search rules)
+keeps-begins (x ∷ old) (y ∷ new) h =
+    let first : Some y ≡ Some x = h 0 x refl in
+    let same : x ≡ y = cc in
+    let rest = keeps-begins old new (λ n c e. h (suc n) c e) in
+    (rest.0, ap (λ (z : List Change). x ∷ z) rest.1 ∙ ap (λ (z : Change). z ∷ new) same)
 
 -- a class gets another name, or memory ran out
 pub named-logged : {A E : Type 0} (log : List Change) (t : HeldClasses) (c : ℕ) (x : Text) (u : HeldClasses) (o : Result A E) → OnOk o (u ≡ with_class_name t c x) → OnErr o (u ≡ t) → IsLogged log t → IsLogged log u
@@ -231,3 +246,6 @@ follows done log b h = record {
   whole = b.1;
   made = rest-made first_classes done b.0 (subst (AreMade first_classes) (sym b.1) h);
 }
+
+pub follows-kept : (done log : List Change) → Keeps done log → AreMade first_classes log → CanFollow done log
+follows-kept done log k h = follows done log (keeps-begins done log k) h

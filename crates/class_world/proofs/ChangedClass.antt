@@ -12,7 +12,7 @@ use Rattle.plain_machine.specs.World.{is_text}
 use Rattle.plain_machine.specs.Change.{SetName, apply, without_own_attr}
 use Rattle.plain_machine.proofs.Offsets.{offset-kept}
 use Rattle.class_log.specs.Change.{Change}
-use Rattle.class_log.specs.Following.{BeginsWith}
+use Rattle.class_log.specs.Following.{Keeps}
 use Rattle.class_world.specs.Held.{Held}
 use Rattle.class_world.specs.Reading.{Reading, Reads, spelled, plain}
 use Rattle.class_world.specs.Sound.{AllHold, SoundWith, Sound, of_binding, of_class, of_dict, of_each}
@@ -69,12 +69,12 @@ module _ (f : HeldClass → HeldClass) (number : (k : HeldClass) → (f k).numbe
     change-like (Ok a) p q = subst (Like w.classes) (sym p) (changed-like w.classes c)
     change-like (Err e) p q = subst (Like w.classes) (sym q) (like-itself w.classes)
 
-    pub change-sound : {More : Type 0} (log : List Change) → BeginsWith w.log log → More → (o : Result A E) → OnOk o (ks ≡ with_changed f w.classes c) → OnErr o (ks ≡ w.classes) → ((k : HeldClass) → AllHold w (of_class k) → AllHold w (of_class (f k))) → Sound w → SoundWith More (record w { classes = ks; log = log })
-    change-sound log begins said (Ok a) p q keep s =
-        classes-sound w ks log begins said (change-like (Ok a) p q) (subst (SameFlags w.classes) (sym p) (λ d. at-changed f number (option_map (λ (k : HeldClass). k.flags)) (λ k. ap Some (flags k)) w.classes c d)) (subst (λ ks. AllHold w (of_each of_class ks)) (sym p) (changed-holds w f keep w.classes c s.classes))
+    pub change-sound : {More : Type 0} (log : List Change) → Keeps w.log log → More → (o : Result A E) → OnOk o (ks ≡ with_changed f w.classes c) → OnErr o (ks ≡ w.classes) → ((k : HeldClass) → AllHold w (of_class k) → AllHold w (of_class (f k))) → Sound w → SoundWith More (record w { classes = ks; log = log })
+    change-sound log keeps said (Ok a) p q keep s =
+        classes-sound w ks log keeps said (change-like (Ok a) p q) (subst (SameFlags w.classes) (sym p) (λ d. at-changed f number (option_map (λ (k : HeldClass). k.flags)) (λ k. ap Some (flags k)) w.classes c d)) (subst (λ ks. AllHold w (of_each of_class ks)) (sym p) (changed-holds w f keep w.classes c s.classes))
         (subst (AreStanding w) (sym p) (λ d e. s.standing d (sym (is_class-kept f number w.classes c d) ∙ e))) s
-    change-sound log begins said (Err e) p q keep s =
-        classes-sound w ks log begins said (change-like (Err e) p q) (subst (SameFlags w.classes) (sym q) (λ d. refl)) (subst (λ ks. AllHold w (of_each of_class ks)) (sym q) s.classes) (subst (AreStanding w) (sym q) s.standing) s
+    change-sound log keeps said (Err e) p q keep s =
+        classes-sound w ks log keeps said (change-like (Err e) p q) (subst (SameFlags w.classes) (sym q) (λ d. refl)) (subst (λ ks. AllHold w (of_each of_class ks)) (sym q) s.classes) (subst (AreStanding w) (sym q) s.standing) s
 
 -- a class without one of its own attributes
 abbrev pub without : PyStrInterned → HeldClass → HeldClass

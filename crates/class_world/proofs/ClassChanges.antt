@@ -20,7 +20,7 @@ use Rattle.class_table.specs.Refused.{AreThere}
 use Rattle.class_table.specs.Keys.{numbers}
 use Rattle.plain_machine.specs.World.{is_text, with_own_attr, with_new_class}
 use Rattle.class_log.specs.Change.{Change}
-use Rattle.class_log.specs.Following.{BeginsWith}
+use Rattle.class_log.specs.Following.{Keeps}
 use Rattle.class_log.specs.Logged.{IsLogged}
 use Rattle.class_world.specs.Held.{Held}
 use Rattle.class_world.specs.Reading.{Reading, spelled, node_of, plain}
@@ -67,7 +67,7 @@ attr-there : (ks : HeldClasses) (c d : ℕ) (x : PyStrInterned) (r : PyObjectRef
 attr-there ks c d x r = at-changed (λ (k : Class PyStrInterned). record k { attrs = with_value is_same_name k.attrs x r }) (λ k. refl) is_some (λ k. refl) ks c d
 
 -- as many classes as before
-pub classes-grow : (w : Held) (ks : HeldClasses) (log : List Change) → BeginsWith w.log log → Like w.classes ks → Grows w (record w { classes = ks; log = log })
+pub classes-grow : (w : Held) (ks : HeldClasses) (log : List Change) → Keeps w.log log → Like w.classes ks → Grows w (record w { classes = ks; log = log })
 classes-grow w ks log more k = grows w (record w { classes = ks; log = log }) more refl refl (omega arith) (omega arith) (λ m f h. h) (omega arith) (keep-itself w.classes w.nodes) k
 
 abbrev pub AreStanding : Held → HeldClasses → Type 0
@@ -78,10 +78,10 @@ abbrev pub SameFlags : HeldClasses → HeldClasses → Type 0
 SameFlags old new = (c : ℕ) → flags_at new c ≡ flags_at old c
 
 -- whatever is said of the log before and after
-pub classes-sound : {Log More : Type 0} (w : Held) (ks : HeldClasses) (log : List Change) → BeginsWith w.log log → More → Like w.classes ks → SameFlags w.classes ks → AllHold w (of_each of_class ks) → AreStanding w ks → SoundWith Log w → SoundWith More (record w { classes = ks; log = log })
-classes-sound w ks log begins said k f h a s =
+pub classes-sound : {Log More : Type 0} (w : Held) (ks : HeldClasses) (log : List Change) → Keeps w.log log → More → Like w.classes ks → SameFlags w.classes ks → AllHold w (of_each of_class ks) → AreStanding w ks → SoundWith Log w → SoundWith More (record w { classes = ks; log = log })
+classes-sound w ks log keeps said k f h a s =
     let new = record w { classes = ks; log = log } in
-    let more = classes-grow w ks log begins k in
+    let more = classes-grow w ks log keeps k in
     let go = all-grow w new more in
     record { forms = go _ s.forms; below = s.below; nodes = go _ s.nodes; classes = go _ h; vars = go _ s.vars; scopes = go _ s.scopes; fixed = fixed-grow w new s.fixed (grows-lasts w new more); built_in = built_in-grow w new s.built_in (grows-lasts w new more); own = λ b. more.still _ (s.own b); flags = λ b. more.still _ (s.flags b); of_none = more.still _ s.of_none; unmarked = λ c n e. s.unmarked c n (sym (f c) ∙ e); standing = λ d e. more.still _ (a d e); itself = s.itself; apart = s.apart; scopes_apart = s.scopes_apart; known = s.known; logged = said }
 
@@ -97,11 +97,11 @@ module _ {A E : Type 0} (w : Held) (c : ℕ) (x : PyStrInterned) (r : PyObjectRe
   })
   set-like (Err e) p f = subst (Like w.classes) (sym f) (like-itself w.classes)
 
-  pub set-sound : {Log More : Type 0} (log : List Change) → BeginsWith w.log log → More → (o : Result A E) → OnOk o (ks ≡ with_class_attr is_same_name w.classes c x r) → OnErr o (ks ≡ w.classes) → SoundWith Log w → Holds w (IsName x) → Holds w (IsNode r) → SoundWith More (record w { classes = ks; log = log })
-  set-sound log begins said (Ok a) p f s n k =
-      classes-sound w ks log begins said (set-like (Ok a) p f) (subst (SameFlags w.classes) (sym p) (λ d. at-changed (λ (k : Class PyStrInterned). record k { attrs = with_value is_same_name k.attrs x r }) (λ k. refl) (option_map (λ (k : Class PyStrInterned). k.flags)) (λ k. refl) w.classes c d)) (subst (λ ks. AllHold w (of_each of_class ks)) (sym p) (attr-holds w w.classes c x r s.classes n k))
+  pub set-sound : {Log More : Type 0} (log : List Change) → Keeps w.log log → More → (o : Result A E) → OnOk o (ks ≡ with_class_attr is_same_name w.classes c x r) → OnErr o (ks ≡ w.classes) → SoundWith Log w → Holds w (IsName x) → Holds w (IsNode r) → SoundWith More (record w { classes = ks; log = log })
+  set-sound log keeps said (Ok a) p f s n k =
+      classes-sound w ks log keeps said (set-like (Ok a) p f) (subst (SameFlags w.classes) (sym p) (λ d. at-changed (λ (k : Class PyStrInterned). record k { attrs = with_value is_same_name k.attrs x r }) (λ k. refl) (option_map (λ (k : Class PyStrInterned). k.flags)) (λ k. refl) w.classes c d)) (subst (λ ks. AllHold w (of_each of_class ks)) (sym p) (attr-holds w w.classes c x r s.classes n k))
       (subst (AreStanding w) (sym p) (λ d e. s.standing d (sym (attr-there w.classes c d x r) ∙ e))) s
-  set-sound log begins said (Err e) p f s n k = classes-sound w ks log begins said (set-like (Err e) p f) (subst (SameFlags w.classes) (sym f) (λ d. refl)) (subst (λ ks. AllHold w (of_each of_class ks)) (sym f) s.classes) (subst (AreStanding w) (sym f) s.standing) s
+  set-sound log keeps said (Err e) p f s n k = classes-sound w ks log keeps said (set-like (Err e) p f) (subst (SameFlags w.classes) (sym f) (λ d. refl)) (subst (λ ks. AllHold w (of_each of_class ks)) (sym f) s.classes) (subst (AreStanding w) (sym f) s.standing) s
 
   pub set-read : (log : List Change) (now : Held) (o : Result A E) → OnOk o (ks ≡ with_class_attr is_same_name w.classes c x r) → w ≡ now → OnOk o ((t : Reading) → plain t (record w { classes = ks; log = log }) ≡ with_own_attr (plain t now) c (t.text x.0) r)
   unfolding plain
@@ -139,14 +139,14 @@ flags-there t c n e = go (class_at t c) e
     go (Some k) e = refl
 
 -- a class with its node
-module _ (w : Held) (meta : PyTypeRef) (k : Class PyStrInterned) (log : List Change) (begins : BeginsWith w.log log) where
+module _ (w : Held) (meta : PyTypeRef) (k : Class PyStrInterned) (log : List Change) (keeps : Keeps w.log log) where
   abbrev pub class_made : PyTypeRef → Held
   class_made c = record w { nodes = w.nodes ++ record { class = meta; dict = None; members = []; payload = payload.Class c } ∷ []; classes = w.classes ++ k ∷ []; log = log }
 
   pub made-grows : (c : PyTypeRef) → Grows w (class_made c)
   made-grows c =
       let n = length-append w.nodes (record { class = meta; dict = None; members = []; payload = payload.Class c } ∷ []) in
-      grows w (class_made c) begins refl refl (omega arith) (omega arith) (λ m f h. h) (omega arith) (keep-push w.classes w.nodes (record { class = meta; dict = None; members = []; payload = payload.Class c })) (like-push w.classes k)
+      grows w (class_made c) keeps refl refl (omega arith) (omega arith) (λ m f h. h) (omega arith) (keep-push w.classes w.nodes (record { class = meta; dict = None; members = []; payload = payload.Class c })) (like-push w.classes k)
 
   pub node-made : (c : PyTypeRef) (r : PyObjectRef) → r.0 ≡ length w.nodes → Holds (class_made c) (IsNode r)
   unfolding Holds

@@ -10,7 +10,7 @@ use Rattle.py_node.specs.declared.payload.Payload.TheVariants as payload
 use Rattle.plain_machine.specs.Plain.{ADict, Node}
 use Rattle.plain_machine.specs.Objects.{with_datum_in}
 use Rattle.plain_machine.specs.Dicts.{Entries, with_entries}
-use Rattle.class_log.proofs.Logged.{begins-itself}
+use Rattle.class_log.proofs.Logged.{keeps-itself}
 use Rattle.class_world.specs.Held.{Held}
 use Rattle.class_world.specs.Keyed.{entries_of, held_entries, entries_at, of_entries, HasEntries, HasOther, put_at}
 use Rattle.class_world.specs.Reading.{Reading, places_of, datum, node_of, plain}
@@ -206,7 +206,7 @@ module _ (w : Held) (r : PyObjectRef) (n new : StoredNode) where
   pub other-grows : (es : Entries) → n ≡ get_or w.nodes r.0 n → home_of n.payload ≡ Dict → HasOther n new es → Grows w changed
   other-grows es e d o =
       let l = set-length w.nodes r.0 new in
-      grows w changed (begins-itself w.log) refl refl (omega arith) (omega arith) (λ m f h. h) (omega arith) (record { stays = stays-set w.classes w.nodes r.0 n new e (same-lasting es d o) (λ h. o.0) }) (like-itself w.classes)
+      grows w changed (keeps-itself w.log) refl refl (omega arith) (omega arith) (λ m f h. h) (omega arith) (record { stays = stays-set w.classes w.nodes r.0 n new e (same-lasting es d o) (λ h. o.0) }) (like-itself w.classes)
 
   pub other-sound : (es : Entries) → r.0 < length w.nodes → n ≡ get_or w.nodes r.0 n → home_of n.payload ≡ Dict → HasOther n new es → AllHold w (of_entries es) → Sound w → Sound changed
   other-sound es l e d o h s =

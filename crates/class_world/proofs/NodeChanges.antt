@@ -8,7 +8,7 @@ use Rattle.plain_machine.specs.World.{with_node_changed}
 use Rattle.plain_machine.specs.Change.{with_object_changed}
 use Rattle.class_model.specs.Class.{class_at}
 use Rattle.class_model.specs.Slot.{is_heap_at}
-use Rattle.class_log.proofs.Logged.{begins-itself}
+use Rattle.class_log.proofs.Logged.{keeps-itself}
 use Rattle.class_world.specs.Held.{Held}
 use Rattle.class_world.specs.Reading.{Reading, node_of, plain}
 use Rattle.class_world.specs.Sound.{class_in, AllHold, Grows, Sound, of_node}
@@ -24,7 +24,7 @@ module _ (w : Held) (r : PyObjectRef) (n new : StoredNode) (is : n ≡ get_or w.
   pub change-grows : Grows w changed
   change-grows =
       let l = set-length w.nodes r.0 new in
-      grows w changed (begins-itself w.log) refl refl (omega arith) (omega arith) (λ m f h. h) (omega arith) (record { stays = stays-set w.classes w.nodes r.0 n new is same of }) (like-itself w.classes)
+      grows w changed (keeps-itself w.log) refl refl (omega arith) (omega arith) (λ m f h. h) (omega arith) (record { stays = stays-set w.classes w.nodes r.0 n new is same of }) (like-itself w.classes)
 
   pub change-sound : AllHold w (of_node new) → Sound w → Sound changed
   change-sound there s =

@@ -24,7 +24,7 @@ use Rattle.class_model.proofs.Sound.{has_dict-renamed}
 use Rattle.class_table.specs.OneBase.{says_so}
 use Rattle.class_table.specs.Start.{Numbered, value_number, number_past, with_own, with_all_own, with_each_own, start_classes}
 use Rattle.class_log.specs.Logged.{IsLogged}
-use Rattle.class_log.proofs.Logged.{begins-itself, logged-first}
+use Rattle.class_log.proofs.Logged.{keeps-itself, logged-first}
 use Rattle.plain_machine.specs.Plain.{PlainWorld}
 use Rattle.plain_machine.specs.Sound.{holds_as}
 use Rattle.plain_machine.specs.Start.{attr_class, attr_datum, is_made, with_value, value_in, with_attr, with_attrs, bare, start}
@@ -168,7 +168,7 @@ module _ (b : BuiltIn) (x : Known) (a : Attr) (ks : Classes PyStrInterned) (ns :
 
     pub attr-added : SoundWith (Unit {0}) (opened set ms)
     attr-added =
-        set-sound {A = Unit {0}} {E = Unit {0}} (opened ks ms) (place_of b) name r set [] (begins-itself []) tt (Ok tt) refl tt m (named-in (opened ks ms) refl) there
+        set-sound {A = Unit {0}} {E = Unit {0}} (opened ks ms) (place_of b) name r set [] (keeps-itself []) tt (Ok tt) refl tt m (named-in (opened ks ms) refl) there
       where
         named-in : (v : Held) → v.names ≡ known_texts → Holds v (IsName name)
         unfolding Holds

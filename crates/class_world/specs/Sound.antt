@@ -23,7 +23,7 @@ use Rattle.class_model.specs.Slot.{is_heap_at}
 use Rattle.plain_machine.specs.Known.{the_dict, the_none_type}
 use Rattle.plain_machine.specs.Row.{none}
 use Rattle.plain_machine.specs.Sound.{holds_as, held_by, is_offset, read_offset, set_offset, Key, NumberKey, TextKey, AreKeys}
-use Rattle.class_log.specs.Following.{BeginsWith}
+use Rattle.class_log.specs.Following.{Keeps}
 use Rattle.class_log.specs.Logged.{IsLogged}
 use Rattle.class_world.specs.declared.scope.Scope.{Scope}
 use Rattle.class_world.specs.Held.{Held}
@@ -197,12 +197,12 @@ AllHold w (c ∷ cs) = Holds w c × AllHold w cs
 -- what held of a number holds still, and the log goes on
 pub record Lasts (old new : Held) : Type 0 where
   pub still : (c : Claim) → Holds old c → Holds new c
-  pub log : BeginsWith old.log new.log
+  pub log : Keeps old.log new.log
 
 -- the same; as many bodies run, and the notes of those that were started are as before
 pub record Grows (old new : Held) : Type 0 where
   pub still : (c : Claim) → Holds old c → Holds new c
-  pub log : BeginsWith old.log new.log
+  pub log : Keeps old.log new.log
   pub bodies : length new.scopes ≡ length old.scopes
   pub notes : new.calls ≡ old.calls
 

@@ -1,5 +1,5 @@
 use Rattle.std.proofs.Common.{sym, ◌∙◌, refl}
-use Rattle.class_log.proofs.Logged.{begins-taken}
+use Rattle.class_log.proofs.Logged.{keeps-taken}
 use Rattle.class_world.specs.contracts.world.World.{the_view}
 use Rattle.class_world.specs.Sound.{Holds, IsClass}
 use Rattle.class_world.proofs.Claims.{opened-one}
@@ -16,7 +16,7 @@ del_attr_direct-requires c = opened-one (the_view c.self.inside) c.args.self.now
 pub invariant_of-self : goal.invariant_of-self
 invariant_of-self c =
     let w = the_view c.self.inside in
-    change-sound (without c.args.name) (λ k. refl) (λ k. refl) (λ k. refl) (λ k. refl) w c.args.class.0 c.del_attr_direct.new.classes c.del_attr_direct.new.self (begins-taken w.log c.del_attr_direct.new.self _ c.del_attr_direct.result c.del_attr_direct.ensures.noted c.del_attr_direct.ensures.unneeded c.del_attr_direct.ensures.unnoted) (c.del_attr_direct.ensures.law c.self.invariant.logged) c.del_attr_direct.result c.del_attr_direct.ensures.taken c.del_attr_direct.ensures.err (without-holds w c.args.name) c.self.invariant
+    change-sound (without c.args.name) (λ k. refl) (λ k. refl) (λ k. refl) (λ k. refl) w c.args.class.0 c.del_attr_direct.new.classes c.del_attr_direct.new.self (keeps-taken w.log c.del_attr_direct.new.self _ c.del_attr_direct.result c.del_attr_direct.ensures.noted c.del_attr_direct.ensures.unneeded c.del_attr_direct.ensures.unnoted) (c.del_attr_direct.ensures.law c.self.invariant.logged) c.del_attr_direct.result c.del_attr_direct.ensures.taken c.del_attr_direct.ensures.err (without-holds w c.args.name) c.self.invariant
 
 pub returns-clause-taken : goal.returns-clause-taken
 returns-clause-taken c =
@@ -28,7 +28,7 @@ returns-clause-there c = own-told (the_view c.self.inside) c.args.self.now c.sel
 pub returns-clause-grows : goal.returns-clause-grows
 returns-clause-grows c =
     let w = the_view c.self.inside in
-    grows-seen w _ _ c.self.view_is (classes-grow w c.del_attr_direct.new.classes c.del_attr_direct.new.self (begins-taken w.log c.del_attr_direct.new.self _ c.del_attr_direct.result c.del_attr_direct.ensures.noted c.del_attr_direct.ensures.unneeded c.del_attr_direct.ensures.unnoted) (change-like (without c.args.name) (λ k. refl) (λ k. refl) (λ k. refl) (λ k. refl) w c.args.class.0 c.del_attr_direct.new.classes c.del_attr_direct.result c.del_attr_direct.ensures.taken c.del_attr_direct.ensures.err))
+    grows-seen w _ _ c.self.view_is (classes-grow w c.del_attr_direct.new.classes c.del_attr_direct.new.self (keeps-taken w.log c.del_attr_direct.new.self _ c.del_attr_direct.result c.del_attr_direct.ensures.noted c.del_attr_direct.ensures.unneeded c.del_attr_direct.ensures.unnoted) (change-like (without c.args.name) (λ k. refl) (λ k. refl) (λ k. refl) (λ k. refl) w c.args.class.0 c.del_attr_direct.new.classes c.del_attr_direct.result c.del_attr_direct.ensures.taken c.del_attr_direct.ensures.err))
 
 pub returns-clause-refused : goal.returns-clause-refused
 returns-clause-refused c = λ t. c.del_attr_direct.ensures.immutable ∙ sym (refused-seen (the_view c.self.inside) c.args.self.now c.self.view_is t c.args.class.0)

@@ -1,7 +1,7 @@
 use Rattle.std.proofs.Common.{◌+◌, ◌≤◌, length, subst}
 use Rattle.class_table.specs.Descendants.{descendants}
 use Rattle.class_table.specs.Keys.{numbers}
-use Rattle.class_log.proofs.Logged.{begins-more}
+use Rattle.class_log.proofs.Logged.{keeps-more}
 use Rattle.class_world.specs.Held.{Held}
 use Rattle.class_world.specs.contracts.world.World.{the_view}
 use Rattle.class_world.specs.Reading.{Reads}
@@ -26,7 +26,7 @@ invariant_of-self g c =
     let w = the_view c.self.inside in
     let here = class-there w c.args.class.0 (opened-one w c.args.self.now (IsClass c.args.class.0) c.self.view_is c.requires.class) in
     let there = bases-there w c.args.bases.items (opened w c.args.self.now (of_each of_class_ref c.args.bases.items) c.self.view_is c.requires.bases) in
-    bases-sound w c.args.class.0 (numbers c.args.bases.items) c.sound.ensures.sound here there c.set_bases.new.classes c.set_bases.new.self (begins-more w.log c.set_bases.new.self _ c.set_bases.result c.set_bases.ensures.noted c.set_bases.ensures.unnoted) (c.set_bases.ensures.law c.self.invariant.logged) c.set_bases.result c.set_bases.ensures.set c.set_bases.ensures.err c.set_bases.ensures.refused c.self.invariant
+    bases-sound w c.args.class.0 (numbers c.args.bases.items) c.sound.ensures.sound here there c.set_bases.new.classes c.set_bases.new.self (keeps-more w.log c.set_bases.new.self _ c.set_bases.result c.set_bases.ensures.noted c.set_bases.ensures.unnoted) (c.set_bases.ensures.law c.self.invariant.logged) c.set_bases.result c.set_bases.ensures.set c.set_bases.ensures.err c.set_bases.ensures.refused c.self.invariant
 
 pub returns-clause-early : goal.returns-clause-early
 returns-clause-early g c =
@@ -52,7 +52,7 @@ returns-clause-grows g c =
     let w = the_view c.self.inside in
     let here = class-there w c.args.class.0 (opened-one w c.args.self.now (IsClass c.args.class.0) c.self.view_is c.requires.class) in
     let there = bases-there w c.args.bases.items (opened w c.args.self.now (of_each of_class_ref c.args.bases.items) c.self.view_is c.requires.bases) in
-    grows-seen w _ _ c.self.view_is (classes-grow w c.set_bases.new.classes c.set_bases.new.self (begins-more w.log c.set_bases.new.self _ c.set_bases.result c.set_bases.ensures.noted c.set_bases.ensures.unnoted) (bases-like w c.args.class.0 (numbers c.args.bases.items) c.sound.ensures.sound here there c.set_bases.new.classes c.set_bases.result c.set_bases.ensures.set c.set_bases.ensures.err c.set_bases.ensures.refused))
+    grows-seen w _ _ c.self.view_is (classes-grow w c.set_bases.new.classes c.set_bases.new.self (keeps-more w.log c.set_bases.new.self _ c.set_bases.result c.set_bases.ensures.noted c.set_bases.ensures.unnoted) (bases-like w c.args.class.0 (numbers c.args.bases.items) c.sound.ensures.sound here there c.set_bases.new.classes c.set_bases.result c.set_bases.ensures.set c.set_bases.ensures.err c.set_bases.ensures.refused))
 
 pub returns-clause-few_merges : goal.returns-clause-few_merges
 returns-clause-few_merges g c =
