@@ -225,19 +225,21 @@ none-step b x s ns p h =
     unfolding Holds
     fixed-there w l = omega (arith, l)
 
-own-step : (b : BuiltIn) (a : Known × Attr) (s : Numbered) (ns : List Node) (p : PlainWorld) → Opens s ns p → Opens (with_own b s a) (with_own_node b ns a) (with_attr b p a)
-own-step b (x, attr.New) s ns p h = made-step b x attr.New s ns p refl refl refl h
-own-step b (x, attr.Method e) s ns p h = made-step b x (attr.Method e) s ns p refl refl refl h
-own-step b (x, attr.ClassMethod e) s ns p h = made-step b x (attr.ClassMethod e) s ns p refl refl refl h
-own-step b (x, attr.ReadOnly e) s ns p h = made-step b x (attr.ReadOnly e) s ns p refl refl refl h
-own-step b (x, attr.Settable e) s ns p h = made-step b x (attr.Settable e) s ns p refl refl refl h
-own-step b (x, attr.Part e) s ns p h = made-step b x (attr.Part e) s ns p refl refl refl h
-own-step b (x, attr.SettablePart e) s ns p h = made-step b x (attr.SettablePart e) s ns p refl refl refl h
-own-step b (x, attr.NoHash) s ns p h = none-step b x s ns p h
+own-step : (b : BuiltIn) (x : Known) (a : Attr) (s : Numbered) (ns : List Node) (p : PlainWorld) → Opens s ns p → Opens (with_own b s (x, a)) (with_own_node b ns (x, a)) (with_attr b p (x, a))
+own-step b x attr.New s ns p h = made-step b x attr.New s ns p refl refl refl h
+own-step b x (attr.Method e) s ns p h = made-step b x (attr.Method e) s ns p refl refl refl h
+own-step b x (attr.ClassMethod e) s ns p h = made-step b x (attr.ClassMethod e) s ns p refl refl refl h
+own-step b x (attr.ReadOnly e) s ns p h = made-step b x (attr.ReadOnly e) s ns p refl refl refl h
+own-step b x (attr.Settable e) s ns p h = made-step b x (attr.Settable e) s ns p refl refl refl h
+own-step b x (attr.Part e) s ns p h = made-step b x (attr.Part e) s ns p refl refl refl h
+own-step b x (attr.SettablePart e) s ns p h = made-step b x (attr.SettablePart e) s ns p refl refl refl h
+own-step b x attr.NoHash s ns p h = none-step b x s ns p h
 
 own-steps : (b : BuiltIn) (own : List (Known × Attr)) (s : Numbered) (ns : List Node) (p : PlainWorld) → Opens s ns p → Opens (fold (with_own b) s own) (fold (with_own_node b) ns own) (fold (with_attr b) p own)
+unfolding with_own with_own_node with_attr
 own-steps b [] s ns p h = h
-own-steps b (a ∷ own) s ns p h = own-steps b own (with_own b s a) (with_own_node b ns a) (with_attr b p a) (own-step b a s ns p h)
+own-steps b (a ∷ own) s ns p h =
+    own-steps b own (with_own b s a) (with_own_node b ns a) (with_attr b p a) (own-step b a.0 a.1 s ns p h)
 
 all-steps : (bs : List BuiltIn) (s : Numbered) (ns : List Node) (p : PlainWorld) → Opens s ns p → Opens (fold with_all_own s bs) (fold with_own_nodes ns bs) (fold with_attrs p bs)
 all-steps [] s ns p h = h
