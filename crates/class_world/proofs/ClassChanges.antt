@@ -110,6 +110,11 @@ module _ {A E : Type 0} (w : Held) (c : ℕ) (x : PyStrInterned) (r : PyObjectRe
       (ap (λ (ks : HeldClasses). record (plain t w) { classes = renamed (spelled t) ks }) p ∙ ap (λ (ks : Classes Text). record (plain t w) { classes = ks }) (attr-read t w.classes c x r))
   set-read log now (Err e) p v = tt
 
+-- a change that was refused leaves classes and log as they were
+pub unchanged : {A E : Type 0} (w now : Held) → w ≡ now → (ks : HeldClasses) (log : List Change) (o : Result A E) → OnErr o (ks ≡ w.classes) → OnErr o (log ≡ w.log) → OnErr o (record w { classes = ks; log = log } ≡ now)
+unchanged w now v ks log (Ok a) p q = tt
+unchanged w now v ks log (Err e) p q = (λ i. record w { classes = p i; log = q i }) ∙ v
+
 -- every class's number is that of a node, so a further node has room for one
 pub room : (w : Held) (ks : HeldClasses) → AllHold w (of_each of_class ks) → limit ks ≤ length w.nodes
 unfolding Holds

@@ -1,10 +1,12 @@
-use Rattle.std.proofs.Common.{sym, ◌∙◌}
+use Rattle.std.proofs.Common.{◌≡◌, ◌++◌, ◌∷◌, [], OnOk, sym, subst, ◌∙◌}
+use Rattle.class_log.specs.Change.{SetOwn}
 use Rattle.class_log.proofs.Logged.{keeps-more}
+use Rattle.class_world.specs.Held.{Held}
 use Rattle.class_world.specs.contracts.world.World.{the_view}
 use Rattle.class_world.specs.Sound.{Holds, IsClass, IsName, IsNode}
 use Rattle.class_world.proofs.Claims.{opened-one}
 use Rattle.class_world.proofs.Growth.{grows-seen}
-use Rattle.class_world.proofs.ClassChanges.{classes-grow, set-like, set-sound, set-read}
+use Rattle.class_world.proofs.ClassChanges.{classes-grow, set-like, set-sound, set-read, unchanged}
 use Rattle.class_world.proofs.OfClasses.{refused-seen}
 use Rattle.class_world.proofs.world.World.set_attr.Goals as goal
 
@@ -30,3 +32,10 @@ returns-clause-grows c =
 
 pub returns-clause-refused : goal.returns-clause-refused
 returns-clause-refused c = λ t. c.set_attr.ensures.immutable ∙ sym (refused-seen (the_view c.self.inside) c.args.self.now c.self.view_is t c.args.class.0)
+
+pub returns-clause-logged : goal.returns-clause-logged
+returns-clause-logged c =
+    subst (λ (w : Held). OnOk c.set_attr.result (c.set_attr.new.self ≡ w.log ++ SetOwn c.args.class.0 c.args.name c.args.value ∷ [])) c.self.view_is c.set_attr.ensures.noted
+
+pub returns-clause-err : goal.returns-clause-err
+returns-clause-err c = unchanged (the_view c.self.inside) c.args.self.now c.self.view_is c.set_attr.new.classes c.set_attr.new.self c.set_attr.result c.set_attr.ensures.err c.set_attr.ensures.unnoted

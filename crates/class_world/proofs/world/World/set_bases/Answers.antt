@@ -1,4 +1,5 @@
-use Rattle.std.proofs.Common.{◌+◌, ◌≤◌, length, subst}
+use Rattle.std.proofs.Common.{◌≡◌, ◌++◌, ◌∷◌, [], OnOk, ◌+◌, ◌≤◌, length, subst}
+use Rattle.class_log.specs.Change.{SetBases}
 use Rattle.class_table.specs.Descendants.{descendants}
 use Rattle.class_table.specs.Keys.{numbers}
 use Rattle.class_log.proofs.Logged.{keeps-more}
@@ -8,7 +9,7 @@ use Rattle.class_world.specs.Reading.{Reads}
 use Rattle.class_world.specs.Sound.{IsClass, of_class_ref, of_each}
 use Rattle.class_world.proofs.Claims.{opened, opened-one}
 use Rattle.class_world.proofs.Growth.{grows-seen}
-use Rattle.class_world.proofs.ClassChanges.{classes-grow, bases-there}
+use Rattle.class_world.proofs.ClassChanges.{classes-grow, bases-there, unchanged}
 use Rattle.class_world.proofs.NewBases.{first-seen, early-seen, told-seen, bases-like, bases-sound, bases-set}
 use Rattle.class_world.proofs.OneBase.{class-there}
 use Rattle.class_world.proofs.world.World.set_bases.Goals as goal
@@ -57,3 +58,10 @@ returns-clause-grows g c =
 pub returns-clause-few_merges : goal.returns-clause-few_merges
 returns-clause-few_merges g c =
     subst (λ (n : Held). c.set_bases.new.steps.merges ≤ c.args.steps.now.merges + length (descendants n.classes c.args.class.0)) c.self.view_is c.set_bases.ensures.few_merges
+
+pub returns-clause-logged : goal.returns-clause-logged
+returns-clause-logged g c =
+    subst (λ (w : Held). OnOk c.set_bases.result (c.set_bases.new.self ≡ w.log ++ SetBases c.args.class.0 (numbers c.args.bases.items) ∷ [])) c.self.view_is c.set_bases.ensures.noted
+
+pub returns-clause-err : goal.returns-clause-err
+returns-clause-err g c = unchanged (the_view c.self.inside) c.args.self.now c.self.view_is c.set_bases.new.classes c.set_bases.new.self c.set_bases.result c.set_bases.ensures.err c.set_bases.ensures.unnoted
