@@ -11,5 +11,4 @@ ghost use Rattle.class_log.specs.Shown.{first_classes};
 pub fn a_log_can_be_followed()
     ensures follows { (done log : List Change) → BeginsWith done log → AreMade first_classes log → CanFollow done log }
     ensures begins { (old new : List Change) → Keeps old new → BeginsWith old new }
-{
-}
+{}

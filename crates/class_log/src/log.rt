@@ -265,7 +265,7 @@ fn out_of_memory(
     ensures told { told result ≡ option_map (λ cause. (cause, None)) (refused_change classes.now class.0 (numbers bases.now)) }
     ensures fails { OnOk result ⊥ }
 {
-    match match classes.is_heap(class) && bases.is_empty() { true => Ok(()), false => Err(Cause::EmptyBases) } { // STUB
+    match classes.may_rebase(class, bases) {
         Ok(()) => Err(ClassFault::OutOfMemory),
         Err(cause) => Err(ClassFault::Refused(cause)),
     }

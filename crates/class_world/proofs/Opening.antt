@@ -1,5 +1,5 @@
 -- The world of a new machine: own attribute by own attribute, its classes and its nodes grow together.
-use Rattle.std.proofs.Common.{◌≡◌, ℕ, suc, ◌+◌, true, false, cond, List, [], ◌∷◌, ◌++◌, length, fold, Option, Some, None, Ok, inl, refl, sym, ap, ◌∙◌, subst, arith, length-append}
+use Rattle.std.proofs.Common.{◌≡◌, ℕ, suc, ◌+◌, ◌<◌, ◌≤◌, true, false, cond, List, [], ◌∷◌, ◌++◌, length, fold, Option, Some, None, Ok, inl, refl, sym, ap, ◌∙◌, subst, arith, length-append}
 use Rattle.std.specs.Prelude.{◌==◌, option_map, is_some}
 use Rattle.std.specs.Int.RustNames.{bit_and}
 use Rattle.std.proofs.lemmas.List.{length-map}
@@ -104,6 +104,20 @@ no-dict t c n e s = go (class_at t c) e
     go None e = refl
     go (Some k) e = let f : k.flags ≡ n = cc in ap (λ m. bit_and m dict_flag == dict_flag) f ∙ s
 
+-- a name is one still where the names are the same
+name-stays : (v w : Held) (x : PyStrInterned) → v.names ≡ w.names → Holds v (IsName x) → Holds w (IsName x)
+unfolding Holds
+name-stays v w x e h = subst (λ (xs : List (List ℕ)). x.0 < length xs) e h
+
+-- a node that is added is there, and so is None
+last-there : (w : Held) (d : Node) → Holds (record w { nodes = w.nodes ++ d ∷ [] }) (IsNode (ref (length w.nodes)))
+unfolding Holds
+last-there w d = let l = length-append w.nodes (d ∷ []) in omega (arith, l)
+
+none-there : (w : Held) → 27 ≤ length w.nodes → Holds w (IsNode (ref fixed_none))
+unfolding Holds
+none-there w l = omega (arith, l)
+
 -- what a world under way is: as many nodes as it counts, sound but for its log, and what the plain machine has then
 pub record Opens (s : Numbered) (ns : List Node) (p : PlainWorld) : Type 0 where
   pub count : length ns ≡ s.1
@@ -168,11 +182,7 @@ module _ (b : BuiltIn) (x : Known) (a : Attr) (ks : Classes PyStrInterned) (ns :
 
     pub attr-added : SoundWith (Unit {0}) (opened set ms)
     attr-added =
-        set-sound {A = Unit {0}} {E = Unit {0}} (opened ks ms) (place_of b) name r set [] (keeps-itself []) tt (Ok tt) refl tt m (named-in (opened ks ms) refl) there
-      where
-        named-in : (v : Held) → v.names ≡ known_texts → Holds v (IsName name)
-        unfolding Holds
-        named-in v e = subst (λ (xs : List (List ℕ)). number_of x < length xs) (sym e) named
+        set-sound {A = Unit {0}} {E = Unit {0}} (opened ks ms) (place_of b) name r set [] (keeps-itself []) tt (Ok tt) refl tt m (name-stays (opened ks ns) (opened ks ms) name refl named) there
 
     pub attr-seen : (t : Reading) → Reads t w → plain t (opened set ms) ≡ with_own_attr (plain t (opened ks ms)) (place_of b) (known_text x) r
     attr-seen t q =
@@ -203,27 +213,19 @@ made-step b x a s ns p m v n h =
           ∙ ap (λ w. with_own_attr (with_node w (place_of (attr_class a)) (attr_datum b (known_text x) a)) (place_of b) (known_text x) (next_node w (place_of (attr_class a)))) same
           ∙ ap (λ y. with_own_attr (cond y (with_node p (place_of (attr_class a)) (attr_datum b (known_text x) a)) p) (place_of b) (known_text x) (cond y (next_node p (place_of (attr_class a))) (ref fixed_none))) (sym m);
     }))
-  where
-    last-there : (w : Held) (d : Node) → Holds (record w { nodes = w.nodes ++ d ∷ [] }) (IsNode (ref (length w.nodes)))
-    unfolding Holds
-    last-there w d = let l = length-append w.nodes (d ∷ []) in omega (arith, l)
 
 -- or it holds None
 none-step : (b : BuiltIn) (x : Known) (s : Numbered) (ns : List Node) (p : PlainWorld) → Opens s ns p → Opens (with_own b s (x, attr.NoHash)) (with_own_node b ns (x, attr.NoHash)) (with_attr b p (x, attr.NoHash))
 unfolding with_own with_own_node with_attr
 none-step b x s ns p h =
     let r = ref fixed_none in
-    let there = fixed-there (opened s.0 ns) h.sound.fixed in record {
+    let there = none-there (opened s.0 ns) h.sound.fixed in record {
       count = h.count;
       sound = attr-added b x attr.NoHash s.0 ns h.sound ns r h.sound there;
       plain_is = λ t q.
           let before : Reads t (opened s.0 ns) = record { names = q.names; trees = q.trees } in
           attr-seen b x attr.NoHash s.0 ns h.sound ns r h.sound there t before ∙ ap (λ w. with_own_attr w (place_of b) (known_text x) r) (h.plain_is t before);
     }
-  where
-    fixed-there : (w : Held) → 27 ≤ length w.nodes → Holds w (IsNode (ref fixed_none))
-    unfolding Holds
-    fixed-there w l = omega (arith, l)
 
 own-step : (b : BuiltIn) (x : Known) (a : Attr) (s : Numbered) (ns : List Node) (p : PlainWorld) → Opens s ns p → Opens (with_own b s (x, a)) (with_own_node b ns (x, a)) (with_attr b p (x, a))
 own-step b x attr.New s ns p h = made-step b x attr.New s ns p refl refl refl h

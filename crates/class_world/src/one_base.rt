@@ -12,7 +12,6 @@ ghost use Rattle.class_model.specs.Dict.{gives_dict, has_dict as class_has_dict,
 ghost use Rattle.class_table.specs.OneBase.{refused_single, single_class, says_so, static_flags};
 ghost use Rattle.class_log.specs.Logged.{IsLogged, IsGiven, made_single};
 ghost use Rattle.py_node.specs.BuiltIns.{heap_flags};
-
 ghost use Rattle.plain_machine.specs.Known.{the_type, the_dict};
 ghost use Rattle.plain_machine.specs.World.{ref, text_keys, has_dict, with_new_class, with_own_attr};
 ghost use Rattle.class_world.specs.NewHeap.{class_node};
