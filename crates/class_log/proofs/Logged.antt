@@ -6,6 +6,9 @@ use Rattle.std.proofs.lemmas.List.{map-append}
 use Rattle.py_node.specs.declared.raised.Cause.TheVariants.{NotBaseType}
 use Rattle.py_node.specs.declared.refs.PyStrInterned.{PyStrInterned}
 use Rattle.py_node.specs.declared.refs.PyObjectRef.{PyObjectRef}
+use Rattle.py_node.specs.declared.refs.PyTypeRef.{PyTypeRef}
+use Rattle.py_node.specs.declared.flags.PyTypeFlags.{PyTypeFlags}
+use Rattle.std.specs.Global.{Vec}
 use Rattle.py_node.specs.Attributes.{is_same_name, with_value, without_key}
 use Rattle.py_node.specs.BuiltIns.{heap_flags, heap_type}
 use Rattle.py_node.specs.Tree.{Text}
@@ -14,14 +17,14 @@ use Rattle.class_model.specs.Change.{with_class, with_class_attr, without_class_
 use Rattle.class_model.specs.Dict.{any_has_dict, has_dict, heap_class, slots_bring, slot_members}
 use Rattle.class_model.specs.Numbers.{limit}
 use Rattle.class_model.specs.Sound.{AreSound}
-use Rattle.class_table.specs.Keys.{table_keys}
+use Rattle.class_table.specs.Keys.{numbers, slot_names, table_keys}
 use Rattle.class_table.specs.OneBase.{refused_single, says_so, single_class, static_flags}
 use Rattle.class_table.specs.Rebase.{refused_rebase}
 use Rattle.class_table.specs.Refused.{AreThere, is_base_at, refused_attr, refused_bases}
 use Rattle.class_table.specs.Start.{start_classes}
 use Rattle.class_table.proofs.Single.{one-allowed}
 use Rattle.class_log.specs.declared.change.ClassChange.{ClassChange}
-use Rattle.class_log.specs.Change.{Made, Change, Make, SetOwn, DelOwn, SetBases, change_of}
+use Rattle.class_log.specs.Change.{Made, Change, Make, SetOwn, DelOwn, SetBases, change_of, made_of}
 use Rattle.class_log.specs.Following.{BeginsWith, Keeps, CanFollow}
 use Rattle.class_log.specs.Shown.{is_of_script, static_class, made_class, changed, shown, first_classes}
 use Rattle.class_log.specs.Refused.{IsOfItsKind, CanBeMade, IsFit, by_cause, refused_static, refused_made, refused, IsMade, AreMade}
@@ -133,6 +136,19 @@ noted old mid new x log v e p =
     ∙ map-append change_of mid (x ∷ [])
     ∙ ap (λ (cs : List ClassChange). map change_of cs ++ change_of x ∷ []) e
     ∙ ap (λ (cs : List Change). cs ++ change_of x ∷ []) v
+
+-- the same, by what the change is
+pub noted-as : (old mid new : List ClassChange) (x : ClassChange) (c : Change) (log : List Change) → map change_of old ≡ log → mid ≡ old → new ≡ mid ++ x ∷ [] → change_of x ≡ c → map change_of new ≡ log ++ c ∷ []
+noted-as old mid new x c log v e p q = noted old mid new x log v e p ∙ ap (λ (d : Change). log ++ d ∷ []) q
+
+-- a script's class and one with one base, as they are copied into a change
+pub script-change : (t : HeldClasses) (c : PyTypeRef) (x : Text) (bs ds : List PyTypeRef) (attrs : List (PyStrInterned × PyObjectRef)) (slots : Option (Vec PyStrInterned)) (flags : PyTypeFlags) → ds ≡ bs → flags.0 ≡ heap_flags (slots_bring table_keys (slot_names slots) || any_has_dict t (numbers bs)) → Make (made_of c x ds attrs slots flags) ≡ made_by_script t c.0 x (numbers bs) attrs (slot_names slots)
+script-change t c x bs ds attrs slots flags e f =
+    λ i. Make (record { class = c.0; name = x; bases = numbers (e i); attrs = attrs; slots = slot_names slots; flags = f i })
+
+pub single-change : (c : PyTypeRef) (x : Text) (b : PyTypeRef) (ds : List PyTypeRef) (attrs : List (PyStrInterned × PyObjectRef)) (given : PyTypeFlags) → ds ≡ b ∷ [] → Make (made_of c x ds attrs None given) ≡ made_single c.0 x b.0 attrs given.0
+single-change c x b ds attrs given e =
+    λ i. Make (record { class = c.0; name = x; bases = numbers (e i); attrs = attrs; slots = None; flags = given.0 })
 
 -- a change that passes the table's own tests is made
 module _ (t : HeldClasses) where
