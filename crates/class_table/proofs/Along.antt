@@ -33,11 +33,11 @@ first-step ns n a attrs false h go e =
     ap (λ b. cond (b || is_one_of is_same_name ns a.0) (Some a.1) (value_of (is_one_of is_same_name (n ∷ ns)) attrs)) h
     ∙ ap (λ v. cond (is_one_of is_same_name ns a.0) (Some a.1) v) (go r)
 
-value_of-first : (ns : List PyStrInterned) (n : PyStrInterned) (attrs : List (PyStrInterned × PyObjectRef)) → value_of (λ k. is_same_name k n) attrs ≡ None → value_of (is_one_of is_same_name (n ∷ ns)) attrs ≡ value_of (is_one_of is_same_name ns) attrs
+pub value_of-first : (ns : List PyStrInterned) (n : PyStrInterned) (attrs : List (PyStrInterned × PyObjectRef)) → value_of (λ k. is_same_name k n) attrs ≡ None → value_of (is_one_of is_same_name (n ∷ ns)) attrs ≡ value_of (is_one_of is_same_name ns) attrs
 value_of-first ns n [] e = refl
 value_of-first ns n (a ∷ attrs) e = first-step ns n a attrs (is_same_name a.0 n) refl (value_of-first ns n attrs) e
 
-value_of-no : (attrs : List (PyStrInterned × PyObjectRef)) → value_of (is_one_of is_same_name []) attrs ≡ None
+pub value_of-no : (attrs : List (PyStrInterned × PyObjectRef)) → value_of (is_one_of is_same_name []) attrs ≡ None
 value_of-no [] = refl
 value_of-no (a ∷ attrs) = value_of-no attrs
 
@@ -45,7 +45,7 @@ or_false : (b : Bool) → (b || false) ≡ b
 or_false true = refl
 or_false false = refl
 
-value_of-only : (n : PyStrInterned) (attrs : List (PyStrInterned × PyObjectRef)) → value_of (is_one_of is_same_name (n ∷ [])) attrs ≡ value_of (λ k. is_same_name k n) attrs
+pub value_of-only : (n : PyStrInterned) (attrs : List (PyStrInterned × PyObjectRef)) → value_of (is_one_of is_same_name (n ∷ [])) attrs ≡ value_of (λ k. is_same_name k n) attrs
 value_of-only n [] = refl
 value_of-only n (a ∷ attrs) =
     ap (λ b. cond b (Some a.1) (value_of (is_one_of is_same_name (n ∷ [])) attrs)) (or_false (is_same_name a.0 n))
@@ -60,12 +60,12 @@ found-step ns n v a attrs false false h i go e =
     let r = go (ap (λ b. cond b (Some a.1) (value_of (λ k. is_same_name k n) attrs)) (sym h) ∙ e) in
     (r.0, ap (λ b. cond (b || is_one_of is_same_name ns a.0) (Some a.1) (value_of (is_one_of is_same_name (n ∷ ns)) attrs)) h ∙ ap (λ b. cond b (Some a.1) (value_of (is_one_of is_same_name (n ∷ ns)) attrs)) i ∙ r.1)
 
-value_of-found : (ns : List PyStrInterned) (n : PyStrInterned) (v : PyObjectRef) (attrs : List (PyStrInterned × PyObjectRef)) → value_of (λ k. is_same_name k n) attrs ≡ Some v → (w : PyObjectRef) × (value_of (is_one_of is_same_name (n ∷ ns)) attrs ≡ Some w)
+pub value_of-found : (ns : List PyStrInterned) (n : PyStrInterned) (v : PyObjectRef) (attrs : List (PyStrInterned × PyObjectRef)) → value_of (λ k. is_same_name k n) attrs ≡ Some v → (w : PyObjectRef) × (value_of (is_one_of is_same_name (n ∷ ns)) attrs ≡ Some w)
 value_of-found ns n v [] e = cc
 value_of-found ns n v (a ∷ attrs) e = found-step ns n v a attrs (is_same_name a.0 n) (is_one_of is_same_name ns a.0) refl refl (value_of-found ns n v attrs) e
 
 -- any value gives the same wrapper, unless the slot is the hash
-wrapped-alike : (s : SlotId) (v w : PyObjectRef) → is_slot s Hash ≡ false → wrapped s (Some v) ≡ wrapped s (Some w)
+pub wrapped-alike : (s : SlotId) (v w : PyObjectRef) → is_slot s Hash ≡ false → wrapped s (Some v) ≡ wrapped s (Some w)
 wrapped-alike s v w e = ap (λ b. Some (cond (b && is_none v) Unhashable (Wrapper s))) e ∙ ap (λ b. Some (cond (b && is_none w) Unhashable (Wrapper s))) (sym e)
 
 pub wrapped-end : (s : SlotId) (ks : List Known) (i : ℕ) (attrs : List (PyStrInterned × PyObjectRef)) → length ks ≤ i → wrapped s (value_of (is_one_of is_same_name (map table_keys.special (drop i ks))) attrs) ≡ None

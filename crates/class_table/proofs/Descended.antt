@@ -1,12 +1,13 @@
 -- The class and all that derive from it are found.
 use Rattle.std.proofs.Common.{◌≡◌, ℕ, zero, suc, ◌+◌, ◌<◌, ◌≤◌, ◌⊎◌, Bool, true, false, cond, ◌||◌, eqb, List, [], ◌∷◌, ◌++◌, map, filter, length, get_or, take, Option, Some, None, inl, inr, refl, sym, ap, subst, ◌∙◌, arith}
 use Rattle.std.specs.Prelude.{slice_get, option_map, is_some, unwrap_or}
-use Rattle.std.specs.List.{list_any, AllByRecursion, IsDistinct}
+use Rattle.std.specs.List.{sum_by, list_any, AllByRecursion, IsDistinct}
 use Rattle.std.specs.List.Sorted.{IsPermutation}
 use Rattle.std.proofs.lemmas.Bool.{false≢true, cases_eq, eq-eqb, ne_eqb}
 use Rattle.std.proofs.lemmas.List.{length-map, map_more}
-use Rattle.std.proofs.lemmas.List.Sorted.{IsPermutation-sym, Contains-permutation}
+use Rattle.std.proofs.lemmas.List.Sorted.{IsPermutation-sym, Contains-permutation, sum_by-IsPermutation}
 use Rattle.std.proofs.lemmas.Option.{slice_get_within, slice_get-get_or, get_or_from_slice_get, slice_get-map}
+use Rattle.std.proofs.lemmas.List.Sums.{sum_by-cons}
 use Rattle.indexmap.specs.IndexSet.{insert_key}
 use Rattle.py_node.specs.declared.refs.PyStrInterned.{PyStrInterned}
 use Rattle.py_node.specs.declared.refs.PyTypeRef.{PyTypeRef}
@@ -26,7 +27,9 @@ use Rattle.class_table.specs.Descendants.{descendants, Descends, AreDescendants,
 use Rattle.class_table.specs.declared.descendants.Ranked.{Ranked}
 use Rattle.class_table.proofs.Found.{number-get, ascends, place-class, class-here}
 use Rattle.class_table.proofs.Places.{get-push_cases}
+use Rattle.class_table.specs.Settle.{line_length, line_places}
 use Rattle.class_table.proofs.Trials.{shorter}
+use Rattle.class_table.proofs.Settles.{distinct-places}
 
 -- one place more, where it is not there yet
 abbrev pub with_place : List ℕ → ℕ → List ℕ
@@ -363,6 +366,17 @@ module _ (kept : List StoredClass) (ok : IsCoherent kept) (c : ℕ) where
       let same = length-map found number-or in
       omega (arith, n, same)
 
+  -- what is added up along them is no more than along all of them
+  pub places-few : (u : Classes PyStrInterned) (g : ℕ → ℕ) (found : List ℕ) → AreDescendants kept c found → ((i : ℕ) (k : StoredClass) → Includes found i → slice_get kept i ≡ Some k → g i ≡ line_length (lin u k.number)) → sum_by g found ≤ line_places u (descendants (classes_of kept) c)
+  places-few u g found are is =
+      let n = distinct-places u (map number-or found) (descendants (classes_of kept) c) (distinct-map number-or found are.distinct (apart found are.within)) (in_all found are.within) in
+      let same = along u g found (λ i h. let d = are.within i h in is i d.class h d.at ∙ ap (λ x. line_length (lin u x)) (sym (number-is i d.class d.at))) in
+      omega (arith, n, same)
+    where
+      along : (u : Classes PyStrInterned) (g : ℕ → ℕ) (found : List ℕ) → ((i : ℕ) → Includes found i → g i ≡ line_length (lin u (number-or i))) → sum_by g found ≡ line_places u (map number-or found)
+      along u g [] h = refl
+      along u g (i ∷ found) h = sum_by-cons g i found ∙ ap (λ z. z + sum_by g found) (h i (inl refl)) ∙ ap (λ z. line_length (lin u (number-or i)) + z) (along u g found (λ j k. h j (inr k)))
+
   pub found-few : (found : List ℕ) → AreDescendants kept c found → length found ≤ length (descendants (classes_of kept) c)
   found-few found are = few found are.distinct are.within
 
@@ -391,6 +405,16 @@ module _ (kept : List StoredClass) where
         subst P b.1 (ap (slice_get places) (b.0 ∙ n) ∙ e, l)
   ]
 
+  measured-sum : (places : List ℕ) (ranked : List Ranked) → AreMeasured kept places ranked → (f : ℕ → ℕ) → sum_by (λ (r : Ranked). f r.place) ranked ≡ sum_by f places
+  measured-sum [] [] m f = refl
+  measured-sum [] (r ∷ ranked) m f = let n = m.count in absurd (omega (arith, n))
+  measured-sum (i ∷ places) [] m f = let n = m.count in absurd (omega (arith, n))
+  measured-sum (i ∷ places) (r ∷ ranked) m f =
+      let n = m.count in
+      let same : r.place ≡ i = let q = (m.at 0 r refl).0 in cc in
+      let rest = measured-sum places ranked (record { count = omega (arith, n); at = λ j x e. m.at (suc j) x e }) f in
+      sum_by-cons (λ (x : Ranked). f x.place) r ranked ∙ ap (λ z. f z + sum_by (λ (x : Ranked). f x.place) ranked) same ∙ ap (λ z. f i + z) rest ∙ sym (sum_by-cons f i places)
+
   -- the descendants by the lengths of their linearisations
   pub ranked-is : (c : ℕ) (places : List ℕ) (before after : List Ranked) → AreDescendants kept c places → AreMeasured kept places before → IsPermutation before after → ((i j : ℕ) (a b : Ranked) → i ≤ j → slice_get after i ≡ Some a → slice_get after j ≡ Some b → a.length ≤ b.length) → AreRanked kept c after
   ranked-is c places before after are m p up = record {
@@ -408,4 +432,7 @@ module _ (kept : List StoredClass) where
         let s = moved-at before after q.0 r.0 p r.1 in
         record { index = s.0; one = r.0; at = s.1; place = let b = a.0 in let o = q.1 in cc };
     rises = up;
+    places = places;
+    found = are;
+    sums = λ f. sum_by-IsPermutation (λ (r : Ranked). f r.place) before after p ∙ measured-sum places before m f;
   }

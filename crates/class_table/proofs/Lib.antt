@@ -10,6 +10,8 @@ pub mod Rebased
 pub mod Rebases
 pub mod Trials
 pub mod Descended
+pub mod Probed
+pub mod Settles
 pub mod Blames
 pub mod Swapped
 pub mod Renewing

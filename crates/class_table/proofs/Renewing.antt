@@ -1,5 +1,5 @@
 -- The table after other bases of a class and all that follows from them were put in place.
-use Rattle.std.proofs.Common.{◌≡◌, ℕ, ◌<◌, Bool, true, false, cond, List, [], ◌∷◌, zero, suc, length, get_or, set, Some, None, inl, inr, refl, sym, ap, subst, ◌∙◌, arith}
+use Rattle.std.proofs.Common.{◌≡◌, ℕ, ◌<◌, ◌≤◌, Bool, true, false, cond, List, [], ◌∷◌, zero, suc, map, length, get_or, set, Some, None, inl, inr, refl, sym, ap, subst, ◌∙◌, arith}
 use Rattle.std.specs.Prelude.{slice_get, option_map}
 use Rattle.std.specs.List.{All}
 use Rattle.std.proofs.lemmas.Bool.{false≢true}
@@ -7,7 +7,7 @@ use Rattle.std.proofs.lemmas.List.{map-set, length-set}
 use Rattle.std.proofs.lemmas.Option.{slice_get-map, slice_get-get_or, slice_get_within}
 use Rattle.py_node.specs.declared.refs.PyStrInterned.{PyStrInterned}
 use Rattle.py_node.specs.Attributes.{AreNamesDistinct}
-use Rattle.class_model.specs.Order.{has}
+use Rattle.class_model.specs.Order.{has, Includes}
 use Rattle.class_model.specs.Class.{Class, Classes, is_class, lin, subclasses}
 use Rattle.class_model.specs.Numbers.{is_ascending}
 use Rattle.class_model.specs.Layout.{base, solid, place_count}
@@ -15,14 +15,17 @@ use Rattle.class_model.specs.Slot.{entries}
 use Rattle.class_model.specs.BuiltIn.{natives_of}
 use Rattle.class_model.specs.Change.{with_bases}
 use Rattle.class_model.specs.Sound.{AreSound}
-use Rattle.class_model.proofs.Held.{Includes-equal}
+use Rattle.class_model.proofs.Held.{Includes-equal, Includes-map}
 use Rattle.class_model.proofs.Tests.{Decides-has}
 use Rattle.class_model.proofs.Numbers.{at-changed_away}
 use Rattle.class_model.proofs.Slots.{entries-along}
 use Rattle.class_table.specs.Keys.{table_keys, numbers, number_of}
 use Rattle.class_table.specs.Stored.{StoredClass, class_of, number_at, classes_of}
 use Rattle.class_table.specs.Coherent.{HasLines, IsCoherent}
-use Rattle.class_table.specs.Patch.{IsRefreshed, settled, refreshed_one}
+use Rattle.class_table.specs.Patch.{settled}
+use Rattle.class_table.specs.Descendants.{descendants, AreRanked}
+use Rattle.class_table.specs.Settle.{line_length, line_places, line_kept, places_kept, is_ranked, AreSettled}
+use Rattle.class_table.specs.declared.descendants.Ranked.{Ranked}
 use Rattle.class_table.specs.Refused.{AreThere}
 use Rattle.class_table.specs.Rebase.{refused_rebase}
 use Rattle.class_table.specs.declared.renew.Renewed.{Renewed}
@@ -30,10 +33,12 @@ use Rattle.class_table.specs.Renewed.{IsRenewed, AreRenewed, AreSwapped, with_re
 use Rattle.class_table.proofs.Found.{number-within, read-number}
 use Rattle.class_table.proofs.Distinct.{all-changed}
 use Rattle.class_table.proofs.Places.{get-set_cases, same-maps}
-use Rattle.class_table.proofs.Refreshed.{there, length-entries, plain-refreshed}
+use Rattle.class_table.proofs.Refreshed.{there, length-entries}
 use Rattle.class_table.proofs.Changed.{with_changed-set}
 use Rattle.class_table.proofs.Each.{IsSoOf, coherent-each}
 use Rattle.class_table.proofs.Trials.{is-there}
+use Rattle.class_table.proofs.Descended.{Includes-at, places-few}
+use Rattle.class_table.proofs.Rebased.{line-away}
 use Rattle.class_table.proofs.Passed.{sound-passed, solid-passed}
 
 some-at : {A : Type 0} (xs : List A) (i : ℕ) → i < length xs → (x : A) × (slice_get xs i ≡ Some x)
@@ -168,28 +173,83 @@ module _ (kept : List StoredClass) (ok : IsCoherent kept) (c : ℕ) (bs : List �
           places = ap (place_count u) w.number ∙ w.so.places ∙ ap Some (sym w.places);
         })
 
-    module _ (final : List StoredClass) (refreshed : IsRefreshed c mid final) where
-      pub plain-final : classes_of final ≡ with_bases (classes_of kept) c bs
+    module _ (ranked : List Ranked) (all : AreRanked kept c ranked) where
+      -- a class that is not gone through does not derive from the changed one
+      ranked-has : (j : ℕ) → Includes (map (λ (r : Ranked). r.place) ranked) j → is_ranked ranked j ≡ true
+      ranked-has j h = (Decides-has (map (λ (r : Ranked). r.place) ranked) j).1 h
+
+      was-away : (j : ℕ) (y : StoredClass) (w : Was j y) → is_ranked ranked j ≡ false → has w.old.mro c ≡ false
+      was-away j y w h = go (has w.old.mro c) refl
+        where
+          go : (b : Bool) → has w.old.mro c ≡ b → b ≡ false
+          go false d = refl
+          go true d =
+              let s = all.all j w.old w.there d in
+              let in_all = Includes-equal (map (λ (r : Ranked). r.place) ranked) s.one.place j s.place (Includes-map (λ (r : Ranked). r.place) ranked s.one (Includes-at ranked s.index s.one s.at)) in
+              absurd (false≢true (sym h ∙ ranked-has j in_all))
+
+      line-stays : (j : ℕ) (y : StoredClass) (w : Was j y) → has w.old.mro c ≡ false → has y.mro c ≡ false
       unfolding u
-      plain-final = plain-refreshed c mid final refreshed ∙ plain-mid
+      line-stays j y w h =
+          let away = line-away (classes_of kept) c bs w.old.number w.old.mro (ok.mro j w.old w.there) h in
+          let now = w.so.mro in
+          let same : numbers w.now.mro.items ≡ w.old.mro = cc in
+          ap (λ xs. has xs c) (w.mro ∙ same) ∙ h
 
-      anew : (j : ℕ) (y x : StoredClass) → Was j y → (b : Bool) → has y.mro c ≡ b → cond b (settled u y) y ≡ x → IsSoOf u x
-      anew j y x w true test e =
-          let slots : x.slots ≡ entries table_keys natives_of u y.number = ap (λ (z : StoredClass). z.slots) (sym e) in
-          so-now j y x w (sym e ∙ ap (λ ss. record y { slots = ss }) (sym slots)) slots
-      anew j y x w false test e =
-          let slots : x.slots ≡ y.slots = ap (λ (z : StoredClass). z.slots) (sym e) in
-          so-now j y x w (sym e ∙ ap (λ ss. record y { slots = ss }) (sym slots)) (slots ∙ slots-away j y w test)
+      pub away-mid : (j : ℕ) (y : StoredClass) → slice_get mid j ≡ Some y → is_ranked ranked j ≡ false → y.slots ≡ entries table_keys natives_of (classes_of mid) y.number
+      away-mid j y e h =
+          let w = was j y e in
+          slots-away j y w (line-stays j y w (was-away j y w h)) ∙ ap (λ t. entries table_keys natives_of t y.number) (sym plain-mid)
 
-      each : (j : ℕ) (x : StoredClass) → slice_get final j ≡ Some x → IsSoOf u x
-      each j x e =
-          let l : j < length mid = let a = slice_get_within final j x e in let b = refreshed.count in omega (arith, a, b) in
-          let y = get_or mid j x in
-          let h : slice_get mid j ≡ Some y = slice_get-get_or mid j x l in
-          let q : refreshed_one (classes_of mid) c y ≡ x = let z = refreshed.at j y h in cc in
-          anew j y x (was j y h) (has y.mro c) refl (ap (λ (t : Classes PyStrInterned). refreshed_one t c y) (sym plain-mid) ∙ q)
+      -- each place is that of a class
+      pub inside-mid : (j : ℕ) (r : Ranked) → slice_get ranked j ≡ Some r → r.place < length mid
+      inside-mid j r e =
+          let d = all.within j r e in
+          let l = slice_get_within kept r.place d.class d.at in
+          let n = swapped.count in
+          let m = length-set kept at (record k { bases = bs }) in
+          omega (arith, l, n, m)
 
-      pub coherent-final : IsCoherent final
+      -- so many places their new linearisations have
+      pub places-mid : places_kept mid ranked ≤ line_places (with_bases (classes_of kept) c bs) (descendants (classes_of kept) c)
       unfolding u
-      coherent-final =
-          coherent-each final (λ j x e. let P : Classes PyStrInterned → Type 0 = λ t. IsSoOf t x in subst P (sym plain-final) (each j x e)) (subst AreSound (sym plain-final) sound-now) (subst (λ t. All (λ j. AreNamesDistinct j.attrs) t) (sym plain-final) (all-changed (λ j. AreNamesDistinct j.attrs) (λ j. record j { bases = bs }) (λ j d. d) (classes_of kept) c ok.attrs))
+      places-mid =
+          let few = places-few kept ok c (with_bases (classes_of kept) c bs) (λ i. line_kept (slice_get mid i)) all.places all.found lined in
+          let sums = all.sums (λ i. line_kept (slice_get mid i)) in
+          omega (arith, few, sums)
+        where
+          lined : (i : ℕ) (x : StoredClass) → Includes all.places i → slice_get kept i ≡ Some x → line_kept (slice_get mid i) ≡ line_length (lin (with_bases (classes_of kept) c bs) x.number)
+          lined i x h e =
+              let l = slice_get_within kept i x e in
+              let n = swapped.count in
+              let m = length-set kept at (record k { bases = bs }) in
+              let r = some-at mid i (omega (arith, l, n, m)) in
+              let w = was i r.0 r.1 in
+              let same : w.old ≡ x = let q = w.there in cc in
+              ap line_kept r.1 ∙ ap length w.mro ∙ sym (ap line_length w.so.mro) ∙ ap (λ (z : StoredClass). line_length (lin (with_bases (classes_of kept) c bs) z.number)) same
+
+      module _ (final : List StoredClass) (settled_all : AreSettled (λ i k. is_ranked ranked i) mid final) (same_plain : classes_of final ≡ classes_of mid) where
+        pub plain-final : classes_of final ≡ with_bases (classes_of kept) c bs
+        unfolding u
+        plain-final = same_plain ∙ plain-mid
+
+        anew : (j : ℕ) (y x : StoredClass) → Was j y → (b : Bool) → is_ranked ranked j ≡ b → cond b (settled u y) y ≡ x → IsSoOf u x
+        anew j y x w true test e =
+            let slots : x.slots ≡ entries table_keys natives_of u y.number = ap (λ (z : StoredClass). z.slots) (sym e) in
+            so-now j y x w (sym e ∙ ap (λ ss. record y { slots = ss }) (sym slots)) slots
+        anew j y x w false test e =
+            let slots : x.slots ≡ y.slots = ap (λ (z : StoredClass). z.slots) (sym e) in
+            so-now j y x w (sym e ∙ ap (λ ss. record y { slots = ss }) (sym slots)) (slots ∙ slots-away j y w (line-stays j y w (was-away j y w test)))
+
+        each : (j : ℕ) (x : StoredClass) → slice_get final j ≡ Some x → IsSoOf u x
+        each j x e =
+            let l : j < length mid = let a = slice_get_within final j x e in let b = settled_all.count in omega (arith, a, b) in
+            let y = get_or mid j x in
+            let h : slice_get mid j ≡ Some y = slice_get-get_or mid j x l in
+            let q : cond (is_ranked ranked j) (settled (classes_of mid) y) y ≡ x = let z = settled_all.at j y h in cc in
+            anew j y x (was j y h) (is_ranked ranked j) refl (ap (λ (t : Classes PyStrInterned). cond (is_ranked ranked j) (settled t y) y) (sym plain-mid) ∙ q)
+
+        pub coherent-final : IsCoherent final
+        unfolding u
+        coherent-final =
+            coherent-each final (λ j x e. let P : Classes PyStrInterned → Type 0 = λ t. IsSoOf t x in subst P (sym plain-final) (each j x e)) (subst AreSound (sym plain-final) sound-now) (subst (λ t. All (λ j. AreNamesDistinct j.attrs) t) (sym plain-final) (all-changed (λ j. AreNamesDistinct j.attrs) (λ j. record j { bases = bs }) (λ j d. d) (classes_of kept) c ok.attrs))

@@ -1,5 +1,6 @@
 -- The class and all that derive from it, and where they are kept.
 use Rattle.std.specs.Prelude.{◌≡◌, ℕ, ◌<◌, ◌≤◌, true, ◌⊎◌, List, filter, length, Some, slice_get}
+use Rattle.std.specs.List.{sum_by}
 use Rattle.class_model.specs.Order.{has, Includes, Distinct}
 use Rattle.class_model.specs.Class.{Classes, is_sub}
 use Rattle.class_model.specs.Numbers.{numbers_of}
@@ -60,3 +61,7 @@ pub record AreRanked (kept : List StoredClass) (c : ℕ) (ranked : List Ranked) 
   pub within : (j : ℕ) (r : Ranked) → slice_get ranked j ≡ Some r → IsRanked kept c r
   pub all : (i : ℕ) (k : StoredClass) → slice_get kept i ≡ Some k → has k.mro c ≡ true → StandsAt ranked i
   pub rises : (i j : ℕ) (a b : Ranked) → i ≤ j → slice_get ranked i ≡ Some a → slice_get ranked j ≡ Some b → a.length ≤ b.length
+  -- each stands there once
+  pub places : List ℕ
+  pub found : AreDescendants kept c places
+  pub sums : (f : ℕ → ℕ) → sum_by (λ (r : Ranked). f r.place) ranked ≡ sum_by f places

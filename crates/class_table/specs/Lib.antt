@@ -19,3 +19,5 @@ pub mod Start
 pub mod Trial
 pub mod Blame
 pub mod Renewed
+pub mod Probe
+pub mod Settle

@@ -24,7 +24,7 @@ fn is_none(value: PyObjectRef) -> bool
 }
 
 // What a slot holds where one of its names has a value.
-fn wrapper(slot: SlotId, value: PyObjectRef) -> SlotEntry
+pub(crate) fn wrapper(slot: SlotId, value: PyObjectRef) -> SlotEntry
     ensures { Some result ≡ wrapped slot (Some value) }
 {
     if slot == SlotId::Hash && is_none(value) {
@@ -131,7 +131,7 @@ fn given_along(
 }
 
 // Whether a class lacks the slot for good, so that the nearest class along its linearisation gives it.
-fn is_inherited(stored: &Stored, slot: SlotId) -> bool
+pub(crate) fn is_inherited(stored: &Stored, slot: SlotId) -> bool
     ensures { result ≡ (not (is_heap (class_of stored.now)) && is_by_itself (sort_of slot)) }
 {
     !stored.is_heap() && is_own(slot)

@@ -1,6 +1,6 @@
 //! Other bases for a class: all or nothing.
 
-ghost use Rattle.std.specs.Prelude.{◌≡◌, true, length, None, Some, IfOk, OnOk, OnErr, IsSome};
+ghost use Rattle.std.specs.Prelude.{◌≡◌, ◌*◌, true, length, None, Some, IfOk, OnOk, OnErr, IsSome};
 ghost use Rattle.class_model.specs.Order.{is_distinct};
 ghost use Rattle.class_model.specs.Class.{is_class};
 ghost use Rattle.class_model.specs.Layout.{best_of};
@@ -11,19 +11,21 @@ ghost use Rattle.class_table.specs.Coherent.{IsCoherent};
 ghost use Rattle.class_table.specs.Refused.{cause_of, WithMemory, AreThere};
 ghost use Rattle.class_table.specs.Rebase.{any_derives, is_same, refused_shape, refused_change, refused_rebase, told, IsToldFirst};
 ghost use Rattle.class_table.specs.Steps.{RiseBy};
-ghost use Rattle.class_table.specs.Descendants.{descendants};
+ghost use Rattle.class_table.specs.Descendants.{descendants, AreRanked};
+ghost use Rattle.class_table.specs.Probe.{special_count};
+ghost use Rattle.class_table.specs.Settle.{line_places};
 ghost use Rattle.class_table.specs.Renewed.{AreRenewed};
 
 use crate::blame::blamed;
 use crate::chain::base_of;
-use crate::descendants::in_order;
+use crate::descendants::{Ranked, in_order};
 use crate::dict::keeps_dict;
 use crate::fault::ClassFault;
 use crate::heap::is_heap;
 use crate::inherit::{best_base, inherited};
 use crate::place::{place, stored_at};
-use crate::refresh::settle_all;
 use crate::renew::{Renewed, renew_all, swap_in};
+use crate::settle::settle_all;
 use crate::steps::Steps;
 use crate::stored::{Stored, has};
 use crate::trial::{Change, trials};
@@ -120,20 +122,28 @@ fn test_shape(classes: &[Stored], class: PyTypeRef, bases: &[PyTypeRef]) -> Resu
     Ok(best)
 }
 
+/// What other bases make of each class, and the places of those whose slots are found anew.
+#[derive(Drop)]
+struct Planned {
+    renewed: Vec<Renewed>,
+    ranked: Vec<Ranked>,
+}
+
 // What the change makes of each class, where it passes the tests that need no order, or why one is left without an order.
 fn plan<L: Ledger>(
     change: Change<'_>,
     alloc: Global,
     best: PyTypeRef,
     steps: &mut Steps<L>,
-) -> Result<Vec<Renewed>, ClassFault>
+) -> Result<Planned, ClassFault>
     requires coherent { IsCoherent change.classes.now }
     requires own { is_class (classes_of change.classes.now) change.class.0 ≡ true }
     requires there { AreThere (classes_of change.classes.now) (numbers change.bases.now) }
     requires early { refused_change (classes_of change.classes.now) change.class.0 (numbers change.bases.now) ≡ None }
     requires best { best_of (classes_of change.classes.now) (numbers change.bases.now) ≡ Some best.0 }
     ensures renewed { IfOk result (λ v.
-        AreRenewed change.entry.classes.now change.entry.class.0 (numbers change.entry.bases.now) v.items) }
+        AreRenewed change.entry.classes.now change.entry.class.0 (numbers change.entry.bases.now) v.renewed.items) }
+    ensures ranked { IfOk result (λ v. AreRanked change.entry.classes.now change.entry.class.0 v.ranked.items) }
     ensures refused { WithMemory result (told result ≡
         refused_rebase (classes_of change.entry.classes.now) change.entry.class.0 (numbers change.entry.bases.now)) }
     ensures steps { RiseBy (length (descendants (classes_of change.entry.classes.now) change.entry.class.0)) 0
@@ -152,7 +162,7 @@ fn plan<L: Ledger>(
         Err(fault) => return Err(fault),
     }
     match renew_all(change, alloc, &trials, best) {
-        Ok(renewed) => Ok(renewed),
+        Ok(renewed) => Ok(Planned { renewed, ranked }),
         Err(_) => Err(ClassFault::OutOfMemory),
     }
 }
@@ -162,22 +172,26 @@ fn change_bases<L: Ledger>(
     classes: &mut [Stored],
     class: PyTypeRef,
     bases: Vec<PyTypeRef>,
-    renewed: Vec<Renewed>,
+    plan: Planned,
     steps: &mut Steps<L>,
 )
     requires coherent { IsCoherent classes.old }
     requires own { is_class (classes_of classes.old) class.0 ≡ true }
     requires there { AreThere (classes_of classes.old) (numbers bases.items) }
     requires passed { refused_rebase (classes_of classes.old) class.0 (numbers bases.items) ≡ None }
-    requires renewed { AreRenewed classes.old class.0 (numbers bases.items) renewed.items }
+    requires renewed { AreRenewed classes.old class.0 (numbers bases.items) plan.renewed.items }
+    requires ranked { AreRanked classes.old class.0 plan.ranked.items }
     ensures coherent { IsCoherent classes.new }
     ensures set { classes_of classes.new ≡ with_bases (classes_of classes.old) class.0 (numbers bases.items) }
-    ensures steps { RiseBy 0 (length classes.old) steps.old steps.new }
+    ensures steps { RiseBy 0 (special_count * line_places
+        (with_bases (classes_of classes.old) class.0 (numbers bases.items)) (descendants (classes_of classes.old) class.0))
+        steps.old steps.new }
 {
     let at = place(classes, class);
     classes[at].set_bases(bases);
+    let Planned { renewed, ranked } = plan;
     swap_in(classes, renewed);
-    settle_all(classes, class, steps);
+    settle_all(classes, &ranked, steps);
 }
 
 // What other bases of a class make of each class, or why the class may not have them: first the tests that need no order,
@@ -188,11 +202,12 @@ fn prepare<L: Ledger>(
     class: PyTypeRef,
     bases: &[PyTypeRef],
     steps: &mut Steps<L>,
-) -> Result<Vec<Renewed>, ClassFault>
+) -> Result<Planned, ClassFault>
     requires coherent { IsCoherent classes.now }
     requires own { is_class (classes_of classes.now) class.0 ≡ true }
     requires there { AreThere (classes_of classes.now) (numbers bases.now) }
-    ensures renewed { IfOk result (λ v. AreRenewed classes.now class.0 (numbers bases.now) v.items) }
+    ensures renewed { IfOk result (λ v. AreRenewed classes.now class.0 (numbers bases.now) v.renewed.items) }
+    ensures ranked { IfOk result (λ v. AreRanked classes.now class.0 v.ranked.items) }
     ensures early { IsToldFirst (classes_of classes.now) class.0 (numbers bases.now) (told result) }
     ensures refused { WithMemory result (told result ≡
         refused_rebase (classes_of classes.now) class.0 (numbers bases.now)) }
@@ -234,15 +249,16 @@ pub(crate) fn rebase<L: Ledger>(
     ensures set { OnOk result (classes_of classes.new.items ≡
         with_bases (classes_of classes.old.items) class.0 (numbers bases.items)) }
     ensures err { OnErr result (classes.new.items ≡ classes.old.items) }
-    ensures steps { RiseBy (length (descendants (classes_of classes.old.items) class.0)) (length classes.old.items)
-        steps.old steps.new }
+    ensures steps { RiseBy (length (descendants (classes_of classes.old.items) class.0)) (special_count * line_places
+        (with_bases (classes_of classes.old.items) class.0 (numbers bases.items))
+        (descendants (classes_of classes.old.items) class.0)) steps.old steps.new }
     ensures uncounted { IsSome (refused_change (classes_of classes.old.items) class.0 (numbers bases.items)) →
         steps.new ≡ steps.old }
 {
-    let renewed = match prepare(classes, alloc, class, &bases, steps) {
-        Ok(renewed) => renewed,
+    let plan = match prepare(classes, alloc, class, &bases, steps) {
+        Ok(plan) => plan,
         Err(fault) => return Err(fault),
     };
-    change_bases(classes, class, bases, renewed, steps);
+    change_bases(classes, class, bases, plan, steps);
     Ok(())
 }

@@ -1,20 +1,17 @@
 //! Slots that are found anew after an attribute was set.
 
-ghost use Rattle.std.specs.Prelude.{◌≡◌, ◌<◌, ℕ, Some, length, slice_get, slice_set, slice_index_or};
+ghost use Rattle.std.specs.Prelude.{◌≡◌, ◌<◌, length, slice_set, slice_index_or};
 ghost use Rattle.py_node.specs.Slots.{place_of, slot_count};
 ghost use Rattle.class_model.specs.Slot.{is_name_of, entry};
 ghost use Rattle.class_model.specs.BuiltIn.{natives_of};
 ghost use Rattle.class_table.specs.Stored.{StoredClass, classes_of};
 ghost use Rattle.class_table.specs.Keys.{table_keys};
 ghost use Rattle.class_table.specs.Coherent.{HasLines};
-ghost use Rattle.class_table.specs.Steps.{RiseBy};
 ghost use Rattle.class_table.specs.Patch.{IsNear, AreNear, IsRefreshed, settled};
 
 use crate::entries::entry;
-use crate::steps::Steps;
 use crate::stored::{SLOTS, Stored};
 use py_node::{PyStrInterned, PyTypeRef, SlotId};
-use std::sync::ledger::Ledger;
 
 // How many special names there are: they are the first names.
 const SPECIAL_NAMES: u64 = 70;
@@ -95,20 +92,5 @@ pub(crate) fn refresh(classes: &mut [Stored], class: PyTypeRef, name: PyStrInter
 {
     if name.0 < SPECIAL_NAMES {
         patch_all(classes, class, name);
-    }
-}
-
-// Finds every slot anew in each class that has a class along its linearisation. It counts those classes.
-pub(crate) fn settle_all<L: Ledger>(classes: &mut [Stored], class: PyTypeRef, steps: &mut Steps<L>)
-    requires lines { HasLines classes.old }
-    requires full { (i : ℕ) (k : StoredClass) → slice_get classes.old i ≡ Some k → length k.slots ≡ slot_count }
-    ensures refreshed { IsRefreshed class.0 classes.old classes.new }
-    ensures steps { RiseBy 0 (length classes.old) steps.old steps.new }
-{
-    for at in 0..classes.len() {
-        if classes[at].derives(class) {
-            settle(classes, at);
-            steps.probe();
-        }
     }
 }

@@ -5,8 +5,8 @@ ghost use Rattle.std.specs.Prelude.{◌≡◌, ◌+◌, ◌≤◌};
 use std::marker::Model;
 use std::sync::ledger::{Blank, Book, Ledger, Share};
 
-/// How many linearisations were merged, and of how many classes the slots were probed for anew. It takes no bytes, and
-/// only `merge` and `probe` change it.
+/// How many linearisations were merged, and how many probes were made: a probe asks one class's own attributes for one
+/// special name. It takes no bytes, and only `merge` and `probe` change it.
 #[derive(Drop)]
 pub struct Steps<L: Ledger> {
     book: Book<L>,
@@ -49,7 +49,7 @@ impl<L: Ledger> Steps<L> {
         self.book.add(&mut self.merges, 1);
     }
 
-    // Counts a class whose slots are probed for anew.
+    // Counts a probe.
     pub(crate) fn probe(&mut self)
         ensures { self.new ≡ record self.old { probes = self.old.probes + 1 } }
     {

@@ -1,6 +1,6 @@
 //! The table of classes.
 
-ghost use Rattle.std.specs.Prelude.{◌≡◌, ◌+◌, ◌<◌, ◌≤◌, [], true, false, length, Ok, OnOk, OnErr, IfOk, ◌↔◌, IsTrue, Some, is_some, leb, option_map, slice_get, None, IfSome, IsSome};
+ghost use Rattle.std.specs.Prelude.{◌≡◌, ◌+◌, ◌*◌, ◌<◌, ◌≤◌, [], true, false, length, Ok, OnOk, OnErr, IfOk, ◌↔◌, IsTrue, Some, is_some, leb, option_map, slice_get, None, IfSome, IsSome};
 ghost use Rattle.std.specs.List.{All};
 ghost use Rattle.py_node.specs.declared.raised.Cause.TheVariants.{EmptyBases, NotBaseType, LayoutConflict, DuplicateBase, LocalPrecedence, MroConflict};
 ghost use Rattle.py_node.specs.Attributes.{is_same_name, AreNamesDistinct};
@@ -20,6 +20,7 @@ ghost use Rattle.class_table.specs.New.{IsBelow, class_of_new};
 ghost use Rattle.class_table.specs.Refused.{refusal, cause_of, refused_layout, refused_bases, refused_attr, WithMemory, NeedsNoMemory, IsEarly, AreThere, NamesNoClass};
 ghost use Rattle.class_table.specs.Rebase.{refused_change, refused_rebase, told, IsToldFirst};
 ghost use Rattle.class_table.specs.Descendants.{descendants};
+ghost use Rattle.class_table.specs.Settle.{line_places};
 ghost use Rattle.class_table.specs.Causes.{LacksBase, HasLayoutConflict, HasDuplicate, BreaksOrder, HasNoLine};
 ghost use Rattle.class_table.specs.Given.{AreGiven};
 
@@ -256,7 +257,8 @@ impl ClassTable {
     /// the class gives its objects a dict and would not, or the other way round; one stands twice; and then at the
     /// least-numbered class that they leave without an order while all its bases have one. Where they are refused or
     /// memory runs out, the table stays as it was. No count of merges or of probes falls; at most one merge is counted for
-    /// the class and for each that derives from it; and where a test fails that needs no order, nothing is counted.
+    /// the class and for each that derives from it, and at most 70 probes for each place of their new linearisations; and
+    /// where a test fails that needs no order, nothing is counted.
     pub fn set_bases<L: Ledger>(
         &mut self,
         class: PyTypeRef,
@@ -272,6 +274,8 @@ impl ClassTable {
         ensures merges { steps.old.merges ≤ steps.new.merges }
         ensures probes { steps.old.probes ≤ steps.new.probes }
         ensures few_merges { steps.new.merges ≤ steps.old.merges + length (descendants self.old class.0) }
+        ensures few_probes { steps.new.probes ≤ steps.old.probes + 70 *
+            line_places (with_bases self.old class.0 (numbers bases.items)) (descendants self.old class.0) }
         ensures uncounted { IsSome (refused_change self.old class.0 (numbers bases.items)) → steps.new ≡ steps.old }
     {
         let alloc = self.alloc;

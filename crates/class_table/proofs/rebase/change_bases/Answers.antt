@@ -1,64 +1,22 @@
-use Rattle.std.proofs.Common.{◌≡◌, ℕ, List, length, get_or, set, sym, ap, subst, ◌∙◌, arith}
+use Rattle.std.proofs.Common.{◌≡◌, ◌*◌, ℕ, List, get_or, set, refl, sym, ap, subst, ◌∙◌, arith}
 use Rattle.std.proofs.lemmas.List.{length-set}
+use Rattle.class_model.specs.Class.{is_heap}
+use Rattle.class_model.specs.Change.{with_bases}
 use Rattle.class_table.specs.Keys.{numbers}
-use Rattle.class_table.specs.Stored.{StoredClass}
+use Rattle.class_table.specs.Stored.{StoredClass, class_of, classes_of}
 use Rattle.class_table.specs.Renewed.{AreSwapped}
+use Rattle.class_table.specs.Descendants.{descendants, AreRanked}
+use Rattle.class_table.specs.Settle.{is_ranked, line_places, places_kept}
+use Rattle.class_table.specs.declared.descendants.Ranked.{Ranked}
 use Rattle.class_table.proofs.Found.{number-within}
 use Rattle.class_table.proofs.Counted.{rise-within}
-use Rattle.class_table.proofs.Renewing.{lines-mid, full-mid, plain-final, coherent-final}
+use Rattle.class_table.proofs.Settles.{settled-plain}
+use Rattle.class_table.proofs.Renewing.{lines-mid, full-mid, inside-mid, away-mid, places-mid, plain-final, coherent-final}
 use Rattle.class_table.proofs.rebase.change_bases.Goals as goal
 
 -- the classes after the bases of one were changed
 put : (kept : List StoredClass) (at : ℕ) (bs : List ℕ) (k new : StoredClass) → k ≡ get_or kept at k → new ≡ record (get_or kept at k) { bases = bs } → set kept at new ≡ set kept at (record k { bases = bs })
 put kept at bs k new is e = ap (set kept at) (e ∙ ap (λ (z : StoredClass). record z { bases = bs }) (sym is))
-
-pub settle_all-requires-clause-lines : goal.settle_all-requires-clause-lines
-settle_all-requires-clause-lines g c =
-    let kept = c.args.classes.now in
-    let k = c.index-classes-at.result in
-    let bs = numbers c.args.bases.items in
-    let renewed = c.args.renewed.items in
-    let at = c.place-at.result in
-    let first = put kept at bs k c.set_bases.new.self c.index-classes-at.is c.set_bases.ensures in
-    let P : List StoredClass → Type 0 = λ ys. AreSwapped renewed ys c.swap_in.new.classes in
-    let swapped = subst P first c.swap_in.ensures in
-    lines-mid kept c.requires.coherent c.args.class.0 bs c.requires.own c.requires.there c.requires.passed renewed c.requires.renewed at c.place-at.ensures k c.index-classes-at.is c.swap_in.new.classes swapped
-
-pub settle_all-requires-clause-full : goal.settle_all-requires-clause-full
-settle_all-requires-clause-full g c =
-    let kept = c.args.classes.now in
-    let k = c.index-classes-at.result in
-    let bs = numbers c.args.bases.items in
-    let renewed = c.args.renewed.items in
-    let at = c.place-at.result in
-    let first = put kept at bs k c.set_bases.new.self c.index-classes-at.is c.set_bases.ensures in
-    let P : List StoredClass → Type 0 = λ ys. AreSwapped renewed ys c.swap_in.new.classes in
-    let swapped = subst P first c.swap_in.ensures in
-    full-mid kept c.requires.coherent c.args.class.0 bs c.requires.own c.requires.there c.requires.passed renewed c.requires.renewed at c.place-at.ensures k c.index-classes-at.is c.swap_in.new.classes swapped
-
-pub returns-clause-coherent : goal.returns-clause-coherent
-returns-clause-coherent g c =
-    let kept = c.args.classes.now in
-    let k = c.index-classes-at.result in
-    let bs = numbers c.args.bases.items in
-    let renewed = c.args.renewed.items in
-    let at = c.place-at.result in
-    let first = put kept at bs k c.set_bases.new.self c.index-classes-at.is c.set_bases.ensures in
-    let P : List StoredClass → Type 0 = λ ys. AreSwapped renewed ys c.swap_in.new.classes in
-    let swapped = subst P first c.swap_in.ensures in
-    coherent-final kept c.requires.coherent c.args.class.0 bs c.requires.own c.requires.there c.requires.passed renewed c.requires.renewed at c.place-at.ensures k c.index-classes-at.is c.swap_in.new.classes swapped c.settle_all.new.classes c.settle_all.ensures.refreshed
-
-pub returns-clause-set : goal.returns-clause-set
-returns-clause-set g c =
-    let kept = c.args.classes.now in
-    let k = c.index-classes-at.result in
-    let bs = numbers c.args.bases.items in
-    let renewed = c.args.renewed.items in
-    let at = c.place-at.result in
-    let first = put kept at bs k c.set_bases.new.self c.index-classes-at.is c.set_bases.ensures in
-    let P : List StoredClass → Type 0 = λ ys. AreSwapped renewed ys c.swap_in.new.classes in
-    let swapped = subst P first c.swap_in.ensures in
-    plain-final kept c.requires.coherent c.args.class.0 bs c.requires.own c.requires.there c.requires.passed renewed c.requires.renewed at c.place-at.ensures k c.index-classes-at.is c.swap_in.new.classes swapped c.settle_all.new.classes c.settle_all.ensures.refreshed
 
 pub place-at-requires-clause-ascending : goal.place-at-requires-clause-ascending
 place-at-requires-clause-ascending g c = c.requires.coherent.sound.ascending
@@ -69,8 +27,106 @@ bounds-classes-at g c = number-within c.args.classes.now c.place-at.result c.arg
 pub swap_in-requires : goal.swap_in-requires
 swap_in-requires g c = c.requires.renewed.count ∙ sym (length-set c.args.classes.now c.place-at.result c.set_bases.new.self)
 
+pub settle_all-requires-clause-lines : goal.settle_all-requires-clause-lines
+settle_all-requires-clause-lines g c =
+    let kept = c.args.classes.now in
+    let k = c.index-classes-at.result in
+    let bs = numbers c.args.bases.items in
+    let renewed = c.args.plan.renewed.items in
+    let at = c.place-at.result in
+    let mid = c.swap_in.new.classes in
+    let first = put kept at bs k c.set_bases.new.self c.index-classes-at.is c.set_bases.ensures in
+    let P : List StoredClass → Type 0 = λ ys. AreSwapped renewed ys mid in
+    let swapped = subst P first c.swap_in.ensures in
+    lines-mid kept c.requires.coherent c.args.class.0 bs c.requires.own c.requires.there c.requires.passed renewed c.requires.renewed at c.place-at.ensures k c.index-classes-at.is mid swapped
+
+pub settle_all-requires-clause-full : goal.settle_all-requires-clause-full
+settle_all-requires-clause-full g c =
+    let kept = c.args.classes.now in
+    let k = c.index-classes-at.result in
+    let bs = numbers c.args.bases.items in
+    let renewed = c.args.plan.renewed.items in
+    let at = c.place-at.result in
+    let mid = c.swap_in.new.classes in
+    let first = put kept at bs k c.set_bases.new.self c.index-classes-at.is c.set_bases.ensures in
+    let P : List StoredClass → Type 0 = λ ys. AreSwapped renewed ys mid in
+    let swapped = subst P first c.swap_in.ensures in
+    full-mid kept c.requires.coherent c.args.class.0 bs c.requires.own c.requires.there c.requires.passed renewed c.requires.renewed at c.place-at.ensures k c.index-classes-at.is mid swapped
+
+pub settle_all-requires-clause-inside : goal.settle_all-requires-clause-inside
+settle_all-requires-clause-inside g c =
+    let kept = c.args.classes.now in
+    let k = c.index-classes-at.result in
+    let bs = numbers c.args.bases.items in
+    let renewed = c.args.plan.renewed.items in
+    let at = c.place-at.result in
+    let mid = c.swap_in.new.classes in
+    let first = put kept at bs k c.set_bases.new.self c.index-classes-at.is c.set_bases.ensures in
+    let P : List StoredClass → Type 0 = λ ys. AreSwapped renewed ys mid in
+    let swapped = subst P first c.swap_in.ensures in
+    let Q : List Ranked → Type 0 = λ rs. AreRanked kept c.args.class.0 rs in
+    let all = subst Q (sym c.deref.ensures.value) c.requires.ranked in
+    inside-mid kept c.requires.coherent c.args.class.0 bs c.requires.own c.requires.there c.requires.passed renewed c.requires.renewed at c.place-at.ensures k c.index-classes-at.is mid swapped c.deref.result.now all
+
+pub settle_all-requires-clause-away : goal.settle_all-requires-clause-away
+settle_all-requires-clause-away g c =
+    let kept = c.args.classes.now in
+    let k = c.index-classes-at.result in
+    let bs = numbers c.args.bases.items in
+    let renewed = c.args.plan.renewed.items in
+    let at = c.place-at.result in
+    let mid = c.swap_in.new.classes in
+    let first = put kept at bs k c.set_bases.new.self c.index-classes-at.is c.set_bases.ensures in
+    let P : List StoredClass → Type 0 = λ ys. AreSwapped renewed ys mid in
+    let swapped = subst P first c.swap_in.ensures in
+    let Q : List Ranked → Type 0 = λ rs. AreRanked kept c.args.class.0 rs in
+    let all = subst Q (sym c.deref.ensures.value) c.requires.ranked in
+    away-mid kept c.requires.coherent c.args.class.0 bs c.requires.own c.requires.there c.requires.passed renewed c.requires.renewed at c.place-at.ensures k c.index-classes-at.is mid swapped c.deref.result.now all
+
+pub returns-clause-coherent : goal.returns-clause-coherent
+returns-clause-coherent g c =
+    let kept = c.args.classes.now in
+    let k = c.index-classes-at.result in
+    let bs = numbers c.args.bases.items in
+    let renewed = c.args.plan.renewed.items in
+    let at = c.place-at.result in
+    let mid = c.swap_in.new.classes in
+    let first = put kept at bs k c.set_bases.new.self c.index-classes-at.is c.set_bases.ensures in
+    let P : List StoredClass → Type 0 = λ ys. AreSwapped renewed ys mid in
+    let swapped = subst P first c.swap_in.ensures in
+    let Q : List Ranked → Type 0 = λ rs. AreRanked kept c.args.class.0 rs in
+    let all = subst Q (sym c.deref.ensures.value) c.requires.ranked in
+    let plain = settled-plain (λ k. is_heap (class_of k)) (λ t k. refl) (λ i k. is_ranked c.deref.result.now i) mid c.settle_all.new.classes c.settle_all.ensures.settled in
+    coherent-final kept c.requires.coherent c.args.class.0 bs c.requires.own c.requires.there c.requires.passed renewed c.requires.renewed at c.place-at.ensures k c.index-classes-at.is mid swapped c.deref.result.now all c.settle_all.new.classes c.settle_all.ensures.settled plain
+
+pub returns-clause-set : goal.returns-clause-set
+returns-clause-set g c =
+    let kept = c.args.classes.now in
+    let k = c.index-classes-at.result in
+    let bs = numbers c.args.bases.items in
+    let renewed = c.args.plan.renewed.items in
+    let at = c.place-at.result in
+    let mid = c.swap_in.new.classes in
+    let first = put kept at bs k c.set_bases.new.self c.index-classes-at.is c.set_bases.ensures in
+    let P : List StoredClass → Type 0 = λ ys. AreSwapped renewed ys mid in
+    let swapped = subst P first c.swap_in.ensures in
+    let Q : List Ranked → Type 0 = λ rs. AreRanked kept c.args.class.0 rs in
+    let all = subst Q (sym c.deref.ensures.value) c.requires.ranked in
+    let plain = settled-plain (λ k. is_heap (class_of k)) (λ t k. refl) (λ i k. is_ranked c.deref.result.now i) mid c.settle_all.new.classes c.settle_all.ensures.settled in
+    plain-final kept c.requires.coherent c.args.class.0 bs c.requires.own c.requires.there c.requires.passed renewed c.requires.renewed at c.place-at.ensures k c.index-classes-at.is mid swapped c.deref.result.now all c.settle_all.new.classes c.settle_all.ensures.settled plain
+
 pub returns-clause-steps : goal.returns-clause-steps
 returns-clause-steps g c =
-    let a = c.swap_in.ensures.count in
-    let b = length-set c.args.classes.now c.place-at.result c.set_bases.new.self in
-    rise-within 0 (length c.swap_in.new.classes) 0 (length c.args.classes.now) c.args.steps.now c.settle_all.new.steps c.settle_all.ensures.steps (omega arith) (omega (arith, a, b))
+    let kept = c.args.classes.now in
+    let k = c.index-classes-at.result in
+    let bs = numbers c.args.bases.items in
+    let renewed = c.args.plan.renewed.items in
+    let at = c.place-at.result in
+    let mid = c.swap_in.new.classes in
+    let first = put kept at bs k c.set_bases.new.self c.index-classes-at.is c.set_bases.ensures in
+    let P : List StoredClass → Type 0 = λ ys. AreSwapped renewed ys mid in
+    let swapped = subst P first c.swap_in.ensures in
+    let Q : List Ranked → Type 0 = λ rs. AreRanked kept c.args.class.0 rs in
+    let all = subst Q (sym c.deref.ensures.value) c.requires.ranked in
+    let few = places-mid kept c.requires.coherent c.args.class.0 bs c.requires.own c.requires.there c.requires.passed renewed c.requires.renewed at c.place-at.ensures k c.index-classes-at.is mid swapped c.deref.result.now all in
+    rise-within 0 (70 * places_kept mid c.deref.result.now) 0 (70 * line_places (with_bases (classes_of kept) c.args.class.0 bs) (descendants (classes_of kept) c.args.class.0)) c.args.steps.now c.settle_all.new.steps c.settle_all.ensures.steps (omega arith) (omega (arith, few))

@@ -1,0 +1,10 @@
+use Rattle.std.proofs.Common.{◌*◌, take}
+use Rattle.class_table.specs.Settle.{AreSettled, is_heap_ranked, places_kept}
+use Rattle.class_table.specs.Steps.{RiseBy}
+use Rattle.class_table.proofs.settle.settle_heaps.Given as goal
+
+abbrev pub invariant-loop-next : goal.invariant-loop-next
+invariant-loop-next g l = record {
+  settled : AreSettled (is_heap_ranked (take l.next-index l.ranked)) l.fn.classes l.classes;
+  steps : RiseBy 0 (70 * places_kept l.fn.classes (take l.next-index l.ranked)) l.fn.steps l.steps;
+}
