@@ -31,6 +31,3 @@ pub use orders::all_orders;
 pub use place::name_of;
 pub use report::{Line, Pair, Report, Wrong};
 pub use wellformed::well_formed;
-
-#[cfg(test)]
-mod tests;

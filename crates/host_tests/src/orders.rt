@@ -1,4 +1,6 @@
-use crate::{
+//! The orders of a hierarchy, and who accepts a report of them.
+
+use order_check::{
     Entry, Hierarchy, Line, Pair, Report, Wrong, accept, all_orders, all_orders_par, check,
     check_par, is_in_order,
 };
