@@ -45,6 +45,7 @@ impl PlaceSet {
         ensures place { result ≡ slice_get self.now index }
         ensures distinct { Distinct self.now }
     {
+        // (that the keys differ is told by a call of the set)
         let _count = self.places.len();
         self.places.get_index(index).copied()
     }
@@ -54,6 +55,7 @@ impl PlaceSet {
         ensures all { result.now ≡ self.now }
         ensures distinct { Distinct self.now }
     {
+        // (that the keys differ is told by a call of the set)
         let _count = self.places.len();
         self.places.as_slice()
     }

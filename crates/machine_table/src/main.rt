@@ -1,5 +1,7 @@
-//! Writes a table of calls with their values, of the machine and what stands above it (`machine_lines`).
+//! Writes a table of calls with their values, of the machine (`machine_lines`) and of what the program does.
 #![tactic(auto)]
+
+mod programs;
 
 use std::io;
 use std::process::ExitCode;
@@ -7,7 +9,8 @@ use table_lines::Table;
 
 fn main(rt: HostRuntime) -> io::Result<ExitCode> {
     let mut table = Table::new(rt.alloc());
-    machine_lines::put(&mut table, &rt);
+    machine_lines::put(&mut table, rt.alloc());
+    programs::put(&mut table, &rt);
     let text = table.text();
     print!(rt; "{text}")?;
     let status = if table.is_ended() { 1 } else { 0 };
