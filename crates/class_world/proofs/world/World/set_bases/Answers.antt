@@ -1,6 +1,8 @@
-use Rattle.std.proofs.Common.{◌+◌, ◌≤◌, length, subst}
+use Rattle.std.proofs.Common.{◌+◌, ◌*◌, ◌≤◌, length, subst}
+use Rattle.class_model.specs.Change.{with_bases}
 use Rattle.class_table.specs.Descendants.{descendants}
 use Rattle.class_table.specs.Keys.{numbers}
+use Rattle.class_table.specs.Settle.{line_places}
 use Rattle.class_world.specs.Held.{Held}
 use Rattle.class_world.specs.contracts.world.World.{the_view}
 use Rattle.class_world.specs.Reading.{Reads}
@@ -56,3 +58,7 @@ returns-clause-grows g c =
 pub returns-clause-few_merges : goal.returns-clause-few_merges
 returns-clause-few_merges g c =
     subst (λ (n : Held). c.set_bases.new.steps.merges ≤ c.args.steps.now.merges + length (descendants n.classes c.args.class.0)) c.self.view_is c.set_bases.ensures.few_merges
+
+pub returns-clause-few_probes : goal.returns-clause-few_probes
+returns-clause-few_probes g c =
+    subst (λ (n : Held). c.set_bases.new.steps.probes ≤ c.args.steps.now.probes + 70 * line_places (with_bases n.classes c.args.class.0 (numbers c.args.bases.items)) (descendants n.classes c.args.class.0)) c.self.view_is c.set_bases.ensures.few_probes
