@@ -1,2 +1,0 @@
-mod Free
-mod Sent
