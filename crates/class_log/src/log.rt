@@ -1,6 +1,6 @@
 //! A log of the changes of a table of classes: each change is made and noted, or neither.
 
-ghost use Rattle.std.specs.Prelude.{◌≡◌, ◌≤◌, ◌+◌, ◌||◌, ◌++◌, ◌∷◌, [], map, length, is_some, true, false, Ok, None, option_map, IfOk, OnOk, OnErr, IsSome};
+ghost use Rattle.std.specs.Prelude.{◌≡◌, ◌≤◌, ◌+◌, ◌*◌, ◌||◌, ◌++◌, ◌∷◌, [], map, length, is_some, true, false, Ok, Err, None, IfOk, OnOk, OnErr, IsSome};
 ghost use Rattle.py_node.specs.Attributes.{is_same_name};
 ghost use Rattle.class_model.specs.Class.{class_at, is_class, own_of};
 ghost use Rattle.class_model.specs.Change.{with_class, with_class_attr, without_class_attr, with_bases};
@@ -10,8 +10,10 @@ ghost use Rattle.class_table.specs.Descendants.{descendants};
 ghost use Rattle.class_table.specs.Keys.{numbers, slot_names, table_keys};
 ghost use Rattle.class_table.specs.OneBase.{refused_single, single_class, says_so};
 ghost use Rattle.class_table.specs.Rebase.{told, refused_change, refused_rebase, IsToldFirst};
+ghost use Rattle.class_table.specs.Settle.{line_places};
 ghost use Rattle.class_table.specs.Refused.{AreThere, WithMemory, refusal, refused_attr, refused_bases, NamesNoClass};
 ghost use Rattle.class_log.specs.Change.{Make, SetOwn, DelOwn, SetBases, change_of, made_of};
+ghost use Rattle.class_log.specs.Refused.{by_cause};
 ghost use Rattle.class_log.specs.Logged.{IsLogged, IsGiven, made_by_script, made_single};
 
 use crate::change::{ClassChange, copy_slots};
@@ -235,13 +237,15 @@ impl ClassLog {
         ensures merges { steps.old.merges ≤ steps.new.merges }
         ensures probes { steps.old.probes ≤ steps.new.probes }
         ensures few_merges { steps.new.merges ≤ steps.old.merges + length (descendants classes.old class.0) }
+        ensures few_probes { steps.new.probes ≤ steps.old.probes + 70 *
+            line_places (with_bases classes.old class.0 (numbers bases.items)) (descendants classes.old class.0) }
         ensures uncounted { IsSome (refused_change classes.old class.0 (numbers bases.items)) → steps.new ≡ steps.old }
     {
         if self.changes.reserve(1).is_err() {
-            return out_of_memory(classes, class, &bases);
+            return Err(first_fault(classes, class, &bases));
         }
         let Ok(copy) = Vec::from_slice(self.alloc, &bases) else {
-            return out_of_memory(classes, class, &bases);
+            return Err(first_fault(classes, class, &bases));
         };
         match classes.set_bases(class, bases, steps) {
             Ok(()) => {
@@ -254,20 +258,15 @@ impl ClassLog {
     }
 }
 
-// What is told of other bases where memory is short: the test that needs no order and fails, if one does.
-fn out_of_memory(
-    classes: &ClassTable,
-    class: PyTypeRef,
-    bases: &[PyTypeRef],
-) -> Result<(), ClassFault>
+// What is told of other bases where memory is short: the first test that needs no order and fails, if one does.
+fn first_fault(classes: &ClassTable, class: PyTypeRef, bases: &[PyTypeRef]) -> ClassFault
     requires own { is_class classes.now class.0 ≡ true }
     requires there { AreThere classes.now (numbers bases.now) }
-    ensures told { told result ≡ option_map (λ cause. (cause, None)) (refused_change classes.now class.0 (numbers bases.now)) }
-    ensures fails { OnOk result ⊥ }
+    ensures { told {T = Unit {0}} (Err result) ≡ by_cause (refused_change classes.now class.0 (numbers bases.now)) }
 {
     match classes.may_rebase(class, bases) {
-        Ok(()) => Err(ClassFault::OutOfMemory),
-        Err(cause) => Err(ClassFault::Refused(cause)),
+        Ok(()) => ClassFault::OutOfMemory,
+        Err(cause) => ClassFault::Refused(cause),
     }
 }
 
