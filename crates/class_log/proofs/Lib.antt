@@ -2,5 +2,4 @@ pub mod Followed
 pub mod Kept
 pub mod Logged
 pub mod Lone
-pub mod Short
 pub mod Unnamed

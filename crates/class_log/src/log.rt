@@ -1,6 +1,6 @@
 //! A log of the changes of a table of classes: each change is made and noted, or neither.
 
-ghost use Rattle.std.specs.Prelude.{◌≡◌, ◌≤◌, ◌+◌, ◌*◌, ◌||◌, ◌++◌, ◌∷◌, [], map, length, is_some, true, false, Ok, Err, None, IfOk, OnOk, OnErr, IsSome};
+ghost use Rattle.std.specs.Prelude.{◌≡◌, ◌≤◌, ◌+◌, ◌*◌, ◌||◌, ◌++◌, ◌∷◌, [], map, length, is_some, true, false, Ok, None, option_map, IfOk, OnOk, OnErr, IsSome};
 ghost use Rattle.py_node.specs.Attributes.{is_same_name};
 ghost use Rattle.class_model.specs.Class.{class_at, is_class, own_of};
 ghost use Rattle.class_model.specs.Change.{with_class, with_class_attr, without_class_attr, with_bases};
@@ -13,7 +13,6 @@ ghost use Rattle.class_table.specs.Rebase.{told, refused_change, refused_rebase,
 ghost use Rattle.class_table.specs.Settle.{line_places};
 ghost use Rattle.class_table.specs.Refused.{AreThere, WithMemory, refusal, refused_attr, refused_bases, NamesNoClass};
 ghost use Rattle.class_log.specs.Change.{Make, SetOwn, DelOwn, SetBases, change_of, made_of};
-ghost use Rattle.class_log.specs.Refused.{by_cause};
 ghost use Rattle.class_log.specs.Logged.{IsLogged, IsGiven, made_by_script, made_single};
 
 use crate::change::{ClassChange, copy_slots};
@@ -242,10 +241,10 @@ impl ClassLog {
         ensures uncounted { IsSome (refused_change classes.old class.0 (numbers bases.items)) → steps.new ≡ steps.old }
     {
         if self.changes.reserve(1).is_err() {
-            return Err(first_fault(classes, class, &bases));
+            return out_of_memory(classes, class, &bases);
         }
         let Ok(copy) = Vec::from_slice(self.alloc, &bases) else {
-            return Err(first_fault(classes, class, &bases));
+            return out_of_memory(classes, class, &bases);
         };
         match classes.set_bases(class, bases, steps) {
             Ok(()) => {
@@ -258,15 +257,20 @@ impl ClassLog {
     }
 }
 
-// What is told of other bases where memory is short: the first test that needs no order and fails, if one does.
-fn first_fault(classes: &ClassTable, class: PyTypeRef, bases: &[PyTypeRef]) -> ClassFault
+// What is told of other bases where memory is short: the test that needs no order and fails, if one does.
+fn out_of_memory(
+    classes: &ClassTable,
+    class: PyTypeRef,
+    bases: &[PyTypeRef],
+) -> Result<(), ClassFault>
     requires own { is_class classes.now class.0 ≡ true }
     requires there { AreThere classes.now (numbers bases.now) }
-    ensures { told {T = Unit {0}} (Err result) ≡ by_cause (refused_change classes.now class.0 (numbers bases.now)) }
+    ensures told { told result ≡ option_map (λ cause. (cause, None)) (refused_change classes.now class.0 (numbers bases.now)) }
+    ensures fails { OnOk result ⊥ }
 {
     match classes.may_rebase(class, bases) {
-        Ok(()) => ClassFault::OutOfMemory,
-        Err(cause) => ClassFault::Refused(cause),
+        Ok(()) => Err(ClassFault::OutOfMemory),
+        Err(cause) => Err(ClassFault::Refused(cause)),
     }
 }
 
