@@ -1,5 +1,5 @@
 -- What stays where a change is refused, and what a call that isn't refused has passed.
-use Rattle.std.proofs.Common.{◌≡◌, Bool, true, false, cond, List, Option, Some, None, refl, sym, subst}
+use Rattle.std.proofs.Common.{◌≡◌, Bool, true, false, cond, List, Some, None, refl, sym, subst}
 use Rattle.py_node.specs.declared.raised.Cause.TheVariants.{NotBaseType}
 use Rattle.py_node.specs.declared.refs.PyStrInterned.{PyStrInterned}
 use Rattle.class_model.specs.Class.{Classes}

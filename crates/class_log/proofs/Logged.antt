@@ -27,10 +27,10 @@ use Rattle.class_log.specs.declared.change.ClassChange.{ClassChange}
 use Rattle.class_log.specs.Change.{Made, Change, Make, SetOwn, DelOwn, SetBases, change_of, made_of}
 use Rattle.class_log.specs.Following.{BeginsWith, Keeps, CanFollow}
 use Rattle.class_log.specs.Shown.{is_of_script, static_class, made_class, changed, shown, first_classes}
-use Rattle.class_log.specs.Refused.{IsOfItsKind, CanBeMade, IsFit, by_cause, refused_static, refused_made, refused, IsMade, AreMade}
+use Rattle.class_log.specs.Refused.{IsOfItsKind, IsFit, by_cause, refused_static, refused_made, refused, IsMade, AreMade}
 use Rattle.class_log.specs.Logged.{unnamed, AreSameButForNames, IsLogged, made_by_script, made_single, IsGivenTo, IsGiven}
 use Rattle.class_log.proofs.Followed.{shown-added}
-use Rattle.class_log.proofs.Unnamed.{unnamed-twice, unnamed-push, unnamed-changed, unnamed-called, bases-unnamed, limit-unnamed, class-unnamed, dicts-unnamed, bases-refused, attr-refused, single-refused, rebase-refused}
+use Rattle.class_log.proofs.Unnamed.{unnamed-push, unnamed-changed, unnamed-called, bases-unnamed, limit-unnamed, class-unnamed, dicts-unnamed, bases-refused, attr-refused, single-refused, rebase-refused}
 
 abbrev HeldClasses : Type 0
 HeldClasses = Classes PyStrInterned

@@ -17,7 +17,7 @@ use Rattle.class_model.proofs.Linear.{linear-same}
 use Rattle.class_model.proofs.Solid.{first_best-agrees, solid_within-same, base-agrees}
 use Rattle.class_table.specs.Rebase.{any_derives, is_same, unless, refused_shape, refused_change, refused_rebase, Refusal}
 use Rattle.class_table.specs.Refused.{is_base_at, most_derived, are_apart, refused_attr, refused_base, refused_after, refused_layout, refused_lines, refused_order, refused_bases}
-use Rattle.class_log.specs.Logged.{unnamed, AreSameButForNames}
+use Rattle.class_log.specs.Logged.{unnamed}
 
 module _ {K : Type 0} where
   -- what doesn't see the name of a class sees the same

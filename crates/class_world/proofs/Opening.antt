@@ -1,6 +1,6 @@
 -- The world of a new machine: own attribute by own attribute, its classes and its nodes grow together.
-use Rattle.std.proofs.Common.{◌≡◌, ℕ, suc, ◌+◌, ◌<◌, ◌≤◌, true, false, cond, List, [], ◌∷◌, ◌++◌, length, fold, Option, Some, None, Ok, inl, refl, sym, ap, ◌∙◌, subst, arith, length-append}
-use Rattle.std.specs.Prelude.{◌==◌, option_map, is_some}
+use Rattle.std.proofs.Common.{◌≡◌, ℕ, suc, ◌+◌, ◌<◌, ◌≤◌, true, false, cond, List, [], ◌∷◌, ◌++◌, length, fold, Option, Some, None, Ok, refl, sym, ap, ◌∙◌, subst, arith, length-append}
+use Rattle.std.specs.Prelude.{◌==◌, option_map}
 use Rattle.std.specs.Int.RustNames.{bit_and}
 use Rattle.std.proofs.lemmas.List.{length-map}
 use Rattle.py_node.specs.declared.attr.Attr.{Attr}
@@ -15,7 +15,7 @@ use Rattle.py_node.specs.Attributes.{is_same_name}
 use Rattle.py_node.specs.BuiltIns.{place_of, flags_of, built_in_flags, all_built_ins, fixed_none, fixed_node_count, has_dict as dict_flag}
 use Rattle.py_node.specs.Known.{known_text, known_texts, number_of}
 use Rattle.py_node.specs.OwnAttrs.{own_attrs}
-use Rattle.class_model.specs.Class.{Class, Classes, class_at, renamed}
+use Rattle.class_model.specs.Class.{Class, Classes, class_at}
 use Rattle.class_model.specs.Change.{with_class_attr}
 use Rattle.class_model.specs.Dict.{says_dict, has_dict}
 use Rattle.class_model.specs.Start.{built_in_classes}
@@ -23,11 +23,10 @@ use Rattle.class_model.proofs.Names.{place-first}
 use Rattle.class_model.proofs.Sound.{has_dict-renamed}
 use Rattle.class_table.specs.OneBase.{says_so}
 use Rattle.class_table.specs.Start.{Numbered, value_number, number_past, with_own, with_all_own, with_each_own, start_classes}
-use Rattle.class_log.specs.Logged.{IsLogged}
 use Rattle.class_log.proofs.Logged.{keeps-itself, logged-first}
 use Rattle.plain_machine.specs.Plain.{PlainWorld}
 use Rattle.plain_machine.specs.Sound.{holds_as}
-use Rattle.plain_machine.specs.Start.{attr_class, attr_datum, is_made, with_value, value_in, with_attr, with_attrs, bare, start}
+use Rattle.plain_machine.specs.Start.{attr_class, attr_datum, is_made, with_attr, with_attrs, bare, start}
 use Rattle.plain_machine.specs.World.{ref, with_node, next_node, with_own_attr, has_dict as plain_has_dict}
 use Rattle.class_world.specs.Held.{Held}
 use Rattle.class_world.specs.Reading.{Reading, Reads, datum, spelled, node_of, plain}
@@ -35,7 +34,6 @@ use Rattle.class_world.specs.Sound.{IsName, IsNode, IsClass, IsOf, Holds, AllHol
 use Rattle.class_world.specs.StartNodes.{start_nodes, own_payload, own_node, with_own_node, with_own_nodes, opening_nodes}
 use Rattle.class_world.proofs.Added.{object-sound, object-read}
 use Rattle.class_world.proofs.ClassChanges.{set-sound, set-read}
-use Rattle.class_world.proofs.Growth.{node-grows}
 use Rattle.class_world.proofs.Look.{known-read, known-within}
 use Rattle.class_world.proofs.StartSound.{started-sound, started-plain}
 

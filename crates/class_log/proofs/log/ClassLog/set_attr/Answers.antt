@@ -1,4 +1,4 @@
-use Rattle.std.proofs.Common.{sym, refl}
+use Rattle.std.proofs.Common.{sym}
 use Rattle.class_log.proofs.Logged.{logged-made, noted, set-made}
 use Rattle.class_log.proofs.log.ClassLog.set_attr.Goals as goal
 
