@@ -1,11 +1,13 @@
 //! Another name and other bases for a class of a world.
 
-ghost use Rattle.std.specs.Prelude.{◌≡◌, ◌+◌, ◌≤◌, ◌++◌, ◌∷◌, [], true, length, OnOk, OnErr, IsSome};
+ghost use Rattle.std.specs.Prelude.{◌≡◌, ◌+◌, ◌*◌, ◌≤◌, ◌++◌, ◌∷◌, [], true, length, OnOk, OnErr, IsSome};
+ghost use Rattle.class_model.specs.Change.{with_bases};
 ghost use Rattle.class_model.specs.Class.{class_at as class_numbered};
 ghost use Rattle.class_model.specs.Slot.{is_heap_at};
 ghost use Rattle.class_table.specs.Descendants.{descendants};
 ghost use Rattle.class_table.specs.Keys.{numbers};
 ghost use Rattle.class_table.specs.Refused.{WithMemory};
+ghost use Rattle.class_table.specs.Settle.{line_places};
 ghost use Rattle.class_table.specs.Rebase.{refused_change, refused_rebase, told, IsToldFirst};
 ghost use Rattle.class_log.specs.Change.{SetBases as SetBasesChange};
 ghost use Rattle.plain_machine.specs.Change.{SetBases, SetName, apply};
@@ -62,6 +64,9 @@ impl World {
         ensures probes { steps.old.probes ≤ steps.new.probes }
         ensures few_merges { steps.new.merges ≤
             steps.old.merges + length (descendants self.old.classes class.0) }
+        ensures few_probes { steps.new.probes ≤ steps.old.probes + 70 *
+            line_places (with_bases self.old.classes class.0 (numbers bases.items))
+            (descendants self.old.classes class.0) }
         ensures uncounted { (t : Reading) →
             IsSome (refused_change (plain t self.old).classes class.0 (numbers bases.items)) → steps.new ≡ steps.old }
         ensures reads { (t : Reading) → Reads t self.new → Reads t self.old }

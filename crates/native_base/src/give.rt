@@ -1,15 +1,17 @@
 //! What a native gives: a new object, a new number, or a new text.
 
-ghost use Rattle.std.specs.Prelude.{◌≡◌, Ok, None, IfOk, string_bytes};
+ghost use Rattle.std.specs.Prelude.{◌≡◌, Ok, None, [], IfOk, string_bytes};
 ghost use Rattle.py_node.specs.BuiltIns.{place_of};
 ghost use Rattle.plain_machine.specs.Sound.{holds_as};
-ghost use Rattle.class_world.specs.Reading.{Reading, datum};
+ghost use Rattle.plain_machine.specs.Takes.{named_end};
+ghost use Rattle.class_world.specs.Claims.{of_ended};
+ghost use Rattle.class_world.specs.Reading.{Reading, datum, ended_of};
 ghost use Rattle.class_world.specs.Sound.{AllHold, Holds, IsNode, class_in, home_of, of_payload};
 ghost use Rattle.class_world.specs.Rows.{EndsAs, LeavesEnd};
 ghost use Rattle.native_base.specs.Say.{int_made, iterator_made, text_made, object_made, size_of, sized_made};
 
-use class_world::World;
 use class_world::limits::is_within_limit;
+use class_world::{Fixed, World};
 use py_node::{
     Answer, BuiltIn, Cause, OutOfMemory, Payload, PyObjectRef, Raised, SequenceIterator,
 };
@@ -116,4 +118,22 @@ pub fn new_iterator(
         place: Some(0),
     };
     new_object(world, BuiltIn::Iterator, Payload::Iterator(iterator))
+}
+
+/// Ends with an object, as a native does that is called by name or by which an attribute is read: of a number that it
+/// told, a new one, and None where it told nothing. Other answers and faults stay.
+pub fn as_object(
+    world: &mut World,
+    answer: Result<Answer, Raised>,
+) -> Result<Result<Answer, Raised>, OutOfMemory>
+    requires { AllHold world.old (of_ended answer) }
+    ensures ends { IfOk result (λ r.
+        EndsAs (λ t u. named_end u (ended_of answer) []) world.old world.new r) }
+    ensures safe { LeavesEnd world.old world.new result }
+{
+    match answer {
+        Ok(Answer::Number(z)) => new_int(world, Ok(z as i128)),
+        Ok(Answer::Done) => Ok(Ok(Answer::Value(world.fixed(Fixed::None)))),
+        other => Ok(other),
+    }
 }

@@ -24,7 +24,7 @@ use Rattle.proto_descr.specs.Rows.{EndsSo, StepsAs}
 use Rattle.proto_descr.specs.Say.{class_method_by}
 use Rattle.proto_descr.specs.Supers.{start_asked, super_bound}
 use Rattle.plain_machine.specs.Row.{none}
-use Rattle.plain_machine.specs.Takes.{native_end}
+use Rattle.plain_machine.specs.Takes.{named_end}
 use Rattle.py_node.specs.declared.task.Answer.TheVariants.{Value}
 use Rattle.native_calls.specs.declared.NativeKept.TheVariants.{Pass, AfterGet, AfterDoc, Answering, Binding}
 use Rattle.native_calls.specs.declared.NativeKept.{NativeKept}
@@ -96,7 +96,7 @@ super-does n said w m c o asked way same task = λ args kw t q.
     (q, subst (λ s. Steps asking_job_say (asking_stands t) t (ToNative n args (kw t)) [] s (Ask asked (Binding c o)) w) (sym (same t)) (task t, refl, record { says = λ u s more. ap (λ y. way_rest u (m ∷ ref c.0 ∷ o ∷ []) y s more) way }))
 
 -- a native that asks what it ends as, where its way reads nothing before that
-pub passed-does : (n : NativeEntry) (said : Reading → PlainWorld → Said) (way : Way) (old new : World) (step : Step (Unit {0})) → way_of n ≡ way → ((u : PlainWorld) (s : Ended) (more : Told) → way_rest u [] way s more ≡ native_end u s more) → StepsAs said old new step → Does n said old new (passed step)
+pub passed-does : (n : NativeEntry) (said : Reading → PlainWorld → Said) (way : Way) (old new : World) (step : Step (Unit {0})) → way_of n ≡ way → ((u : PlainWorld) (s : Ended) (more : Told) → way_rest u [] way s more ≡ named_end u s more) → StepsAs said old new step → Does n said old new (passed step)
 unfolding asking_job_say
 passed-does n said way old new (Ask asked kept) is ends h = λ args kw t q.
     let e = h t q in

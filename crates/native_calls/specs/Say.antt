@@ -20,7 +20,7 @@ use Rattle.plain_machine.specs.Plain.{Datum, AFunction, AMethodDescriptor, AGetS
 use Rattle.plain_machine.specs.World.{datum_at, with_node, next_node}
 use Rattle.plain_machine.specs.Objects.{class_object, class_number}
 use Rattle.plain_machine.specs.Row.{Row, start, build, pass, end, value, none, fault, elsewhere, on_done}
-use Rattle.plain_machine.specs.Takes.{with_one, with_two, with_text, without_keywords, native_end}
+use Rattle.plain_machine.specs.Takes.{with_one, with_two, with_text, without_keywords, named_end}
 use Rattle.native_calls.specs.declared.way.Kind.{Kind}
 use Rattle.native_calls.specs.declared.way.Kind.TheVariants as kind
 use Rattle.native_calls.specs.declared.way.Setting.{Setting}
@@ -286,14 +286,14 @@ none_end w r = on_done w r (end w (value none))
 
 -- how a native goes on that read some objects before it asked, or that sets: the others end as what they asked
 abbrev pub way_rest : PlainWorld → List PyObjectRef → Way → Ended → Row
-way_rest w (k ∷ f ∷ []) (Binds kind.ClassMethod) r = start (class_method_by w k f r) (native_end w)
+way_rest w (k ∷ f ∷ []) (Binds kind.ClassMethod) r = start (class_method_by w k f r) (named_end w)
 way_rest w (k ∷ f ∷ []) (Wraps b) r = wrapper_rest w b k.0 f r
-way_rest w (m ∷ t ∷ o ∷ []) (Binds kind.Super) r = start (super_bound w t o r) (native_end w)
+way_rest w (m ∷ t ∷ o ∷ []) (Binds kind.Super) r = start (super_bound w t o r) (named_end w)
 way_rest w rs (Marked b) r = or_not_abstract w r
 way_rest w rs (Marks b) r = none_end w r
 way_rest w rs (Sets k) r = none_end w r
 way_rest w rs (Deletes k) r = none_end w r
-way_rest w rs way r = native_end w r
+way_rest w rs way r = named_end w r
 
 abbrev pub asking_rest : PlainWorld → NativeEntry → List PyObjectRef → Ended → Row
 asking_rest w n rs r = way_rest w rs (way_of n) r

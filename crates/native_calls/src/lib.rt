@@ -24,6 +24,7 @@ use crate::way::{Kind, Way, Wrapper, way_of};
 use crate::wrap::{ask_for_doc, give_doc};
 use crate::wrapped::part_of_wrapped;
 use class_world::{Fixed, World};
+use native_base::give::as_object;
 use py_node::task::{Args, Keywords};
 use py_node::{
     Answer, Detail, NativeEntry, OutOfMemory, PyObjectRef, PyStrInterned, PyTypeRef, Raised, Step,
@@ -170,7 +171,7 @@ pub fn resume(
     ensures safe { Leaves of_native_kept world.old world.new result }
 {
     match kept {
-        NativeKept::Pass => Ok(native_end(world, answer)),
+        NativeKept::Pass => Ok(Step::End(as_object(world, answer)?)),
         NativeKept::AfterGet(class, func) => resume_class_method(world, class, func, answer),
         NativeKept::AfterDoc(wrapper, class, func) => {
             give_doc(world, wrapper, class, func, answer)
@@ -188,18 +189,6 @@ pub fn resume(
             other => Ok(Step::End(other)),
         },
         NativeKept::Binding(class, object) => resume_super(world, class, object, answer),
-    }
-}
-
-// How a native ends that asked a task: as that did, or with None where that gave no object.
-fn native_end(world: &World, answer: Result<Answer, Raised>) -> Step<NativeKept>
-    requires { AllHold world.now (of_ended answer) }
-    ensures goes { Resumes NativeKept.Pass answer world.now world.now result }
-    ensures safe { AllHold world.now (of_step of_native_kept result) }
-{
-    match answer {
-        Ok(Answer::Done) => Step::End(Ok(Answer::Value(world.fixed(Fixed::None)))),
-        other => Step::End(other),
     }
 }
 

@@ -3,9 +3,10 @@ use Rattle.std.specs.Prelude.{List, [], ◌∷◌, Option, Some, Ok}
 use Rattle.py_node.specs.declared.refs.PyObjectRef.{PyObjectRef}
 use Rattle.py_node.specs.declared.raised.Cause.TheVariants.{ArgCount, SelfType, UnexpectedKeyword}
 use Rattle.py_node.specs.Tree.{Text}
-use Rattle.plain_machine.specs.Plain.{Datum, AText, PlainWorld, Bindings, AsDone, Ended, Said, Ends}
+use Rattle.plain_machine.specs.Plain.{Datum, AText, ANumber, PlainWorld, Bindings, AsDone, AsNumber, Ended, Said, Ends}
+use Rattle.plain_machine.specs.Known.{the_int}
 use Rattle.plain_machine.specs.World.{datum_at}
-use Rattle.plain_machine.specs.Row.{Row, end, value, none, fault}
+use Rattle.plain_machine.specs.Row.{Row, end, make, value, none, fault}
 
 abbrev pub without_keywords : PlainWorld → Bindings → Said → Said
 without_keywords w [] go = go
@@ -38,3 +39,8 @@ with_text w a go = text_in w (datum_at w a) go
 abbrev pub native_end : PlainWorld → Ended → Row
 native_end w (Ok AsDone) = end w (value none)
 native_end w r = end w r
+
+-- a native that is called by name, or by which an attribute is read, gives an object: of a number it tells, a new one
+abbrev pub named_end : PlainWorld → Ended → Row
+named_end w (Ok (AsNumber z)) = make w the_int (ANumber z)
+named_end w r = native_end w r

@@ -16,17 +16,17 @@ use Rattle.py_node.specs.Known.{known_text}
 use Rattle.class_model.specs.Class.{found}
 use Rattle.class_model.specs.Slot.{slot}
 use Rattle.class_model.specs.BuiltIn.{natives_of}
-use Rattle.plain_machine.specs.Plain.{Datum, AnObject, AFunction, ATuple, AList, ANumber, AsNumber, PlainWorld, Bindings, DoEval, CallJob, DoCall, DoBody, DoTypeCall, DoNew, DoInit, DoObject, DoGeneric, DoGenericSet, DoSpecial, DoCmp, DoIsTrue, DoRepr, DoStr, DoDir, PlainTask, ToEval, ToAttribute, ToCall, ToCompare, ToProtocol, ToObject, Ended, Chose, Said, Asks, Ends}
+use Rattle.plain_machine.specs.Plain.{Datum, AnObject, AFunction, ATuple, AList, PlainWorld, Bindings, DoEval, CallJob, DoCall, DoBody, DoTypeCall, DoNew, DoInit, DoObject, DoGeneric, DoGenericSet, DoSpecial, DoCmp, DoIsTrue, DoRepr, DoStr, DoDir, PlainTask, ToEval, ToAttribute, ToCall, ToCompare, ToProtocol, ToObject, Ended, Chose, Said, Asks, Ends}
 use Rattle.plain_machine.specs.World.{is_text, datum_at, slot_at, text_keys, with_node, next_node, with_scope, without_scope}
 use Rattle.plain_machine.specs.Objects.{class_object, class_number, is_instance, nearest_built_in}
 use Rattle.plain_machine.specs.Args.{filled}
-use Rattle.plain_machine.specs.Takes.{with_one, with_two, with_three, with_text, native_end}
-use Rattle.plain_machine.specs.Known.{the_object, the_type, the_int, the_tuple}
+use Rattle.plain_machine.specs.Takes.{with_one, with_two, with_three, with_text, native_end, named_end}
+use Rattle.plain_machine.specs.Known.{the_object, the_type, the_tuple}
 use Rattle.plain_machine.specs.Native.{native_task}
 use Rattle.plain_machine.specs.Show.{show}
 use Rattle.native_base.specs.Called.{call_native}
 use Rattle.native_objects.specs.Objects.{object_native_say}
-use Rattle.plain_machine.specs.Row.{Row, start, fork, ask, pass, end, value, done, fault, elsewhere, none, truth, is_not_implemented, on_value, on_truth, on_done, make, most_items}
+use Rattle.plain_machine.specs.Row.{Row, start, fork, ask, pass, end, value, done, fault, elsewhere, none, truth, is_not_implemented, on_value, on_truth, on_done, most_items}
 
 abbrev pub is_empty : {A : Type 0} → List A → Bool
 is_empty [] = true
@@ -43,11 +43,6 @@ abbrev pub call_by : PlainWorld → Option SlotEntry → PyObjectRef → List Py
 call_by w (Some (Native n)) f args kw = asked_of_native w (call_native n (datum_at w f) f args kw)
 call_by w (Some (Wrapper s)) f args kw = pass w (ToAttribute (DoSpecial f (known_text known.Call) args kw))
 call_by w _ f args kw = Ends w (fault NotCallable)
-
--- a native that is called by name gives an object: of a number it tells, a new one
-abbrev pub named_end : PlainWorld → Ended → Row
-named_end w (Ok (AsNumber z)) = make w the_int (ANumber z)
-named_end w r = native_end w r
 
 abbrev pub call_say : PlainWorld → PyObjectRef → List PyObjectRef → Bindings → Row
 call_say w f args kw = start (call_by w (slot_at w f Call) f args kw) (named_end w)

@@ -7,12 +7,13 @@ ghost use Rattle.class_world.specs.Claims.{of_call_task, of_ended, LeavesOpen};
 ghost use Rattle.proto_call.specs.Rows.{Begins, Resumes, of_call_kept, bodies_of};
 
 use crate::body::begin_body;
-use crate::call::{begin_call, named_end};
+use crate::call::begin_call;
 use crate::create::{begin_new, begin_type_call, resume_type_call};
 use crate::init::{begin_init, resume_init};
 use crate::object::{begin_object, native_end};
 use crate::texts::equal_given;
 use class_world::World;
+use native_base::give::as_object;
 use py_node::task::{Args, Keywords};
 use py_node::{Answer, CallTask, OutOfMemory, PyObjectRef, PyTypeRef, Raised, Step};
 
@@ -77,7 +78,7 @@ pub fn resume(
 {
     match kept {
         CallKept::Pass => Ok(Step::End(answer)),
-        CallKept::Named => named_end(world, answer),
+        CallKept::Named => Ok(Step::End(as_object(world, answer)?)),
         CallKept::Native => Ok(native_end(world, answer)),
         CallKept::Unequal => Ok(equal_given(world, answer)),
         CallKept::Turned => match answer {

@@ -20,6 +20,7 @@ use Rattle.plain_machine.specs.World.{datum_at, slot_at, with_node, next_node}
 use Rattle.plain_machine.specs.Objects.{type_object, class_object, class_number, for_objects, for_classes}
 use Rattle.plain_machine.specs.Known.{the_none_type, the_method, the_builtin_method}
 use Rattle.plain_machine.specs.Native.{native_task}
+use Rattle.plain_machine.specs.Takes.{named_end}
 use Rattle.plain_machine.specs.Row.{Row, start, pass, end, value, done, fault, none, on_value, on_done}
 use Rattle.proto_descr.specs.Members.{member_get, member_set, with_value}
 use Rattle.proto_descr.specs.Properties.{property_get, property_set}
@@ -122,11 +123,11 @@ start_with said go (Answered r ∷ more) = go [] r more
 start_with said go (ReadObjects rs ∷ (Answered r ∷ more)) = go rs r more
 start_with said go _ = said
 
--- a class method goes on with its class and what it wraps, and a `super` with itself, its class and the object
+-- what is read is an object. A class method goes on with its class and what it wraps, and a `super` with itself, its class and the object
 abbrev pub descr_get_rest : PlainWorld → List PyObjectRef → Ended → Row
-descr_get_rest w (k ∷ f ∷ []) r = start (class_method_by w k f r) (end w)
-descr_get_rest w (m ∷ t ∷ o ∷ []) r = start (super_bound w t o r) (end w)
-descr_get_rest w _ r = end w r
+descr_get_rest w (k ∷ f ∷ []) r = start (class_method_by w k f r) (named_end w)
+descr_get_rest w (m ∷ t ∷ o ∷ []) r = start (super_bound w t o r) (named_end w)
+descr_get_rest w _ r = named_end w r
 
 abbrev pub descr_get_say : PlainWorld → PyObjectRef → Option PyObjectRef → Option PyObjectRef → Row
 descr_get_say w m o c = start_with (descr_get_by w (slot_at w m DescrGet) m o c) (descr_get_rest w)
@@ -160,7 +161,7 @@ descr_set_say w m o v = start (descr_set_by w (slot_at w m DescrSet) m o v) (λ 
 -- `super`
 
 abbrev pub super_get_say : PlainWorld → PyObjectRef → Text → Row
-super_get_say w s x = start (super_attribute w (datum_at w s) s x) (end w)
+super_get_say w s x = start (super_attribute w (datum_at w s) s x) (named_end w)
 
 abbrev pub super_init_rest : PlainWorld → List PyObjectRef → Ended → Row
 super_init_rest w (s ∷ t ∷ o ∷ []) r = start (super_started w s t o r) (end w)

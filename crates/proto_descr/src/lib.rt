@@ -22,6 +22,7 @@ mod wrapped;
 use class_world::World;
 pub use descriptor::{bind_function, bind_native};
 pub use member::{member_get, member_set};
+use native_base::give::as_object;
 pub use property::{property_get, property_set};
 use py_node::{Answer, DescriptorTask, OutOfMemory, PyObjectRef, PyTypeRef, Raised, Step};
 pub use setting::getset_set;
@@ -32,7 +33,7 @@ pub use wrapped::{bind_class_method, bind_getset, class_for, get_of, static_meth
 /// What a row of a descriptor keeps while it waits for an answer.
 #[derive(Drop)]
 pub enum DescriptorKept {
-    /// The answer is passed on.
+    /// The answer is passed on, as an object.
     Pass,
     /// A class method asked for `__get__` of what it wraps: the class, and what it wraps.
     AfterGet(PyObjectRef, PyObjectRef),
@@ -73,7 +74,7 @@ pub fn resume(
     ensures safe { Leaves of_descriptor_kept world.old world.new result }
 {
     match kept {
-        DescriptorKept::Pass => Ok(Step::End(answer)),
+        DescriptorKept::Pass => Ok(Step::End(as_object(world, answer)?)),
         DescriptorKept::AfterGet(class, func) => resume_class_method(world, class, func, answer),
         DescriptorKept::Done => Ok(Step::End(done(answer))),
         DescriptorKept::Binding(class, object) => {

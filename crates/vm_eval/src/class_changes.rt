@@ -1,15 +1,17 @@
 //! Classes that a host makes and changes on a machine. Each call is the world's own: its refusals and what it changes are
 //! those. Want of memory sets the machine's mark.
 
-ghost use Rattle.std.specs.Prelude.{◌≡◌, ◌+◌, ◌≤◌, ◌∷◌, [], ℕ, Ok, None, Some, IfOk, OnOk, OnErr, IsSome, is_some, length, ◌++◌, true, false};
+ghost use Rattle.std.specs.Prelude.{◌≡◌, ◌+◌, ◌*◌, ◌≤◌, ◌∷◌, [], ℕ, Ok, None, Some, IfOk, OnOk, OnErr, IsSome, is_some, length, ◌++◌, true, false};
 ghost use Rattle.py_node.specs.declared.built_in.BuiltIn.{BuiltIn};
 ghost use Rattle.py_node.specs.declared.built_in.BuiltIn.TheVariants.{TypeType};
+ghost use Rattle.class_model.specs.Change.{with_bases};
 ghost use Rattle.class_model.specs.Class.{class_at as class_numbered, own_of};
 ghost use Rattle.class_model.specs.Layout.{best_of};
 ghost use Rattle.class_table.specs.Descendants.{descendants};
 ghost use Rattle.class_table.specs.Keys.{numbers, slot_names};
 ghost use Rattle.class_model.specs.Dict.{heap_class};
 ghost use Rattle.class_table.specs.OneBase.{refused_single, single_class, says_so, static_flags};
+ghost use Rattle.class_table.specs.Settle.{line_places};
 ghost use Rattle.class_table.specs.Rebase.{refused_change, refused_rebase, told, IsToldFirst};
 ghost use Rattle.class_table.specs.Refused.{refusal, WithMemory, IsEarly, refused_attr, NamesNoClass};
 ghost use Rattle.class_log.specs.Change.{SetOwn, DelOwn, SetBases as SetBasesChange};
@@ -273,6 +275,9 @@ impl VirtualMachine {
         ensures probes { steps.old.probes ≤ steps.new.probes }
         ensures few_merges { steps.new.merges ≤
             steps.old.merges + length (descendants self.old.world.classes class.0) }
+        ensures few_probes { steps.new.probes ≤ steps.old.probes + 70 *
+            line_places (with_bases self.old.world.classes class.0 (numbers bases.items))
+            (descendants self.old.world.classes class.0) }
         ensures uncounted { (t : Reading) →
             IsSome (refused_change (plain t self.old.world).classes class.0 (numbers bases.items)) →
             steps.new ≡ steps.old }

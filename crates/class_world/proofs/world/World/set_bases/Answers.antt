@@ -1,7 +1,9 @@
-use Rattle.std.proofs.Common.{◌≡◌, ◌++◌, ◌∷◌, [], OnOk, ◌+◌, ◌≤◌, length, subst}
+use Rattle.std.proofs.Common.{◌≡◌, ◌++◌, ◌∷◌, [], OnOk, ◌+◌, ◌*◌, ◌≤◌, length, subst}
+use Rattle.class_model.specs.Change.{with_bases}
 use Rattle.class_log.specs.Change.{SetBases}
 use Rattle.class_table.specs.Descendants.{descendants}
 use Rattle.class_table.specs.Keys.{numbers}
+use Rattle.class_table.specs.Settle.{line_places}
 use Rattle.class_log.proofs.Logged.{keeps-more}
 use Rattle.class_world.specs.Held.{Held}
 use Rattle.class_world.specs.contracts.world.World.{the_view}
@@ -65,3 +67,7 @@ returns-clause-logged g c =
 
 pub returns-clause-err : goal.returns-clause-err
 returns-clause-err g c = unchanged (the_view c.self.inside) c.args.self.now c.self.view_is c.set_bases.new.classes c.set_bases.new.self c.set_bases.result c.set_bases.ensures.err c.set_bases.ensures.unnoted
+
+pub returns-clause-few_probes : goal.returns-clause-few_probes
+returns-clause-few_probes g c =
+    subst (λ (n : Held). c.set_bases.new.steps.probes ≤ c.args.steps.now.probes + 70 * line_places (with_bases n.classes c.args.class.0 (numbers c.args.bases.items)) (descendants n.classes c.args.class.0)) c.self.view_is c.set_bases.ensures.few_probes
