@@ -1,0 +1,255 @@
+-- The rows of the creation of classes answer with objects.
+use Rattle.std.proofs.Common.{◌+◌, Bool, Err, List, None, Ok, Option, Result, Some, cond, eqb, false, is_some, length, refl, true, ℕ, ◌∷◌, []}
+use  Rattle.py_node.specs.declared.refs.PyObjectRef.{PyObjectRef}
+use  Rattle.py_node.specs.declared.raised.Cause.{Cause}
+use  Rattle.py_node.specs.declared.raised.Cause.TheVariants.{SetNameCalled, MroEntries, BasesNotTypes}
+use  Rattle.py_node.specs.declared.entry.SlotId.TheVariants.{New}
+use  Rattle.py_node.specs.declared.entry.TypeNative.{TypeNative}
+use Rattle.py_node.specs.declared.entry.TypeNative.TheVariants as type
+use Rattle.py_node.specs.declared.known.Known.TheVariants as known
+use  Rattle.class_table.specs.Refused.{refused_layout}
+use Rattle.class_model.specs.Class.{class_at as class_numbered}
+use Rattle.class_make.specs.Say.{one_of as one_argument, dict_of as dict_in, is_class as is_of_class, hook as class_hook, with_self as with_type, values_of as bound_values}
+use  Rattle.py_node.specs.Attributes.{value_of}
+use Rattle.answer_kinds.specs.Kinds as kinds
+use Rattle.answer_kinds.specs.Kinds.{ReadsObjects}
+use Rattle.answer_kinds.proofs.Base.{Family, GoesOn, Kinded, ended, Says, ends, asks, at_once, stepped, goes-on, started, read_objects_once, read_names_once, on-value, on-done, started_so, either-fits}
+use Rattle.answer_kinds.proofs.Said.{either, takes-two, takes-three, takes-text}
+use Rattle.answer_kinds.proofs.Worlds.{IsFine, either-world, same-nodes, node-made, definer-set, class-made}
+use Rattle.answer_kinds.proofs.Objects.{type-native}
+use Rattle.answer_kinds.proofs.Calls.{native-end}
+use Rattle.class_make.specs.Say.{Entries, the_member, has_name, text_of, namespace, Space, put, give, wrap_value, wrap, qualify, unhash, give_dict, completed, would_have_dict, dicted, functions_of, defined, with_functions, a_member, put_member, with_member, with_members, name_hook, bind_hook, bind_hooks, call_hook, unless_raised, call_hooks, without_metaclass, init_subclass, own_values, tell, whole_class, refusal, made_unless, with_slots, with_names, by_slots, made, with_namespace, on_layout, on_bases, winner, by_winner, classes_of, by_classes, by_bases, has_null, tuple_of, by_parts, from_three, three_of, by_one, no_class, make_class_say, type_new_of, type_new, class_in, called_with, type_call, type_by, class_job_say}
+use Rattle.plain_machine.specs.Plain.{Datum, AText, AClassMethod, Bindings, PlainWorld, DoBind, DoCall, ClassJob, DoMakeClass, DoType, ToAttribute, ToCall, Ended, Made, Said, Asks, Ends}
+use Rattle.plain_machine.specs.World.{is_text, ref, datum_at, class_at, with_node}
+use Rattle.plain_machine.specs.Objects.{type_object, class_number, nearest_built_in, with_definer}
+use Rattle.plain_machine.specs.Known.{the_object, the_type, the_str, the_function, the_getset, the_class_method}
+use Rattle.plain_machine.specs.Row.{Row, start, end, value, pass, fault, is_attribute_error, on_value, on_done, noting}
+use Rattle.plain_machine.specs.Takes.{native_end}
+use Rattle.py_node.specs.Known.{known_text}
+use Rattle.py_node.specs.Tree.{Text}
+use Rattle.class_model.specs.Class.{found, found_past}
+
+-- a class that was made is told of
+
+bound-hooks : (as : Bindings) (go : PlainWorld → Bindings → Row) → ((bs : Bindings) → Kinded kinds.Value (λ w. go w bs)) → Kinded kinds.Value (λ w. bind_hooks w as (go w))
+bound-hooks [] go p = p []
+bound-hooks (a ∷ more) go p = read_objects_once kinds.Value (λ w. name_hook w a.1) (λ w ms. bind_hook w a.0 a.1 ms (bind_hooks w more) (go w)) (λ ms. hooked ms (bound-hooks more go p) (λ b. bound-hooks more (λ w bs. go w ((a.0, b) ∷ bs)) (λ bs. p ((a.0, b) ∷ bs))))
+  where
+    hooked : (ms : List PyObjectRef) → Kinded kinds.Value (λ w. bind_hooks w more (go w)) → ((b : PyObjectRef) → Kinded kinds.Value (λ w. bind_hooks w more (λ bs. go w ((a.0, b) ∷ bs)))) → Kinded kinds.Value (λ w. bind_hook w a.0 a.1 ms (bind_hooks w more) (go w))
+    hooked [] q h = q
+    hooked (m ∷ ms) q h =
+        started kinds.Value kinds.Value (λ w. Asks w [] (ToAttribute (DoBind m (Some a.1) (type_object w a.1)))) (λ w r. on_value w r (λ b. bind_hooks w more (λ bs. go w ((a.0, b) ∷ bs))))
+        (λ w g. asks g tt) (λ r f. on-value kinds.Value (λ w b. bind_hooks w more (λ bs. go w ((a.0, b) ∷ bs))) r f h)
+
+unless-raised : (go : Family) (r : Ended) → Kinded kinds.Value go → Kinded kinds.Value (λ w. unless_raised w r (go w))
+unless-raised go (Ok a) p = p
+unless-raised go (Err x) p = ended kinds.Value (fault SetNameCalled) tt
+
+called-hooks : (class : PyObjectRef) (bs : Bindings) (go : Family) → Kinded kinds.Value go → Kinded kinds.Value (λ w. call_hooks w class bs (go w))
+called-hooks class [] go p = p
+called-hooks class (b ∷ bs) go p =
+    started_so kinds.Value (λ w. call_hook w class b.0 b.1) (λ w r. unless_raised w r (call_hooks w class bs (go w)))
+    (λ w g. asks (node-made w the_str (AText b.0) g tt) tt) (λ r. unless-raised (λ w. call_hooks w class bs (go w)) r (called-hooks class bs go p))
+
+hook-said : (w : PlainWorld) (class : PyObjectRef) (m : Option PyObjectRef) → ReadsObjects w → Says (at_once kinds.Value) kinds.Value (class_hook w class m)
+hook-said w class None g = ends g tt
+hook-said w class (Some m) g = asks g tt
+
+init-row : (class : PyObjectRef) (kw : Bindings) → Kinded kinds.Value (λ w. init_subclass w class kw)
+init-row class kw =
+    started kinds.Value kinds.Value (λ w. class_hook w class (found_past is_text w.classes class.0 (known_text known.InitSubclass))) (λ w r. on_value w r (λ b. start (pass w (ToCall (DoCall b [] (without_metaclass kw)))) (λ s. on_done w s (end w (value class)))))
+    (λ w g. hook-said w class (found_past is_text w.classes class.0 (known_text known.InitSubclass)) g)
+    (λ r f. on-value kinds.Value (λ w b. start (pass w (ToCall (DoCall b [] (without_metaclass kw)))) (λ s. on_done w s (end w (value class)))) r f
+    (λ b. started_so kinds.Value (λ w. pass w (ToCall (DoCall b [] (without_metaclass kw)))) (λ w s. on_done w s (end w (value class))) (λ w g. asks g tt)
+    (λ s. on-done kinds.Value (λ w. end w (value class)) s (ended kinds.Value (value class) tt))))
+
+tell-row : (class : PyObjectRef) (kw : Bindings) → Kinded kinds.Value (λ w. tell w class kw)
+tell-row class kw =
+    read_names_once kinds.Value (λ w. own_values w class.0) (λ w values. bind_hooks w values (λ bs. call_hooks w class bs (init_subclass w class kw)))
+    (λ values. bound-hooks values (λ w bs. call_hooks w class bs (init_subclass w class kw)) (λ bs. called-hooks class bs (λ w. init_subclass w class kw) (init-row class kw)))
+
+-- the worlds on the way to a class
+
+abbrev IsKept : Space → Type 0
+IsKept s = ReadsObjects s.0
+
+either-space : (b : Bool) (s t : Space) → IsKept s → IsKept t → IsKept (cond b s t)
+either-space true s t p q = p
+either-space false s t p q = q
+
+put-kept : (s : Space) (x : Text) (c : ℕ) (d : Datum) → IsKept s → IsFine d → IsKept (put s x c d)
+unfolding put
+put-kept s x c d g h = node-made s.0 c d g h
+
+give-kept : (s : Space) (x : Text) (c : ℕ) (d : Datum) → IsKept s → IsFine d → IsKept (give s x c d)
+unfolding give
+give-kept s x c d g h = either-space (has_name s.1 x) s (put s x c d) g (put-kept s x c d g h)
+
+wrap-value-kept : (s : Space) (x : Text) (v : Option PyObjectRef) → IsKept s → IsKept (wrap_value s x v)
+unfolding wrap_value
+wrap-value-kept s x None g = g
+wrap-value-kept s x (Some v) g = either-space (is_of_class (class_at s.0 v) the_function) (put s x the_class_method (AClassMethod v)) s (put-kept s x the_class_method (AClassMethod v) g tt) g
+
+wrap-kept : (x : Text) (s : Space) → IsKept s → IsKept (wrap x s)
+unfolding wrap
+wrap-kept x s g = wrap-value-kept s x (value_of (λ y. is_text y x) s.1) g
+
+qualify-kept : (name : Text) (s : Space) → IsKept s → IsKept (qualify name s)
+unfolding qualify
+qualify-kept name s g = give-kept s (known_text known.Qualname) the_str (AText name) g tt
+
+unhash-kept : (s : Space) → IsKept s → IsKept (unhash s)
+unfolding unhash
+unhash-kept s g = either-space _ _ s g g
+
+completed-kept : (name : Text) (s : Space) → IsKept s → IsKept (completed name s)
+unfolding completed
+completed-kept name s g = unhash-kept _ (qualify-kept name _ (wrap-kept (known_text known.ClassGetitem) _ (wrap-kept (known_text known.InitSubclass) s g)))
+
+dict-kept : (s : Space) → IsKept s → IsKept (give_dict s)
+unfolding give_dict
+dict-kept s g = give-kept s (known_text known.Dict) the_getset _ g tt
+
+dicted-kept : (bases : List ℕ) (slots : Option (List Text)) (s : Space) → IsKept s → IsKept (dicted bases slots s)
+unfolding dicted
+dicted-kept bases slots s g = either-space (would_have_dict s.0 bases slots) (give_dict s) s (dict-kept s g) g
+
+defined-kept : (c : ℕ) (w : PlainWorld) (fs : List PyObjectRef) → ReadsObjects w → ReadsObjects (defined c w fs)
+defined-kept c w [] g = g
+defined-kept c w (f ∷ fs) g = defined-kept c (with_definer w c f) fs (definer-set w c f g)
+
+functions-kept : (c : ℕ) (w : PlainWorld) (vs : List PyObjectRef) → ReadsObjects w → ReadsObjects (with_functions c w vs)
+functions-kept c w [] g = g
+functions-kept c w (v ∷ vs) g = functions-kept c _ vs (defined-kept c w (functions_of v (datum_at w v)) g)
+
+member-kept : (c n : ℕ) (x : Text) (w : PlainWorld) → ReadsObjects w → ReadsObjects (with_member c n x w)
+unfolding with_member put_member
+member-kept c n x w g = either-world (is_some (found is_text w.classes c x)) w _ g (same-nodes (with_node w the_member (a_member c n x)) _ refl (node-made w the_member (a_member c n x) g tt))
+
+members-kept : (c n : ℕ) (xs : List Text) (w : PlainWorld) → ReadsObjects w → ReadsObjects (with_members c n xs w)
+members-kept c n [] w g = g
+members-kept c n (x ∷ xs) w g = members-kept c (n + 1) xs (with_member c n x w) (member-kept c n x w g)
+
+whole-kept : (w : PlainWorld) (meta : ℕ) (name : Text) (bases : List ℕ) (attrs : Bindings) (slots : Option (List Text)) → ReadsObjects w → ReadsObjects (whole_class w meta name bases attrs slots)
+unfolding whole_class
+whole-kept w meta name bases attrs slots g = members-kept _ _ _ _ (functions-kept _ _ _ (class-made w meta _ g))
+
+-- the class is made
+
+module _ (c : ℕ) (args : List PyObjectRef) (kw : Bindings) where
+  abbrev Making : Family
+  Making w = make_class_say w c args kw
+
+  abbrev Makes : Said → Type 0
+  Makes s = GoesOn (Kinded kinds.Value) kinds.Value Making s
+
+  noted : (class : PyObjectRef) (s : Said) → GoesOn (Kinded kinds.Value) kinds.Value (λ w. tell w class kw) s → Makes (noting (Made class) s)
+  noted class (Ends u r) q = q
+  noted class (Asks u learnt task) q = q
+
+  made-said : (cause : Option Cause) (meta : ℕ) (name : Text) (bases : List ℕ) (slots : Option (List Text)) (s : Space) → IsKept s → Makes (made_unless cause meta name bases slots kw s)
+  unfolding made_unless
+  made-said (Some cause) meta name bases slots s g = (g, tt)
+  made-said None meta name bases slots s g =
+      let class = ref (length s.0.nodes) in
+      noted class (tell (whole_class s.0 meta name bases s.1 slots) class kw []) (goes-on kinds.Value (λ w. tell w class kw) (tell-row class kw) (whole_class s.0 meta name bases s.1 slots) (whole-kept s.0 meta name bases s.1 slots g))
+
+  slots-said : (meta : ℕ) (name : Text) (bases : List ℕ) (slots : Option (List Text)) (s : Space) → IsKept s → Makes (with_slots meta name bases slots kw s)
+  slots-said meta name bases slots s g = made-said (refusal (dicted bases slots s).0 bases (dicted bases slots s).1) meta name bases slots (dicted bases slots s) (dicted-kept bases slots s g)
+
+  names-said : (names : Option (List Text)) (meta : ℕ) (name : Text) (bases : List ℕ) (s : Space) → IsKept s → Makes (with_names names meta name bases kw s)
+  names-said None meta name bases s g = (g, tt)
+  names-said (Some names) meta name bases s g = slots-said meta name bases (Some names) s g
+
+  by-slots : (o : Option PyObjectRef) (meta : ℕ) (name : Text) (bases : List ℕ) (s : Space) → IsKept s → Makes (by_slots o meta name bases kw s)
+  by-slots None meta name bases s g = slots-said meta name bases None s g
+  by-slots (Some r) meta name bases s g = names-said _ meta name bases s g
+
+  all-made : (meta : ℕ) (name : Text) (bases : List ℕ) (s : Space) → IsKept s → Makes (made meta name bases kw s)
+  unfolding made
+  all-made meta name bases s g = by-slots (value_of (λ y. is_text y (known_text known.Slots)) s.1) meta name bases s g
+
+  namespace-said : (w : PlainWorld) (meta : ℕ) (name : Text) (bases : List ℕ) (attrs : Option Bindings) → ReadsObjects w → Makes (with_namespace w meta name bases attrs kw)
+  namespace-said w meta name bases None g = (g, tt)
+  namespace-said w meta name bases (Some attrs) g = all-made meta name bases (completed name (w, attrs)) (completed-kept name (w, attrs) g)
+
+  layout-said : (w : PlainWorld) (cause : Option Cause) (meta : ℕ) (name : Text) (bases : List ℕ) (es : Entries) → ReadsObjects w → Makes (on_layout w cause meta name bases es kw)
+  layout-said w (Some cause) meta name bases es g = (g, tt)
+  layout-said w None meta name bases es g = namespace-said w meta name bases (namespace w es) g
+
+  either-makes : (b : Bool) (x y : Said) → Makes x → Makes y → Makes (cond b x y)
+  either-makes true x y p q = p
+  either-makes false x y p q = q
+
+  bases-said : (w : PlainWorld) (meta : ℕ) (name : Text) (bases : List ℕ) (es : Entries) → ReadsObjects w → Makes (on_bases w meta name bases es kw)
+  bases-said w meta name bases es g = layout-said w (refused_layout w.classes bases) meta name bases es g
+
+  winner-said : (w : PlainWorld) (meta : ℕ) (won : Option ℕ) (name : Text) (bases : List ℕ) (es : Entries) → ReadsObjects w → Makes (by_winner w meta won name bases es args kw)
+  winner-said w meta None name bases es g = (g, tt)
+  winner-said w meta (Some d) name bases es g = either-makes _ _ _ (g, λ r f. ended kinds.Value r f) (bases-said w d name bases es g)
+
+  no-class : (r : Ended) → Kinded kinds.Value (λ w. no_class w r)
+  no-class (Ok a) = ended kinds.Value (fault MroEntries) tt
+  no-class (Err x) = ended kinds.Value (cond (is_attribute_error x.kind) (fault BasesNotTypes) (Err x)) (either-fits kinds.Value (is_attribute_error x.kind) (fault BasesNotTypes) (Err x) tt tt)
+
+  classes-said : (w : PlainWorld) (meta : ℕ) (name : Text) (bs : List PyObjectRef) (cs : Result (List ℕ) PyObjectRef) (es : Entries) → ReadsObjects w → Makes (by_classes w meta name bs cs es args kw)
+  classes-said w meta name bs (Err b) es g = (g, λ r f. no-class r)
+  classes-said w meta name bs (Ok cs) es g = winner-said w meta (winner w meta bs) name cs es g
+
+  by-bases : (w : PlainWorld) (meta : ℕ) (name : Text) (bs : List PyObjectRef) (es : Entries) → ReadsObjects w → Makes (by_bases w meta name bs es args kw)
+  by-bases w meta name [] es g = bases-said w meta name (the_object ∷ []) es g
+  by-bases w meta name (b ∷ bs) es g = classes-said w meta name (b ∷ bs) (classes_of w (b ∷ bs)) es g
+
+  parts-said : (w : PlainWorld) (meta : ℕ) (name : Option Text) (bases : Option (List PyObjectRef)) (es : Option Entries) → ReadsObjects w → Makes (by_parts w meta name bases es args kw)
+  parts-said w meta (Some name) (Some bases) (Some es) g = either-makes (has_null name) _ _ (g, tt) (by-bases w meta name bases es g)
+  parts-said w meta name bases es g = (g, tt)
+
+  three-said : (w : PlainWorld) (meta : ℕ) (p : Option (PyObjectRef × (PyObjectRef × PyObjectRef))) → ReadsObjects w → Makes (from_three w meta p args kw)
+  three-said w meta None g = (g, tt)
+  three-said w meta (Some (n, (b, d))) g = parts-said w meta (text_of (datum_at w n)) (tuple_of (datum_at w b)) (dict_in (datum_at w d)) g
+
+  one-said : (w : PlainWorld) (meta : ℕ) (o : Option PyObjectRef) → ReadsObjects w → Makes (by_one w meta o args kw)
+  one-said w meta (Some o) g = either-makes (eqb meta the_type) _ _ (g, tt) (g, tt)
+  one-said w meta None g = three-said w meta (three_of args) g
+
+  make-row : Kinded kinds.Value (λ w. make_class_say w c args kw)
+  make-row = stepped kinds.Value (λ w. make_class_say w c args kw) (λ w g. one-said w c (one_argument args kw) g)
+
+-- the natives of `type`
+
+heir-said : (w : PlainWorld) (c : Option ℕ) (args : List PyObjectRef) (kw : Bindings) → ReadsObjects w → Says (at_once kinds.DoneOrValue) kinds.Value (type_new_of w c args kw)
+heir-said w None args kw g = ends g tt
+heir-said w (Some c) args kw g = either (is_of_class (nearest_built_in w.classes c) the_type) (asks g tt) (ends g tt)
+
+new-said : (w : PlainWorld) (args : List PyObjectRef) (kw : Bindings) → ReadsObjects w → Says (at_once kinds.DoneOrValue) kinds.Value (type_new w args kw)
+new-said w [] kw g = ends g tt
+new-said w (c ∷ args) kw g = heir-said w (class_number (datum_at w c)) args kw g
+
+class-in : (w : PlainWorld) (c : Option ℕ) (go : ℕ → Said) → ReadsObjects w → ((c : ℕ) → Says (at_once kinds.DoneOrValue) kinds.Value (go c)) → Says (at_once kinds.DoneOrValue) kinds.Value (class_in w c go)
+class-in w None go g p = ends g tt
+class-in w (Some c) go g p = p c
+
+self-taken : (w : PlainWorld) (args : List PyObjectRef) (go : ℕ → Said) → ReadsObjects w → ((c : ℕ) → Says (at_once kinds.DoneOrValue) kinds.Value (go c)) → Says (at_once kinds.DoneOrValue) kinds.Value (with_type w args go)
+self-taken w [] go g p = ends g tt
+self-taken w (o ∷ args) go g p = class-in w (class_number (datum_at w o)) go g p
+
+called-said : (w : PlainWorld) (c : Option ℕ) (args : List PyObjectRef) (kw : Bindings) → ReadsObjects w → Says (at_once kinds.DoneOrValue) kinds.Value (called_with w c args kw)
+called-said w None args kw g = ends g tt
+called-said w (Some c) args kw g = asks g tt
+
+call-said : (w : PlainWorld) (args : List PyObjectRef) (kw : Bindings) → ReadsObjects w → Says (at_once kinds.DoneOrValue) kinds.Value (type_call w args kw)
+call-said w [] kw g = ends g tt
+call-said w (c ∷ args) kw g = called-said w (class_number (datum_at w c)) args kw g
+
+type-said : (w : PlainWorld) (n : TypeNative) (args : List PyObjectRef) (kw : Bindings) → ReadsObjects w → Says (at_once kinds.DoneOrValue) kinds.Value (type_by w n args kw)
+type-said w type.New args kw g = new-said w args kw g
+type-said w type.GetAttribute args kw g = self-taken w args _ g (λ c. takes-two w args kw _ g (λ o n. takes-text w n _ g (λ x. asks g tt)))
+type-said w type.SetAttr args kw g = self-taken w args _ g (λ c. takes-three w args kw _ g (λ o n v. takes-text w n _ g (λ x. asks g tt)))
+type-said w type.DelAttr args kw g = self-taken w args _ g (λ c. takes-two w args kw _ g (λ o n. takes-text w n _ g (λ x. asks g tt)))
+type-said w type.Call args kw g = call-said w args kw g
+type-said w n args kw g = type-native w n args kw g
+
+pub class-rows : (job : ClassJob) → Kinded kinds.Value (λ w. class_job_say w job)
+unfolding class_job_say
+class-rows (DoMakeClass c args kw) = make-row c args kw
+class-rows (DoType n args kw) = started kinds.DoneOrValue kinds.Value (λ w. type_by w n args kw) (λ w. native_end w) (λ w g. type-said w n args kw g) (λ r f. native-end r f)
