@@ -143,10 +143,10 @@ abbrev pub never : Told → Kind → Bool
 never learnt i = false
 
 -- it has read some objects, or none
-abbrev pub having_read : (List PyObjectRef → Kind) → Told → Kind → Bool
-having_read j [] i = within i (j [])
-having_read j (ReadObjects rs ∷ []) i = within i (j rs)
-having_read j _ i = false
+abbrev pub having_read : (List PyObjectRef → Kind → Bool) → Told → Kind → Bool
+having_read ok [] i = ok [] i
+having_read ok (ReadObjects rs ∷ []) i = ok rs i
+having_read ok _ i = false
 
 -- one answer after the other
 

@@ -15,14 +15,13 @@ use  Rattle.py_node.specs.declared.entry.NativeEntry.TheVariants.{OfObject, OfCa
 use Rattle.py_node.specs.declared.known.Known.TheVariants as known
 use  Rattle.py_node.specs.Tree.{Tree}
 use Rattle.answer_kinds.specs.Kinds as kinds
-use Rattle.answer_kinds.specs.Kinds.{Kind, kind_of_native, kind_of_call, kind_of, ReadsObjects}
-use Rattle.answer_kinds.proofs.Base.{So, Fits, within, wider, Kinded, ended, Says, ends, asks, at_once, on_way, started, forked, asking, finished, passed, one_of, on-value, on-truth, on-done, started_so, native-kind, native-asked, any-native, through}
+use Rattle.answer_kinds.specs.Kinds.{Kind, kind_of_native, kind_of_call, kind_of}
+use Rattle.answer_kinds.proofs.Base.{So, Fits, within, wider, Kinded, ended, Says, ends, asks, at_once, on_way, started, forked, asking, finished, passed, one_of, on-value, on-truth, on-done, started_so, native-kind, native-asked, native-given, is_given, for_given, named-row}
 use Rattle.answer_kinds.proofs.Said.{either, takes-one, takes-two, takes-three, takes-text}
-use Rattle.answer_kinds.proofs.Worlds.{same-nodes, node-made}
 use Rattle.answer_kinds.proofs.Columns.{gives_in, slot-gives, slot-at-gives}
 use Rattle.answer_kinds.proofs.Tables.{new-column, init-column}
 use Rattle.answer_kinds.proofs.Objects.{object-native}
-use Rattle.proto_call.specs.Say.{is_empty, asked_of_native, call_by, named_end, call_say, single, left_over, all_filled, when_filled, rest_fits, by_place, body_by, body_say, initialised, type_call_say, new_found, new_by, new_say, init_by, init_rest, init_say, is_abstract, unless_abstract, created, new_of_class, object_new, object_init, unspecified, turned, object_by, object_say, call_job_say}
+use Rattle.proto_call.specs.Say.{is_empty, asked_of_native, call_by, call_say, single, left_over, all_filled, when_filled, rest_fits, by_place, body_by, body_say, initialised, type_call_say, new_found, new_by, new_say, init_by, init_rest, init_say, is_abstract, unless_abstract, created, new_of_class, object_new, object_init, unspecified, turned, object_by, object_say, call_job_say}
 use Rattle.native_base.specs.Called.{with_self, call_native}
 use Rattle.plain_machine.specs.Plain.{Datum, AnObject, AClass, ANumber, AFunction, AMethod, ANativeFunction, ABuiltinMethod, AMethodDescriptor, AStaticMethod, Bindings, PlainWorld, CallJob, DoCall, DoBody, DoTypeCall, DoNew, DoInit, DoObject, DoIsTrue, PlainTask, ToCall, ToProtocol, AsValue, AsDone, AsNumber, Ended, Chose, Told}
 use Rattle.plain_machine.specs.World.{is_text, text_keys, datum_at, slot_at, without_scope}
@@ -37,16 +36,15 @@ use Rattle.class_model.specs.Class.{found}
 use Rattle.class_model.specs.Slot.{slot}
 use Rattle.class_model.specs.BuiltIn.{natives_of}
 
--- what is asked, if anything, answers of one of these kinds
-abbrev pub Gives : Kind → Option PlainTask → Type 0
-Gives j None = Unit {0}
-Gives j (Some task) = So (within (kind_of task) j)
+-- what is asked, if anything, gives an object or a number
+abbrev pub Gives : Option PlainTask → Type 0
+Gives None = Unit {0}
+Gives (Some task) = So (is_given (kind_of task))
 
-native-gives : (n : NativeEntry) (args : List PyObjectRef) (kw : Bindings) → Gives kinds.ValueOrNumber (Some (native_task n args kw))
-native-gives n args kw = subst (λ i. So (within i kinds.ValueOrNumber)) (sym (native-kind n args kw)) (any-native n)
+native-gives : (n : NativeEntry) (args : List PyObjectRef) (kw : Bindings) → Gives (Some (native_task n args kw))
+native-gives n args kw = subst (λ i. So (is_given i)) (sym (native-kind n args kw)) (native-given n)
 
--- what a native that calls asks answers of its own kind
-pub call-gives : (n : NativeEntry) (d : Option Datum) (f : PyObjectRef) (args : List PyObjectRef) (kw : Bindings) → Gives (kind_of_native n) (call_native n d f args kw)
+pub call-gives : (n : NativeEntry) (d : Option Datum) (f : PyObjectRef) (args : List PyObjectRef) (kw : Bindings) → Gives (call_native n d f args kw)
 call-gives (OfCallable callable.CallFunction) d f args kw = tt
 call-gives (OfCallable callable.CallMethod) (Some (AMethod o m)) f args kw = tt
 call-gives (OfCallable callable.CallNativeFunction) (Some (ANativeFunction x n o doc)) f args kw = native-gives n (with_self o args) kw
@@ -56,51 +54,38 @@ call-gives (OfType type.Call) (Some (AClass c)) f args kw = tt
 call-gives (OfWrapper wrapper.StaticCall) (Some (AStaticMethod m)) f args kw = tt
 call-gives n d f args kw = tt
 
-any-within : (n : NativeEntry) (i : Kind) → So (within i (kind_of_native n)) → So (within i kinds.ValueOrNumber)
-any-within n i h = through i (kind_of_native n) kinds.ValueOrNumber h (any-native n)
-
-any-gives : (n : NativeEntry) (o : Option PlainTask) → Gives (kind_of_native n) o → Gives kinds.ValueOrNumber o
-any-gives n None h = tt
-any-gives n (Some task) h = any-within n (kind_of task) h
-
 -- a call
 
-asked-said : (w : PlainWorld) (o : Option PlainTask) → ReadsObjects w → Gives kinds.ValueOrNumber o → Says (at_once kinds.ValueOrNumber) kinds.Value (asked_of_native w o)
-asked-said w None g h = ends g tt
-asked-said w (Some task) g h = asks g h
+asked-said : (w : PlainWorld) (o : Option PlainTask) → Gives o → Says for_given kinds.Value (asked_of_native w o)
+asked-said w None h = ends tt
+asked-said w (Some task) h = asks h
 
-call-said : (w : PlainWorld) (e : Option SlotEntry) (f : PyObjectRef) (args : List PyObjectRef) (kw : Bindings) → ReadsObjects w → Says (at_once kinds.ValueOrNumber) kinds.Value (call_by w e f args kw)
-call-said w (Some (Native n)) f args kw g = asked-said w (call_native n (datum_at w f) f args kw) g (any-gives n (call_native n (datum_at w f) f args kw) (call-gives n (datum_at w f) f args kw))
-call-said w (Some (Wrapper s)) f args kw g = asks g tt
-call-said w e f args kw g = ends g tt
-
-named-end : (r : Ended) → Fits kinds.ValueOrNumber r → Kinded kinds.Value (λ w. named_end w r)
-named-end (Ok (AsNumber z)) f = finished kinds.Value (λ w. make w the_int (ANumber z)) (λ w g. ends (node-made w the_int (ANumber z) g tt) tt)
-named-end (Ok (AsValue v)) f = ended kinds.Value (value v) tt
-named-end (Ok a) f = absurd f
-named-end (Err x) f = ended kinds.Value (Err x) tt
+call-said : (w : PlainWorld) (e : Option SlotEntry) (f : PyObjectRef) (args : List PyObjectRef) (kw : Bindings) → Says for_given kinds.Value (call_by w e f args kw)
+call-said w (Some (Native n)) f args kw = asked-said w (call_native n (datum_at w f) f args kw) (call-gives n (datum_at w f) f args kw)
+call-said w (Some (Wrapper s)) f args kw = asks tt
+call-said w e f args kw = ends tt
 
 call-row : (f : PyObjectRef) (args : List PyObjectRef) (kw : Bindings) → Kinded kinds.Value (λ w. call_say w f args kw)
-call-row f args kw = started kinds.ValueOrNumber kinds.Value (λ w. call_by w (slot_at w f Call) f args kw) (λ w. named_end w) (λ w g. call-said w (slot_at w f Call) f args kw g) (λ r f. named-end r f)
+call-row f args kw = named-row (λ w. call_by w (slot_at w f Call) f args kw) (λ w. call-said w (slot_at w f Call) f args kw)
 
 -- a body
 
-filled-said : (w : PlainWorld) (f : PyObjectRef) (x : Text) (params : List Text) (rest : Bool) (body : Tree) (vars : Option Bindings) → ReadsObjects w → Says (at_once kinds.Value) kinds.Value (when_filled w f x params rest body vars)
-filled-said w f x params rest body None g = ends g tt
-filled-said w f x params rest body (Some vars) g = either (all_filled vars (single rest params)) (asks (same-nodes w _ refl g) tt) (ends g tt)
+filled-said : (w : PlainWorld) (f : PyObjectRef) (x : Text) (params : List Text) (rest : Bool) (body : Tree) (vars : Option Bindings) → Says (at_once kinds.Value) kinds.Value (when_filled w f x params rest body vars)
+filled-said w f x params rest body None = ends tt
+filled-said w f x params rest body (Some vars) = either (all_filled vars (single rest params)) (asks tt) (ends tt)
 
-placed-said : (w : PlainWorld) (f : PyObjectRef) (x : Text) (params : List Text) (rest : Bool) (body : Tree) (args : List PyObjectRef) (kw : Bindings) → ReadsObjects w → Says (at_once kinds.Value) kinds.Value (by_place w f x params rest body args kw)
-placed-said w f x params false body args kw g = either (is_empty (left_over params args)) (filled-said w f x params false body _ g) (ends g tt)
-placed-said w f x params true body args kw g = either (rest_fits params args) (filled-said _ f x params true body _ (node-made w the_tuple _ g tt)) (ends g tt)
+placed-said : (w : PlainWorld) (f : PyObjectRef) (x : Text) (params : List Text) (rest : Bool) (body : Tree) (args : List PyObjectRef) (kw : Bindings) → Says (at_once kinds.Value) kinds.Value (by_place w f x params rest body args kw)
+placed-said w f x params false body args kw = either (is_empty (left_over params args)) (filled-said w f x params false body _) (ends tt)
+placed-said w f x params true body args kw = either (rest_fits params args) (filled-said _ f x params true body _) (ends tt)
 
-body-said : (w : PlainWorld) (d : Option Datum) (f : PyObjectRef) (args : List PyObjectRef) (kw : Bindings) → ReadsObjects w → Says (at_once kinds.Value) kinds.Value (body_by w d f args kw)
-body-said w (Some (AFunction x params rest body c)) f args kw g = placed-said w f x params rest body args kw g
-body-said w d f args kw g = ends g tt
+body-said : (w : PlainWorld) (d : Option Datum) (f : PyObjectRef) (args : List PyObjectRef) (kw : Bindings) → Says (at_once kinds.Value) kinds.Value (body_by w d f args kw)
+body-said w (Some (AFunction x params rest body c)) f args kw = placed-said w f x params rest body args kw
+body-said w d f args kw = ends tt
 
 body-row : (f : PyObjectRef) (args : List PyObjectRef) (kw : Bindings) → Kinded kinds.Value (λ w. body_say w f args kw)
 body-row f args kw =
     started kinds.Value kinds.Value (λ w. body_by w (datum_at w f) f args kw) (λ w r. end (without_scope w) r)
-    (λ w g. body-said w (datum_at w f) f args kw g) (λ r h. finished kinds.Value (λ w. end (without_scope w) r) (λ w g. ends (same-nodes w (without_scope w) refl g) h))
+    (λ w. body-said w (datum_at w f) f args kw) (λ r h. finished kinds.Value (λ w. end (without_scope w) r) (λ w. ends h))
 
 -- objects are made
 
@@ -108,25 +93,25 @@ type-call-row : (c : ℕ) (args : List PyObjectRef) (kw : Bindings) → Kinded k
 type-call-row c args kw =
     asking kinds.Value kinds.Value (ToCall (DoNew c c args kw)) (λ w r. on_value w r (λ o. start (initialised w c args kw o) (λ s. on_done w s (end w (value o))))) tt
     (λ r f. on-value kinds.Value (λ w o. start (initialised w c args kw o) (λ s. on_done w s (end w (value o)))) r f
-    (λ o. started_so kinds.Value (λ w. initialised w c args kw o) (λ w s. on_done w s (end w (value o))) (λ w g. either _ (ends g tt) (asks g tt))
+    (λ o. started_so kinds.Value (λ w. initialised w c args kw o) (λ w s. on_done w s (end w (value o))) (λ w. either _ (ends tt) (asks tt))
     (λ s. on-done kinds.Value (λ w. end w (value o)) s (ended kinds.Value (value o) tt))))
 
-new-found-said : (w : PlainWorld) (f : Option PyObjectRef) (c : ℕ) (args : List PyObjectRef) (kw : Bindings) → ReadsObjects w → Says (at_once kinds.Value) kinds.Value (new_found w f c args kw)
-new-found-said w None c args kw g = ends g tt
-new-found-said w (Some f) c args kw g = asks g tt
+new-found-said : (w : PlainWorld) (f : Option PyObjectRef) (c : ℕ) (args : List PyObjectRef) (kw : Bindings) → Says (at_once kinds.Value) kinds.Value (new_found w f c args kw)
+new-found-said w None c args kw = ends tt
+new-found-said w (Some f) c args kw = asks tt
 
-new-said : (w : PlainWorld) (e : Option SlotEntry) (c : ℕ) (args : List PyObjectRef) (kw : Bindings) → ReadsObjects w → So (gives_in kinds.Value e) → Says (at_once kinds.Value) kinds.Value (new_by w e c args kw)
-new-said w (Some (Native n)) c args kw g h = native-asked w [] n (class_object w c ∷ args) kw g h
-new-said w (Some (Wrapper s)) c args kw g h = new-found-said w (found is_text w.classes c (known_text known.New)) c args kw g
-new-said w e c args kw g h = ends g tt
+new-said : (w : PlainWorld) (e : Option SlotEntry) (c : ℕ) (args : List PyObjectRef) (kw : Bindings) → So (gives_in kinds.Value e) → Says (at_once kinds.Value) kinds.Value (new_by w e c args kw)
+new-said w (Some (Native n)) c args kw h = native-asked w [] n (class_object w c ∷ args) kw h
+new-said w (Some (Wrapper s)) c args kw h = new-found-said w (found is_text w.classes c (known_text known.New)) c args kw
+new-said w e c args kw h = ends tt
 
 new-row : (k c : ℕ) (args : List PyObjectRef) (kw : Bindings) → Kinded kinds.Value (λ w. new_say w k c args kw)
-new-row k c args kw = passed kinds.Value (λ w. new_by w (slot text_keys natives_of w.classes k New) c args kw) (λ w g. new-said w (slot text_keys natives_of w.classes k New) c args kw g (slot-gives kinds.Value New new-column w.classes k))
+new-row k c args kw = passed kinds.Value (λ w. new_by w (slot text_keys natives_of w.classes k New) c args kw) (λ w. new-said w (slot text_keys natives_of w.classes k New) c args kw (slot-gives kinds.Value New new-column w.classes k))
 
-init-said : (w : PlainWorld) (e : Option SlotEntry) (o : PyObjectRef) (args : List PyObjectRef) (kw : Bindings) → ReadsObjects w → So (gives_in kinds.Value e) → Says (on_way (λ n. kinds.Value)) kinds.DoneOrValue (init_by w e o args kw)
-init-said w (Some (Native n)) o args kw g h = native-asked w (Chose 0 ∷ []) n (o ∷ args) kw g h
-init-said w (Some (Wrapper s)) o args kw g h = asks g tt
-init-said w e o args kw g h = ends g tt
+init-said : (w : PlainWorld) (e : Option SlotEntry) (o : PyObjectRef) (args : List PyObjectRef) (kw : Bindings) → So (gives_in kinds.Value e) → Says (on_way (λ n. kinds.Value)) kinds.DoneOrValue (init_by w e o args kw)
+init-said w (Some (Native n)) o args kw h = native-asked w (Chose 0 ∷ []) n (o ∷ args) kw h
+init-said w (Some (Wrapper s)) o args kw h = asks tt
+init-said w e o args kw h = ends tt
 
 init-rest : (way : ℕ) (r : Ended) → Fits kinds.Value r → Kinded kinds.DoneOrValue (λ w. init_rest w way r)
 init-rest zero r f = ended kinds.DoneOrValue r (wider kinds.Value kinds.DoneOrValue r tt f)
@@ -135,36 +120,36 @@ init-rest (suc n) r f =
     (λ v. one_of kinds.DoneOrValue (eqb v.0 none.0) (λ w. end w (value v)) (λ w. end w (fault InitNotNone)) (ended kinds.DoneOrValue (value v) tt) (ended kinds.DoneOrValue (fault InitNotNone) tt))
 
 init-row : (o : PyObjectRef) (args : List PyObjectRef) (kw : Bindings) → Kinded kinds.DoneOrValue (λ w. init_say w o args kw)
-init-row o args kw = forked (λ n. kinds.Value) kinds.DoneOrValue (λ w. init_by w (slot_at w o Init) o args kw) (λ w. init_rest w) (λ w g. init-said w (slot_at w o Init) o args kw g (slot-at-gives kinds.Value Init init-column w o)) (λ way r f. init-rest way r f)
+init-row o args kw = forked (λ n. kinds.Value) kinds.DoneOrValue (λ w. init_by w (slot_at w o Init) o args kw) (λ w. init_rest w) (λ w. init-said w (slot_at w o Init) o args kw (slot-at-gives kinds.Value Init init-column w o)) (λ way r f. init-rest way r f)
 
 -- the natives of `object`
 
 abbrev Objectly : Told → Kind → Bool
 Objectly = at_once kinds.DoneOrValue
 
-created-said : (w : PlainWorld) (b : Option ℕ) (c : ℕ) → ReadsObjects w → Says Objectly kinds.Value (created w b c)
-created-said w None c g = ends g tt
-created-said w (Some b) c g = either (not (eqb b the_object)) (ends g tt) (unless (is_abstract w (found is_text w.classes c (known_text known.Abstractmethods))))
+created-said : (w : PlainWorld) (b : Option ℕ) (c : ℕ) → Says Objectly kinds.Value (created w b c)
+created-said w None c = ends tt
+created-said w (Some b) c = either (not (eqb b the_object)) (ends tt) (unless (is_abstract w (found is_text w.classes c (known_text known.Abstractmethods))))
   where
     unless : (b : Bool) → Says Objectly kinds.Value (unless_abstract w b c)
-    unless true = ends g tt
-    unless false = ends (node-made w c AnObject g tt) tt
+    unless true = ends tt
+    unless false = ends tt
 
-class-new : (w : PlainWorld) (c : Option ℕ) → ReadsObjects w → Says Objectly kinds.Value (new_of_class w c)
-class-new w None g = ends g tt
-class-new w (Some c) g = created-said w (nearest_built_in w.classes c) c g
+class-new : (w : PlainWorld) (c : Option ℕ) → Says Objectly kinds.Value (new_of_class w c)
+class-new w None = ends tt
+class-new w (Some c) = created-said w (nearest_built_in w.classes c) c
 
-object-new : (w : PlainWorld) (args : List PyObjectRef) → ReadsObjects w → Says Objectly kinds.Value (object_new w args)
-object-new w [] g = ends g tt
-object-new w (c ∷ args) g = class-new w (class_number (datum_at w c)) g
+object-new : (w : PlainWorld) (args : List PyObjectRef) → Says Objectly kinds.Value (object_new w args)
+object-new w [] = ends tt
+object-new w (c ∷ args) = class-new w (class_number (datum_at w c))
 
-object-init : (w : PlainWorld) (args : List PyObjectRef) → ReadsObjects w → Says Objectly kinds.Value (object_init w args)
-object-init w [] g = ends g tt
-object-init w (o ∷ args) g = ends g tt
+object-init : (w : PlainWorld) (args : List PyObjectRef) → Says Objectly kinds.Value (object_init w args)
+object-init w [] = ends tt
+object-init w (o ∷ args) = ends tt
 
-unspecified-said : (w : PlainWorld) (o : PyObjectRef) (x : Text) → ReadsObjects w → Says Objectly kinds.Value (unspecified w o x)
-unspecified-said w o [] g = asks g tt
-unspecified-said w o (b ∷ bs) g = ends g tt
+unspecified-said : (w : PlainWorld) (o : PyObjectRef) (x : Text) → Says Objectly kinds.Value (unspecified w o x)
+unspecified-said w o [] = asks tt
+unspecified-said w o (b ∷ bs) = ends tt
 
 pub native-end : (r : Ended) → Fits kinds.DoneOrValue r → Kinded kinds.Value (λ w. native_end w r)
 native-end (Ok AsDone) f = ended kinds.Value (value none) tt
@@ -179,24 +164,25 @@ turned-row x =
     (asking kinds.Truth kinds.Value (ToProtocol (DoIsTrue x)) (λ w r. on_truth w r (λ b. end w (value (truth (not b))))) tt
     (λ r f. on-truth kinds.Value (λ w b. end w (value (truth (not b)))) r f (λ b. ended kinds.Value (value (truth (not b))) tt)))
 
-object-like : (n : ObjectNative) (args : List PyObjectRef) (kw : Bindings) → ((w : PlainWorld) → ReadsObjects w → Says Objectly kinds.Value (object_by w n args kw)) → Kinded kinds.Value (λ w. start (object_by w n args kw) (native_end w))
+object-like : (n : ObjectNative) (args : List PyObjectRef) (kw : Bindings) → ((w : PlainWorld) → Says Objectly kinds.Value (object_by w n args kw)) → Kinded kinds.Value (λ w. start (object_by w n args kw) (native_end w))
 object-like n args kw p = started kinds.DoneOrValue kinds.Value (λ w. object_by w n args kw) (λ w. native_end w) p (λ r f. native-end r f)
 
 object-row : (n : ObjectNative) (args : List PyObjectRef) (kw : Bindings) → Kinded (kind_of_native (OfObject n)) (λ w. object_say w n args kw)
-object-row object.New args kw = object-like object.New args kw (λ w g. object-new w args g)
-object-row object.Init args kw = object-like object.Init args kw (λ w g. object-init w args g)
-object-row object.InitSubclass args kw = object-like object.InitSubclass args kw (λ w g. takes-one w args kw _ g (λ o. ends g tt))
-object-row object.GetAttribute args kw = object-like object.GetAttribute args kw (λ w g. takes-two w args kw _ g (λ o n. takes-text w n _ g (λ x. asks g tt)))
-object-row object.SetAttr args kw = object-like object.SetAttr args kw (λ w g. takes-three w args kw _ g (λ o n v. takes-text w n _ g (λ x. asks g tt)))
-object-row object.DelAttr args kw = object-like object.DelAttr args kw (λ w g. takes-two w args kw _ g (λ o n. takes-text w n _ g (λ x. asks g tt)))
-object-row object.Str args kw = object-like object.Str args kw (λ w g. takes-one w args kw _ g (λ o. asks g tt))
-object-row object.Format args kw = object-like object.Format args kw (λ w g. takes-two w args kw _ g (λ o s. takes-text w s _ g (λ x. unspecified-said w o x g)))
-object-row object.Dir args kw = object-like object.Dir args kw (λ w g. takes-one w args kw _ g (λ o. asks g tt))
+unfolding kind_of_native
+object-row object.New args kw = object-like object.New args kw (λ w. object-new w args)
+object-row object.Init args kw = object-like object.Init args kw (λ w. object-init w args)
+object-row object.InitSubclass args kw = object-like object.InitSubclass args kw (λ w. takes-one w args kw _ (λ o. ends tt))
+object-row object.GetAttribute args kw = object-like object.GetAttribute args kw (λ w. takes-two w args kw _ (λ o n. takes-text w n _ (λ x. asks tt)))
+object-row object.SetAttr args kw = object-like object.SetAttr args kw (λ w. takes-three w args kw _ (λ o n v. takes-text w n _ (λ x. asks tt)))
+object-row object.DelAttr args kw = object-like object.DelAttr args kw (λ w. takes-two w args kw _ (λ o n. takes-text w n _ (λ x. asks tt)))
+object-row object.Str args kw = object-like object.Str args kw (λ w. takes-one w args kw _ (λ o. asks tt))
+object-row object.Format args kw = object-like object.Format args kw (λ w. takes-two w args kw _ (λ o s. takes-text w s _ (λ x. unspecified-said w o x)))
+object-row object.Dir args kw = object-like object.Dir args kw (λ w. takes-one w args kw _ (λ o. asks tt))
 object-row object.Ne args kw =
-    started kinds.Value kinds.Value (λ w. object_by w object.Ne args kw) (λ w r. on_value w r (turned w)) (λ w g. takes-two w args kw _ g (λ o p. asks g tt))
+    started kinds.Value kinds.Value (λ w. object_by w object.Ne args kw) (λ w r. on_value w r (turned w)) (λ w. takes-two w args kw _ (λ o p. asks tt))
     (λ r f. on-value kinds.Value (λ w. turned w) r f turned-row)
-object-row object.Hash args kw = finished kinds.Number (λ w. object_say w object.Hash args kw) (λ w g. object-native w object.Hash args kw g)
-object-row n args kw = finished _ (λ w. object_say w n args kw) (λ w g. object-native w n args kw g)
+object-row object.Hash args kw = finished kinds.Number (λ w. object_say w object.Hash args kw) (λ w. object-native w object.Hash args kw)
+object-row n args kw = finished _ (λ w. object_say w n args kw) (λ w. object-native w n args kw)
 
 pub calls : (job : CallJob) → Kinded (kind_of_call job) (λ w. call_job_say w job)
 unfolding call_job_say

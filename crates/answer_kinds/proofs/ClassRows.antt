@@ -12,10 +12,8 @@ use Rattle.class_model.specs.Class.{class_at as class_numbered}
 use Rattle.class_make.specs.Say.{one_of as one_argument, dict_of as dict_in, is_class as is_of_class, hook as class_hook, with_self as with_type, values_of as bound_values}
 use  Rattle.py_node.specs.Attributes.{value_of}
 use Rattle.answer_kinds.specs.Kinds as kinds
-use Rattle.answer_kinds.specs.Kinds.{ReadsObjects}
 use Rattle.answer_kinds.proofs.Base.{Family, GoesOn, Kinded, ended, Says, ends, asks, at_once, stepped, goes-on, started, read_objects_once, read_names_once, on-value, on-done, started_so, either-fits}
 use Rattle.answer_kinds.proofs.Said.{either, takes-two, takes-three, takes-text}
-use Rattle.answer_kinds.proofs.Worlds.{IsFine, either-world, same-nodes, node-made, definer-set, class-made}
 use Rattle.answer_kinds.proofs.Objects.{type-native}
 use Rattle.answer_kinds.proofs.Calls.{native-end}
 use Rattle.class_make.specs.Say.{Entries, the_member, has_name, text_of, namespace, Space, put, give, wrap_value, wrap, qualify, unhash, give_dict, completed, would_have_dict, dicted, functions_of, defined, with_functions, a_member, put_member, with_member, with_members, name_hook, bind_hook, bind_hooks, call_hook, unless_raised, call_hooks, without_metaclass, init_subclass, own_values, tell, whole_class, refusal, made_unless, with_slots, with_names, by_slots, made, with_namespace, on_layout, on_bases, winner, by_winner, classes_of, by_classes, by_bases, has_null, tuple_of, by_parts, from_three, three_of, by_one, no_class, make_class_say, type_new_of, type_new, class_in, called_with, type_call, type_by, class_job_say}
@@ -39,7 +37,7 @@ bound-hooks (a ∷ more) go p = read_objects_once kinds.Value (λ w. name_hook w
     hooked [] q h = q
     hooked (m ∷ ms) q h =
         started kinds.Value kinds.Value (λ w. Asks w [] (ToAttribute (DoBind m (Some a.1) (type_object w a.1)))) (λ w r. on_value w r (λ b. bind_hooks w more (λ bs. go w ((a.0, b) ∷ bs))))
-        (λ w g. asks g tt) (λ r f. on-value kinds.Value (λ w b. bind_hooks w more (λ bs. go w ((a.0, b) ∷ bs))) r f h)
+        (λ w. asks tt) (λ r f. on-value kinds.Value (λ w b. bind_hooks w more (λ bs. go w ((a.0, b) ∷ bs))) r f h)
 
 unless-raised : (go : Family) (r : Ended) → Kinded kinds.Value go → Kinded kinds.Value (λ w. unless_raised w r (go w))
 unless-raised go (Ok a) p = p
@@ -49,18 +47,18 @@ called-hooks : (class : PyObjectRef) (bs : Bindings) (go : Family) → Kinded ki
 called-hooks class [] go p = p
 called-hooks class (b ∷ bs) go p =
     started_so kinds.Value (λ w. call_hook w class b.0 b.1) (λ w r. unless_raised w r (call_hooks w class bs (go w)))
-    (λ w g. asks (node-made w the_str (AText b.0) g tt) tt) (λ r. unless-raised (λ w. call_hooks w class bs (go w)) r (called-hooks class bs go p))
+    (λ w. asks tt) (λ r. unless-raised (λ w. call_hooks w class bs (go w)) r (called-hooks class bs go p))
 
-hook-said : (w : PlainWorld) (class : PyObjectRef) (m : Option PyObjectRef) → ReadsObjects w → Says (at_once kinds.Value) kinds.Value (class_hook w class m)
-hook-said w class None g = ends g tt
-hook-said w class (Some m) g = asks g tt
+hook-said : (w : PlainWorld) (class : PyObjectRef) (m : Option PyObjectRef) → Says (at_once kinds.Value) kinds.Value (class_hook w class m)
+hook-said w class None = ends tt
+hook-said w class (Some m) = asks tt
 
 init-row : (class : PyObjectRef) (kw : Bindings) → Kinded kinds.Value (λ w. init_subclass w class kw)
 init-row class kw =
     started kinds.Value kinds.Value (λ w. class_hook w class (found_past is_text w.classes class.0 (known_text known.InitSubclass))) (λ w r. on_value w r (λ b. start (pass w (ToCall (DoCall b [] (without_metaclass kw)))) (λ s. on_done w s (end w (value class)))))
-    (λ w g. hook-said w class (found_past is_text w.classes class.0 (known_text known.InitSubclass)) g)
+    (λ w. hook-said w class (found_past is_text w.classes class.0 (known_text known.InitSubclass)))
     (λ r f. on-value kinds.Value (λ w b. start (pass w (ToCall (DoCall b [] (without_metaclass kw)))) (λ s. on_done w s (end w (value class)))) r f
-    (λ b. started_so kinds.Value (λ w. pass w (ToCall (DoCall b [] (without_metaclass kw)))) (λ w s. on_done w s (end w (value class))) (λ w g. asks g tt)
+    (λ b. started_so kinds.Value (λ w. pass w (ToCall (DoCall b [] (without_metaclass kw)))) (λ w s. on_done w s (end w (value class))) (λ w. asks tt)
     (λ s. on-done kinds.Value (λ w. end w (value class)) s (ended kinds.Value (value class) tt))))
 
 tell-row : (class : PyObjectRef) (kw : Bindings) → Kinded kinds.Value (λ w. tell w class kw)
@@ -72,67 +70,6 @@ tell-row class kw =
 
 abbrev IsKept : Space → Type 0
 IsKept s = ReadsObjects s.0
-
-either-space : (b : Bool) (s t : Space) → IsKept s → IsKept t → IsKept (cond b s t)
-either-space true s t p q = p
-either-space false s t p q = q
-
-put-kept : (s : Space) (x : Text) (c : ℕ) (d : Datum) → IsKept s → IsFine d → IsKept (put s x c d)
-unfolding put
-put-kept s x c d g h = node-made s.0 c d g h
-
-give-kept : (s : Space) (x : Text) (c : ℕ) (d : Datum) → IsKept s → IsFine d → IsKept (give s x c d)
-unfolding give
-give-kept s x c d g h = either-space (has_name s.1 x) s (put s x c d) g (put-kept s x c d g h)
-
-wrap-value-kept : (s : Space) (x : Text) (v : Option PyObjectRef) → IsKept s → IsKept (wrap_value s x v)
-unfolding wrap_value
-wrap-value-kept s x None g = g
-wrap-value-kept s x (Some v) g = either-space (is_of_class (class_at s.0 v) the_function) (put s x the_class_method (AClassMethod v)) s (put-kept s x the_class_method (AClassMethod v) g tt) g
-
-wrap-kept : (x : Text) (s : Space) → IsKept s → IsKept (wrap x s)
-unfolding wrap
-wrap-kept x s g = wrap-value-kept s x (value_of (λ y. is_text y x) s.1) g
-
-qualify-kept : (name : Text) (s : Space) → IsKept s → IsKept (qualify name s)
-unfolding qualify
-qualify-kept name s g = give-kept s (known_text known.Qualname) the_str (AText name) g tt
-
-unhash-kept : (s : Space) → IsKept s → IsKept (unhash s)
-unfolding unhash
-unhash-kept s g = either-space _ _ s g g
-
-completed-kept : (name : Text) (s : Space) → IsKept s → IsKept (completed name s)
-unfolding completed
-completed-kept name s g = unhash-kept _ (qualify-kept name _ (wrap-kept (known_text known.ClassGetitem) _ (wrap-kept (known_text known.InitSubclass) s g)))
-
-dict-kept : (s : Space) → IsKept s → IsKept (give_dict s)
-unfolding give_dict
-dict-kept s g = give-kept s (known_text known.Dict) the_getset _ g tt
-
-dicted-kept : (bases : List ℕ) (slots : Option (List Text)) (s : Space) → IsKept s → IsKept (dicted bases slots s)
-unfolding dicted
-dicted-kept bases slots s g = either-space (would_have_dict s.0 bases slots) (give_dict s) s (dict-kept s g) g
-
-defined-kept : (c : ℕ) (w : PlainWorld) (fs : List PyObjectRef) → ReadsObjects w → ReadsObjects (defined c w fs)
-defined-kept c w [] g = g
-defined-kept c w (f ∷ fs) g = defined-kept c (with_definer w c f) fs (definer-set w c f g)
-
-functions-kept : (c : ℕ) (w : PlainWorld) (vs : List PyObjectRef) → ReadsObjects w → ReadsObjects (with_functions c w vs)
-functions-kept c w [] g = g
-functions-kept c w (v ∷ vs) g = functions-kept c _ vs (defined-kept c w (functions_of v (datum_at w v)) g)
-
-member-kept : (c n : ℕ) (x : Text) (w : PlainWorld) → ReadsObjects w → ReadsObjects (with_member c n x w)
-unfolding with_member put_member
-member-kept c n x w g = either-world (is_some (found is_text w.classes c x)) w _ g (same-nodes (with_node w the_member (a_member c n x)) _ refl (node-made w the_member (a_member c n x) g tt))
-
-members-kept : (c n : ℕ) (xs : List Text) (w : PlainWorld) → ReadsObjects w → ReadsObjects (with_members c n xs w)
-members-kept c n [] w g = g
-members-kept c n (x ∷ xs) w g = members-kept c (n + 1) xs (with_member c n x w) (member-kept c n x w g)
-
-whole-kept : (w : PlainWorld) (meta : ℕ) (name : Text) (bases : List ℕ) (attrs : Bindings) (slots : Option (List Text)) → ReadsObjects w → ReadsObjects (whole_class w meta name bases attrs slots)
-unfolding whole_class
-whole-kept w meta name bases attrs slots g = members-kept _ _ _ _ (functions-kept _ _ _ (class-made w meta _ g))
 
 -- the class is made
 
@@ -149,107 +86,107 @@ module _ (c : ℕ) (args : List PyObjectRef) (kw : Bindings) where
 
   made-said : (cause : Option Cause) (meta : ℕ) (name : Text) (bases : List ℕ) (slots : Option (List Text)) (s : Space) → IsKept s → Makes (made_unless cause meta name bases slots kw s)
   unfolding made_unless
-  made-said (Some cause) meta name bases slots s g = (g, tt)
-  made-said None meta name bases slots s g =
+  made-said (Some cause) meta name bases slots s = tt
+  made-said None meta name bases slots s =
       let class = ref (length s.0.nodes) in
-      noted class (tell (whole_class s.0 meta name bases s.1 slots) class kw []) (goes-on kinds.Value (λ w. tell w class kw) (tell-row class kw) (whole_class s.0 meta name bases s.1 slots) (whole-kept s.0 meta name bases s.1 slots g))
+      noted class (tell (whole_class s.0 meta name bases s.1 slots) class kw []) (goes-on kinds.Value (λ w. tell w class kw) (tell-row class kw) (whole_class s.0 meta name bases s.1 slots) (whole-kept s.0 meta name bases s.1 slots))
 
   slots-said : (meta : ℕ) (name : Text) (bases : List ℕ) (slots : Option (List Text)) (s : Space) → IsKept s → Makes (with_slots meta name bases slots kw s)
-  slots-said meta name bases slots s g = made-said (refusal (dicted bases slots s).0 bases (dicted bases slots s).1) meta name bases slots (dicted bases slots s) (dicted-kept bases slots s g)
+  slots-said meta name bases slots s = made-said (refusal (dicted bases slots s).0 bases (dicted bases slots s).1) meta name bases slots (dicted bases slots s) (dicted-kept bases slots s)
 
   names-said : (names : Option (List Text)) (meta : ℕ) (name : Text) (bases : List ℕ) (s : Space) → IsKept s → Makes (with_names names meta name bases kw s)
-  names-said None meta name bases s g = (g, tt)
-  names-said (Some names) meta name bases s g = slots-said meta name bases (Some names) s g
+  names-said None meta name bases s = tt
+  names-said (Some names) meta name bases s = slots-said meta name bases (Some names) s
 
   by-slots : (o : Option PyObjectRef) (meta : ℕ) (name : Text) (bases : List ℕ) (s : Space) → IsKept s → Makes (by_slots o meta name bases kw s)
-  by-slots None meta name bases s g = slots-said meta name bases None s g
-  by-slots (Some r) meta name bases s g = names-said _ meta name bases s g
+  by-slots None meta name bases s = slots-said meta name bases None s
+  by-slots (Some r) meta name bases s = names-said _ meta name bases s
 
   all-made : (meta : ℕ) (name : Text) (bases : List ℕ) (s : Space) → IsKept s → Makes (made meta name bases kw s)
   unfolding made
-  all-made meta name bases s g = by-slots (value_of (λ y. is_text y (known_text known.Slots)) s.1) meta name bases s g
+  all-made meta name bases s = by-slots (value_of (λ y. is_text y (known_text known.Slots)) s.1) meta name bases s
 
-  namespace-said : (w : PlainWorld) (meta : ℕ) (name : Text) (bases : List ℕ) (attrs : Option Bindings) → ReadsObjects w → Makes (with_namespace w meta name bases attrs kw)
-  namespace-said w meta name bases None g = (g, tt)
-  namespace-said w meta name bases (Some attrs) g = all-made meta name bases (completed name (w, attrs)) (completed-kept name (w, attrs) g)
+  namespace-said : (w : PlainWorld) (meta : ℕ) (name : Text) (bases : List ℕ) (attrs : Option Bindings) → Makes (with_namespace w meta name bases attrs kw)
+  namespace-said w meta name bases None = tt
+  namespace-said w meta name bases (Some attrs) = all-made meta name bases (completed name (w, attrs)) (completed-kept name (w, attrs))
 
-  layout-said : (w : PlainWorld) (cause : Option Cause) (meta : ℕ) (name : Text) (bases : List ℕ) (es : Entries) → ReadsObjects w → Makes (on_layout w cause meta name bases es kw)
-  layout-said w (Some cause) meta name bases es g = (g, tt)
-  layout-said w None meta name bases es g = namespace-said w meta name bases (namespace w es) g
+  layout-said : (w : PlainWorld) (cause : Option Cause) (meta : ℕ) (name : Text) (bases : List ℕ) (es : Entries) → Makes (on_layout w cause meta name bases es kw)
+  layout-said w (Some cause) meta name bases es = tt
+  layout-said w None meta name bases es = namespace-said w meta name bases (namespace w es)
 
   either-makes : (b : Bool) (x y : Said) → Makes x → Makes y → Makes (cond b x y)
   either-makes true x y p q = p
   either-makes false x y p q = q
 
-  bases-said : (w : PlainWorld) (meta : ℕ) (name : Text) (bases : List ℕ) (es : Entries) → ReadsObjects w → Makes (on_bases w meta name bases es kw)
-  bases-said w meta name bases es g = layout-said w (refused_layout w.classes bases) meta name bases es g
+  bases-said : (w : PlainWorld) (meta : ℕ) (name : Text) (bases : List ℕ) (es : Entries) → Makes (on_bases w meta name bases es kw)
+  bases-said w meta name bases es = layout-said w (refused_layout w.classes bases) meta name bases es
 
-  winner-said : (w : PlainWorld) (meta : ℕ) (won : Option ℕ) (name : Text) (bases : List ℕ) (es : Entries) → ReadsObjects w → Makes (by_winner w meta won name bases es args kw)
-  winner-said w meta None name bases es g = (g, tt)
-  winner-said w meta (Some d) name bases es g = either-makes _ _ _ (g, λ r f. ended kinds.Value r f) (bases-said w d name bases es g)
+  winner-said : (w : PlainWorld) (meta : ℕ) (won : Option ℕ) (name : Text) (bases : List ℕ) (es : Entries) → Makes (by_winner w meta won name bases es args kw)
+  winner-said w meta None name bases es = tt
+  winner-said w meta (Some d) name bases es = either-makes _ _ _ (λ r f. ended kinds.Value r f) (bases-said w d name bases es)
 
   no-class : (r : Ended) → Kinded kinds.Value (λ w. no_class w r)
   no-class (Ok a) = ended kinds.Value (fault MroEntries) tt
   no-class (Err x) = ended kinds.Value (cond (is_attribute_error x.kind) (fault BasesNotTypes) (Err x)) (either-fits kinds.Value (is_attribute_error x.kind) (fault BasesNotTypes) (Err x) tt tt)
 
-  classes-said : (w : PlainWorld) (meta : ℕ) (name : Text) (bs : List PyObjectRef) (cs : Result (List ℕ) PyObjectRef) (es : Entries) → ReadsObjects w → Makes (by_classes w meta name bs cs es args kw)
-  classes-said w meta name bs (Err b) es g = (g, λ r f. no-class r)
-  classes-said w meta name bs (Ok cs) es g = winner-said w meta (winner w meta bs) name cs es g
+  classes-said : (w : PlainWorld) (meta : ℕ) (name : Text) (bs : List PyObjectRef) (cs : Result (List ℕ) PyObjectRef) (es : Entries) → Makes (by_classes w meta name bs cs es args kw)
+  classes-said w meta name bs (Err b) es = (λ r f. no-class r)
+  classes-said w meta name bs (Ok cs) es = winner-said w meta (winner w meta bs) name cs es
 
-  by-bases : (w : PlainWorld) (meta : ℕ) (name : Text) (bs : List PyObjectRef) (es : Entries) → ReadsObjects w → Makes (by_bases w meta name bs es args kw)
-  by-bases w meta name [] es g = bases-said w meta name (the_object ∷ []) es g
-  by-bases w meta name (b ∷ bs) es g = classes-said w meta name (b ∷ bs) (classes_of w (b ∷ bs)) es g
+  by-bases : (w : PlainWorld) (meta : ℕ) (name : Text) (bs : List PyObjectRef) (es : Entries) → Makes (by_bases w meta name bs es args kw)
+  by-bases w meta name [] es = bases-said w meta name (the_object ∷ []) es
+  by-bases w meta name (b ∷ bs) es = classes-said w meta name (b ∷ bs) (classes_of w (b ∷ bs)) es
 
-  parts-said : (w : PlainWorld) (meta : ℕ) (name : Option Text) (bases : Option (List PyObjectRef)) (es : Option Entries) → ReadsObjects w → Makes (by_parts w meta name bases es args kw)
-  parts-said w meta (Some name) (Some bases) (Some es) g = either-makes (has_null name) _ _ (g, tt) (by-bases w meta name bases es g)
-  parts-said w meta name bases es g = (g, tt)
+  parts-said : (w : PlainWorld) (meta : ℕ) (name : Option Text) (bases : Option (List PyObjectRef)) (es : Option Entries) → Makes (by_parts w meta name bases es args kw)
+  parts-said w meta (Some name) (Some bases) (Some es) = either-makes (has_null name) _ _ tt (by-bases w meta name bases es)
+  parts-said w meta name bases es = tt
 
-  three-said : (w : PlainWorld) (meta : ℕ) (p : Option (PyObjectRef × (PyObjectRef × PyObjectRef))) → ReadsObjects w → Makes (from_three w meta p args kw)
-  three-said w meta None g = (g, tt)
-  three-said w meta (Some (n, (b, d))) g = parts-said w meta (text_of (datum_at w n)) (tuple_of (datum_at w b)) (dict_in (datum_at w d)) g
+  three-said : (w : PlainWorld) (meta : ℕ) (p : Option (PyObjectRef × (PyObjectRef × PyObjectRef))) → Makes (from_three w meta p args kw)
+  three-said w meta None = tt
+  three-said w meta (Some (n, (b, d))) = parts-said w meta (text_of (datum_at w n)) (tuple_of (datum_at w b)) (dict_in (datum_at w d))
 
-  one-said : (w : PlainWorld) (meta : ℕ) (o : Option PyObjectRef) → ReadsObjects w → Makes (by_one w meta o args kw)
-  one-said w meta (Some o) g = either-makes (eqb meta the_type) _ _ (g, tt) (g, tt)
-  one-said w meta None g = three-said w meta (three_of args) g
+  one-said : (w : PlainWorld) (meta : ℕ) (o : Option PyObjectRef) → Makes (by_one w meta o args kw)
+  one-said w meta (Some o) = either-makes (eqb meta the_type) _ _ tt tt
+  one-said w meta None = three-said w meta (three_of args)
 
   make-row : Kinded kinds.Value (λ w. make_class_say w c args kw)
-  make-row = stepped kinds.Value (λ w. make_class_say w c args kw) (λ w g. one-said w c (one_argument args kw) g)
+  make-row = stepped kinds.Value (λ w. make_class_say w c args kw) (λ w. one-said w c (one_argument args kw))
 
 -- the natives of `type`
 
-heir-said : (w : PlainWorld) (c : Option ℕ) (args : List PyObjectRef) (kw : Bindings) → ReadsObjects w → Says (at_once kinds.DoneOrValue) kinds.Value (type_new_of w c args kw)
-heir-said w None args kw g = ends g tt
-heir-said w (Some c) args kw g = either (is_of_class (nearest_built_in w.classes c) the_type) (asks g tt) (ends g tt)
+heir-said : (w : PlainWorld) (c : Option ℕ) (args : List PyObjectRef) (kw : Bindings) → Says (at_once kinds.DoneOrValue) kinds.Value (type_new_of w c args kw)
+heir-said w None args kw = ends tt
+heir-said w (Some c) args kw = either (is_of_class (nearest_built_in w.classes c) the_type) (asks tt) (ends tt)
 
-new-said : (w : PlainWorld) (args : List PyObjectRef) (kw : Bindings) → ReadsObjects w → Says (at_once kinds.DoneOrValue) kinds.Value (type_new w args kw)
-new-said w [] kw g = ends g tt
-new-said w (c ∷ args) kw g = heir-said w (class_number (datum_at w c)) args kw g
+new-said : (w : PlainWorld) (args : List PyObjectRef) (kw : Bindings) → Says (at_once kinds.DoneOrValue) kinds.Value (type_new w args kw)
+new-said w [] kw = ends tt
+new-said w (c ∷ args) kw = heir-said w (class_number (datum_at w c)) args kw
 
-class-in : (w : PlainWorld) (c : Option ℕ) (go : ℕ → Said) → ReadsObjects w → ((c : ℕ) → Says (at_once kinds.DoneOrValue) kinds.Value (go c)) → Says (at_once kinds.DoneOrValue) kinds.Value (class_in w c go)
-class-in w None go g p = ends g tt
-class-in w (Some c) go g p = p c
+class-in : (w : PlainWorld) (c : Option ℕ) (go : ℕ → Said) → ((c : ℕ) → Says (at_once kinds.DoneOrValue) kinds.Value (go c)) → Says (at_once kinds.DoneOrValue) kinds.Value (class_in w c go)
+class-in w None go p = ends tt
+class-in w (Some c) go p = p c
 
-self-taken : (w : PlainWorld) (args : List PyObjectRef) (go : ℕ → Said) → ReadsObjects w → ((c : ℕ) → Says (at_once kinds.DoneOrValue) kinds.Value (go c)) → Says (at_once kinds.DoneOrValue) kinds.Value (with_type w args go)
-self-taken w [] go g p = ends g tt
-self-taken w (o ∷ args) go g p = class-in w (class_number (datum_at w o)) go g p
+self-taken : (w : PlainWorld) (args : List PyObjectRef) (go : ℕ → Said) → ((c : ℕ) → Says (at_once kinds.DoneOrValue) kinds.Value (go c)) → Says (at_once kinds.DoneOrValue) kinds.Value (with_type w args go)
+self-taken w [] go p = ends tt
+self-taken w (o ∷ args) go p = class-in w (class_number (datum_at w o)) go p
 
-called-said : (w : PlainWorld) (c : Option ℕ) (args : List PyObjectRef) (kw : Bindings) → ReadsObjects w → Says (at_once kinds.DoneOrValue) kinds.Value (called_with w c args kw)
-called-said w None args kw g = ends g tt
-called-said w (Some c) args kw g = asks g tt
+called-said : (w : PlainWorld) (c : Option ℕ) (args : List PyObjectRef) (kw : Bindings) → Says (at_once kinds.DoneOrValue) kinds.Value (called_with w c args kw)
+called-said w None args kw = ends tt
+called-said w (Some c) args kw = asks tt
 
-call-said : (w : PlainWorld) (args : List PyObjectRef) (kw : Bindings) → ReadsObjects w → Says (at_once kinds.DoneOrValue) kinds.Value (type_call w args kw)
-call-said w [] kw g = ends g tt
-call-said w (c ∷ args) kw g = called-said w (class_number (datum_at w c)) args kw g
+call-said : (w : PlainWorld) (args : List PyObjectRef) (kw : Bindings) → Says (at_once kinds.DoneOrValue) kinds.Value (type_call w args kw)
+call-said w [] kw = ends tt
+call-said w (c ∷ args) kw = called-said w (class_number (datum_at w c)) args kw
 
-type-said : (w : PlainWorld) (n : TypeNative) (args : List PyObjectRef) (kw : Bindings) → ReadsObjects w → Says (at_once kinds.DoneOrValue) kinds.Value (type_by w n args kw)
-type-said w type.New args kw g = new-said w args kw g
-type-said w type.GetAttribute args kw g = self-taken w args _ g (λ c. takes-two w args kw _ g (λ o n. takes-text w n _ g (λ x. asks g tt)))
-type-said w type.SetAttr args kw g = self-taken w args _ g (λ c. takes-three w args kw _ g (λ o n v. takes-text w n _ g (λ x. asks g tt)))
-type-said w type.DelAttr args kw g = self-taken w args _ g (λ c. takes-two w args kw _ g (λ o n. takes-text w n _ g (λ x. asks g tt)))
-type-said w type.Call args kw g = call-said w args kw g
-type-said w n args kw g = type-native w n args kw g
+type-said : (w : PlainWorld) (n : TypeNative) (args : List PyObjectRef) (kw : Bindings) → Says (at_once kinds.DoneOrValue) kinds.Value (type_by w n args kw)
+type-said w type.New args kw = new-said w args kw
+type-said w type.GetAttribute args kw = self-taken w args _ (λ c. takes-two w args kw _ (λ o n. takes-text w n _ (λ x. asks tt)))
+type-said w type.SetAttr args kw = self-taken w args _ (λ c. takes-three w args kw _ (λ o n v. takes-text w n _ (λ x. asks tt)))
+type-said w type.DelAttr args kw = self-taken w args _ (λ c. takes-two w args kw _ (λ o n. takes-text w n _ (λ x. asks tt)))
+type-said w type.Call args kw = call-said w args kw
+type-said w n args kw = type-native w n args kw
 
 pub class-rows : (job : ClassJob) → Kinded kinds.Value (λ w. class_job_say w job)
 unfolding class_job_say
 class-rows (DoMakeClass c args kw) = make-row c args kw
-class-rows (DoType n args kw) = started kinds.DoneOrValue kinds.Value (λ w. type_by w n args kw) (λ w. native_end w) (λ w g. type-said w n args kw g) (λ r f. native-end r f)
+class-rows (DoType n args kw) = started kinds.DoneOrValue kinds.Value (λ w. type_by w n args kw) (λ w. native_end w) (λ w. type-said w n args kw) (λ r f. native-end r f)

@@ -12,7 +12,7 @@ use  Rattle.py_node.specs.declared.task.PyComparisonOp.{PyComparisonOp}
 use  Rattle.py_node.specs.declared.task.PyComparisonOp.TheVariants.{Lt, Gt, Ne, Eq, Le, Ge}
 use Rattle.plain_machine.specs.World.{class_at as class_of}
 use Rattle.answer_kinds.specs.Kinds as kinds
-use Rattle.answer_kinds.specs.Kinds.{kind_of_native, kind_of_compare, kind_of, ReadsObjects}
+use Rattle.answer_kinds.specs.Kinds.{kind_of_native, kind_of_compare, kind_of}
 use Rattle.answer_kinds.proofs.Base.{So, within, Family, Kinded, ended, Says, asks, at_once, asking, passed, one_of, chosen, on-value, on-truth, or-else, native-asked}
 use Rattle.answer_kinds.proofs.Columns.{gives_in, slot-at-gives}
 use Rattle.answer_kinds.proofs.Tables.{compare-column}
@@ -54,12 +54,12 @@ comparing (OfObject n) Ge h = tt
 comparing (Compare b n) o h = tt
 comparing n o h = h
 
-cmp-said : (w : PlainWorld) (e : Option SlotEntry) (a b : PyObjectRef) (o : PyComparisonOp) → ReadsObjects w → So (gives_in kinds.Value e) → Says (at_once kinds.Value) kinds.Value (cmp_by w e a b o)
-cmp-said w (Some (Native n)) a b o g h = native-asked w [] (native_for n o) (a ∷ b ∷ []) [] g (comparing n o h)
-cmp-said w e a b o g h = asks g tt
+cmp-said : (w : PlainWorld) (e : Option SlotEntry) (a b : PyObjectRef) (o : PyComparisonOp) → So (gives_in kinds.Value e) → Says (at_once kinds.Value) kinds.Value (cmp_by w e a b o)
+cmp-said w (Some (Native n)) a b o h = native-asked w [] (native_for n o) (a ∷ b ∷ []) [] (comparing n o h)
+cmp-said w e a b o h = asks tt
 
 cmp-row : (a b : PyObjectRef) (o : PyComparisonOp) → Kinded kinds.Value (λ w. cmp_say w a b o)
-cmp-row a b o = passed kinds.Value (λ w. cmp_by w (slot_at w a Richcompare) a b o) (λ w g. cmp-said w (slot_at w a Richcompare) a b o g (slot-at-gives kinds.Value Richcompare compare-column w a))
+cmp-row a b o = passed kinds.Value (λ w. cmp_by w (slot_at w a Richcompare) a b o) (λ w. cmp-said w (slot_at w a Richcompare) a b o (slot-at-gives kinds.Value Richcompare compare-column w a))
 
 counts-row : (b : Option Bool) (x : PyObjectRef) → Kinded kinds.Truth (λ w. counts w b x)
 counts-row (Some b) x = ended kinds.Truth (Ok (AsTruth b)) tt

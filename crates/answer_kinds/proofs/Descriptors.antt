@@ -22,10 +22,9 @@ use Rattle.py_node.specs.declared.payload.MemberSetter.TheVariants as setter
 use Rattle.py_node.specs.declared.known.Known.TheVariants as known
 use  Rattle.py_node.specs.declared.raised.Cause.TheVariants.{NoDeleter, NoGetter, NoSetter, SuperCheckFailed}
 use Rattle.answer_kinds.specs.Kinds as kinds
-use Rattle.answer_kinds.specs.Kinds.{Kind, kind_of_native, kind_of_descriptor, kind_of, is_value, reads_object, ReadsObjects}
-use Rattle.answer_kinds.proofs.Base.{So, Fits, wider, GoesOn, Kinded, ended, Says, ends, asks, at_once, having_read, stepped, started, passed, on-value, on-done, ended-by, whatever, started_so, either-fits, native-asked, of-value}
+use Rattle.answer_kinds.specs.Kinds.{Kind, kind_of_native, kind_of_descriptor, kind_of}
+use Rattle.answer_kinds.proofs.Base.{So, Fits, within, wider, GoesOn, Kinded, ended, Says, ends, asks, at_once, having_read, stepped, started, passed, on-value, on-done, ended-by, whatever, started_so, either-fits, native-asked, native-given, is_given, IsGiven, given, for_given, named-row, named-end}
 use Rattle.answer_kinds.proofs.Said.{either}
-use Rattle.answer_kinds.proofs.Worlds.{reads-at, node-made, datum-set, place-set}
 use Rattle.proto_descr.specs.Say.{is_object_none, class_of_option, function_get, bound_native, object_get, class_get, static_get, native_get, getset_get, class_for, class_method_get, class_method_by, static_method_get, descr_get_by, start_with, descr_get_rest, descr_get_say, set_by_method, getset_set, descr_set_by, descr_set_say, super_get_say, super_init_rest, super_init_say, super_check_say, descriptor_say}
 use Rattle.proto_descr.specs.Members.{or_empty, read_member, member_get, takes, set_member, member_set}
 use Rattle.proto_descr.specs.Properties.{call_part, property_get, set_part, property_set}
@@ -42,207 +41,229 @@ use Rattle.py_node.specs.Tree.{Text}
 use Rattle.class_model.specs.Class.{is_sub}
 use Rattle.class_model.specs.Layout.{place_at}
 
--- the kind of what a row goes on with that read some objects: `super` read itself, its class and the object
-abbrev pub read_kinds : Kind → List PyObjectRef → Kind
-read_kinds first [] = first
-read_kinds first (m ∷ t ∷ o ∷ []) = kinds.Start
-read_kinds first rs = kinds.Value
-
-pub read_first : (j : List PyObjectRef → Kind) (k : Kind) (said : PlainWorld → Said) (go : PlainWorld → List PyObjectRef → Ended → Row) → ((w : PlainWorld) → ReadsObjects w → Says (having_read j) k (said w)) → ((rs : List PyObjectRef) (r : Ended) → Fits (j rs) r → Kinded k (λ w. go w rs r)) → Kinded k (λ w. start_with (said w) (go w))
-read_first j k said go s p = stepped k (λ w. start_with (said w) (go w)) (λ w g. next (said w) (s w g))
+-- a row that goes on with the answer, and with the objects that it read before it asked, if any
+pub read_first : (ok : List PyObjectRef → Kind → Bool) (P : List PyObjectRef → Ended → Type 0) (k : Kind) (said : PlainWorld → Said) (go : PlainWorld → List PyObjectRef → Ended → Row) → ((rs : List PyObjectRef) (i : Kind) (r : Ended) → So (ok rs i) → Fits i r → P rs r) → ((w : PlainWorld) → Says (having_read ok) k (said w)) → ((rs : List PyObjectRef) (r : Ended) → P rs r → Kinded k (λ w. go w rs r)) → Kinded k (λ w. start_with (said w) (go w))
+read_first ok P k said go sound s p = stepped k (λ w. start_with (said w) (go w)) (λ w. next (said w) (s w))
   where
-    next : (x : Said) → Says (having_read j) k x → GoesOn (Kinded k) k (λ w. start_with (said w) (go w)) x
-    next (Ends u r) (ends g h) = (g, h)
-    next (Asks u [] task) (asks g h) = (g, λ r f. p [] r (wider (kind_of task) (j []) r h f))
-    next (Asks u (ReadObjects rs ∷ []) task) (asks g h) = (g, λ r f. p rs r (wider (kind_of task) (j rs) r h f))
-    next (Asks u learnt task) (asks g h) = absurd h
+    next : (x : Said) → Says (having_read ok) k x → GoesOn (Kinded k) k (λ w. start_with (said w) (go w)) x
+    next (Ends u r) (ends h) = h
+    next (Asks u [] task) (asks h) = λ r f. p [] r (sound [] (kind_of task) r h f)
+    next (Asks u (ReadObjects rs ∷ []) task) (asks h) = λ r f. p rs r (sound rs (kind_of task) r h f)
+    next (Asks u learnt task) (asks h) = absurd h
 
 -- what is bound
 
-pub function-said : {q : Told → Kind → Bool} (w : PlainWorld) (m : PyObjectRef) (o : Option PyObjectRef) (c : Option ℕ) → ReadsObjects w → Says q kinds.Value (function_get w m o c)
-function-said w m None c g = ends g tt
-function-said w m (Some o) c g = either (is_object_none o c) (ends g tt) (ends (node-made w the_method (AMethod o m) g tt) tt)
+pub function-said : {q : Told → Kind → Bool} (w : PlainWorld) (m : PyObjectRef) (o : Option PyObjectRef) (c : Option ℕ) → Says q kinds.Value (function_get w m o c)
+function-said w m None c = ends tt
+function-said w m (Some o) c = either (is_object_none o c) (ends tt) (ends tt)
 
-bound-said : {q : Told → Kind → Bool} (w : PlainWorld) (k : ℕ) (x : Text) (n : NativeEntry) (doc : Option Text) (o : PyObjectRef) → ReadsObjects w → Says q kinds.Value (bound_native w k x n doc o)
-bound-said w k x n doc o g = ends (node-made w the_builtin_method (ABuiltinMethod x n o k doc) g tt) tt
+bound-said : {q : Told → Kind → Bool} (w : PlainWorld) (k : ℕ) (x : Text) (n : NativeEntry) (doc : Option Text) (o : PyObjectRef) → Says q kinds.Value (bound_native w k x n doc o)
+bound-said w k x n doc o = ends tt
 
-object-said : {q : Told → Kind → Bool} (w : PlainWorld) (m : PyObjectRef) (bound : PyObjectRef → Said) (o : Option PyObjectRef) (c : Option ℕ) → ReadsObjects w → ((o : PyObjectRef) → Says q kinds.Value (bound o)) → Says q kinds.Value (object_get w m bound o c)
-object-said w m bound None c g p = ends g tt
-object-said w m bound (Some o) None g p = ends g tt
-object-said w m bound (Some o) (Some c) g p = p o
+object-said : {q : Told → Kind → Bool} (w : PlainWorld) (m : PyObjectRef) (bound : PyObjectRef → Said) (o : Option PyObjectRef) (c : Option ℕ) → ((o : PyObjectRef) → Says q kinds.Value (bound o)) → Says q kinds.Value (object_get w m bound o c)
+object-said w m bound None c p = ends tt
+object-said w m bound (Some o) None p = ends tt
+object-said w m bound (Some o) (Some c) p = p o
 
-class-said : {q : Told → Kind → Bool} (w : PlainWorld) (bound : PyObjectRef → Said) (o c : Option PyObjectRef) → ReadsObjects w → ((o : PyObjectRef) → Says q kinds.Value (bound o)) → Says q kinds.Value (class_get w bound o c)
-class-said w bound None None g p = ends g tt
-class-said w bound None (Some c) g p = p c
-class-said w bound (Some o) c g p = p (type_object w o)
+class-said : {q : Told → Kind → Bool} (w : PlainWorld) (bound : PyObjectRef → Said) (o c : Option PyObjectRef) → ((o : PyObjectRef) → Says q kinds.Value (bound o)) → Says q kinds.Value (class_get w bound o c)
+class-said w bound None None p = ends tt
+class-said w bound None (Some c) p = p c
+class-said w bound (Some o) c p = p (type_object w o)
 
-static-said : {q : Told → Kind → Bool} (w : PlainWorld) (m : PyObjectRef) (o : Option PyObjectRef) → ReadsObjects w → Says q kinds.Value (static_get w m o)
-static-said w m None g = ends g tt
-static-said w m (Some o) g = ends g tt
+static-said : {q : Told → Kind → Bool} (w : PlainWorld) (m : PyObjectRef) (o : Option PyObjectRef) → Says q kinds.Value (static_get w m o)
+static-said w m None = ends tt
+static-said w m (Some o) = ends tt
 
-pub native-said : {q : Told → Kind → Bool} (w : PlainWorld) (d : Option Datum) (m : PyObjectRef) (o c : Option PyObjectRef) → ReadsObjects w → Says q kinds.Value (native_get w d m o c)
-native-said w (Some (AMethodDescriptor k x n flags doc)) m o c g =
-    either (for_objects flags) (object-said w m (bound_native w k x n doc) o (class_of_option w c) g (λ o. bound-said w k x n doc o g))
-    (either (for_classes flags) (class-said w (bound_native w k x n doc) o c g (λ o. bound-said w k x n doc o g)) (static-said w m o g))
-native-said w d m o c g = ends g tt
+pub native-said : {q : Told → Kind → Bool} (w : PlainWorld) (d : Option Datum) (m : PyObjectRef) (o c : Option PyObjectRef) → Says q kinds.Value (native_get w d m o c)
+native-said w (Some (AMethodDescriptor k x n flags doc)) m o c =
+    either (for_objects flags) (object-said w m (bound_native w k x n doc) o (class_of_option w c) (λ o. bound-said w k x n doc o))
+    (either (for_classes flags) (class-said w (bound_native w k x n doc) o c (λ o. bound-said w k x n doc o)) (static-said w m o))
+native-said w d m o c = ends tt
 
 -- what natives read
 
-abbrev pub Reading : Told → Kind → Bool
-Reading = having_read (read_kinds kinds.Value)
+-- what gives an object or a number may be asked where nothing is learnt
+abbrev pub Takes : (Told → Kind → Bool) → Type 0
+Takes q = (i : Kind) → So (is_given i) → So (q [] i)
 
-native-read : (w : PlainWorld) (n : NativeEntry) (o : PyObjectRef) → ReadsObjects w → So (is_value (kind_of_native n)) → Says Reading kinds.Value (pass w (native_task n (o ∷ []) []))
-native-read w n o g h = native-asked w [] n (o ∷ []) [] g (of-value (kind_of_native n) h)
+native-read : {q : Told → Kind → Bool} → Takes q → (w : PlainWorld) (n : NativeEntry) (o : PyObjectRef) → Says q kinds.Value (pass w (native_task n (o ∷ []) []))
+native-read t w n o = native-asked w [] n (o ∷ []) [] (t (kind_of_native n) (native-given n))
 
-pub getset-said : (w : PlainWorld) (d : Option Datum) (m : PyObjectRef) (o : Option PyObjectRef) → ReadsObjects w → So (reads_object d) → Says Reading kinds.Value (getset_get w d m o)
-getset-said w (Some (AGetSet k x None set)) m (Some o) g h = ends g tt
-getset-said w (Some (AGetSet k x (Some n) set)) m (Some o) g h = native-read w n o g h
-getset-said w d m o g h = ends g tt
+pub getset-said : {q : Told → Kind → Bool} → Takes q → (w : PlainWorld) (d : Option Datum) (m : PyObjectRef) (o : Option PyObjectRef) → Says q kinds.Value (getset_get w d m o)
+getset-said t w (Some (AGetSet k x None set)) m (Some o) = ends tt
+getset-said t w (Some (AGetSet k x (Some n) set)) m (Some o) = native-read t w n o
+getset-said t w d m o = ends tt
 
-pub empty-fits : (k : MemberKind) (v : Option PyObjectRef) → Fits kinds.Value (or_empty k v)
+empty-fits : (k : MemberKind) (v : Option PyObjectRef) → Fits kinds.Value (or_empty k v)
 empty-fits member.Bool None = tt
 empty-fits member.ObjectEx None = tt
 empty-fits k (Some v) = tt
 
-member-read : (w : PlainWorld) (c : ℕ) (k : MemberKind) (get : MemberGetter) (x : Text) (set : MemberSetter) (qualname doc : Option Text) (o : PyObjectRef) → ReadsObjects w → So (reads_object (Some (AMember c x k get set qualname doc))) → Says Reading kinds.Value (read_member w c k get o)
-member-read w c k (getter.Getter n) x set qualname doc o g h = native-read w n o g h
-member-read w c k (getter.Offset i) x set qualname doc o g h = ends g (empty-fits k (value_at_place w o (place_at w.classes c i)))
+member-read : {q : Told → Kind → Bool} → Takes q → (w : PlainWorld) (c : ℕ) (k : MemberKind) (get : MemberGetter) (o : PyObjectRef) → Says q kinds.Value (read_member w c k get o)
+member-read t w c k (getter.Getter n) o = native-read t w n o
+member-read t w c k (getter.Offset i) o = ends (empty-fits k (value_at_place w o (place_at w.classes c i)))
 
-pub member-said : (w : PlainWorld) (d : Option Datum) (m : PyObjectRef) (o : Option PyObjectRef) → ReadsObjects w → So (reads_object d) → Says Reading kinds.Value (member_get w d m o)
-member-said w (Some (AMember c x k get set qualname doc)) m (Some o) g h = either (is_instance w o c) (member-read w c k get x set qualname doc o g h) (ends g tt)
-member-said w d m o g h = ends g tt
+pub member-said : {q : Told → Kind → Bool} → Takes q → (w : PlainWorld) (d : Option Datum) (m : PyObjectRef) (o : Option PyObjectRef) → Says q kinds.Value (member_get w d m o)
+member-said t w (Some (AMember c x k get set qualname doc)) m (Some o) = either (is_instance w o c) (member-read t w c k get o) (ends tt)
+member-said t w d m o = ends tt
 
-part-said : (w : PlainWorld) (f : Option PyObjectRef) (cause : Cause) (args : List PyObjectRef) → ReadsObjects w → Says Reading kinds.Value (call_part w f cause args)
-part-said w None cause args g = ends g tt
-part-said w (Some f) cause args g = asks g tt
+part-said : {q : Told → Kind → Bool} → Takes q → (w : PlainWorld) (f : Option PyObjectRef) (cause : Cause) (args : List PyObjectRef) → Says q kinds.Value (call_part w f cause args)
+part-said t w None cause args = ends tt
+part-said t w (Some f) cause args = asks (t kinds.Value tt)
 
-pub property-said : (w : PlainWorld) (d : Option Datum) (m : PyObjectRef) (o : Option PyObjectRef) → ReadsObjects w → Says Reading kinds.Value (property_get w d m o)
-property-said w (Some (AProperty p)) m (Some o) g = either (eqb o.0 none.0) (ends g tt) (part-said w p.fget NoGetter (o ∷ []) g)
-property-said w d m o g = ends g tt
+pub property-said : {q : Told → Kind → Bool} → Takes q → (w : PlainWorld) (d : Option Datum) (m : PyObjectRef) (o : Option PyObjectRef) → Says q kinds.Value (property_get w d m o)
+property-said t w (Some (AProperty p)) m (Some o) = either (eqb o.0 none.0) (ends tt) (part-said t w p.fget NoGetter (o ∷ []))
+property-said t w d m o = ends tt
 
-pub class-method-said : (w : PlainWorld) (d : Option Datum) (m k : PyObjectRef) → ReadsObjects w → Says Reading kinds.Value (class_method_get w d m k)
-class-method-said w (Some (AClassMethod f)) m k g = asks g tt
-class-method-said w d m k g = ends g tt
+pub static-method-said : {q : Told → Kind → Bool} (w : PlainWorld) (d : Option Datum) (m : PyObjectRef) → Says q kinds.Value (static_method_get w d m)
+static-method-said w (Some (AStaticMethod f)) m = ends tt
+static-method-said w d m = ends tt
 
-pub static-method-said : (w : PlainWorld) (d : Option Datum) (m : PyObjectRef) → ReadsObjects w → Says Reading kinds.Value (static_method_get w d m)
-static-method-said w (Some (AStaticMethod f)) m g = ends g tt
-static-method-said w d m g = ends g tt
+-- a class method reads its class and what it wraps, and a `super` itself, its class and the object
+abbrev pub reading : List PyObjectRef → Kind → Bool
+reading (m ∷ t ∷ o ∷ []) i = within i kinds.Start
+reading (k ∷ f ∷ []) i = within i kinds.Value
+reading rs i = is_given i
 
-pub super-said : (w : PlainWorld) (d : Option Datum) (m : PyObjectRef) (o : Option PyObjectRef) → ReadsObjects w → Says Reading kinds.Value (super_get w d m o)
-super-said w (Some (ASuper t None)) m (Some o) g = either (is_none o) (ends g tt) (asks g tt)
-super-said w d m o g = ends g tt
+abbrev IsRead : List PyObjectRef → Ended → Type 0
+IsRead (m ∷ t ∷ o ∷ []) r = Fits kinds.Start r
+IsRead (k ∷ f ∷ []) r = Fits kinds.Value r
+IsRead rs r = IsGiven r
 
-descr-get-said : (w : PlainWorld) (e : Option SlotEntry) (m : PyObjectRef) (o c : Option PyObjectRef) → ReadsObjects w → Says Reading kinds.Value (descr_get_by w e m o c)
-descr-get-said w (Some (Wrapper s)) m o c g = asks g tt
-descr-get-said w (Some (Native (OfCallable callable.GetFunction))) m o c g = function-said w m o (class_of_option w c) g
-descr-get-said w (Some (Native (OfCallable callable.GetMethodDescriptor))) m o c g = native-said w (datum_at w m) m o c g
-descr-get-said w (Some (Native (OfDescriptor descriptor.GetSetGet))) m o c g = getset-said w (datum_at w m) m o g (reads-at w m g)
-descr-get-said w (Some (Native (OfDescriptor descriptor.MemberGet))) m o c g = member-said w (datum_at w m) m o g (reads-at w m g)
-descr-get-said w (Some (Native (OfProperty property.Get))) m o c g = property-said w (datum_at w m) m o g
-descr-get-said w (Some (Native (OfWrapper wrapper.ClassGet))) m o c g = class-method-said w (datum_at w m) m (class_for w o c) g
-descr-get-said w (Some (Native (OfWrapper wrapper.StaticGet))) m o c g = static-method-said w (datum_at w m) m g
-descr-get-said w (Some (Native (OfSuper super.Get))) m o c g = super-said w (datum_at w m) m o g
-descr-get-said w e m o c g = ends g tt
+read-sound : (rs : List PyObjectRef) (i : Kind) (r : Ended) → So (reading rs i) → Fits i r → IsRead rs r
+read-sound (m ∷ t ∷ o ∷ []) i r h f = wider i kinds.Start r h f
+read-sound (k ∷ x ∷ []) i r h f = wider i kinds.Value r h f
+read-sound rs i r h f = given i r h f
 
-pub class-method-by : (w : PlainWorld) (k f : PyObjectRef) (r : Ended) → Fits kinds.Value r → ReadsObjects w → Says (at_once kinds.Value) kinds.Value (class_method_by w k f r)
-class-method-by w k f (Ok (AsValue v)) h g = asks g tt
-class-method-by w k f (Ok a) h g = absurd h
-class-method-by w k f (Err x) h g = ends (node-made w the_method (AMethod k f) g tt) tt
+abbrev Reading : Told → Kind → Bool
+Reading = having_read reading
 
-pub super-bound : {q : Told → Kind → Bool} (w : PlainWorld) (t o : PyObjectRef) (r : Ended) → Fits kinds.Start r → ReadsObjects w → Says q kinds.Value (super_bound w t o r)
-super-bound w t o (Ok (AsStart k)) h g = ends (node-made w the_super (ASuper t.0 (Some (o, k))) g tt) tt
-super-bound w t o (Ok a) h g = absurd h
-super-bound w t o (Err x) h g = ends g tt
+read-taken : Takes Reading
+read-taken i h = h
 
-descr-get-rest : (rs : List PyObjectRef) (r : Ended) → Fits (read_kinds kinds.Value rs) r → Kinded kinds.Value (λ w. descr_get_rest w rs r)
-descr-get-rest (k ∷ f ∷ []) r h = passed kinds.Value (λ w. class_method_by w k f r) (λ w g. class-method-by w k f r h g)
-descr-get-rest (m ∷ t ∷ o ∷ []) r h = passed kinds.Value (λ w. super_bound w t o r) (λ w g. super-bound w t o r h g)
-descr-get-rest rs r h = ended kinds.Value r h
+class-method-said : (w : PlainWorld) (d : Option Datum) (m k : PyObjectRef) → Says Reading kinds.Value (class_method_get w d m k)
+class-method-said w (Some (AClassMethod f)) m k = asks tt
+class-method-said w d m k = ends tt
+
+super-said : (w : PlainWorld) (d : Option Datum) (m : PyObjectRef) (o : Option PyObjectRef) → Says Reading kinds.Value (super_get w d m o)
+super-said w (Some (ASuper t None)) m (Some o) = either (is_none o) (ends tt) (asks tt)
+super-said w d m o = ends tt
+
+descr-get-said : (w : PlainWorld) (e : Option SlotEntry) (m : PyObjectRef) (o c : Option PyObjectRef) → Says Reading kinds.Value (descr_get_by w e m o c)
+descr-get-said w (Some (Wrapper s)) m o c = asks tt
+descr-get-said w (Some (Native (OfCallable callable.GetFunction))) m o c = function-said w m o (class_of_option w c)
+descr-get-said w (Some (Native (OfCallable callable.GetMethodDescriptor))) m o c = native-said w (datum_at w m) m o c
+descr-get-said w (Some (Native (OfDescriptor descriptor.GetSetGet))) m o c = getset-said read-taken w (datum_at w m) m o
+descr-get-said w (Some (Native (OfDescriptor descriptor.MemberGet))) m o c = member-said read-taken w (datum_at w m) m o
+descr-get-said w (Some (Native (OfProperty property.Get))) m o c = property-said read-taken w (datum_at w m) m o
+descr-get-said w (Some (Native (OfWrapper wrapper.ClassGet))) m o c = class-method-said w (datum_at w m) m (class_for w o c)
+descr-get-said w (Some (Native (OfWrapper wrapper.StaticGet))) m o c = static-method-said w (datum_at w m) m
+descr-get-said w (Some (Native (OfSuper super.Get))) m o c = super-said w (datum_at w m) m o
+descr-get-said w e m o c = ends tt
+
+-- what asks its last is an object, whatever gives an object or a number
+pub class-method-by : (w : PlainWorld) (k f : PyObjectRef) (r : Ended) → Fits kinds.Value r → Says for_given kinds.Value (class_method_by w k f r)
+class-method-by w k f (Ok (AsValue v)) h = asks tt
+class-method-by w k f (Ok a) h = absurd h
+class-method-by w k f (Err x) h = ends tt
+
+pub super-bound : {q : Told → Kind → Bool} (w : PlainWorld) (t o : PyObjectRef) (r : Ended) → Fits kinds.Start r → Says q kinds.Value (super_bound w t o r)
+super-bound w t o (Ok (AsStart k)) h = ends tt
+super-bound w t o (Ok a) h = absurd h
+super-bound w t o (Err x) h = ends tt
+
+descr-get-rest : (rs : List PyObjectRef) (r : Ended) → IsRead rs r → Kinded kinds.Value (λ w. descr_get_rest w rs r)
+descr-get-rest (k ∷ f ∷ []) r h = named-row (λ w. class_method_by w k f r) (λ w. class-method-by w k f r h)
+descr-get-rest (m ∷ t ∷ o ∷ []) r h = named-row (λ w. super_bound w t o r) (λ w. super-bound w t o r h)
+descr-get-rest rs r h = named-end r h
 
 descr-get-row : (m : PyObjectRef) (o c : Option PyObjectRef) → Kinded kinds.Value (λ w. descr_get_say w m o c)
-descr-get-row m o c = read_first (read_kinds kinds.Value) kinds.Value (λ w. descr_get_by w (slot_at w m DescrGet) m o c) (λ w. descr_get_rest w) (λ w g. descr-get-said w (slot_at w m DescrGet) m o c g) (λ rs r h. descr-get-rest rs r h)
+descr-get-row m o c = read_first reading IsRead kinds.Value (λ w. descr_get_by w (slot_at w m DescrGet) m o c) (λ w. descr_get_rest w) read-sound (λ w. descr-get-said w (slot_at w m DescrGet) m o c) descr-get-rest
 
 -- what is set
 
-method-set : {k : Kind} (w : PlainWorld) (m o : PyObjectRef) (v : Option PyObjectRef) → ReadsObjects w → Says whatever k (set_by_method w m o v)
-method-set w m o (Some v) g = asks g tt
-method-set w m o None g = asks g tt
+method-set : {k : Kind} (w : PlainWorld) (m o : PyObjectRef) (v : Option PyObjectRef) → Says whatever k (set_by_method w m o v)
+method-set w m o (Some v) = asks tt
+method-set w m o None = asks tt
 
-pub getset-set : (w : PlainWorld) (d : Option Datum) (o : PyObjectRef) (v : Option PyObjectRef) → ReadsObjects w → Says whatever kinds.Done (getset_set w d o v)
-getset-set w (Some (AGetSet k x get None)) o v g = ends g tt
-getset-set w (Some (AGetSet k x get (Some n))) o v g = asks g tt
-getset-set w d o v g = ends g tt
+pub getset-set : (w : PlainWorld) (d : Option Datum) (o : PyObjectRef) (v : Option PyObjectRef) → Says whatever kinds.Done (getset_set w d o v)
+getset-set w (Some (AGetSet k x get None)) o v = ends tt
+getset-set w (Some (AGetSet k x get (Some n))) o v = asks tt
+getset-set w d o v = ends tt
 
-set-member : (w : PlainWorld) (c : ℕ) (k : MemberKind) (set : MemberSetter) (o : PyObjectRef) (v : Option PyObjectRef) → ReadsObjects w → Says whatever kinds.Done (set_member w c k set o v)
-set-member w c k (setter.Setter None) o v g = ends g tt
-set-member w c k (setter.Setter (Some n)) o v g = asks g tt
-set-member w c k (setter.Offset i) o v g = either (takes w k v) (ends (place-set w o (place_at w.classes c i) v g) tt) (ends g tt)
+set-member : (w : PlainWorld) (c : ℕ) (k : MemberKind) (set : MemberSetter) (o : PyObjectRef) (v : Option PyObjectRef) → Says whatever kinds.Done (set_member w c k set o v)
+set-member w c k (setter.Setter None) o v = ends tt
+set-member w c k (setter.Setter (Some n)) o v = asks tt
+set-member w c k (setter.Offset i) o v = either (takes w k v) (ends tt) (ends tt)
 
-pub member-set : (w : PlainWorld) (d : Option Datum) (o : PyObjectRef) (v : Option PyObjectRef) → ReadsObjects w → Says whatever kinds.Done (member_set w d o v)
-member-set w (Some (AMember c x k get set qualname doc)) o v g = either (is_instance w o c) (set-member w c k set o v g) (ends g tt)
-member-set w d o v g = ends g tt
+pub member-set : (w : PlainWorld) (d : Option Datum) (o : PyObjectRef) (v : Option PyObjectRef) → Says whatever kinds.Done (member_set w d o v)
+member-set w (Some (AMember c x k get set qualname doc)) o v = either (is_instance w o c) (set-member w c k set o v) (ends tt)
+member-set w d o v = ends tt
 
-part-called : (w : PlainWorld) (f : Option PyObjectRef) (cause : Cause) (args : List PyObjectRef) → ReadsObjects w → Says whatever kinds.Done (call_part w f cause args)
-part-called w None cause args g = ends g tt
-part-called w (Some f) cause args g = asks g tt
+part-called : (w : PlainWorld) (f : Option PyObjectRef) (cause : Cause) (args : List PyObjectRef) → Says whatever kinds.Done (call_part w f cause args)
+part-called w None cause args = ends tt
+part-called w (Some f) cause args = asks tt
 
-part-set : (w : PlainWorld) (p : PyProperty) (o : PyObjectRef) (v : Option PyObjectRef) → ReadsObjects w → Says whatever kinds.Done (set_part w p o v)
-part-set w p o (Some v) g = part-called w p.fset NoSetter (o ∷ v ∷ []) g
-part-set w p o None g = part-called w p.fdel NoDeleter (o ∷ []) g
+part-set : (w : PlainWorld) (p : PyProperty) (o : PyObjectRef) (v : Option PyObjectRef) → Says whatever kinds.Done (set_part w p o v)
+part-set w p o (Some v) = part-called w p.fset NoSetter (o ∷ v ∷ [])
+part-set w p o None = part-called w p.fdel NoDeleter (o ∷ [])
 
-pub property-set : (w : PlainWorld) (d : Option Datum) (o : PyObjectRef) (v : Option PyObjectRef) → ReadsObjects w → Says whatever kinds.Done (property_set w d o v)
-property-set w (Some (AProperty p)) o v g = part-set w p o v g
-property-set w d o v g = ends g tt
+pub property-set : (w : PlainWorld) (d : Option Datum) (o : PyObjectRef) (v : Option PyObjectRef) → Says whatever kinds.Done (property_set w d o v)
+property-set w (Some (AProperty p)) o v = part-set w p o v
+property-set w d o v = ends tt
 
-descr-set-said : (w : PlainWorld) (e : Option SlotEntry) (m o : PyObjectRef) (v : Option PyObjectRef) → ReadsObjects w → Says whatever kinds.Done (descr_set_by w e m o v)
-descr-set-said w (Some (Wrapper s)) m o v g = method-set w m o v g
-descr-set-said w (Some (Native (OfDescriptor descriptor.GetSetSet))) m o v g = getset-set w (datum_at w m) o v g
-descr-set-said w (Some (Native (OfDescriptor descriptor.MemberSet))) m o v g = member-set w (datum_at w m) o v g
-descr-set-said w (Some (Native (OfProperty property.Set))) m o v g = property-set w (datum_at w m) o v g
-descr-set-said w e m o v g = ends g tt
+descr-set-said : (w : PlainWorld) (e : Option SlotEntry) (m o : PyObjectRef) (v : Option PyObjectRef) → Says whatever kinds.Done (descr_set_by w e m o v)
+descr-set-said w (Some (Wrapper s)) m o v = method-set w m o v
+descr-set-said w (Some (Native (OfDescriptor descriptor.GetSetSet))) m o v = getset-set w (datum_at w m) o v
+descr-set-said w (Some (Native (OfDescriptor descriptor.MemberSet))) m o v = member-set w (datum_at w m) o v
+descr-set-said w (Some (Native (OfProperty property.Set))) m o v = property-set w (datum_at w m) o v
+descr-set-said w e m o v = ends tt
 
 descr-set-row : (m o : PyObjectRef) (v : Option PyObjectRef) → Kinded kinds.Done (λ w. descr_set_say w m o v)
 descr-set-row m o v =
     started_so kinds.Done (λ w. descr_set_by w (slot_at w m DescrSet) m o v) (λ w r. on_done w r (end w done))
-    (λ w g. descr-set-said w (slot_at w m DescrSet) m o v g) (λ r. on-done kinds.Done (λ w. end w done) r (ended kinds.Done done tt))
+    (λ w. descr-set-said w (slot_at w m DescrSet) m o v) (λ r. on-done kinds.Done (λ w. end w done) r (ended kinds.Done done tt))
 
 -- `super`
 
-looked-said : (w : PlainWorld) (s : PyObjectRef) (x : Text) (o : PyObjectRef) (start : ℕ) (m : Option PyObjectRef) → ReadsObjects w → Says (at_once kinds.Value) kinds.Value (looked_up w s x o start m)
-looked-said w s x o start None g = asks g tt
-looked-said w s x o start (Some m) g = either (is_some (slot_at w m DescrGet)) (asks g tt) (ends g tt)
+looked-said : (w : PlainWorld) (s : PyObjectRef) (x : Text) (o : PyObjectRef) (start : ℕ) (m : Option PyObjectRef) → Says for_given kinds.Value (looked_up w s x o start m)
+looked-said w s x o start None = asks tt
+looked-said w s x o start (Some m) = either (is_some (slot_at w m DescrGet)) (asks tt) (ends tt)
 
-attribute-said : (w : PlainWorld) (d : Option Datum) (s : PyObjectRef) (x : Text) → ReadsObjects w → Says (at_once kinds.Value) kinds.Value (super_attribute w d s x)
-attribute-said w (Some (ASuper t (Some (o, start)))) s x g = either (is_text x (known_text known.Class)) (asks g tt) (looked-said w s x o start (found_after w start t x) g)
-attribute-said w d s x g = asks g tt
+attribute-said : (w : PlainWorld) (d : Option Datum) (s : PyObjectRef) (x : Text) → Says for_given kinds.Value (super_attribute w d s x)
+attribute-said w (Some (ASuper t (Some (o, start)))) s x = either (is_text x (known_text known.Class)) (asks tt) (looked-said w s x o start (found_after w start t x))
+attribute-said w d s x = asks tt
 
 super-get-row : (s : PyObjectRef) (x : Text) → Kinded kinds.Value (λ w. super_get_say w s x)
-super-get-row s x = passed kinds.Value (λ w. super_attribute w (datum_at w s) s x) (λ w g. attribute-said w (datum_at w s) s x g)
+super-get-row s x = named-row (λ w. super_attribute w (datum_at w s) s x) (λ w. attribute-said w (datum_at w s) s x)
 
 -- what a `super` goes on with that is initialised
 abbrev init_kinds : List PyObjectRef → Kind
 init_kinds (s ∷ t ∷ o ∷ []) = kinds.Start
 init_kinds rs = kinds.Done
 
-set-super : {q : Told → Kind → Bool} (w : PlainWorld) (d : Option Datum) (s : PyObjectRef) (t : ℕ) (bound : Option (PyObjectRef × ℕ)) → ReadsObjects w → Says q kinds.Done (set_super w d s t bound)
-set-super w (Some (ASuper c b)) s t bound g = ends (datum-set w s (ASuper t bound) g tt) tt
-set-super w d s t bound g = ends g tt
+abbrev init_ok : List PyObjectRef → Kind → Bool
+init_ok rs i = within i (init_kinds rs)
 
-init-said : (w : PlainWorld) (s : PyObjectRef) (p : Parts) → ReadsObjects w → Says (having_read init_kinds) kinds.Done (init_by w s p)
-init-said w s (Err x) g = ends g tt
-init-said w s (Ok p) g = either (is_none p.1) (set-super w (datum_at w s) s p.0 None g) (asks g tt)
+set-super : {q : Told → Kind → Bool} (w : PlainWorld) (d : Option Datum) (s : PyObjectRef) (t : ℕ) (bound : Option (PyObjectRef × ℕ)) → Says q kinds.Done (set_super w d s t bound)
+set-super w (Some (ASuper c b)) s t bound = ends tt
+set-super w d s t bound = ends tt
 
-started-said : (w : PlainWorld) (s t o : PyObjectRef) (r : Ended) → Fits kinds.Start r → ReadsObjects w → Says (at_once kinds.Done) kinds.Done (super_started w s t o r)
-started-said w s t o (Ok (AsStart k)) h g = set-super w (datum_at w s) s t.0 (Some (o, k)) g
-started-said w s t o (Ok a) h g = absurd h
-started-said w s t o (Err x) h g = ends g tt
+init-said : (w : PlainWorld) (s : PyObjectRef) (p : Parts) → Says (having_read init_ok) kinds.Done (init_by w s p)
+init-said w s (Err x) = ends tt
+init-said w s (Ok p) = either (is_none p.1) (set-super w (datum_at w s) s p.0 None) (asks tt)
+
+started-said : (w : PlainWorld) (s t o : PyObjectRef) (r : Ended) → Fits kinds.Start r → Says (at_once kinds.Done) kinds.Done (super_started w s t o r)
+started-said w s t o (Ok (AsStart k)) h = set-super w (datum_at w s) s t.0 (Some (o, k))
+started-said w s t o (Ok a) h = absurd h
+started-said w s t o (Err x) h = ends tt
 
 init-rest : (rs : List PyObjectRef) (r : Ended) → Fits (init_kinds rs) r → Kinded kinds.Done (λ w. super_init_rest w rs r)
-init-rest (s ∷ t ∷ o ∷ []) r h = passed kinds.Done (λ w. super_started w s t o r) (λ w g. started-said w s t o r h g)
+init-rest (s ∷ t ∷ o ∷ []) r h = passed kinds.Done (λ w. super_started w s t o r) (λ w. started-said w s t o r h)
 init-rest rs r h = ended kinds.Done r h
 
 super-init-row : (s : PyObjectRef) (args : List PyObjectRef) → Kinded kinds.Done (λ w. super_init_say w s args)
-super-init-row s args = read_first init_kinds kinds.Done (λ w. super_init w s args) (λ w. super_init_rest w) (λ w g. init-said w s (super_parts w args) g) (λ rs r h. init-rest rs r h)
+super-init-row s args = read_first init_ok (λ rs. Fits (init_kinds rs)) kinds.Done (λ w. super_init w s args) (λ w. super_init_rest w) (λ rs i r h f. wider i (init_kinds rs) r h f) (λ w. init-said w s (super_parts w args)) init-rest
 
 starting-fits : (c : Option ℕ) → Fits kinds.Start (starting c)
 starting-fits None = tt
@@ -252,13 +273,13 @@ told-fits : (w : PlainWorld) (t : ℕ) (c : Option ℕ) → Fits kinds.Start (to
 told-fits w t None = tt
 told-fits w t (Some k) = either-fits kinds.Start (not (eqb k t) && is_sub w.classes k t) (Ok (AsStart k)) (fault SuperCheckFailed) tt tt
 
-check-said : (w : PlainWorld) (t : ℕ) (o : PyObjectRef) (c d : Option ℕ) → ReadsObjects w → Says (at_once kinds.Value) kinds.Start (cond (derives w c t) (Ends w (starting c)) (check_class w t o d))
-check-said w t o c d g = either (derives w c t) (ends g (starting-fits c)) (either (derives w d t) (ends g (starting-fits d)) (asks g tt))
+check-said : (w : PlainWorld) (t : ℕ) (o : PyObjectRef) (c d : Option ℕ) → Says (at_once kinds.Value) kinds.Start (cond (derives w c t) (Ends w (starting c)) (check_class w t o d))
+check-said w t o c d = either (derives w c t) (ends (starting-fits c)) (either (derives w d t) (ends (starting-fits d)) (asks tt))
 
 super-check-row : (t : ℕ) (o : PyObjectRef) → Kinded kinds.Start (λ w. super_check_say w t o)
 super-check-row t o =
     started kinds.Value kinds.Start (λ w. super_check w t o) (λ w r. on_value w r (λ k. end w (told_start w t (class_number (datum_at w k)))))
-    (λ w g. check-said w t o (class_number (datum_at w o)) (class_at w o) g)
+    (λ w. check-said w t o (class_number (datum_at w o)) (class_at w o))
     (λ r f. on-value kinds.Start (λ w k. end w (told_start w t (class_number (datum_at w k)))) r f (λ k. ended-by kinds.Start (λ w. told_start w t (class_number (datum_at w k))) (λ w. told-fits w t (class_number (datum_at w k)))))
 
 pub descriptors : (job : DescriptorJob) → Kinded (kind_of_descriptor job) (λ w. descriptor_say w job)

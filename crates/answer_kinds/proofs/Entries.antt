@@ -6,28 +6,28 @@ use  Rattle.py_node.specs.declared.entry.SlotEntry.TheVariants.{Native, Wrapper,
 use  Rattle.py_node.specs.declared.raised.Cause.TheVariants.{TooLong}
 use  Rattle.py_node.specs.declared.known.Known.{Known}
 use Rattle.answer_kinds.specs.Kinds as kinds
-use Rattle.answer_kinds.specs.Kinds.{Kind, kind_of_entry, kind_of, ReadsObjects}
-use Rattle.answer_kinds.proofs.Base.{So, Fits, within, Family, GoesOn, KindedFor, Kinded, ended, Says, asks, asking, one_of, on-value, on-truth, on-number, native-asked, any-native}
+use Rattle.answer_kinds.specs.Kinds.{Kind, kind_of_entry, kind_of}
+use Rattle.answer_kinds.proofs.Base.{So, Fits, within, Family, GoesOn, KindedFor, Kinded, ended, Says, asks, asking, one_of, on-value, on-truth, on-number, native-asked, native-given, is_given}
 use Rattle.answer_kinds.proofs.Columns.{gives_in}
 use Rattle.proto_base.specs.Entered.{entered}
 use Rattle.proto_base.specs.Each.{on_objects, any_of, each_value, each_number, all_items, turned, each_equal}
 use Rattle.plain_machine.specs.Plain.{PlainWorld, DoNext, PlainTask, ToProtocol, AsValue, AsTruth, AsObjects, AsExhausted, Ended, Answered, Told, Said, Asks, Ends}
 use Rattle.plain_machine.specs.Row.{Row, end, value, fault, on_value, on_truth, on_number, most_items}
 
-pub entered-asked : {q : Told → Kind → Bool} {k : Kind} (w : PlainWorld) (learnt : Told) (e : SlotEntry) (x : Known) (o : PyObjectRef) (args : List PyObjectRef) → ReadsObjects w → So (q learnt (kind_of_entry e)) → Says q k (Asks w learnt (entered e x o args))
-entered-asked w learnt (Native n) x o args g h = native-asked w learnt n (o ∷ args) [] g h
-entered-asked w learnt (Wrapper s) x o args g h = asks g h
-entered-asked w learnt Unhashable x o args g h = asks g h
+pub entered-asked : {q : Told → Kind → Bool} {k : Kind} (w : PlainWorld) (learnt : Told) (e : SlotEntry) (x : Known) (o : PyObjectRef) (args : List PyObjectRef) → So (q learnt (kind_of_entry e)) → Says q k (Asks w learnt (entered e x o args))
+entered-asked w learnt (Native n) x o args h = native-asked w learnt n (o ∷ args) [] h
+entered-asked w learnt (Wrapper s) x o args h = asks h
+entered-asked w learnt Unhashable x o args h = asks h
 
 pub entry-value : (e : SlotEntry) → So (gives_in kinds.Value (Some e)) → So (within (kind_of_entry e) kinds.Value)
 entry-value (Native n) h = h
 entry-value (Wrapper s) h = tt
 entry-value Unhashable h = tt
 
-pub entry-any : (e : SlotEntry) → So (within (kind_of_entry e) kinds.ValueOrNumber)
-entry-any (Native n) = any-native n
-entry-any (Wrapper s) = tt
-entry-any Unhashable = tt
+pub entry-given : (e : SlotEntry) → So (is_given (kind_of_entry e))
+entry-given (Native n) = native-given n
+entry-given (Wrapper s) = tt
+entry-given Unhashable = tt
 
 pub on-objects : (k : Kind) (go : PlainWorld → List PyObjectRef → Row) (r : Ended) → Fits kinds.Objects r → ((rs : List PyObjectRef) → Kinded k (λ w. go w rs)) → Kinded k (λ w. on_objects w r (go w))
 on-objects k go (Ok (AsObjects rs)) f p = p rs
@@ -70,7 +70,7 @@ module _ (k : Kind) (it : PyObjectRef) (go : PlainWorld → List PyObjectRef →
 
   all-for : (n : ℕ) (rs : List PyObjectRef) → KindedFor n k (λ w. all_items w it rs (go w))
   all-for zero rs = tt
-  all-for (suc n) rs = λ w g. either-goes (KindedFor n k) k (λ w. all_items w it rs (go w)) (nat_le (length rs) most_items) (Asks w [] (ToProtocol (DoNext it))) (Ends w (fault TooLong)) (g, λ r f. item-told n (all-for n) rs r f) (g, tt)
+  all-for (suc n) rs = λ w. either-goes (KindedFor n k) k (λ w. all_items w it rs (go w)) (nat_le (length rs) most_items) (Asks w [] (ToProtocol (DoNext it))) (Ends w (fault TooLong)) (λ r f. item-told n (all-for n) rs r f) tt
 
   pub all-row : (rs : List PyObjectRef) → Kinded k (λ w. all_items w it rs (go w))
   all-row rs = record { every = λ n. all-for n rs }
@@ -107,8 +107,8 @@ module _ (k : Kind) (it x : PyObjectRef) (turn : ℕ → Bool → Result ℕ End
 
   search-for : (n : ℕ) (s : Searching) → KindedFor n k (Search s)
   search-for zero s = tt
-  search-for (suc n) (Next m) = λ w g. (g, λ r f. next-told n (search-for n) m r f)
-  search-for (suc n) (Having v m) = λ w g. (g, λ r f. equal-told n (search-for n) v m r f)
+  search-for (suc n) (Next m) = λ w. (λ r f. next-told n (search-for n) m r f)
+  search-for (suc n) (Having v m) = λ w. (λ r f. equal-told n (search-for n) v m r f)
 
   pub search-row : (m : ℕ) → Kinded k (λ w. each_equal w it x turn last m)
   search-row m = record { every = λ n. search-for n (Next m) }

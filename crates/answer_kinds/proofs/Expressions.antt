@@ -23,10 +23,9 @@ use  Rattle.py_node.specs.Tree.{Text, Tree, TAttr, TConst, TName, TBind, TTuple,
 use Rattle.py_node.specs.Tree.{keyed as keyed_tree}
 use  Rattle.std.specs.Prelude.{slice_get}
 use Rattle.answer_kinds.specs.Kinds as kinds
-use Rattle.answer_kinds.specs.Kinds.{Kind, kind_of, ReadsObjects}
+use Rattle.answer_kinds.specs.Kinds.{Kind, kind_of}
 use Rattle.answer_kinds.proofs.Base.{So, Fits, within, Kinded, ended, Says, ends, asks, at_once, never, started, asking, finished, passed, on-value, on-truth, on-number, on-done, ended-by}
 use Rattle.answer_kinds.proofs.Said.{either, takes-text}
-use Rattle.answer_kinds.proofs.Worlds.{IsFine, same-nodes, node-made}
 use Rattle.answer_kinds.proofs.Guards.{guarded, make-row, limited-row}
 use Rattle.eval_forms.specs.Say.{const_say, built_in_named, named_say, name_say, bind_say, Pairs, tested, evaluate_pairs, make_dict, dict_say, change_attr, set_attr_say, del_attr_say, attr_say, entry_names, unrepeated, on_keywords, given_say, arguments_say, invoke_say, on_method, callee_say, called_say, class_by, class_within, class_say, branch_say, if_say, last_or_none, operand_trees, own_say, eval_say}
 use Rattle.eval_forms.specs.Words.{unless_exhausted, manner_of, of_one, of_two, of_three, task_for, with_index, counted_task, counted_outcome, counted_by, counted_say, part_task, part_outcome, part_stop, part_start, part_say, slice_say, set_slice_say, del_slice_say, type_of, callable_of, format_of, has_attr_of, by_manner}
@@ -56,19 +55,19 @@ const-row : (k : Literal) → Kinded kinds.Value (λ w. const_say w k)
 const-row LNone = ended kinds.Value (value none) tt
 const-row LFalse = ended kinds.Value (value (truth false)) tt
 const-row LTrue = ended kinds.Value (value (truth true)) tt
-const-row (LInt z) = make-row the_int (ANumber z) tt
-const-row (LText x) = limited-row x (λ w. make w the_str (AText x)) (make-row the_str (AText x) tt)
+const-row (LInt z) = make-row the_int (ANumber z)
+const-row (LText x) = limited-row x (λ w. make w the_str (AText x)) (make-row the_str (AText x))
 
 name-row : (x : Text) → Kinded kinds.Value (λ w. name_say w x)
-name-row x = finished kinds.Value (λ w. name_say w x) (λ w g. named w (or_else_var (variable w x) (built_in_named x)) g)
+name-row x = finished kinds.Value (λ w. name_say w x) (λ w. named w (or_else_var (variable w x) (built_in_named x)))
   where
-    named : (w : PlainWorld) (o : Option PyObjectRef) → ReadsObjects w → Says never kinds.Value (named_say w o [])
-    named w None g = ends g tt
-    named w (Some r) g = ends g tt
+    named : (w : PlainWorld) (o : Option PyObjectRef) → Says never kinds.Value (named_say w o [])
+    named w None = ends tt
+    named w (Some r) = ends tt
 
 bind-row : (x : Text) (o : Option PyObjectRef) → Kinded kinds.Value (λ w. bind_say w x o)
 bind-row x None = ended kinds.Value (fault ArgCount) tt
-bind-row x (Some v) = finished kinds.Value (λ w. end (with_binding w x v) (value v)) (λ w g. ends (same-nodes w (with_binding w x v) refl g) tt)
+bind-row x (Some v) = finished kinds.Value (λ w. end (with_binding w x v) (value v)) (λ w. ends tt)
 
 pairs-row : (ps : KeyedTrees) (go : PlainWorld → Pairs → Row) → ((es : Pairs) → Kinded kinds.Value (λ w. go w es)) → Kinded kinds.Value (λ w. evaluate_pairs w ps (go w))
 pairs-row no_keyed go p = p []
@@ -81,14 +80,14 @@ pairs-row (keyed_tree k e ps) go p =
     (pairs-row ps (λ w es. go w ((key, v) ∷ es)) (λ es. p ((key, v) ∷ es)))))))
 
 dict-row : (ps : KeyedTrees) → Kinded kinds.Value (λ w. dict_say w ps)
-dict-row ps = pairs-row ps (λ w es. make_dict w (entries_from w es)) (λ es. finished kinds.Value (λ w. make_dict w (entries_from w es)) (λ w g. made w (entries_from w es) g))
+dict-row ps = pairs-row ps (λ w es. make_dict w (entries_from w es)) (λ es. finished kinds.Value (λ w. make_dict w (entries_from w es)) (λ w. made w (entries_from w es)))
   where
-    short : (w : PlainWorld) (b : Bool) (es : Pairs) → ReadsObjects w → Says never kinds.Value (cond b (make w the_dict (ADict es)) (end w (fault TooLong)) [])
-    short w true es g = ends (node-made w the_dict (ADict es) g tt) tt
-    short w false es g = ends g tt
+    short : (w : PlainWorld) (b : Bool) (es : Pairs) → Says never kinds.Value (cond b (make w the_dict (ADict es)) (end w (fault TooLong)) [])
+    short w true es = ends tt
+    short w false es = ends tt
 
-    made : (w : PlainWorld) (es : Pairs) → ReadsObjects w → Says never kinds.Value (make_dict w es [])
-    made w es g = short w (nat_le (length es) most_items) es g
+    made : (w : PlainWorld) (es : Pairs) → Says never kinds.Value (make_dict w es [])
+    made w es = short w (nat_le (length es) most_items) es
 
 change-row : (o : PyObjectRef) (x : Text) (v : Option PyObjectRef) → Kinded kinds.Value (λ w. change_attr w o x v)
 change-row o x v = asking kinds.DoneOrValue kinds.Value (ToAttribute (DoSetAttr o x v)) (λ w r. on_done w r (end w (value none))) tt (λ r f. on-done kinds.Value (λ w. end w (value none)) r (ended kinds.Value (value none) tt))
@@ -103,7 +102,7 @@ del-attr-row x (Some o) = change-row o x None
 
 attr-row : (x : Text) (o : Option PyObjectRef) → Kinded kinds.Value (λ w. attr_say w x o)
 attr-row x None = ended kinds.Value (fault ArgCount) tt
-attr-row x (Some o) = passed kinds.Value (λ w. pass w (ToAttribute (DoGetAttr o x))) (λ w g. asks g tt)
+attr-row x (Some o) = passed kinds.Value (λ w. pass w (ToAttribute (DoGetAttr o x))) (λ w. asks tt)
 
 keywords-row : (o : Option Bindings) (go : PlainWorld → Bindings → Row) → ((kw : Bindings) → Kinded kinds.Value (λ w. go w kw)) → Kinded kinds.Value (λ w. on_keywords w o (go w))
 keywords-row None go p = ended kinds.Value (fault RepeatedKeyword) tt
@@ -113,7 +112,7 @@ arguments-row : (es : Trees) (kw : Entries) (task : List PyObjectRef → Binding
 arguments-row es kw task h =
     evaluated (list_of es ++ entry_trees kw) (λ w. given_say w task (length (list_of es)) (entry_names kw))
     (λ vs. keywords-row (unrepeated [] (entry_names kw) (drop (length (list_of es)) vs)) (λ w kw. start (pass w (task (take (length (list_of es)) vs) kw)) (end w))
-    (λ kw. passed kinds.Value (λ w. pass w (task (take (length (list_of es)) vs) kw)) (λ w g. asks g (h _ kw))))
+    (λ kw. passed kinds.Value (λ w. pass w (task (take (length (list_of es)) vs) kw)) (λ w. asks (h _ kw))))
 
 method-row : (es : Trees) (kw : Entries) (r : Ended) → Fits kinds.Method r → Kinded kinds.Value (λ w. on_method w r (invoke_say w es kw))
 method-row es kw (Ok (AsFunction o m)) f = arguments-row es kw (λ args keywords. ToAttribute (DoInvoke (Some o) m args keywords)) (λ args keywords. tt)
@@ -131,22 +130,18 @@ called-row e es kw (Some v) = callee-row e es kw v
 
 -- a class
 
-names-world : (w : PlainWorld) (ps : Pairs) (bs : Bindings) → ReadsObjects w → ReadsObjects (keyed w ps bs).0
-names-world w ps [] g = g
-names-world w ps (b ∷ bs) g = names-world (with_node w the_str (AText b.0)) _ bs (node-made w the_str (AText b.0) g tt)
-
-class-said : (w : PlainWorld) (x : Text) (bases : List PyObjectRef) (kw entries : Bindings) → ReadsObjects w → Says (at_once kinds.Value) kinds.Value (class_by w x bases kw entries)
-class-said w x bases kw entries g =
+class-said : (w : PlainWorld) (x : Text) (bases : List PyObjectRef) (kw entries : Bindings) → Says (at_once kinds.Value) kinds.Value (class_by w x bases kw entries)
+class-said w x bases kw entries =
     let named = with_node w the_str (AText x) in
     let based = with_node named the_tuple (ATuple bases) in
-    asks (node-made (keyed based [] entries).0 the_dict (ADict (keyed based [] entries).1) (names-world based [] entries (node-made named the_tuple (ATuple bases) (node-made w the_str (AText x) g tt) tt)) tt) tt
+    asks tt
 
 class-row : (x : Text) (bases : ℕ) (keys names : List Text) (vs : List PyObjectRef) → Kinded kinds.Value (λ w. class_say w x bases keys names vs)
 class-row x bases keys names vs =
     keywords-row (unrepeated [] keys (take (length keys) (drop bases vs))) (λ w kw. class_within w x (take bases vs) kw (filled [] names (drop (length keys) (drop bases vs))))
     (λ kw. limited-row (take bases vs) (λ w. limited w (filled [] names (drop (length keys) (drop bases vs))) (start (class_by w x (take bases vs) kw (filled [] names (drop (length keys) (drop bases vs)))) (end w)))
     (limited-row (filled [] names (drop (length keys) (drop bases vs))) (λ w. start (class_by w x (take bases vs) kw (filled [] names (drop (length keys) (drop bases vs)))) (end w))
-    (passed kinds.Value (λ w. class_by w x (take bases vs) kw (filled [] names (drop (length keys) (drop bases vs)))) (λ w g. class-said w x (take bases vs) kw (filled [] names (drop (length keys) (drop bases vs))) g))))
+    (passed kinds.Value (λ w. class_by w x (take bases vs) kw (filled [] names (drop (length keys) (drop bases vs)))) (λ w. class-said w x (take bases vs) kw (filled [] names (drop (length keys) (drop bases vs)))))))
 
 -- branches
 
@@ -155,7 +150,7 @@ if-row a b None = ended kinds.Value (fault ArgCount) tt
 if-row a b (Some c) =
     asking kinds.Truth kinds.Value (ToProtocol (DoIsTrue c)) (λ w. branch_say w a b) tt
     (λ r f. on-truth kinds.Value (λ w holds. start (pass w (ToEval (DoEval (cond holds a b)))) (end w)) r f
-    (λ holds. passed kinds.Value (λ w. pass w (ToEval (DoEval (cond holds a b)))) (λ w g. asks g tt)))
+    (λ holds. passed kinds.Value (λ w. pass w (ToEval (DoEval (cond holds a b)))) (λ w. asks tt)))
 
 -- words
 
@@ -171,7 +166,7 @@ outcome_kind outcome.Tuple = kinds.Objects
 outcome_kind outcome.Item = kinds.Item
 
 collected : (c : ℕ) (of : List PyObjectRef → Datum) → ((rs : List PyObjectRef) → IsFine (of rs)) → (r : Ended) → Fits kinds.Objects r → Kinded kinds.Value (λ w. on_collected w r (λ rs. limited w rs (make w c (of rs))))
-collected c of h (Ok (AsObjects rs)) f = limited-row rs (λ w. make w c (of rs)) (make-row c (of rs) (h rs))
+collected c of h (Ok (AsObjects rs)) f = limited-row rs (λ w. make w c (of rs)) (make-row c (of rs))
 collected c of h (Ok a) f = absurd f
 collected c of h (Err x) f = ended kinds.Value (Err x) tt
 
@@ -186,7 +181,7 @@ made-row outcome.Same r f = ended kinds.Value r f
 made-row outcome.Nothing r f = on-done kinds.Value (λ w. end w (value none)) r (ended kinds.Value (value none) tt)
 made-row outcome.Truth r f = on-truth kinds.Value (λ w b. end w (value (truth b))) r f (λ b. ended kinds.Value (value (truth b)) tt)
 made-row outcome.Negated r f = on-truth kinds.Value (λ w b. end w (value (truth (not b)))) r f (λ b. ended kinds.Value (value (truth (not b))) tt)
-made-row outcome.Number r f = on-number kinds.Value (λ w z. make w the_int (ANumber z)) r f (λ z. make-row the_int (ANumber z) tt)
+made-row outcome.Number r f = on-number kinds.Value (λ w z. make w the_int (ANumber z)) r f (λ z. make-row the_int (ANumber z))
 made-row outcome.List r f = collected the_list (λ rs. AList rs) (λ rs. tt) r f
 made-row outcome.Tuple r f = collected the_tuple (λ rs. ATuple rs) (λ rs. tt) r f
 made-row outcome.Item r f = item-row r f
@@ -229,14 +224,14 @@ asked-row : (o : Outcome) (task : Option PlainTask) → Takes (manner.Asks o) ta
 asked-row o None h = ended kinds.Value (fault ArgCount) tt
 asked-row o (Some task) h = asking (outcome_kind o) kinds.Value task (λ w. made_of w o) h (λ r f. made-row o r f)
 
-number-said : (j : Kind) (w : PlainWorld) (z : Option ℤ) (go : ℤ → Said) → ReadsObjects w → ((z : ℤ) → Says (at_once j) kinds.Value (go z)) → Says (at_once j) kinds.Value (number_by w z go)
-number-said j w None go g p = ends g tt
-number-said j w (Some z) go g p = either (fits_index z) (p z) (ends g tt)
+number-said : (j : Kind) (w : PlainWorld) (z : Option ℤ) (go : ℤ → Said) → ((z : ℤ) → Says (at_once j) kinds.Value (go z)) → Says (at_once j) kinds.Value (number_by w z go)
+number-said j w None go p = ends tt
+number-said j w (Some z) go p = either (fits_index z) (p z) (ends tt)
 
-index-said : (j : Kind) (w : PlainWorld) (r : Ended) (go : ℤ → Said) → Fits kinds.Value r → ReadsObjects w → ((z : ℤ) → Says (at_once j) kinds.Value (go z)) → Says (at_once j) kinds.Value (with_index w r go)
-index-said j w (Ok (AsValue i)) go f g p = number-said j w (number_of (datum_at w i)) go g p
-index-said j w (Ok a) go f g p = absurd f
-index-said j w (Err x) go f g p = ends g tt
+index-said : (j : Kind) (w : PlainWorld) (r : Ended) (go : ℤ → Said) → Fits kinds.Value r → ((z : ℤ) → Says (at_once j) kinds.Value (go z)) → Says (at_once j) kinds.Value (with_index w r go)
+index-said j w (Ok (AsValue i)) go f p = number-said j w (number_of (datum_at w i)) go p
+index-said j w (Ok a) go f p = absurd f
+index-said j w (Err x) go f p = ends tt
 
 counted-fits : (k : Counted) (o : PyObjectRef) (z : ℤ) → So (within (kind_of (counted_task k o z)) (outcome_kind (counted_outcome k)))
 counted-fits counted.Repeat o z = tt
@@ -248,7 +243,7 @@ counted-row k None = ended kinds.Value (fault ArgCount) tt
 counted-row k (Some p) =
     asking kinds.Value kinds.Value (ToProtocol (DoIndex p.1)) (λ w. counted_by w k p.0) tt
     (λ r f. started (outcome_kind (counted_outcome k)) kinds.Value (λ w. with_index w r (λ z. pass w (counted_task k p.0 z))) (λ w. made_of w (counted_outcome k))
-    (λ w g. index-said (outcome_kind (counted_outcome k)) w r (λ z. pass w (counted_task k p.0 z)) f g (λ z. asks g (counted-fits k p.0 z))) (λ s h. made-row (counted_outcome k) s h))
+    (λ w. index-said (outcome_kind (counted_outcome k)) w r (λ z. pass w (counted_task k p.0 z)) f (λ z. asks (counted-fits k p.0 z))) (λ s h. made-row (counted_outcome k) s h))
 
 part-fits : (p : Part) (o : PyObjectRef) (i j : ℤ) → So (within (kind_of (part_task p o i j)) (outcome_kind (part_outcome p)))
 part-fits part.Get o i j = tt
@@ -259,9 +254,9 @@ part-row : (p : Part) (o i j : PyObjectRef) → Kinded kinds.Value (λ w. part_s
 part-row p o i j =
     asking kinds.Value kinds.Value (ToProtocol (DoIndex i)) (λ w. part_start w p o j) tt
     (λ r f. started kinds.Value kinds.Value (λ w. with_index w r (λ i. pass w (ToProtocol (DoIndex j)))) (λ w. part_stop w p o r)
-    (λ w g. index-said kinds.Value w r (λ i. pass w (ToProtocol (DoIndex j))) f g (λ i. asks g tt))
+    (λ w. index-said kinds.Value w r (λ i. pass w (ToProtocol (DoIndex j))) f (λ i. asks tt))
     (λ s h. started (outcome_kind (part_outcome p)) kinds.Value (λ w. with_index w r (λ i. with_index w s (λ j. pass w (part_task p o i j)))) (λ w. made_of w (part_outcome p))
-    (λ w g. index-said (outcome_kind (part_outcome p)) w r (λ i. with_index w s (λ j. pass w (part_task p o i j))) f g (λ i. index-said (outcome_kind (part_outcome p)) w s (λ j. pass w (part_task p o i j)) h g (λ j. asks g (part-fits p o i j))))
+    (λ w. index-said (outcome_kind (part_outcome p)) w r (λ i. with_index w s (λ j. pass w (part_task p o i j))) f (λ i. index-said (outcome_kind (part_outcome p)) w s (λ j. pass w (part_task p o i j)) h (λ j. asks (part-fits p o i j))))
     (λ t x. made-row (part_outcome p) t x)))
 
 slice-row : (vs : List PyObjectRef) → Kinded kinds.Value (λ w. slice_say w vs)
@@ -290,13 +285,13 @@ callable-row (Some o) = ended-by kinds.Value (λ w. value (truth (is_some (slot_
 
 format-row : (p : Option (PyObjectRef × PyObjectRef)) → Kinded kinds.Value (λ w. format_of w p)
 format-row None = ended kinds.Value (fault ArgCount) tt
-format-row (Some p) = passed kinds.Value (λ w. with_text w p.1 (λ x. pass w (ToObject (DoFormat p.0 p.1)))) (λ w g. takes-text w p.1 (λ x. pass w (ToObject (DoFormat p.0 p.1))) g (λ x. asks g tt))
+format-row (Some p) = passed kinds.Value (λ w. with_text w p.1 (λ x. pass w (ToObject (DoFormat p.0 p.1)))) (λ w. takes-text w p.1 (λ x. pass w (ToObject (DoFormat p.0 p.1))) (λ x. asks tt))
 
 has-attr-row : (p : Option (PyObjectRef × PyObjectRef)) → Kinded kinds.Value (λ w. has_attr_of w p)
 has-attr-row None = ended kinds.Value (fault ArgCount) tt
 has-attr-row (Some p) =
     started kinds.Truth kinds.Value (λ w. with_text w p.1 (λ x. pass w (ToAttribute (DoHasAttr p.0 x)))) (λ w. made_of w outcome.Truth)
-    (λ w g. takes-text w p.1 (λ x. pass w (ToAttribute (DoHasAttr p.0 x))) g (λ x. asks g tt)) (λ r f. made-row outcome.Truth r f)
+    (λ w. takes-text w p.1 (λ x. pass w (ToAttribute (DoHasAttr p.0 x))) (λ x. asks tt)) (λ r f. made-row outcome.Truth r f)
 
 manner-row : (m : Manner) (x : Word) (vs : List PyObjectRef) → Takes m (task_for x vs) → Kinded kinds.Value (λ w. by_manner w m x vs)
 manner-row (manner.Asks o) x vs h = asked-row o (task_for x vs) h
@@ -314,10 +309,10 @@ own-row : (e : Tree) (vs : List PyObjectRef) → Kinded kinds.Value (λ w. own_s
 own-row (TConst k) vs = const-row k
 own-row (TName x) vs = name-row x
 own-row (TBind x e) vs = bind-row x (lone vs)
-own-row (TTuple es) vs = limited-row vs (λ w. make w the_tuple (ATuple vs)) (make-row the_tuple (ATuple vs) tt)
-own-row (TList es) vs = limited-row vs (λ w. make w the_list (AList vs)) (make-row the_list (AList vs) tt)
+own-row (TTuple es) vs = limited-row vs (λ w. make w the_tuple (ATuple vs)) (make-row the_tuple (ATuple vs))
+own-row (TList es) vs = limited-row vs (λ w. make w the_list (AList vs)) (make-row the_list (AList vs))
 own-row (TDict ps) vs = dict-row ps
-own-row (TFunc x ps rest e) vs = make-row the_function (AFunction x ps rest e None) tt
+own-row (TFunc x ps rest e) vs = make-row the_function (AFunction x ps rest e None)
 own-row (TAttr o x) vs = attr-row x (lone vs)
 own-row (TSetAttr o x e) vs = set-attr-row x (two_of vs)
 own-row (TDelAttr o x) vs = del-attr-row x (lone vs)

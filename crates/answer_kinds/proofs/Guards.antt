@@ -2,9 +2,8 @@
 use Rattle.std.proofs.Common.{◌++◌, Bool, List, cond, false, inl, inr, length, nat_le, refl, subst, suc, sym, true, zero, ℕ, ◌∷◌, ◌≡◌, ◌⊎◌, []}
 use  Rattle.py_node.specs.declared.raised.Cause.TheVariants.{TooLong}
 use Rattle.answer_kinds.specs.Kinds as kinds
-use Rattle.answer_kinds.specs.Kinds.{Kind, ReadsObjects}
+use Rattle.answer_kinds.specs.Kinds.{Kind}
 use Rattle.answer_kinds.proofs.Base.{Fits, Family, after, GoesOn, KindedFor, Kinded, ended, ends, finished, one_of}
-use Rattle.answer_kinds.proofs.Worlds.{IsFine, node-made}
 use Rattle.plain_machine.specs.Plain.{Datum, PlainWorld, Ended, Answered, Told, Said, Asks, Ends}
 use Rattle.plain_machine.specs.Row.{Row, end, fault, make, most_items, limited}
 
@@ -17,15 +16,15 @@ Carries n k x = (G R : Family) → IsGuarded G R x → KindedFor n k R → Kinde
 
 next-guarded : (n : ℕ) (k : Kind) (x : Ended) → Carries n k x → (G R : Family) → IsGuarded G R x → (s : Said) → GoesOn (KindedFor n k) k R s → GoesOn (KindedFor n k) k G s
 next-guarded n k x rec G R e (Ends u r) q = q
-next-guarded n k x rec G R e (Asks u learnt task) q = (q.0, λ r f. rec (after G learnt r) (after R learnt r) (λ w told. e w (learnt ++ Answered r ∷ told)) (q.1 r f))
+next-guarded n k x rec G R e (Asks u learnt task) q = λ r f. rec (after G learnt r) (after R learnt r) (λ w told. e w (learnt ++ Answered r ∷ told)) (q r f)
 
-at-guarded : (n : ℕ) (k : Kind) (x : Ended) → Fits k x → Carries n k x → (G R : Family) → IsGuarded G R x → (w : PlainWorld) → ReadsObjects w → GoesOn (KindedFor n k) k R (R w []) → (G w [] ≡ R w []) ⊎ (G w [] ≡ Ends w x) → GoesOn (KindedFor n k) k G (G w [])
-at-guarded n k x h rec G R e w g p (inl same) = subst (GoesOn (KindedFor n k) k G) (sym same) (next-guarded n k x rec G R e (R w []) p)
-at-guarded n k x h rec G R e w g p (inr over) = subst (GoesOn (KindedFor n k) k G) (sym over) (g, h)
+at-guarded : (n : ℕ) (k : Kind) (x : Ended) → Fits k x → Carries n k x → (G R : Family) → IsGuarded G R x → (w : PlainWorld) → GoesOn (KindedFor n k) k R (R w []) → (G w [] ≡ R w []) ⊎ (G w [] ≡ Ends w x) → GoesOn (KindedFor n k) k G (G w [])
+at-guarded n k x h rec G R e w p (inl same) = subst (GoesOn (KindedFor n k) k G) (sym same) (next-guarded n k x rec G R e (R w []) p)
+at-guarded n k x h rec G R e w p (inr over) = subst (GoesOn (KindedFor n k) k G) (sym over) h
 
 guarded-for : (n : ℕ) (k : Kind) (x : Ended) → Fits k x → Carries n k x
 guarded-for zero k x h G R e p = tt
-guarded-for (suc n) k x h G R e p = λ w g. at-guarded n k x h (guarded-for n k x h) G R e w g (p w g) (e w [])
+guarded-for (suc n) k x h G R e p = λ w. at-guarded n k x h (guarded-for n k x h) G R e w (p w) (e w [])
 
 either-guard : (b : Bool) (R : Row) (w : PlainWorld) (x : Ended) (told : Told) → (cond b R (end w x) told ≡ R told) ⊎ (cond b R (end w x) told ≡ Ends w x)
 either-guard true R w x told = inl refl
@@ -34,8 +33,8 @@ either-guard false R w x told = inr refl
 pub guarded : (k : Kind) (b : PlainWorld → Bool) (R : Family) (x : Ended) → Fits k x → Kinded k R → Kinded k (λ w. cond (b w) (R w) (end w x))
 guarded k b R x h p = record { every = λ n. guarded-for n k x h (λ w. cond (b w) (R w) (end w x)) R (λ w told. either-guard (b w) (R w) w x told) (p.every n) }
 
-pub make-row : (c : ℕ) (d : Datum) → IsFine d → Kinded kinds.Value (λ w. make w c d)
-make-row c d h = finished kinds.Value (λ w. make w c d) (λ w g. ends (node-made w c d g h) tt)
+pub make-row : (c : ℕ) (d : Datum) → Kinded kinds.Value (λ w. make w c d)
+make-row c d = finished kinds.Value (λ w. make w c d) (λ w. ends tt)
 
 pub limited-row : {A : Type 0} (xs : List A) (R : Family) → Kinded kinds.Value R → Kinded kinds.Value (λ w. limited w xs (R w))
 limited-row xs R p = one_of kinds.Value (nat_le (length xs) most_items) R (λ w. end w (fault TooLong)) p (ended kinds.Value (fault TooLong) tt)

@@ -10,7 +10,7 @@ use  Rattle.py_node.specs.BuiltIns.{fixed_true, fixed_false}
 use Rattle.proto_base.specs.Each.{number as number_ended}
 use Rattle.native_numbers.specs.Say.{truth_of as truth_in}
 use Rattle.answer_kinds.specs.Kinds as kinds
-use Rattle.answer_kinds.specs.Kinds.{Kind, ReadsObjects}
+use Rattle.answer_kinds.specs.Kinds.{Kind}
 use Rattle.answer_kinds.proofs.Base.{So, Fits, wider, Kinded, ended, Says, ends, asks, at_once, on_way, started, forked, asking, passed, on-value, ended-by, either-fits}
 use Rattle.answer_kinds.proofs.Columns.{gives_in, slot-at-gives}
 use Rattle.answer_kinds.proofs.Tables.{iter-column, next-column, contains-column}
@@ -24,10 +24,10 @@ use Rattle.plain_machine.specs.Plain.{PlainWorld, DoIsTrue, DoGetIter, DoNext, D
 use Rattle.plain_machine.specs.World.{slot_at}
 use Rattle.plain_machine.specs.Row.{start, ask, end, value, pass, fault, on_value, fits_index}
 
-get-iter-said : (w : PlainWorld) (e : Option SlotEntry) (seq : Bool) (o : PyObjectRef) → ReadsObjects w → So (gives_in kinds.Value e) → Says (at_once kinds.Value) kinds.Value (get_iter_by w e seq o)
-get-iter-said w (Some e) seq o g h = entered-asked w [] e known.Iter o [] g (entry-value e h)
-get-iter-said w None true o g h = iterator-given w o g
-get-iter-said w None false o g h = ends g tt
+get-iter-said : (w : PlainWorld) (e : Option SlotEntry) (seq : Bool) (o : PyObjectRef) → So (gives_in kinds.Value e) → Says (at_once kinds.Value) kinds.Value (get_iter_by w e seq o)
+get-iter-said w (Some e) seq o h = entered-asked w [] e known.Iter o [] (entry-value e h)
+get-iter-said w None true o h = iterator-given w o
+get-iter-said w None false o h = ends tt
 
 iterator-row : (it : PyObjectRef) → Kinded kinds.Value (λ w. iterator_only w it)
 iterator-row it = ended-by kinds.Value (λ w. cond (is_some (slot_at w it Iternext)) (value it) (fault NotIterator)) (λ w. either-fits kinds.Value (is_some (slot_at w it Iternext)) (value it) (fault NotIterator) tt tt)
@@ -36,12 +36,12 @@ pub get-iter-row : (o : PyObjectRef) → Kinded kinds.Value (λ w. iter_job_say 
 unfolding iter_job_say
 get-iter-row o =
     started kinds.Value kinds.Value (λ w. get_iter_by w (slot_at w o Iter) (is_some (slot_at w o SeqItem)) o) (λ w r. on_value w r (iterator_only w))
-    (λ w g. get-iter-said w (slot_at w o Iter) (is_some (slot_at w o SeqItem)) o g (slot-at-gives kinds.Value Iter iter-column w o))
+    (λ w. get-iter-said w (slot_at w o Iter) (is_some (slot_at w o SeqItem)) o (slot-at-gives kinds.Value Iter iter-column w o))
     (λ r f. on-value kinds.Value (λ w. iterator_only w) r f (λ it. iterator-row it))
 
-next-said : (w : PlainWorld) (e : Option SlotEntry) (o : PyObjectRef) → ReadsObjects w → So (gives_in kinds.Value e) → Says (at_once kinds.Value) kinds.Item (next_by w e o)
-next-said w None o g h = ends g tt
-next-said w (Some e) o g h = entered-asked w [] e known.Next o [] g (entry-value e h)
+next-said : (w : PlainWorld) (e : Option SlotEntry) (o : PyObjectRef) → So (gives_in kinds.Value e) → Says (at_once kinds.Value) kinds.Item (next_by w e o)
+next-said w None o h = ends tt
+next-said w (Some e) o h = entered-asked w [] e known.Next o [] (entry-value e h)
 
 next-rest : (r : Ended) → Fits kinds.Value r → Kinded kinds.Item (λ w. next_rest w r)
 next-rest (Ok a) f = ended kinds.Item (Ok a) (wider kinds.Value kinds.Item (Ok a) tt f)
@@ -49,17 +49,17 @@ next-rest (Err x) f = ended kinds.Item (cond (is_stop x.kind) (Ok AsExhausted) (
 
 pub next-row : (o : PyObjectRef) → Kinded kinds.Item (λ w. iter_job_say w (DoNext o))
 unfolding iter_job_say
-next-row o = started kinds.Value kinds.Item (λ w. next_by w (slot_at w o Iternext) o) (λ w. next_rest w) (λ w g. next-said w (slot_at w o Iternext) o g (slot-at-gives kinds.Value Iternext next-column w o)) (λ r f. next-rest r f)
+next-row o = started kinds.Value kinds.Item (λ w. next_by w (slot_at w o Iternext) o) (λ w. next_rest w) (λ w. next-said w (slot_at w o Iternext) o (slot-at-gives kinds.Value Iternext next-column w o)) (λ r f. next-rest r f)
 
-collect-said : (w : PlainWorld) (plain : Bool) (o : PyObjectRef) → ReadsObjects w → Says (at_once kinds.Value) kinds.Objects (collect_by w plain o)
-collect-said w true o g = ends g tt
-collect-said w false o g = asks g tt
+collect-said : (w : PlainWorld) (plain : Bool) (o : PyObjectRef) → Says (at_once kinds.Value) kinds.Objects (collect_by w plain o)
+collect-said w true o = ends tt
+collect-said w false o = asks tt
 
 pub collect-row : (o : PyObjectRef) → Kinded kinds.Objects (λ w. iter_job_say w (DoCollect o))
 unfolding iter_job_say
 collect-row o =
     started kinds.Value kinds.Objects (λ w. collect_by w (is_plain w o) o) (λ w r. on_value w r (λ it. all_items w it [] (λ rs. end w (objects rs))))
-    (λ w g. collect-said w (is_plain w o) o g)
+    (λ w. collect-said w (is_plain w o) o)
     (λ r f. on-value kinds.Objects (λ w it. all_items w it [] (λ rs. end w (objects rs))) r f (λ it. all-row kinds.Objects it (λ w rs. end w (objects rs)) (λ rs. ended kinds.Objects (objects rs) tt) []))
 
 -- a native answers True or False, and then an iteration or a method gives an object
@@ -67,10 +67,10 @@ abbrev contains_kinds : ℕ → Kind
 contains_kinds zero = kinds.TruthValue
 contains_kinds (suc n) = kinds.Value
 
-contains-said : (w : PlainWorld) (e : Option SlotEntry) (o x : PyObjectRef) → ReadsObjects w → So (gives_in kinds.TruthValue e) → Says (on_way contains_kinds) kinds.Truth (contains_by w e o x)
-contains-said w None o x g h = asks g tt
-contains-said w (Some (Native n)) o x g h = entered-asked w (Chose 0 ∷ []) (Native n) known.Contains o (x ∷ []) g h
-contains-said w (Some e) o x g h = asks g tt
+contains-said : (w : PlainWorld) (e : Option SlotEntry) (o x : PyObjectRef) → So (gives_in kinds.TruthValue e) → Says (on_way contains_kinds) kinds.Truth (contains_by w e o x)
+contains-said w None o x h = asks tt
+contains-said w (Some (Native n)) o x h = entered-asked w (Chose 0 ∷ []) (Native n) known.Contains o (x ∷ []) h
+contains-said w (Some e) o x h = asks tt
 
 told-truth : (q p : Bool) (v : PyObjectRef) → So (q || p) → Fits kinds.Truth (as_truth (if p then Some false else if q then Some true else None) v)
 told-truth true true v h = tt
@@ -82,7 +82,7 @@ contains-rest : (x : PyObjectRef) (way : ℕ) (r : Ended) → Fits (contains_kin
 contains-rest x zero (Ok (AsValue v)) f = ended kinds.Truth (as_truth (truth_in v) v) (told-truth (eqb v.0 fixed_true) (eqb v.0 fixed_false) v f)
 contains-rest x zero (Ok a) f = absurd f
 contains-rest x zero (Err y) f = ended kinds.Truth (Err y) tt
-contains-rest x (suc zero) r f = on-value kinds.Truth (λ w v. start (pass w (ToProtocol (DoIsTrue v))) (end w)) r f (λ v. passed kinds.Truth (λ w. pass w (ToProtocol (DoIsTrue v))) (λ w g. asks g tt))
+contains-rest x (suc zero) r f = on-value kinds.Truth (λ w v. start (pass w (ToProtocol (DoIsTrue v))) (end w)) r f (λ v. passed kinds.Truth (λ w. pass w (ToProtocol (DoIsTrue v))) (λ w. asks tt))
 contains-rest x (suc (suc n)) r f = on-value kinds.Truth (λ w it. each_equal w it x until_true (λ m. says false) 0) r f (λ it. search-row kinds.Truth it x until_true (λ m. says false) until-true (λ m. tt) 0)
   where
     until-true : (m : ℕ) (b : Bool) → FitsTurn kinds.Truth (until_true m b)
@@ -91,7 +91,7 @@ contains-rest x (suc (suc n)) r f = on-value kinds.Truth (λ w it. each_equal w 
 
 pub contains-row : (o x : PyObjectRef) → Kinded kinds.Truth (λ w. iter_job_say w (DoContains o x))
 unfolding iter_job_say
-contains-row o x = forked contains_kinds kinds.Truth (λ w. contains_by w (slot_at w o SeqContains) o x) (λ w. contains_rest w x) (λ w g. contains-said w (slot_at w o SeqContains) o x g (slot-at-gives kinds.TruthValue SeqContains contains-column w o)) (λ way r f. contains-rest x way r f)
+contains-row o x = forked contains_kinds kinds.Truth (λ w. contains_by w (slot_at w o SeqContains) o x) (λ w. contains_rest w x) (λ w. contains-said w (slot_at w o SeqContains) o x (slot-at-gives kinds.TruthValue SeqContains contains-column w o)) (λ way r f. contains-rest x way r f)
 
 counted-fits : (n : ℕ) → Fits kinds.Number (counted n)
 counted-fits n = either-fits kinds.Number (fits_index (pos n)) (number_ended (pos n)) (fault IndexRange) tt tt

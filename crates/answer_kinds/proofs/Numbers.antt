@@ -11,7 +11,7 @@ use  Rattle.std.specs.Option.{option_or}
 use Rattle.proto_number.specs.Lengths.{tested as length_tested, as_number as length_number, length_given, length_by, length_rest, length_slot, length_say, is_type_error, or_given, expected_by, hinted, expected_given, expected_say, hint_rest, hint_say}
 use Rattle.native_numbers.specs.Say.{truth_of as truth_in}
 use Rattle.answer_kinds.specs.Kinds as kinds
-use Rattle.answer_kinds.specs.Kinds.{Kind, ReadsObjects}
+use Rattle.answer_kinds.specs.Kinds.{Kind}
 use Rattle.answer_kinds.proofs.Base.{So, Fits, within, wider, Kinded, ended, Says, ends, asks, at_once, on_way, never, started, forked, asking, finished, one_of, on-value, on-number, ended-by, either-fits, native-asked}
 use Rattle.answer_kinds.proofs.Said.{either}
 use Rattle.answer_kinds.proofs.Columns.{gives_in, slot-at-gives}
@@ -40,25 +40,25 @@ length_kinds (suc n) = kinds.Value
 
 -- truth
 
-asked-said : (w : PlainWorld) (m len : Option PyObjectRef) (o : PyObjectRef) → ReadsObjects w → Says (on_way truth_kinds) kinds.Truth (truth_asked w m len o)
-asked-said w (Some m) len o g = asks g tt
-asked-said w None (Some m) o g = asks g tt
-asked-said w None None o g = ends g tt
+asked-said : (w : PlainWorld) (m len : Option PyObjectRef) (o : PyObjectRef) → Says (on_way truth_kinds) kinds.Truth (truth_asked w m len o)
+asked-said w (Some m) len o = asks tt
+asked-said w None (Some m) o = asks tt
+asked-said w None None o = ends tt
 
-truth-said : (w : PlainWorld) (b : Option Bool) (o : PyObjectRef) → ReadsObjects w → Says (on_way truth_kinds) kinds.Truth (truth_by w b o)
-truth-said w (Some b) o g = ends g tt
-truth-said w None o g = asked-said w (special_at w o (known_text known.Bool)) (special_at w o (known_text known.Len)) o g
+truth-said : (w : PlainWorld) (b : Option Bool) (o : PyObjectRef) → Says (on_way truth_kinds) kinds.Truth (truth_by w b o)
+truth-said w (Some b) o = ends tt
+truth-said w None o = asked-said w (special_at w o (known_text known.Bool)) (special_at w o (known_text known.Len)) o
 
-given-said : (w : PlainWorld) (b : Option Bool) → ReadsObjects w → Says never kinds.Truth (truth_given w b [])
-given-said w (Some b) g = ends g tt
-given-said w None g = ends g tt
+given-said : (w : PlainWorld) (b : Option Bool) → Says never kinds.Truth (truth_given w b [])
+given-said w (Some b) = ends tt
+given-said w None = ends tt
 
 truth-rest : (way : ℕ) (r : Ended) → Fits (truth_kinds way) r → Kinded kinds.Truth (λ w. truth_rest w way r)
-truth-rest zero r f = on-value kinds.Truth (λ w v. truth_given w (bool_at w v)) r f (λ v. finished kinds.Truth (λ w. truth_given w (bool_at w v)) (λ w g. given-said w (bool_at w v) g))
+truth-rest zero r f = on-value kinds.Truth (λ w v. truth_given w (bool_at w v)) r f (λ v. finished kinds.Truth (λ w. truth_given w (bool_at w v)) (λ w. given-said w (bool_at w v)))
 truth-rest (suc n) r f = on-number kinds.Truth (λ w z. end w (as_truth (not (is_zero z)))) r f (λ z. ended kinds.Truth (as_truth (not (is_zero z))) tt)
 
 truth-row : (o : PyObjectRef) → Kinded kinds.Truth (λ w. is_true_say w o)
-truth-row o = forked truth_kinds kinds.Truth (λ w. truth_by w (truth_in o) o) (λ w. truth_rest w) (λ w g. truth-said w (truth_in o) o g) (λ way r f. truth-rest way r f)
+truth-row o = forked truth_kinds kinds.Truth (λ w. truth_by w (truth_in o) o) (λ w. truth_rest w) (λ w. truth-said w (truth_in o) o) (λ way r f. truth-rest way r f)
 
 -- whole numbers
 
@@ -67,32 +67,32 @@ number-given refused r h f =
     on-value kinds.Value (λ w v. end w (cond (is_some (number_of (datum_at w v))) (value v) refused)) r f
     (λ v. ended-by kinds.Value (λ w. cond (is_some (number_of (datum_at w v))) (value v) refused) (λ w. either-fits kinds.Value (is_some (number_of (datum_at w v))) (value v) refused tt h))
 
-as-int-said : {q : Told → Kind → Bool} (w : PlainWorld) (o : PyObjectRef) (z : ℤ) → ReadsObjects w → Says q kinds.Value (as_int w o z)
-as-int-said w o z g = either _ (ends g tt) (int-given w (Ok z) g)
+as-int-said : {q : Told → Kind → Bool} (w : PlainWorld) (o : PyObjectRef) (z : ℤ) → Says q kinds.Value (as_int w o z)
+as-int-said w o z = either _ (ends tt) (int-given w (Ok z))
 
-index-asked : (w : PlainWorld) (e : Option SlotEntry) (o : PyObjectRef) → ReadsObjects w → Says (at_once kinds.Value) kinds.Value (index_asked w e o)
-index-asked w (Some (Wrapper s)) o g = asks g tt
-index-asked w e o g = ends g tt
+index-asked : (w : PlainWorld) (e : Option SlotEntry) (o : PyObjectRef) → Says (at_once kinds.Value) kinds.Value (index_asked w e o)
+index-asked w (Some (Wrapper s)) o = asks tt
+index-asked w e o = ends tt
 
-index-said : (w : PlainWorld) (z : Option ℤ) (o : PyObjectRef) → ReadsObjects w → Says (at_once kinds.Value) kinds.Value (index_by w z o)
-index-said w (Some z) o g = as-int-said w o z g
-index-said w None o g = index-asked w (slot_at w o slots.Index) o g
+index-said : (w : PlainWorld) (z : Option ℤ) (o : PyObjectRef) → Says (at_once kinds.Value) kinds.Value (index_by w z o)
+index-said w (Some z) o = as-int-said w o z
+index-said w None o = index-asked w (slot_at w o slots.Index) o
 
 index-row : (o : PyObjectRef) → Kinded kinds.Value (λ w. index_say w o)
-index-row o = started kinds.Value kinds.Value (λ w. index_by w (number_of (datum_at w o)) o) (λ w. number_given w (fault IndexReturn)) (λ w g. index-said w (number_of (datum_at w o)) o g) (λ r f. number-given (fault IndexReturn) r tt f)
+index-row o = started kinds.Value kinds.Value (λ w. index_by w (number_of (datum_at w o)) o) (λ w. number_given w (fault IndexReturn)) (λ w. index-said w (number_of (datum_at w o)) o) (λ r f. number-given (fault IndexReturn) r tt f)
 
-text-number : (w : PlainWorld) (d : Option Datum) → ReadsObjects w → Says (on_way (λ n. kinds.Value)) kinds.Value (text_number w d)
-text-number w (Some (AText x)) g = int-given w (spelled x) g
-text-number w d g = ends g tt
+text-number : (w : PlainWorld) (d : Option Datum) → Says (on_way (λ n. kinds.Value)) kinds.Value (text_number w d)
+text-number w (Some (AText x)) = int-given w (spelled x)
+text-number w d = ends tt
 
-truncated-said : (w : PlainWorld) (m : Option PyObjectRef) (o : PyObjectRef) → ReadsObjects w → Says (on_way (λ n. kinds.Value)) kinds.Value (truncated_by w m o)
-truncated-said w (Some m) o g = asks g tt
-truncated-said w None o g = text-number w (datum_at w o) g
+truncated-said : (w : PlainWorld) (m : Option PyObjectRef) (o : PyObjectRef) → Says (on_way (λ n. kinds.Value)) kinds.Value (truncated_by w m o)
+truncated-said w (Some m) o = asks tt
+truncated-said w None o = text-number w (datum_at w o)
 
-whole-said : (w : PlainWorld) (e : Option SlotEntry) (o : PyObjectRef) → ReadsObjects w → So (gives_in kinds.Value e) → Says (on_way (λ n. kinds.Value)) kinds.Value (whole_by w e o)
-whole-said w (Some (Native n)) o g h = native-asked w (Chose 0 ∷ []) n (o ∷ []) [] g h
-whole-said w None o g h = either (has_index w o) (asks g tt) (truncated-said w (special_at w o (known_text known.Trunc)) o g)
-whole-said w (Some e) o g h = asks g tt
+whole-said : (w : PlainWorld) (e : Option SlotEntry) (o : PyObjectRef) → So (gives_in kinds.Value e) → Says (on_way (λ n. kinds.Value)) kinds.Value (whole_by w e o)
+whole-said w (Some (Native n)) o h = native-asked w (Chose 0 ∷ []) n (o ∷ []) [] h
+whole-said w None o h = either (has_index w o) (asks tt) (truncated-said w (special_at w o (known_text known.Trunc)) o)
+whole-said w (Some e) o h = asks tt
 
 truncated-row : (r : Ended) → Fits kinds.Value r → Kinded kinds.Value (λ w. truncated w r)
 truncated-row (Err x) f = ended kinds.Value (fault TruncReturn) tt
@@ -106,7 +106,7 @@ whole-rest (suc (suc n)) r f = on-value kinds.Value (λ w v. ask w (ToProtocol (
 whole-row : (o : PyObjectRef) → Kinded kinds.Value (λ w. whole_say w o)
 whole-row o =
     forked (λ n. kinds.Value) kinds.Value (λ w. cond (is_int (class_at w o)) (Ends w (value o)) (whole_by w (slot_at w o slots.Int) o)) (λ w. whole_rest w)
-    (λ w g. either (is_int (class_at w o)) (ends g tt) (whole-said w (slot_at w o slots.Int) o g (slot-at-gives kinds.Value slots.Int int-column w o))) (λ way r f. whole-rest way r f)
+    (λ w. either (is_int (class_at w o)) (ends tt) (whole-said w (slot_at w o slots.Int) o (slot-at-gives kinds.Value slots.Int int-column w o))) (λ way r f. whole-rest way r f)
 
 -- lengths
 
@@ -114,10 +114,10 @@ tested-fits : (k : Kind) (z : Option ℤ) → So (within kinds.Number k) → Fit
 tested-fits k None h = tt
 tested-fits k (Some z) h = either-fits k (int_lt z (pos 0)) (fault NegativeLength) (cond (fits_index z) (length_number z) (fault IndexRange)) tt (either-fits k (fits_index z) (length_number z) (fault IndexRange) (wider kinds.Number k (length_number z) h tt) tt)
 
-length-said : (w : PlainWorld) (e : Option SlotEntry) (o : PyObjectRef) → ReadsObjects w → So (gives_in kinds.Number e) → Says (on_way length_kinds) kinds.Number (length_by w e o)
-length-said w None o g h = ends g tt
-length-said w (Some (Native n)) o g h = native-asked w (Chose 0 ∷ []) n (o ∷ []) [] g h
-length-said w (Some e) o g h = asks g tt
+length-said : (w : PlainWorld) (e : Option SlotEntry) (o : PyObjectRef) → So (gives_in kinds.Number e) → Says (on_way length_kinds) kinds.Number (length_by w e o)
+length-said w None o h = ends tt
+length-said w (Some (Native n)) o h = native-asked w (Chose 0 ∷ []) n (o ∷ []) [] h
+length-said w (Some e) o h = asks tt
 
 length-rest : (way : ℕ) (r : Ended) → Fits (length_kinds way) r → Kinded kinds.Number (λ w. length_rest w way r)
 length-rest zero r f = ended kinds.Number r f
@@ -130,7 +130,7 @@ or-in (Some s) y p q = p
 length-row : (o : PyObjectRef) → Kinded kinds.Number (λ w. length_say w o)
 length-row o =
     forked length_kinds kinds.Number (λ w. length_by w (length_slot w o) o) (λ w. length_rest w)
-    (λ w g. length-said w (length_slot w o) o g (or-in (slot_at w o slots.SeqLength) (slot_at w o slots.MapLength) (slot-at-gives kinds.Number slots.SeqLength length-column w o) (slot-at-gives kinds.Number slots.MapLength map-length-column w o)))
+    (λ w. length-said w (length_slot w o) o (or-in (slot_at w o slots.SeqLength) (slot_at w o slots.MapLength) (slot-at-gives kinds.Number slots.SeqLength length-column w o) (slot-at-gives kinds.Number slots.MapLength map-length-column w o)))
     (λ way r f. length-rest way r f)
 
 -- where a number is given, there is one
@@ -154,14 +154,14 @@ expected-given d (Err x) f = ended (hint_kind d) (cond (is_type_error x.kind) (o
 expected-given d (Ok (AsValue v)) f = ended-by (hint_kind d) (λ w. hinted w d v) (λ w. hinted-fits w d v)
 expected-given d (Ok a) f = absurd f
 
-expected-said : (w : PlainWorld) (m : Option PyObjectRef) (o : PyObjectRef) (d : Option ℤ) → ReadsObjects w → Says (at_once kinds.Value) (hint_kind d) (expected_by w m o d)
-expected-said w None o d g = ends g (given-fits d)
-expected-said w (Some m) o d g = asks g tt
+expected-said : (w : PlainWorld) (m : Option PyObjectRef) (o : PyObjectRef) (d : Option ℤ) → Says (at_once kinds.Value) (hint_kind d) (expected_by w m o d)
+expected-said w None o d = ends (given-fits d)
+expected-said w (Some m) o d = asks tt
 
 expected-row : (o : PyObjectRef) (d : Option ℤ) → Kinded (hint_kind d) (λ w. expected_say w o d)
 expected-row o d =
     started kinds.Value (hint_kind d) (λ w. expected_by w (special_at w o (known_text known.LengthHint)) o d) (λ w r. on_value w r (λ b. ask w (ToCall (DoCall b [] [])) (expected_given w d)))
-    (λ w g. expected-said w (special_at w o (known_text known.LengthHint)) o d g)
+    (λ w. expected-said w (special_at w o (known_text known.LengthHint)) o d)
     (λ r f. on-value (hint_kind d) (λ w b. ask w (ToCall (DoCall b [] [])) (expected_given w d)) r f
     (λ b. asking kinds.Value (hint_kind d) (ToCall (DoCall b [] [])) (λ w. expected_given w d) tt (λ s h. expected-given d s h)))
 

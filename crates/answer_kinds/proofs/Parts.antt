@@ -29,10 +29,9 @@ use Rattle.native_compare.specs.Containers.{answered as way_answered, in_turn as
 use Rattle.native_details.specs.Say.{with_name as named_datum}
 use Rattle.py_node.specs.declared.payload.MemberGetter.TheVariants as getter
 use Rattle.answer_kinds.specs.Kinds as kinds
-use Rattle.answer_kinds.specs.Kinds.{Kind, kind_of, reads_object, ReadsObjects}
+use Rattle.answer_kinds.specs.Kinds.{Kind, kind_of}
 use Rattle.answer_kinds.proofs.Base.{So, Fits, within, wider, Family, GoesOn, Kinded, ended, Says, ends, asks, at_once, never, stepped, goes-on, started, asking, finished, passed, one_of, read_objects_once, on-value, on-truth, on-maybe, either-fits}
 use Rattle.answer_kinds.proofs.Said.{either, no-keywords, takes-one, takes-two}
-use Rattle.answer_kinds.proofs.Worlds.{IsFine, reads-at, datum-set}
 use Rattle.answer_kinds.proofs.Gives.{object-given, text-given}
 use Rattle.answer_kinds.proofs.Own.{there-or, takes-own, takes-heir}
 use Rattle.answer_kinds.proofs.Entries.{on-objects, each-value, each-number}
@@ -58,7 +57,7 @@ use Rattle.plain_machine.specs.Takes.{with_one}
 use Rattle.py_node.specs.Known.{known_text}
 use Rattle.py_node.specs.Tree.{Text}
 
-said-row : (k : Kind) (said : PlainWorld → Said) → ((w : PlainWorld) → ReadsObjects w → Says never k (said w)) → Kinded k (λ w. as_said (said w))
+said-row : (k : Kind) (said : PlainWorld → Said) → ((w : PlainWorld) → Says never k (said w)) → Kinded k (λ w. as_said (said w))
 said-row k said s = finished k (λ w. as_said (said w)) s
 
 -- objects that were read before the first ask
@@ -66,60 +65,60 @@ abbrev having : Kind → Told → Kind → Bool
 having j (ReadObjects rs ∷ []) i = within i j
 having j _ i = false
 
-read-row : (j k : Kind) (said : PlainWorld → Said) (go : PlainWorld → List PyObjectRef → Ended → Row) → ((w : PlainWorld) → ReadsObjects w → Says (having j) k (said w)) → ((rs : List PyObjectRef) (r : Ended) → Fits j r → Kinded k (λ w. go w rs r)) → Kinded k (λ w. with_read (said w) (go w))
-read-row j k said go s p = stepped k (λ w. with_read (said w) (go w)) (λ w g. next (said w) (s w g))
+read-row : (j k : Kind) (said : PlainWorld → Said) (go : PlainWorld → List PyObjectRef → Ended → Row) → ((w : PlainWorld) → Says (having j) k (said w)) → ((rs : List PyObjectRef) (r : Ended) → Fits j r → Kinded k (λ w. go w rs r)) → Kinded k (λ w. with_read (said w) (go w))
+read-row j k said go s p = stepped k (λ w. with_read (said w) (go w)) (λ w. next (said w) (s w))
   where
     next : (x : Said) → Says (having j) k x → GoesOn (Kinded k) k (λ w. with_read (said w) (go w)) x
-    next (Ends u r) (ends g h) = (g, h)
-    next (Asks u (ReadObjects rs ∷ []) task) (asks g h) = (g, λ r f. p rs r (wider (kind_of task) j r h f))
-    next (Asks u learnt task) (asks g h) = absurd h
+    next (Ends u r) (ends h) = h
+    next (Asks u (ReadObjects rs ∷ []) task) (asks h) = (λ r f. p rs r (wider (kind_of task) j r h f))
+    next (Asks u learnt task) (asks h) = absurd h
 
-one-at-most : {q : Told → Kind → Bool} {k : Kind} (w : PlainWorld) (args : List PyObjectRef) (kw : Bindings) (without : Said) (go : PyObjectRef → Said) → ReadsObjects w → Says q k without → ((a : PyObjectRef) → Says q k (go a)) → Says q k (with_one_at_most w args kw without go)
-one-at-most w (o ∷ []) kw without go g p h = no-keywords w kw without g p
-one-at-most w (o ∷ a ∷ []) kw without go g p h = no-keywords w kw (go a) g (h a)
-one-at-most w args kw without go g p h = ends g tt
+one-at-most : {q : Told → Kind → Bool} {k : Kind} (w : PlainWorld) (args : List PyObjectRef) (kw : Bindings) (without : Said) (go : PyObjectRef → Said) → Says q k without → ((a : PyObjectRef) → Says q k (go a)) → Says q k (with_one_at_most w args kw without go)
+one-at-most w (o ∷ []) kw without go p h = no-keywords w kw without p
+one-at-most w (o ∷ a ∷ []) kw without go p h = no-keywords w kw (go a) (h a)
+one-at-most w args kw without go p h = ends tt
 
 -- makers
 
 pub str-new : (args : List PyObjectRef) (kw : Bindings) → Kinded kinds.Value (λ w. str_new w args kw)
 str-new args kw =
     read-row kinds.Value kinds.Value (λ w. str_new_by w args kw) (λ w. str_rest w)
-    (λ w g. takes-heir w built_in.Str args _ g (λ c. one-at-most w args kw _ _ g (object-given w c (AText []) g tt) (λ a. asks g tt)))
+    (λ w. takes-heir w built_in.Str args _ (λ c. one-at-most w args kw _ _ (object-given w c (AText [])) (λ a. asks tt)))
     (λ rs r f. on-value kinds.Value (λ w v. as_said (str_made w (first rs).0 v)) r f
-    (λ v. said-row kinds.Value (λ w. str_made w (first rs).0 v) (λ w g. either (eqb (first rs).0 the_str) (ends g tt) (object-given w (first rs).0 (AText (text_at w v)) g tt))))
+    (λ v. said-row kinds.Value (λ w. str_made w (first rs).0 v) (λ w. either (eqb (first rs).0 the_str) (ends tt) (object-given w (first rs).0 (AText (text_at w v))))))
 
 pub tuple-new : (args : List PyObjectRef) (kw : Bindings) → Kinded kinds.Value (λ w. tuple_new w args kw)
 tuple-new args kw =
     read-row kinds.Objects kinds.Value (λ w. tuple_new_by w args kw) (λ w. tuple_rest w)
-    (λ w g. takes-heir w built_in.Tuple args _ g (λ c. one-at-most w args kw _ _ g (object-given w c (ATuple []) g tt) (λ a. asks g tt)))
+    (λ w. takes-heir w built_in.Tuple args _ (λ c. one-at-most w args kw _ _ (object-given w c (ATuple [])) (λ a. asks tt)))
     (λ rs r f. on-objects kinds.Value (λ w is. as_said (object_made w (first rs).0 (ATuple is))) r f
-    (λ is. said-row kinds.Value (λ w. object_made w (first rs).0 (ATuple is)) (λ w g. object-given w (first rs).0 (ATuple is) g tt)))
+    (λ is. said-row kinds.Value (λ w. object_made w (first rs).0 (ATuple is)) (λ w. object-given w (first rs).0 (ATuple is))))
 
-filled-said : {q : Told → Kind → Bool} (w : PlainWorld) (o : PyObjectRef) (rs : List PyObjectRef) → ReadsObjects w → Says q kinds.Value (list_filled w o rs)
-filled-said w o rs g = ends (datum-set w o (AList rs) g tt) tt
+filled-said : {q : Told → Kind → Bool} (w : PlainWorld) (o : PyObjectRef) (rs : List PyObjectRef) → Says q kinds.Value (list_filled w o rs)
+filled-said w o rs = ends tt
 
 pub list-init : (args : List PyObjectRef) (kw : Bindings) → Kinded kinds.Value (λ w. list_init w args kw)
 list-init args kw =
     read-row kinds.Objects kinds.Value (λ w. list_init_by w args kw) (λ w. list_rest w)
-    (λ w g. container-taken kind.List w args _ g (λ o. one-at-most w args kw _ _ g (filled-said w o [] g) (λ a. asks g tt)))
+    (λ w. container-taken kind.List w args _ (λ o. one-at-most w args kw _ _ (filled-said w o []) (λ a. asks tt)))
     (λ rs r f. on-objects kinds.Value (λ w is. as_said (list_filled w (first rs) is)) r f
-    (λ is. said-row kinds.Value (λ w. list_filled w (first rs) is) (λ w g. filled-said w (first rs) is g)))
+    (λ is. said-row kinds.Value (λ w. list_filled w (first rs) is) (λ w. filled-said w (first rs) is)))
 
-int-of-class : (w : PlainWorld) (c : ℕ) (z : Option ℤ) → ReadsObjects w → Says never kinds.Value (int_of_class w c z)
-int-of-class w c None g = ends g tt
-int-of-class w c (Some z) g = object-given w c (ANumber z) g tt
+int-of-class : (w : PlainWorld) (c : ℕ) (z : Option ℤ) → Says never kinds.Value (int_of_class w c z)
+int-of-class w c None = ends tt
+int-of-class w c (Some z) = object-given w c (ANumber z)
 
 pub int-new : (args : List PyObjectRef) (kw : Bindings) → Kinded kinds.Value (λ w. int_new_say w args kw)
 int-new args kw =
     read-row kinds.Value kinds.Value (λ w. int_new w args kw) (λ w. int_rest w)
-    (λ w g. takes-heir w built_in.Int args _ g (λ c. one-at-most w args kw _ _ g (object-given w c (ANumber (pos 0)) g tt) (λ a. asks g tt)))
+    (λ w. takes-heir w built_in.Int args _ (λ c. one-at-most w args kw _ _ (object-given w c (ANumber (pos 0))) (λ a. asks tt)))
     (λ rs r f. on-value kinds.Value (λ w i. as_said (int_made_of w (first rs).0 i)) r f
-    (λ i. said-row kinds.Value (λ w. int_made_of w (first rs).0 i) (λ w g. either (eqb (first rs).0 the_int) (ends g tt) (int-of-class w (first rs).0 (number_of (datum_at w i)) g))))
+    (λ i. said-row kinds.Value (λ w. int_made_of w (first rs).0 i) (λ w. either (eqb (first rs).0 the_int) (ends tt) (int-of-class w (first rs).0 (number_of (datum_at w i))))))
 
 pub bool-new : (args : List PyObjectRef) (kw : Bindings) → Kinded kinds.Value (λ w. bool_new_say w args kw)
 bool-new args kw =
     started kinds.Truth kinds.Value (λ w. bool_new w args kw) (λ w r. on_truth w r (λ b. end w (value (truth b))))
-    (λ w g. takes-heir w built_in.Bool args _ g (λ c. one-at-most w args kw _ _ g (ends g tt) (λ a. asks g tt)))
+    (λ w. takes-heir w built_in.Bool args _ (λ c. one-at-most w args kw _ _ (ends tt) (λ a. asks tt)))
     (λ r f. on-truth kinds.Value (λ w b. end w (value (truth b))) r f (λ b. ended kinds.Value (value (truth b)) tt))
 
 -- texts and hashes
@@ -133,14 +132,14 @@ pub container-repr : (c : Shown) (args : List PyObjectRef) (kw : Bindings) → K
 container-repr c args kw =
     one-taken kinds.Value (shown_kind c) args kw (λ w o. read_objects (parts_at w o) (text_row w c []))
     (λ o. read_objects_once kinds.Value (λ w. parts_at w o) (λ w. text_row w c []) (λ rs. each-value kinds.Value repr_task (λ r. tt) rs (λ w ws. as_said (text_ends w c ([] ++ ws)))
-    (λ ws. said-row kinds.Value (λ w. text_ends w c ([] ++ ws)) (λ w g. text-given w (in_length (container_text c (texts_at w ([] ++ ws)))) g))))
+    (λ ws. said-row kinds.Value (λ w. text_ends w c ([] ++ ws)) (λ w. text-given w (in_length (container_text c (texts_at w ([] ++ ws))))))))
 
 pub wrapper-repr : (b : Wrapper) (args : List PyObjectRef) (kw : Bindings) → Kinded kinds.Value (λ w. wrapper_repr w b args kw)
 wrapper-repr b args kw =
     started kinds.Value kinds.Value (λ w. wrapper_by w b args kw) (λ w r. on_value w r (λ v. as_said (wrapper_ends w b v)))
-    (λ w g. takes-own (wrapped_in b) w args _ g (λ o m. takes-one w args kw _ g (λ p. asks g tt)))
+    (λ w. takes-own (wrapped_in b) w args _ (λ o m. takes-one w args kw _ (λ p. asks tt)))
     (λ r f. on-value kinds.Value (λ w v. as_said (wrapper_ends w b v)) r f
-    (λ v. said-row kinds.Value (λ w. wrapper_ends w b v) (λ w g. text-given w (in_length (wrapper_text b (text_at w v))) g)))
+    (λ v. said-row kinds.Value (λ w. wrapper_ends w b v) (λ w. text-given w (in_length (wrapper_text b (text_at w v))))))
 
 -- comparisons
 
@@ -177,14 +176,14 @@ compared-row n xs ys = turns-row (turns_of n (length xs) (length ys)) (zip xs ys
 -- what is said ends, or is the comparison of two that were read
 data Compares (n : CompareNative) : Said → Type 0 where
   over : {s : Said} → Says never kinds.Value s → Compares n s
-  both : (w : PlainWorld) (xs ys : List PyObjectRef) → ReadsObjects w → Compares n (both_read w n xs ys)
+  both : (w : PlainWorld) (xs ys : List PyObjectRef) → Compares n (both_read w n xs ys)
 
-with-items : (n : CompareNative) (said : PlainWorld → Said) → ((w : PlainWorld) → ReadsObjects w → Compares n (said w)) → Kinded kinds.Value (λ w. with_items (said w) (items_compared w n))
-with-items n said h = stepped kinds.Value (λ w. with_items (said w) (items_compared w n)) (λ w g. at (said w) (h w g))
+with-items : (n : CompareNative) (said : PlainWorld → Said) → ((w : PlainWorld) → Compares n (said w)) → Kinded kinds.Value (λ w. with_items (said w) (items_compared w n))
+with-items n said h = stepped kinds.Value (λ w. with_items (said w) (items_compared w n)) (λ w. at (said w) (h w))
   where
     ended-so : (s : Said) → Says never kinds.Value s → GoesOn (Kinded kinds.Value) kinds.Value (λ w. with_items (said w) (items_compared w n)) s
-    ended-so (Ends u r) (ends g f) = (g, f)
-    ended-so (Asks u learnt task) (asks g f) = absurd f
+    ended-so (Ends u r) (ends f) = f
+    ended-so (Asks u learnt task) (asks f) = absurd f
 
     noted : (xs ys : List PyObjectRef) (s : Said) → GoesOn (Kinded kinds.Value) kinds.Value (λ w. items_compared w n xs ys) s → GoesOn (Kinded kinds.Value) kinds.Value (λ w. with_items (said w) (items_compared w n)) (noting (ReadObjects xs) (noting (ReadObjects ys) s))
     noted xs ys (Ends u r) q = q
@@ -192,66 +191,66 @@ with-items n said h = stepped kinds.Value (λ w. with_items (said w) (items_comp
 
     at : (s : Said) → Compares n s → GoesOn (Kinded kinds.Value) kinds.Value (λ w. with_items (said w) (items_compared w n)) s
     at s (over p) = ended-so s p
-    at s (both w xs ys g) = noted xs ys (items_compared w n xs ys []) (goes-on kinds.Value (λ w. items_compared w n xs ys) (compared-row n xs ys) w g)
+    at s (both w xs ys) = noted xs ys (items_compared w n xs ys []) (goes-on kinds.Value (λ w. items_compared w n xs ys) (compared-row n xs ys) w)
 
 compares-either : {n : CompareNative} {x y : Said} (b : Bool) → Compares n x → Compares n y → Compares n (cond b x y)
 compares-either true p q = p
 compares-either false p q = q
 
-both-taken : {n : CompareNative} (c : Container) (w : PlainWorld) (args : List PyObjectRef) (kw : Bindings) (go : PyObjectRef → PyObjectRef → Said) → ReadsObjects w → ((o a : PyObjectRef) → Compares n (go o a)) → Compares n (with_own_and c w args kw go)
-both-taken c w [] kw go g p = over (ends g tt)
-both-taken c w (o ∷ []) kw go g p = compares-either (is_container c (datum_at w o)) (over (ends g tt)) (over (ends g tt))
-both-taken c w (o ∷ (a ∷ [])) [] go g p = compares-either (is_container c (datum_at w o)) (p o a) (over (ends g tt))
-both-taken c w (o ∷ (a ∷ [])) (x ∷ kw) go g p = compares-either (is_container c (datum_at w o)) (over (ends g tt)) (over (ends g tt))
-both-taken c w (o ∷ (a ∷ (b ∷ args))) kw go g p = compares-either (is_container c (datum_at w o)) (over (ends g tt)) (over (ends g tt))
+both-taken : {n : CompareNative} (c : Container) (w : PlainWorld) (args : List PyObjectRef) (kw : Bindings) (go : PyObjectRef → PyObjectRef → Said) → ((o a : PyObjectRef) → Compares n (go o a)) → Compares n (with_own_and c w args kw go)
+both-taken c w [] kw go p = over (ends tt)
+both-taken c w (o ∷ []) kw go p = compares-either (is_container c (datum_at w o)) (over (ends tt)) (over (ends tt))
+both-taken c w (o ∷ (a ∷ [])) [] go p = compares-either (is_container c (datum_at w o)) (p o a) (over (ends tt))
+both-taken c w (o ∷ (a ∷ [])) (x ∷ kw) go p = compares-either (is_container c (datum_at w o)) (over (ends tt)) (over (ends tt))
+both-taken c w (o ∷ (a ∷ (b ∷ args))) kw go p = compares-either (is_container c (datum_at w o)) (over (ends tt)) (over (ends tt))
 
-same-taken : {n : CompareNative} (c : Container) (w : PlainWorld) (args : List PyObjectRef) (kw : Bindings) (go : PyObjectRef → PyObjectRef → Said) → ReadsObjects w → ((o a : PyObjectRef) → Compares n (go o a)) → Compares n (with_both c w args kw go)
-same-taken c w args kw go g p = both-taken c w args kw (λ o a. with_same c w a (go o a)) g (λ o a. compares-either (is_container c (datum_at w a)) (p o a) (over (ends g tt)))
+same-taken : {n : CompareNative} (c : Container) (w : PlainWorld) (args : List PyObjectRef) (kw : Bindings) (go : PyObjectRef → PyObjectRef → Said) → ((o a : PyObjectRef) → Compares n (go o a)) → Compares n (with_both c w args kw go)
+same-taken c w args kw go p = both-taken c w args kw (λ o a. with_same c w a (go o a)) (λ o a. compares-either (is_container c (datum_at w a)) (p o a) (over (ends tt)))
 
 pub sequences-row : (c : Container) (n : CompareNative) (args : List PyObjectRef) (kw : Bindings) → Kinded kinds.Value (λ w. sequences_say c w n args kw)
-sequences-row c n args kw = with-items n (λ w. sequences_by c w n args kw) (λ w g. same-taken c w args kw (λ o a. both_read w n (items_at w o) (items_at w a)) g (λ o a. both w (items_at w o) (items_at w a) g))
+sequences-row c n args kw = with-items n (λ w. sequences_by c w n args kw) (λ w. same-taken c w args kw (λ o a. both_read w n (items_at w o) (items_at w a)) (λ o a. both w (items_at w o) (items_at w a)))
 
-values-compared : (n : CompareNative) (w : PlainWorld) (differ : Bool) (xs : List PyObjectRef) (ys : Option (List PyObjectRef)) → ReadsObjects w → Compares n (values_compared w n differ xs ys)
-values-compared n w differ xs (Some ys) g = both w xs ys g
-values-compared n w differ xs None g = over (ends g tt)
+values-compared : (n : CompareNative) (w : PlainWorld) (differ : Bool) (xs : List PyObjectRef) (ys : Option (List PyObjectRef)) → Compares n (values_compared w n differ xs ys)
+values-compared n w differ xs (Some ys) = both w xs ys
+values-compared n w differ xs None = over (ends tt)
 
-dicts-equal : (n : CompareNative) (w : PlainWorld) (differ : Bool) (d e : PyObjectRef) → ReadsObjects w → Compares n (dicts_equal w n differ d e)
-dicts-equal n w differ d e g = compares-either _ (values-compared n w differ _ _ g) (over (ends g tt))
+dicts-equal : (n : CompareNative) (w : PlainWorld) (differ : Bool) (d e : PyObjectRef) → Compares n (dicts_equal w n differ d e)
+dicts-equal n w differ d e = compares-either _ (values-compared n w differ _ _) (over (ends tt))
 
-dict-compared : (n : CompareNative) (w : PlainWorld) (d e : PyObjectRef) → ReadsObjects w → Compares n (dict_compared w n d e)
-dict-compared compare.Eq w d e g = dicts-equal compare.Eq w false d e g
-dict-compared compare.Ne w d e g = dicts-equal compare.Ne w true d e g
-dict-compared compare.All w d e g = over (ends g tt)
-dict-compared n w d e g = over (ends g tt)
+dict-compared : (n : CompareNative) (w : PlainWorld) (d e : PyObjectRef) → Compares n (dict_compared w n d e)
+dict-compared compare.Eq w d e = dicts-equal compare.Eq w false d e
+dict-compared compare.Ne w d e = dicts-equal compare.Ne w true d e
+dict-compared compare.All w d e = over (ends tt)
+dict-compared n w d e = over (ends tt)
 
 pub dicts-row : (n : CompareNative) (args : List PyObjectRef) (kw : Bindings) → Kinded kinds.Value (λ w. dicts_say w n args kw)
-dicts-row n args kw = with-items n (λ w. dicts_by w n args kw) (λ w g. same-taken kind.Dict w args kw (dict_compared w n) g (λ d e. dict-compared n w d e g))
+dicts-row n args kw = with-items n (λ w. dicts_by w n args kw) (λ w. same-taken kind.Dict w args kw (dict_compared w n) (λ d e. dict-compared n w d e))
 
 -- repeats
 
-repeat-of : (w : PlainWorld) (d : Option Datum) (args : List PyObjectRef) (kw : Bindings) → ReadsObjects w → Says (having kinds.Value) kinds.Value (repeat_of w d args kw)
-repeat-of w None args kw g = ends g tt
-repeat-of w (Some d) args kw g = takes-two w args kw _ g (λ o k. asks g tt)
+repeat-of : (w : PlainWorld) (d : Option Datum) (args : List PyObjectRef) (kw : Bindings) → Says (having kinds.Value) kinds.Value (repeat_of w d args kw)
+repeat-of w None args kw = ends tt
+repeat-of w (Some d) args kw = takes-two w args kw _ (λ o k. asks tt)
 
-repeat-by-name : (w : PlainWorld) (n : NativeEntry) (args : List PyObjectRef) (kw : Bindings) → ReadsObjects w → Says (having kinds.Value) kinds.Value (repeat_by_name w n args kw)
-repeat-by-name w n [] kw g = ends g tt
-repeat-by-name w n (o ∷ args) kw g = repeat-of w (sequence_for n (datum_at w o)) (o ∷ args) kw g
+repeat-by-name : (w : PlainWorld) (n : NativeEntry) (args : List PyObjectRef) (kw : Bindings) → Says (having kinds.Value) kinds.Value (repeat_by_name w n args kw)
+repeat-by-name w n [] kw = ends tt
+repeat-by-name w n (o ∷ args) kw = repeat-of w (sequence_for n (datum_at w o)) (o ∷ args) kw
 
-list-stood : (w : PlainWorld) (n : NativeEntry) (o : PyObjectRef) (rs : List PyObjectRef) (z : ℤ) (d : Option Datum) → ReadsObjects w → Says never kinds.Value (list_stood w n o rs z d)
-list-stood w n o rs z (Some (AList now)) g = times-said w z rs (list_repeated w n o) g (λ ys. list-said w n o ys g)
-list-stood w n o rs z d g = ends g tt
+list-stood : (w : PlainWorld) (n : NativeEntry) (o : PyObjectRef) (rs : List PyObjectRef) (z : ℤ) (d : Option Datum) → Says never kinds.Value (list_stood w n o rs z d)
+list-stood w n o rs z (Some (AList now)) = times-said w z rs (list_repeated w n o) (λ ys. list-said w n o ys)
+list-stood w n o rs z d = ends tt
 
-repeat-stood : (w : PlainWorld) (n : NativeEntry) (o : PyObjectRef) (rs : List PyObjectRef) (z : ℤ) → ReadsObjects w → Says never kinds.Value (repeat_stood w n o rs z)
-repeat-stood w (OfList n) o rs z g = list-stood w (OfList n) o rs z (datum_at w o) g
-repeat-stood w n o rs z g = native-repeated w n o z g
+repeat-stood : (w : PlainWorld) (n : NativeEntry) (o : PyObjectRef) (rs : List PyObjectRef) (z : ℤ) → Says never kinds.Value (repeat_stood w n o rs z)
+repeat-stood w (OfList n) o rs z = list-stood w (OfList n) o rs z (datum_at w o)
+repeat-stood w n o rs z = native-repeated w n o z
 
 repeat-rest : (n : NativeEntry) (rs : List PyObjectRef) (r : Ended) → Fits kinds.Value r → Kinded kinds.Value (λ w. repeat_rest w n rs r)
 repeat-rest n [] r f = ended kinds.Value r f
-repeat-rest n (o ∷ rs) r f = finished kinds.Value (λ w. on_count w r (λ z. as_said (repeat_stood w n o rs z))) (λ w g. count-said w r (λ z. as_said (repeat_stood w n o rs z)) f g (λ z. repeat-stood w n o rs z g))
+repeat-rest n (o ∷ rs) r f = finished kinds.Value (λ w. on_count w r (λ z. as_said (repeat_stood w n o rs z))) (λ w. count-said w r (λ z. as_said (repeat_stood w n o rs z)) f (λ z. repeat-stood w n o rs z))
 
 pub repeat-row : (k : Option Repeated) (args : List PyObjectRef) (kw : Bindings) → Kinded kinds.Value (λ w. repeat_by_kind w k args kw)
 repeat-row None args kw = ended kinds.Value elsewhere tt
-repeat-row (Some k) args kw = read-row kinds.Value kinds.Value (λ w. repeat_by_name w (entry_of k) args kw) (λ w. repeat_rest w (entry_of k)) (λ w g. repeat-by-name w (entry_of k) args kw g) (λ rs r f. repeat-rest (entry_of k) rs r f)
+repeat-row (Some k) args kw = read-row kinds.Value kinds.Value (λ w. repeat_by_name w (entry_of k) args kw) (λ w. repeat_rest w (entry_of k)) (λ w. repeat-by-name w (entry_of k) args kw) (λ rs r f. repeat-rest (entry_of k) rs r f)
 
 -- details
 
@@ -271,37 +270,37 @@ abstract-row getters setters =
     (λ ss. abstract-of ss (λ w s. joined w s x)
     (λ s. asking kinds.Value kinds.Value (ToOperator (DoBinary Or s x)) (λ w. or_not_abstract w) tt (λ r f. not-abstract r f)))))
 
-abstract-tested : (w : PlainWorld) (args : List PyObjectRef) (kw : Bindings) → ReadsObjects w → (with_own property_in w args (λ o p. with_one w args kw (λ a. abstract_by w (listed p.fget) (listed p.fset) [])) ≡ is_abstract w (argument args 0) []) ⊎ Says never kinds.Value (with_own property_in w args (λ o p. with_one w args kw (λ a. abstract_by w (listed p.fget) (listed p.fset) [])))
-abstract-tested w [] kw g = inr (ends g tt)
-abstract-tested w (o ∷ []) [] g = alone (datum_at w o)
+abstract-tested : (w : PlainWorld) (args : List PyObjectRef) (kw : Bindings) → (with_own property_in w args (λ o p. with_one w args kw (λ a. abstract_by w (listed p.fget) (listed p.fset) [])) ≡ is_abstract w (argument args 0) []) ⊎ Says never kinds.Value (with_own property_in w args (λ o p. with_one w args kw (λ a. abstract_by w (listed p.fget) (listed p.fset) [])))
+abstract-tested w [] kw = inr (ends tt)
+abstract-tested w (o ∷ []) [] = alone (datum_at w o)
   where
     alone : (d : Option Datum) → (there_or w SelfType (property_in d) (λ p. abstract_by w (listed p.fget) (listed p.fset) []) ≡ abstract_by w (getter_at d) (setter_at d) []) ⊎ Says never kinds.Value (there_or w SelfType (property_in d) (λ p. abstract_by w (listed p.fget) (listed p.fset) []))
     alone (Some (AProperty p)) = inl refl
-    alone d = inr (ends g tt)
-abstract-tested w (o ∷ []) (x ∷ kw) g = inr (there-or w SelfType (property_in (datum_at w o)) _ g (λ p. ends g tt))
-abstract-tested w (o ∷ (a ∷ args)) kw g = inr (there-or w SelfType (property_in (datum_at w o)) _ g (λ p. ends g tt))
+    alone d = inr (ends tt)
+abstract-tested w (o ∷ []) (x ∷ kw) = inr (there-or w SelfType (property_in (datum_at w o)) _ (λ p. ends tt))
+abstract-tested w (o ∷ (a ∷ args)) kw = inr (there-or w SelfType (property_in (datum_at w o)) _ (λ p. ends tt))
 
 pub property-abstract : (args : List PyObjectRef) (kw : Bindings) → Kinded kinds.Value (λ w. property_abstract w args kw)
 property-abstract args kw =
     tested-row kinds.Value (λ w. with_own property_in w args (λ o p. with_one w args kw (λ a. abstract_by w (listed p.fget) (listed p.fset) []))) (λ w. is_abstract w (argument args 0))
-    (abstract-row (λ w. getter_at (datum_at w (argument args 0))) (λ w. setter_at (datum_at w (argument args 0)))) (λ w g. abstract-tested w args kw g)
+    (abstract-row (λ w. getter_at (datum_at w (argument args 0))) (λ w. setter_at (datum_at w (argument args 0)))) (λ w. abstract-tested w args kw)
 
-name-known : (w : PlainWorld) (m : PyObjectRef) (c : ℕ) (x : Option Text) → ReadsObjects w → Says (having kinds.Value) kinds.Value (name_known w m c x)
-name-known w m c (Some x) g = text-given w (in_length x) g
-name-known w m c None g = asks g tt
+name-known : (w : PlainWorld) (m : PyObjectRef) (c : ℕ) (x : Option Text) → Says (having kinds.Value) kinds.Value (name_known w m c x)
+name-known w m c (Some x) = text-given w (in_length x)
+name-known w m c None = asks tt
 
-named-so : (w : PlainWorld) (m : PyObjectRef) (d : Datum) (y : Result Text Fault) → ReadsObjects w → ((y : Text) → IsFine (named_datum y d)) → Says (at_once kinds.Value) kinds.Value (named_so w m d y)
-named-so w m d (Err x) g h = ends g tt
-named-so w m d (Ok y) g h = text-given (with_datum w m (named_datum y d)) (Ok y) (datum-set w m (named_datum y d) g (h y))
+named-so : (w : PlainWorld) (m : PyObjectRef) (d : Datum) (y : Result Text Fault) → ((y : Text) → IsFine (named_datum y d)) → Says (at_once kinds.Value) kinds.Value (named_so w m d y)
+named-so w m d (Err x) h = ends tt
+named-so w m d (Ok y) h = text-given (with_datum w m (named_datum y d)) (Ok y)
 
-named-by : (w : PlainWorld) (m : PyObjectRef) (d : Option Datum) (q : PyObjectRef) → ReadsObjects w → So (reads_object d) → Says (at_once kinds.Value) kinds.Value (named_by w m d q)
-named-by w m (Some (AMember c x k (getter.Getter n) set qualname doc)) q g h = named-so w m (AMember c x k (getter.Getter n) set qualname doc) (dotted x (datum_at w q)) g (λ y. h)
-named-by w m (Some (AMember c x k (getter.Offset i) set qualname doc)) q g h = named-so w m (AMember c x k (getter.Offset i) set qualname doc) (dotted x (datum_at w q)) g (λ y. tt)
-named-by w m d q g h = ends g tt
+named-by : (w : PlainWorld) (m : PyObjectRef) (d : Option Datum) (q : PyObjectRef) → Says (at_once kinds.Value) kinds.Value (named_by w m d q)
+named-by w m (Some (AMember c x k (getter.Getter n) set qualname doc)) q h = named-so w m (AMember c x k (getter.Getter n) set qualname doc) (dotted x (datum_at w q)) (λ y. h)
+named-by w m (Some (AMember c x k (getter.Offset i) set qualname doc)) q h = named-so w m (AMember c x k (getter.Offset i) set qualname doc) (dotted x (datum_at w q)) (λ y. tt)
+named-by w m d q h = ends tt
 
 name-given : (m : PyObjectRef) (r : Ended) → Fits kinds.Value r → Kinded kinds.Value (λ w. name_given w m r)
 name-given m (Err x) f = ended kinds.Value (cond (is_attribute_error x.kind) (value none) (Err x)) (either-fits kinds.Value (is_attribute_error x.kind) (value none) (Err x) tt tt)
-name-given m (Ok (AsValue q)) f = passed kinds.Value (λ w. named_by w m (datum_at w m) q) (λ w g. named-by w m (datum_at w m) q g (reads-at w m g))
+name-given m (Ok (AsValue q)) f = passed kinds.Value (λ w. named_by w m (datum_at w m) q) (λ w. named-by w m (datum_at w m) q)
 name-given m (Ok a) f = absurd f
 
 name-rest : (rs : List PyObjectRef) (r : Ended) → Fits kinds.Value r → Kinded kinds.Value (λ w. name_rest w rs r)
@@ -311,4 +310,4 @@ name-rest rs r f = ended kinds.Value r f
 pub member-qualname : (args : List PyObjectRef) (kw : Bindings) → Kinded kinds.Value (λ w. member_qualname w args kw)
 member-qualname args kw =
     read-row kinds.Value kinds.Value (λ w. member_name w args kw) (λ w. name_rest w)
-    (λ w g. takes-own kept_name w args _ g (λ m c. takes-one w args kw _ g (λ a. name-known w m c.0 c.1 g))) (λ rs r f. name-rest rs r f)
+    (λ w. takes-own kept_name w args _ (λ m c. takes-one w args kw _ (λ a. name-known w m c.0 c.1))) (λ rs r f. name-rest rs r f)

@@ -4,8 +4,7 @@ use Rattle.py_node.specs.declared.refs.PyObjectRef.{PyObjectRef}
 use Rattle.plain_machine.specs.Plain.{PlainWorld, PlainTask, ProtocolJob, DoIsTrue, DoIndex, DoWhole, DoLength, DoHint, DoGetItem, DoSetItem, DoDelItem, DoGetSlice, DoSetSlice, DoDelSlice, DoGetIter, DoNext, DoCollect, DoContains, DoCount, DoFind, DoKeys, DoValues, DoItems, ToEval, ToAttribute, ToDescriptor, ToCall, ToClass, ToOperator, ToCompare, ToProtocol, ToObject, ToNative, Told, Saying}
 use Rattle.answer_kinds.specs.Kinds.{Kind, Value, kind_of, kind_of_attribute, kind_of_descriptor, kind_of_call, kind_of_operator, kind_of_compare, kind_of_protocol, kind_of_object, kind_of_native, is_of}
 use Rattle.answer_kinds.specs.Rows.{protocol_row, GoesByRows, AnswersAreOfTheirKinds}
-use Rattle.answer_kinds.proofs.Base.{Family, Kinded}
-use Rattle.answer_kinds.proofs.Worlds.{true-so}
+use Rattle.answer_kinds.proofs.Base.{Family, Kinded, true-so}
 use Rattle.answer_kinds.proofs.Law.{of-its-kind}
 use Rattle.answer_kinds.proofs.Expressions.{expressions}
 use Rattle.answer_kinds.proofs.Attributes.{attributes}
@@ -63,6 +62,4 @@ rows say e (ToObject job) = same-row (kind_of_object job) _ _ (λ w told. e.obje
 rows say e (ToNative n args kw) = same-row (kind_of_native n) _ _ (λ w told. e.natives w n args kw told) (natives (record { entry = n; args = args; kw = kw }))
 
 pub answered : AnswersAreOfTheirKinds
-answered say w u task a units depth left goes g e =
-    let h = of-its-kind say (rows say goes) w u task a units depth left g e in
-    (true-so (is_of (kind_of task) a) h.1, h.0)
+answered say w u task a units depth left goes e = true-so (is_of (kind_of task) a) (of-its-kind say (rows say goes) w u task a units depth left e)

@@ -6,12 +6,12 @@ use Rattle.py_node.specs.OwnAttrs.{own_attrs}
 use Rattle.py_node.specs.Slots.{names_of, slot_names, filling_of, slot_fillings}
 use Rattle.py_node.specs.Slots.{place_of as slot_place}
 use Rattle.class_model.specs.BuiltIn.{entry_among}
-use Rattle.answer_kinds.specs.Kinds.{Kind, Value, TruthValue, Number}
+use Rattle.answer_kinds.specs.Kinds.{Kind, Value, TruthValue, Length, kind_of_native}
 use Rattle.answer_kinds.proofs.Base.{So}
 use Rattle.answer_kinds.proofs.Columns.{gives_in, Column}
 
 new-row : (b : BuiltIn) → So (gives_in Value (entry_among b New (own_attrs b)))
-unfolding own_attrs names_of slot_names filling_of slot_fillings slot_place
+unfolding kind_of_native own_attrs names_of slot_names filling_of slot_fillings slot_place
 new-row built_in.Object = tt
 new-row b = tt
 
@@ -19,7 +19,7 @@ pub new-column : Column Value New
 new-column = record { gives = new-row }
 
 init-row : (b : BuiltIn) → So (gives_in Value (entry_among b Init (own_attrs b)))
-unfolding own_attrs names_of slot_names filling_of slot_fillings slot_place
+unfolding kind_of_native own_attrs names_of slot_names filling_of slot_fillings slot_place
 init-row built_in.Object = tt
 init-row b = tt
 
@@ -27,7 +27,7 @@ pub init-column : Column Value Init
 init-column = record { gives = init-row }
 
 int-row : (b : BuiltIn) → So (gives_in Value (entry_among b Int (own_attrs b)))
-unfolding own_attrs names_of slot_names filling_of slot_fillings slot_place
+unfolding kind_of_native own_attrs names_of slot_names filling_of slot_fillings slot_place
 int-row built_in.Object = tt
 int-row b = tt
 
@@ -35,7 +35,7 @@ pub int-column : Column Value Int
 int-column = record { gives = int-row }
 
 iter-row : (b : BuiltIn) → So (gives_in Value (entry_among b Iter (own_attrs b)))
-unfolding own_attrs names_of slot_names filling_of slot_fillings slot_place
+unfolding kind_of_native own_attrs names_of slot_names filling_of slot_fillings slot_place
 iter-row built_in.Object = tt
 iter-row b = tt
 
@@ -43,7 +43,7 @@ pub iter-column : Column Value Iter
 iter-column = record { gives = iter-row }
 
 next-row : (b : BuiltIn) → So (gives_in Value (entry_among b Iternext (own_attrs b)))
-unfolding own_attrs names_of slot_names filling_of slot_fillings slot_place
+unfolding kind_of_native own_attrs names_of slot_names filling_of slot_fillings slot_place
 next-row built_in.Object = tt
 next-row b = tt
 
@@ -51,7 +51,7 @@ pub next-column : Column Value Iternext
 next-column = record { gives = next-row }
 
 contains-row : (b : BuiltIn) → So (gives_in TruthValue (entry_among b SeqContains (own_attrs b)))
-unfolding own_attrs names_of slot_names filling_of slot_fillings slot_place
+unfolding kind_of_native own_attrs names_of slot_names filling_of slot_fillings slot_place
 contains-row built_in.Object = tt
 contains-row b = tt
 
@@ -59,31 +59,31 @@ pub contains-column : Column TruthValue SeqContains
 contains-column = record { gives = contains-row }
 
 item-row : (b : BuiltIn) → So (gives_in Value (entry_among b SeqItem (own_attrs b)))
-unfolding own_attrs names_of slot_names filling_of slot_fillings slot_place
+unfolding kind_of_native own_attrs names_of slot_names filling_of slot_fillings slot_place
 item-row built_in.Object = tt
 item-row b = tt
 
 pub item-column : Column Value SeqItem
 item-column = record { gives = item-row }
 
-length-row : (b : BuiltIn) → So (gives_in Number (entry_among b SeqLength (own_attrs b)))
-unfolding own_attrs names_of slot_names filling_of slot_fillings slot_place
+length-row : (b : BuiltIn) → So (gives_in Length (entry_among b SeqLength (own_attrs b)))
+unfolding kind_of_native own_attrs names_of slot_names filling_of slot_fillings slot_place
 length-row built_in.Object = tt
 length-row b = tt
 
-pub length-column : Column Number SeqLength
+pub length-column : Column Length SeqLength
 length-column = record { gives = length-row }
 
-map-length-row : (b : BuiltIn) → So (gives_in Number (entry_among b MapLength (own_attrs b)))
-unfolding own_attrs names_of slot_names filling_of slot_fillings slot_place
+map-length-row : (b : BuiltIn) → So (gives_in Length (entry_among b MapLength (own_attrs b)))
+unfolding kind_of_native own_attrs names_of slot_names filling_of slot_fillings slot_place
 map-length-row built_in.Object = tt
 map-length-row b = tt
 
-pub map-length-column : Column Number MapLength
+pub map-length-column : Column Length MapLength
 map-length-column = record { gives = map-length-row }
 
 subscript-row : (b : BuiltIn) → So (gives_in Value (entry_among b MapSubscript (own_attrs b)))
-unfolding own_attrs names_of slot_names filling_of slot_fillings slot_place
+unfolding kind_of_native own_attrs names_of slot_names filling_of slot_fillings slot_place
 subscript-row built_in.Object = tt
 subscript-row b = tt
 
@@ -91,7 +91,7 @@ pub subscript-column : Column Value MapSubscript
 subscript-column = record { gives = subscript-row }
 
 repr-row : (b : BuiltIn) → So (gives_in Value (entry_among b Repr (own_attrs b)))
-unfolding own_attrs names_of slot_names filling_of slot_fillings slot_place
+unfolding kind_of_native own_attrs names_of slot_names filling_of slot_fillings slot_place
 repr-row built_in.Object = tt
 repr-row b = tt
 
@@ -99,7 +99,7 @@ pub repr-column : Column Value Repr
 repr-column = record { gives = repr-row }
 
 concat-row : (b : BuiltIn) → So (gives_in Value (entry_among b Concat (own_attrs b)))
-unfolding own_attrs names_of slot_names filling_of slot_fillings slot_place
+unfolding kind_of_native own_attrs names_of slot_names filling_of slot_fillings slot_place
 concat-row built_in.Object = tt
 concat-row b = tt
 
@@ -107,7 +107,7 @@ pub concat-column : Column Value Concat
 concat-column = record { gives = concat-row }
 
 inplace-concat-row : (b : BuiltIn) → So (gives_in Value (entry_among b InplaceConcat (own_attrs b)))
-unfolding own_attrs names_of slot_names filling_of slot_fillings slot_place
+unfolding kind_of_native own_attrs names_of slot_names filling_of slot_fillings slot_place
 inplace-concat-row built_in.Object = tt
 inplace-concat-row b = tt
 
@@ -115,7 +115,7 @@ pub inplace-concat-column : Column Value InplaceConcat
 inplace-concat-column = record { gives = inplace-concat-row }
 
 compare-row : (b : BuiltIn) → So (gives_in Value (entry_among b Richcompare (own_attrs b)))
-unfolding own_attrs names_of slot_names filling_of slot_fillings slot_place
+unfolding kind_of_native own_attrs names_of slot_names filling_of slot_fillings slot_place
 compare-row built_in.Object = tt
 compare-row b = tt
 

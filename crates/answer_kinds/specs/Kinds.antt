@@ -72,7 +72,7 @@ is_of Start (AsStart c) = true
 is_of _ _ = false
 
 -- a native answers with an object, but for hashes and lengths, which are numbers
-pub kind_of_native : NativeEntry → Kind
+unfoldable pub kind_of_native : NativeEntry → Kind
 kind_of_native (OfObject object.Hash) = Number
 kind_of_native (OfNumber number.Hash) = Number
 kind_of_native (OfStr str.Hash) = Number
