@@ -1,5 +1,5 @@
 -- Rows whose answers are of a kind.
-use Rattle.std.proofs.Common.{◌≡◌, ℕ, zero, suc, ℤ, pos, Bool, true, false, cond, List, [], ◌∷◌, ◌++◌, Option, Some, Ok, Err, refl, sym, subst}
+use Rattle.std.proofs.Common.{◌≡◌, ℕ, zero, suc, ℤ, Bool, true, false, cond, List, [], ◌∷◌, ◌++◌, Option, Some, Ok, Err, refl, sym, subst}
 use Rattle.py_node.specs.declared.refs.PyObjectRef.{PyObjectRef}
 use Rattle.py_node.specs.declared.entry.NativeEntry.{NativeEntry}
 use Rattle.py_node.specs.declared.entry.DictNative.TheVariants as dict
@@ -15,7 +15,7 @@ use Rattle.plain_machine.specs.Known.{the_int}
 use Rattle.plain_machine.specs.Native.{native_task}
 use Rattle.plain_machine.specs.Row.{Row, start, fork, ask, end, make, value, on_value, on_truth, on_number, on_maybe, on_done, or_else, is_not_implemented, noting, once, once_told, choose, read_once, read_objects, read_names, entries_in, objects_in, names_in, way_in}
 use Rattle.plain_machine.specs.Takes.{named_end}
-use Rattle.answer_kinds.specs.Kinds.{Kind, Value, TruthValue, Done, DoneOrValue, Number, Length, LengthOrNone, Truth, Maybe, TruthOrNone, Objects, Item, Method, Start, is_of, kind_of_native, kind_of}
+use Rattle.answer_kinds.specs.Kinds.{Kind, Value, TruthValue, Done, DoneOrValue, Number, NumberOrNone, Truth, Maybe, TruthOrNone, Objects, Item, Method, Start, is_of, kind_of_native, kind_of}
 
 -- a test that holds
 abbrev pub So : Bool → Type 0
@@ -40,10 +40,8 @@ within Done Done = true
 within Done DoneOrValue = true
 within DoneOrValue DoneOrValue = true
 within Number Number = true
-within Length Length = true
-within Length Number = true
-within Length LengthOrNone = true
-within LengthOrNone LengthOrNone = true
+within Number NumberOrNone = true
+within NumberOrNone NumberOrNone = true
 within Truth Truth = true
 within Maybe Maybe = true
 within TruthOrNone TruthOrNone = true
@@ -72,12 +70,9 @@ widened Done DoneOrValue AsDone s h = tt
 widened Done DoneOrValue a s h = absurd h
 widened DoneOrValue DoneOrValue a s h = h
 widened Number Number a s h = h
-widened Length Length a s h = h
-widened Length Number (AsNumber (pos n)) s h = tt
-widened Length Number a s h = absurd h
-widened Length LengthOrNone (AsNumber (pos n)) s h = tt
-widened Length LengthOrNone a s h = absurd h
-widened LengthOrNone LengthOrNone a s h = h
+widened Number NumberOrNone (AsNumber z) s h = tt
+widened Number NumberOrNone a s h = absurd h
+widened NumberOrNone NumberOrNone a s h = h
 widened Truth Truth a s h = h
 widened Maybe Maybe a s h = h
 widened TruthOrNone TruthOrNone a s h = h
@@ -294,7 +289,6 @@ abbrev pub is_given : Kind → Bool
 is_given Value = true
 is_given TruthValue = true
 is_given Number = true
-is_given Length = true
 is_given _ = false
 
 abbrev pub IsGiven : Ended → Type 0
@@ -310,8 +304,6 @@ given-answer TruthValue (AsValue r) s h = tt
 given-answer TruthValue a s h = absurd h
 given-answer Number (AsNumber z) s h = tt
 given-answer Number a s h = absurd h
-given-answer Length (AsNumber z) s h = tt
-given-answer Length a s h = absurd h
 given-answer i a s h = absurd s
 
 pub given : (i : Kind) (r : Ended) → So (is_given i) → Fits i r → IsGiven r

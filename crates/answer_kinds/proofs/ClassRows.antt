@@ -66,11 +66,6 @@ tell-row class kw =
     read_names_once kinds.Value (λ w. own_values w class.0) (λ w values. bind_hooks w values (λ bs. call_hooks w class bs (init_subclass w class kw)))
     (λ values. bound-hooks values (λ w bs. call_hooks w class bs (init_subclass w class kw)) (λ bs. called-hooks class bs (λ w. init_subclass w class kw) (init-row class kw)))
 
--- the worlds on the way to a class
-
-abbrev IsKept : Space → Type 0
-IsKept s = ReadsObjects s.0
-
 -- the class is made
 
 module _ (c : ℕ) (args : List PyObjectRef) (kw : Bindings) where
@@ -84,31 +79,31 @@ module _ (c : ℕ) (args : List PyObjectRef) (kw : Bindings) where
   noted class (Ends u r) q = q
   noted class (Asks u learnt task) q = q
 
-  made-said : (cause : Option Cause) (meta : ℕ) (name : Text) (bases : List ℕ) (slots : Option (List Text)) (s : Space) → IsKept s → Makes (made_unless cause meta name bases slots kw s)
+  made-said : (cause : Option Cause) (meta : ℕ) (name : Text) (bases : List ℕ) (slots : Option (List Text)) (s : Space) → Makes (made_unless cause meta name bases slots kw s)
   unfolding made_unless
   made-said (Some cause) meta name bases slots s = tt
   made-said None meta name bases slots s =
       let class = ref (length s.0.nodes) in
-      noted class (tell (whole_class s.0 meta name bases s.1 slots) class kw []) (goes-on kinds.Value (λ w. tell w class kw) (tell-row class kw) (whole_class s.0 meta name bases s.1 slots) (whole-kept s.0 meta name bases s.1 slots))
+      noted class (tell (whole_class s.0 meta name bases s.1 slots) class kw []) (goes-on kinds.Value (λ w. tell w class kw) (tell-row class kw) (whole_class s.0 meta name bases s.1 slots))
 
-  slots-said : (meta : ℕ) (name : Text) (bases : List ℕ) (slots : Option (List Text)) (s : Space) → IsKept s → Makes (with_slots meta name bases slots kw s)
-  slots-said meta name bases slots s = made-said (refusal (dicted bases slots s).0 bases (dicted bases slots s).1) meta name bases slots (dicted bases slots s) (dicted-kept bases slots s)
+  slots-said : (meta : ℕ) (name : Text) (bases : List ℕ) (slots : Option (List Text)) (s : Space) → Makes (with_slots meta name bases slots kw s)
+  slots-said meta name bases slots s = made-said (refusal (dicted bases slots s).0 bases (dicted bases slots s).1) meta name bases slots (dicted bases slots s)
 
-  names-said : (names : Option (List Text)) (meta : ℕ) (name : Text) (bases : List ℕ) (s : Space) → IsKept s → Makes (with_names names meta name bases kw s)
+  names-said : (names : Option (List Text)) (meta : ℕ) (name : Text) (bases : List ℕ) (s : Space) → Makes (with_names names meta name bases kw s)
   names-said None meta name bases s = tt
   names-said (Some names) meta name bases s = slots-said meta name bases (Some names) s
 
-  by-slots : (o : Option PyObjectRef) (meta : ℕ) (name : Text) (bases : List ℕ) (s : Space) → IsKept s → Makes (by_slots o meta name bases kw s)
+  by-slots : (o : Option PyObjectRef) (meta : ℕ) (name : Text) (bases : List ℕ) (s : Space) → Makes (by_slots o meta name bases kw s)
   by-slots None meta name bases s = slots-said meta name bases None s
   by-slots (Some r) meta name bases s = names-said _ meta name bases s
 
-  all-made : (meta : ℕ) (name : Text) (bases : List ℕ) (s : Space) → IsKept s → Makes (made meta name bases kw s)
+  all-made : (meta : ℕ) (name : Text) (bases : List ℕ) (s : Space) → Makes (made meta name bases kw s)
   unfolding made
   all-made meta name bases s = by-slots (value_of (λ y. is_text y (known_text known.Slots)) s.1) meta name bases s
 
   namespace-said : (w : PlainWorld) (meta : ℕ) (name : Text) (bases : List ℕ) (attrs : Option Bindings) → Makes (with_namespace w meta name bases attrs kw)
   namespace-said w meta name bases None = tt
-  namespace-said w meta name bases (Some attrs) = all-made meta name bases (completed name (w, attrs)) (completed-kept name (w, attrs))
+  namespace-said w meta name bases (Some attrs) = all-made meta name bases (completed name (w, attrs))
 
   layout-said : (w : PlainWorld) (cause : Option Cause) (meta : ℕ) (name : Text) (bases : List ℕ) (es : Entries) → Makes (on_layout w cause meta name bases es kw)
   layout-said w (Some cause) meta name bases es = tt

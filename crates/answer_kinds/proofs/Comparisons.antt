@@ -78,15 +78,15 @@ same-row a b =
     one_of kinds.Truth (eqb a.0 b.0) (λ w. end w (Ok (AsTruth true))) (λ w. ask w (ToCompare (DoBoolEq a b)) (end w)) (ended kinds.Truth (Ok (AsTruth true)) tt)
     (asking kinds.Truth kinds.Truth (ToCompare (DoBoolEq a b)) (λ w. end w) tt (λ r f. ended kinds.Truth r f))
 
-seq-row : (o : PyComparisonOp) (a b : PyObjectRef) → Kinded kinds.Maybe (λ w. seq_say w o a b)
+seq-row : (o : PyComparisonOp) (a b : PyObjectRef) → Kinded kinds.TruthOrNone (λ w. seq_say w o a b)
 seq-row o a b =
-    asking kinds.Truth kinds.Maybe (ToCompare (DoRichBool a b o)) (λ w r. on_truth w r (λ holds. cond holds (decided w true) (ask w (ToCompare (DoBoolEq a b)) (λ s. on_truth w s (λ equal. cond equal (undecided w) (decided w false)))))) tt
-    (λ r f. on-truth kinds.Maybe (λ w holds. cond holds (decided w true) (ask w (ToCompare (DoBoolEq a b)) (λ s. on_truth w s (λ equal. cond equal (undecided w) (decided w false))))) r f
-    (λ holds. one_of kinds.Maybe holds (λ w. decided w true) (λ w. ask w (ToCompare (DoBoolEq a b)) (λ s. on_truth w s (λ equal. cond equal (undecided w) (decided w false))))
-    (ended kinds.Maybe (Ok (AsMaybe (Some (truth true)))) tt)
-    (asking kinds.Truth kinds.Maybe (ToCompare (DoBoolEq a b)) (λ w s. on_truth w s (λ equal. cond equal (undecided w) (decided w false))) tt
-    (λ s h. on-truth kinds.Maybe (λ w equal. cond equal (undecided w) (decided w false)) s h
-    (λ equal. one_of kinds.Maybe equal (λ w. undecided w) (λ w. decided w false) (ended kinds.Maybe (Ok (AsMaybe None)) tt) (ended kinds.Maybe (Ok (AsMaybe (Some (truth false)))) tt))))))
+    asking kinds.Truth kinds.TruthOrNone (ToCompare (DoRichBool a b o)) (λ w r. on_truth w r (λ holds. cond holds (decided w true) (ask w (ToCompare (DoBoolEq a b)) (λ s. on_truth w s (λ equal. cond equal (undecided w) (decided w false)))))) tt
+    (λ r f. on-truth kinds.TruthOrNone (λ w holds. cond holds (decided w true) (ask w (ToCompare (DoBoolEq a b)) (λ s. on_truth w s (λ equal. cond equal (undecided w) (decided w false))))) r f
+    (λ holds. one_of kinds.TruthOrNone holds (λ w. decided w true) (λ w. ask w (ToCompare (DoBoolEq a b)) (λ s. on_truth w s (λ equal. cond equal (undecided w) (decided w false))))
+    (ended kinds.TruthOrNone (Ok (AsMaybe (Some (truth true)))) tt)
+    (asking kinds.Truth kinds.TruthOrNone (ToCompare (DoBoolEq a b)) (λ w s. on_truth w s (λ equal. cond equal (undecided w) (decided w false))) tt
+    (λ s h. on-truth kinds.TruthOrNone (λ w equal. cond equal (undecided w) (decided w false)) s h
+    (λ equal. one_of kinds.TruthOrNone equal (λ w. undecided w) (λ w. decided w false) (ended kinds.TruthOrNone (Ok (AsMaybe None)) tt) (ended kinds.TruthOrNone (Ok (AsMaybe (Some (truth false)))) tt))))))
 
 pub compare-rows : (job : CompareJob) → Kinded (kind_of_compare job) (λ w. compare_job_say w job)
 unfolding compare_job_say

@@ -102,7 +102,7 @@ names-set w d (b ∷ bs) = either (has_place w d b.0) (names-set (with_value_in 
 
 filled : {q : Told → Kind → Bool} (w : PlainWorld) (d : PyObjectRef) (args : List PyObjectRef) (kw : Bindings) → Says q kinds.Value (dict_filled w d args kw)
 filled w d (a ∷ []) kw = names-set w d kw
-filled w d (a ∷ o ∷ []) kw = updated w d o (λ u. names_set u d kw) (λ u x. names-set u d kw x)
+filled w d (a ∷ o ∷ []) kw = updated w d o (λ u. names_set u d kw) (λ u. names-set u d kw)
 filled w d args kw = ends tt
 
 default-taken : {q : Told → Kind → Bool} (w : PlainWorld) (args : List PyObjectRef) (kw : Bindings) (go : PyObjectRef → PyObjectRef → Said) → ((r v : PyObjectRef) → Says q kinds.Value (go r v)) → Says q kinds.Value (with_default w args kw go)
@@ -118,7 +118,7 @@ dict-native w dict.Init args kw = container-taken kind.Dict w args _ (λ d. fill
 dict-native w dict.Repr args kw = ends tt
 dict-native w dict.Length args kw = lone-taken kind.Dict w args kw _ (λ d. ends tt)
 dict-native w dict.GetItem args kw = dict-and-key w args kw _ (λ d r. value-or w (value_under w d r) (fault MissingKey) tt)
-dict-native w dict.SetItem args kw = own-and-two-taken kind.Dict w args kw _ (λ d r v. key-taken w r _ (dict-changed w d (with_entry w (entries_at w d) (r, v)) ends_none (λ u x. ends x tt)))
+dict-native w dict.SetItem args kw = own-and-two-taken kind.Dict w args kw _ (λ d r v. key-taken w r _ (dict-changed w d (with_entry w (entries_at w d) (r, v)) ends_none (λ u. ends tt)))
 dict-native w dict.DelItem args kw = dict-and-key w args kw _ (λ d r. key-out w d r (value_under w d r))
 dict-native w dict.Contains args kw = dict-and-key w args kw _ (λ d r. ends (truth-fits (is_some (value_under w d r))))
 dict-native w dict.Iter args kw = lone-taken kind.Dict w args kw _ (λ d. iterator-given (with_node w the_list (AList (keys_of (entries_at w d)))) (next_node w the_list))
@@ -126,7 +126,7 @@ dict-native w dict.Keys args kw = lone-taken kind.Dict w args kw _ (λ d. object
 dict-native w dict.Values args kw = lone-taken kind.Dict w args kw _ (λ d. object-given w the_list (AList (values_of (entries_at w d))))
 dict-native w dict.Items args kw = lone-taken kind.Dict w args kw _ (λ d. pairs-given w [] (entries_at w d))
 dict-native w dict.Get args kw = container-taken kind.Dict w args _ (λ d. default-taken w args kw _ (λ r v. key-taken w r _ (value-or w (value_under w d r) (value v) tt)))
-dict-native w dict.Update args kw = own-and-taken kind.Dict w args kw _ (λ d o. updated w d o ends_none (λ u x. ends x tt))
+dict-native w dict.Update args kw = own-and-taken kind.Dict w args kw _ (λ d o. updated w d o ends_none (λ u. ends tt))
 
 pub iterator-native : {q : Told → Kind → Bool} (w : PlainWorld) (n : IteratorNative) (args : List PyObjectRef) (kw : Bindings) → Says q kinds.Value (iterator_say w n args kw)
 iterator-native w iterator.Iter args kw = lone-taken kind.Iterator w args kw _ (λ o. ends tt)

@@ -165,10 +165,10 @@ outcome_kind outcome.List = kinds.Objects
 outcome_kind outcome.Tuple = kinds.Objects
 outcome_kind outcome.Item = kinds.Item
 
-collected : (c : ℕ) (of : List PyObjectRef → Datum) → ((rs : List PyObjectRef) → IsFine (of rs)) → (r : Ended) → Fits kinds.Objects r → Kinded kinds.Value (λ w. on_collected w r (λ rs. limited w rs (make w c (of rs))))
-collected c of h (Ok (AsObjects rs)) f = limited-row rs (λ w. make w c (of rs)) (make-row c (of rs))
-collected c of h (Ok a) f = absurd f
-collected c of h (Err x) f = ended kinds.Value (Err x) tt
+collected : (c : ℕ) (of : List PyObjectRef → Datum) → (r : Ended) → Fits kinds.Objects r → Kinded kinds.Value (λ w. on_collected w r (λ rs. limited w rs (make w c (of rs))))
+collected c of (Ok (AsObjects rs)) f = limited-row rs (λ w. make w c (of rs)) (make-row c (of rs))
+collected c of (Ok a) f = absurd f
+collected c of (Err x) f = ended kinds.Value (Err x) tt
 
 item-row : (r : Ended) → Fits kinds.Item r → Kinded kinds.Value (λ w. unless_exhausted w r)
 item-row (Ok AsExhausted) f = ended kinds.Value (fault IterEnd) tt
@@ -182,8 +182,8 @@ made-row outcome.Nothing r f = on-done kinds.Value (λ w. end w (value none)) r 
 made-row outcome.Truth r f = on-truth kinds.Value (λ w b. end w (value (truth b))) r f (λ b. ended kinds.Value (value (truth b)) tt)
 made-row outcome.Negated r f = on-truth kinds.Value (λ w b. end w (value (truth (not b)))) r f (λ b. ended kinds.Value (value (truth (not b))) tt)
 made-row outcome.Number r f = on-number kinds.Value (λ w z. make w the_int (ANumber z)) r f (λ z. make-row the_int (ANumber z))
-made-row outcome.List r f = collected the_list (λ rs. AList rs) (λ rs. tt) r f
-made-row outcome.Tuple r f = collected the_tuple (λ rs. ATuple rs) (λ rs. tt) r f
+made-row outcome.List r f = collected the_list (λ rs. AList rs) r f
+made-row outcome.Tuple r f = collected the_tuple (λ rs. ATuple rs) r f
 made-row outcome.Item r f = item-row r f
 
 abbrev Takes : Manner → Option PlainTask → Type 0

@@ -73,15 +73,15 @@ sliced w i j go p = p _ _
 
 get-slice-said : (w : PlainWorld) (e : Option SlotEntry) (o : PyObjectRef) (i j : ℤ) → So (gives_in kinds.Value e) → Says (at_once kinds.Value) kinds.Value (get_slice_by w e o i j)
 get-slice-said w None o i j h = ends tt
-get-slice-said w (Some e) o i j h = sliced w i j (λ u s. pass u (entered e known.GetItem o (s ∷ []))) (λ u s x. entered-asked u [] e known.GetItem o (s ∷ []) x (entry-value e h))
+get-slice-said w (Some e) o i j h = sliced w i j (λ u s. pass u (entered e known.GetItem o (s ∷ []))) (λ u s. entered-asked u [] e known.GetItem o (s ∷ []) (entry-value e h))
 
 set-slice-said : (w : PlainWorld) (e : Option SlotEntry) (o : PyObjectRef) (i j : ℤ) (v : PyObjectRef) → Says whatever kinds.Done (set_slice_by w e o i j v)
 set-slice-said w None o i j v = ends tt
-set-slice-said w (Some e) o i j v = sliced w i j (λ u s. pass u (entered e known.SetItem o (s ∷ v ∷ []))) (λ u s x. entered-asked u [] e known.SetItem o (s ∷ v ∷ []) x tt)
+set-slice-said w (Some e) o i j v = sliced w i j (λ u s. pass u (entered e known.SetItem o (s ∷ v ∷ []))) (λ u s. entered-asked u [] e known.SetItem o (s ∷ v ∷ []) tt)
 
 del-slice-said : (w : PlainWorld) (e : Option SlotEntry) (o : PyObjectRef) (i j : ℤ) → Says whatever kinds.Done (del_slice_by w e o i j)
 del-slice-said w None o i j = ends tt
-del-slice-said w (Some e) o i j = sliced w i j (λ u s. pass u (entered (deleted e) known.DelItem o (s ∷ []))) (λ u s x. entered-asked u [] (deleted e) known.DelItem o (s ∷ []) x tt)
+del-slice-said w (Some e) o i j = sliced w i j (λ u s. pass u (entered (deleted e) known.DelItem o (s ∷ []))) (λ u s. entered-asked u [] (deleted e) known.DelItem o (s ∷ []) tt)
 
 -- views
 

@@ -289,14 +289,13 @@ name-known : (w : PlainWorld) (m : PyObjectRef) (c : ℕ) (x : Option Text) → 
 name-known w m c (Some x) = text-given w (in_length x)
 name-known w m c None = asks tt
 
-named-so : (w : PlainWorld) (m : PyObjectRef) (d : Datum) (y : Result Text Fault) → ((y : Text) → IsFine (named_datum y d)) → Says (at_once kinds.Value) kinds.Value (named_so w m d y)
-named-so w m d (Err x) h = ends tt
-named-so w m d (Ok y) h = text-given (with_datum w m (named_datum y d)) (Ok y)
+named-so : (w : PlainWorld) (m : PyObjectRef) (d : Datum) (y : Result Text Fault) → Says (at_once kinds.Value) kinds.Value (named_so w m d y)
+named-so w m d (Err x) = ends tt
+named-so w m d (Ok y) = text-given (with_datum w m (named_datum y d)) (Ok y)
 
 named-by : (w : PlainWorld) (m : PyObjectRef) (d : Option Datum) (q : PyObjectRef) → Says (at_once kinds.Value) kinds.Value (named_by w m d q)
-named-by w m (Some (AMember c x k (getter.Getter n) set qualname doc)) q h = named-so w m (AMember c x k (getter.Getter n) set qualname doc) (dotted x (datum_at w q)) (λ y. h)
-named-by w m (Some (AMember c x k (getter.Offset i) set qualname doc)) q h = named-so w m (AMember c x k (getter.Offset i) set qualname doc) (dotted x (datum_at w q)) (λ y. tt)
-named-by w m d q h = ends tt
+named-by w m (Some (AMember c x k get set qualname doc)) q = named-so w m (AMember c x k get set qualname doc) (dotted x (datum_at w q))
+named-by w m d q = ends tt
 
 name-given : (m : PyObjectRef) (r : Ended) → Fits kinds.Value r → Kinded kinds.Value (λ w. name_given w m r)
 name-given m (Err x) f = ended kinds.Value (cond (is_attribute_error x.kind) (value none) (Err x)) (either-fits kinds.Value (is_attribute_error x.kind) (value none) (Err x) tt tt)

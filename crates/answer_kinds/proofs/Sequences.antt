@@ -1,5 +1,5 @@
 -- The natives that read and set items, go over them, compare, repeat, make or show what has parts answer of their kinds.
-use Rattle.std.proofs.Common.{◌++◌, Bool, Err, List, None, Ok, Option, Some, cond, drop, encode_utf8_all, false, inl, inr, length, pos, refl, subst, suc, sym, take, true, ℕ, ◌∷◌, ◌≡◌, ◌⊎◌, []}
+use Rattle.std.proofs.Common.{◌++◌, ◌||◌, Bool, Err, List, None, Ok, Option, Some, cond, drop, encode_utf8_all, false, inl, inr, length, pos, refl, subst, suc, sym, take, true, ℕ, ◌∷◌, ◌≡◌, ◌⊎◌, []}
 use  Rattle.py_node.specs.declared.refs.PyObjectRef.{PyObjectRef}
 use  Rattle.py_node.specs.declared.raised.Cause.TheVariants.{IndexOut, IterEnd, SelfType}
 use  Rattle.py_node.specs.declared.payload.PySlice.{PySlice}

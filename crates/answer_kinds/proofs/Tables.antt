@@ -6,7 +6,7 @@ use Rattle.py_node.specs.OwnAttrs.{own_attrs}
 use Rattle.py_node.specs.Slots.{names_of, slot_names, filling_of, slot_fillings}
 use Rattle.py_node.specs.Slots.{place_of as slot_place}
 use Rattle.class_model.specs.BuiltIn.{entry_among}
-use Rattle.answer_kinds.specs.Kinds.{Kind, Value, TruthValue, Length, kind_of_native}
+use Rattle.answer_kinds.specs.Kinds.{Kind, Value, TruthValue, Number, kind_of_native}
 use Rattle.answer_kinds.proofs.Base.{So}
 use Rattle.answer_kinds.proofs.Columns.{gives_in, Column}
 
@@ -66,20 +66,20 @@ item-row b = tt
 pub item-column : Column Value SeqItem
 item-column = record { gives = item-row }
 
-length-row : (b : BuiltIn) → So (gives_in Length (entry_among b SeqLength (own_attrs b)))
+length-row : (b : BuiltIn) → So (gives_in Number (entry_among b SeqLength (own_attrs b)))
 unfolding kind_of_native own_attrs names_of slot_names filling_of slot_fillings slot_place
 length-row built_in.Object = tt
 length-row b = tt
 
-pub length-column : Column Length SeqLength
+pub length-column : Column Number SeqLength
 length-column = record { gives = length-row }
 
-map-length-row : (b : BuiltIn) → So (gives_in Length (entry_among b MapLength (own_attrs b)))
+map-length-row : (b : BuiltIn) → So (gives_in Number (entry_among b MapLength (own_attrs b)))
 unfolding kind_of_native own_attrs names_of slot_names filling_of slot_fillings slot_place
 map-length-row built_in.Object = tt
 map-length-row b = tt
 
-pub map-length-column : Column Length MapLength
+pub map-length-column : Column Number MapLength
 map-length-column = record { gives = map-length-row }
 
 subscript-row : (b : BuiltIn) → So (gives_in Value (entry_among b MapSubscript (own_attrs b)))

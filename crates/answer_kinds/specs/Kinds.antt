@@ -1,5 +1,5 @@
 -- Of which kind a task's answer is.
-use Rattle.std.specs.Prelude.{pos, Bool, true, false, eqb, ◌||◌, IsTrue, Option, Some, None}
+use Rattle.std.specs.Prelude.{Bool, true, false, eqb, ◌||◌, IsTrue, Option, Some, None}
 use Rattle.py_node.specs.declared.refs.PyObjectRef.{PyObjectRef}
 use Rattle.py_node.specs.declared.entry.DictNative.TheVariants as dict
 use Rattle.py_node.specs.declared.entry.ListNative.TheVariants as list
@@ -28,10 +28,8 @@ pub data Kind : Type 0 where
   -- the same, or what a method gave that did it
   DoneOrValue : Kind
   Number : Kind
-  -- a number that is not below 0
-  Length : Kind
-  -- the same, or that there is none
-  LengthOrNone : Kind
+  -- a number, or that there is none
+  NumberOrNone : Kind
   Truth : Kind
   -- an object, or that there is none
   Maybe : Kind
@@ -56,9 +54,8 @@ is_of Done AsDone = true
 is_of DoneOrValue AsDone = true
 is_of DoneOrValue (AsValue r) = true
 is_of Number (AsNumber z) = true
-is_of Length (AsNumber (pos n)) = true
-is_of LengthOrNone (AsNumber (pos n)) = true
-is_of LengthOrNone (AsMaybe None) = true
+is_of NumberOrNone (AsNumber z) = true
+is_of NumberOrNone (AsMaybe None) = true
 is_of Truth (AsTruth b) = true
 is_of Maybe (AsMaybe o) = true
 is_of TruthOrNone (AsMaybe None) = true
@@ -76,11 +73,11 @@ unfoldable pub kind_of_native : NativeEntry → Kind
 kind_of_native (OfObject object.Hash) = Number
 kind_of_native (OfNumber number.Hash) = Number
 kind_of_native (OfStr str.Hash) = Number
-kind_of_native (OfStr str.Length) = Length
+kind_of_native (OfStr str.Length) = Number
 kind_of_native (OfTuple tuple.Hash) = Number
-kind_of_native (OfTuple tuple.Length) = Length
-kind_of_native (OfList list.Length) = Length
-kind_of_native (OfDict dict.Length) = Length
+kind_of_native (OfTuple tuple.Length) = Number
+kind_of_native (OfList list.Length) = Number
+kind_of_native (OfDict dict.Length) = Number
 kind_of_native (OfStr str.Contains) = TruthValue
 kind_of_native (OfTuple tuple.Contains) = TruthValue
 kind_of_native (OfList list.Contains) = TruthValue
@@ -128,8 +125,8 @@ kind_of_compare _ = Value
 
 abbrev pub kind_of_protocol : ProtocolJob → Kind
 kind_of_protocol (DoIsTrue o) = Truth
-kind_of_protocol (DoLength o) = Length
-kind_of_protocol (DoHint o None) = LengthOrNone
+kind_of_protocol (DoLength o) = Number
+kind_of_protocol (DoHint o None) = NumberOrNone
 kind_of_protocol (DoHint o (Some z)) = Number
 kind_of_protocol (DoSetItem o k v) = Done
 kind_of_protocol (DoDelItem o k) = Done
@@ -138,8 +135,8 @@ kind_of_protocol (DoDelSlice o i j) = Done
 kind_of_protocol (DoNext o) = Item
 kind_of_protocol (DoCollect o) = Objects
 kind_of_protocol (DoContains o x) = Truth
-kind_of_protocol (DoCount o x) = Length
-kind_of_protocol (DoFind o x) = Length
+kind_of_protocol (DoCount o x) = Number
+kind_of_protocol (DoFind o x) = Number
 kind_of_protocol _ = Value
 
 abbrev pub kind_of_object : ObjectJob → Kind
