@@ -45,6 +45,7 @@ compare-row : (a b : PyObjectRef) (o : PyComparisonOp) → Kinded kinds.Value (�
 compare-row a b o = chosen kinds.Value (λ w. cond (is_heir w (class_of w a) (class_of w b)) 1 0) (λ w. compared w a b o) (λ way. compared-row a b o way)
 
 comparing : (n : NativeEntry) (o : PyComparisonOp) → So (within (kind_of_native n) kinds.Value) → So (within (kind_of_native (native_for n o)) kinds.Value)
+unfolding kind_of_native
 comparing (OfObject n) Lt h = tt
 comparing (OfObject n) Gt h = tt
 comparing (OfObject n) Ne h = tt

@@ -176,6 +176,7 @@ setter-of-row b detail.IsAbstract args kw = marks-row b (SetterOf b detail.IsAbs
 setter-of-row b d args kw = plain kinds.Value (λ w. native_by w (SetterOf b d) args kw) (λ w. setter-of-native w b d args kw)
 
 native-row : (n : NativeEntry) (args : List PyObjectRef) (kw : Bindings) → Kinded (kind_of_native n) (λ w. native_say w n args kw)
+unfolding kind_of_native
 native-row (OfObject n) args kw = plain (kind_of_native (OfObject n)) (λ w. native_by w (OfObject n) args kw) (λ w. ends tt)
 native-row (OfType n) args kw = plain kinds.Value (λ w. native_by w (OfType n) args kw) (λ w. ends tt)
 native-row (OfInt n) args kw = plain kinds.Value (λ w. native_by w (OfInt n) args kw) (λ w. ends tt)
