@@ -29,7 +29,7 @@ use Rattle.class_model.specs.Class.{found, found_past}
 
 -- a class that was made is told of
 
-bound-hooks : (as : Bindings) (go : PlainWorld → Bindings → Row) → ((bs : Bindings) → Kinded kinds.Value (λ w. go w bs)) → Kinded kinds.Value (λ w. bind_hooks w as (go w))
+bound-hooks : (hs : Bindings) (go : PlainWorld → Bindings → Row) → ((bs : Bindings) → Kinded kinds.Value (λ w. go w bs)) → Kinded kinds.Value (λ w. bind_hooks w hs (go w))
 bound-hooks [] go p = p []
 bound-hooks (a ∷ more) go p = read_objects_once kinds.Value (λ w. name_hook w a.1) (λ w ms. bind_hook w a.0 a.1 ms (bind_hooks w more) (go w)) (λ ms. hooked ms (bound-hooks more go p) (λ b. bound-hooks more (λ w bs. go w ((a.0, b) ∷ bs)) (λ bs. p ((a.0, b) ∷ bs))))
   where

@@ -13,6 +13,7 @@ use Rattle.answer_kinds.proofs.Said.{either}
 use Rattle.answer_kinds.proofs.Columns.{gives_in, slot-at-gives}
 use Rattle.answer_kinds.proofs.Tables.{item-column, subscript-column}
 use Rattle.answer_kinds.proofs.Gives.{object-given}
+use Rattle.answer_kinds.proofs.Containers.{pairs-given}
 use Rattle.answer_kinds.proofs.Entries.{entered-asked, entry-value, all-row}
 use Rattle.proto_items.specs.Say.{items_job_say}
 use Rattle.proto_items.specs.Items.{is_subscripted, get_item_by, item_by, class_item, get_item_rest, get_item_say, deleted, set_item_by, del_item_by, assigner, ends_done}
@@ -84,10 +85,6 @@ del-slice-said w None o i j = ends tt
 del-slice-said w (Some e) o i j = sliced w i j (λ u s. pass u (entered (deleted e) known.DelItem o (s ∷ []))) (λ u s. entered-asked u [] (deleted e) known.DelItem o (s ∷ []) tt)
 
 -- views
-
-pairs-given : {q : Told → Kind → Bool} (w : PlainWorld) (rs : List PyObjectRef) (es : Entries) → Says q kinds.Value (pairs_made w rs es)
-pairs-given w rs [] = object-given w the_list (AList rs)
-pairs-given w rs (e ∷ es) = pairs-given _ _ es
 
 listed-rest : (r : Ended) → Fits kinds.Value r → Kinded kinds.Value (λ w. on_iterable w r (λ it. all_items w it [] (λ rs. make w the_list (AList rs))))
 listed-rest (Err x) f = ended kinds.Value (fault NonIterableMethod) tt
