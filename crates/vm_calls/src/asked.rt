@@ -42,7 +42,7 @@ pub fn ask<T: FromAnswer>(
     task: Task,
     budget: u64,
 ) -> Result<PyResult<T>, RunFault>
-    requires names { AllHold vm.old.world (of_task task) }
+    requires there { AllHold vm.old.world (of_task task) }
     requires kind { GivesJust T.fits task }
     ensures { Told T.told T.names task budget vm.old vm.new result }
 {
@@ -60,7 +60,7 @@ pub fn ask_some<T: FromAnswer>(
     task: Task,
     budget: u64,
 ) -> Result<PyResult<Option<T>>, RunFault>
-    requires names { AllHold vm.old.world (of_task task) }
+    requires there { AllHold vm.old.world (of_task task) }
     requires kind { GivesJust T.fits task }
     ensures { ToldSome T.told T.names task budget vm.old vm.new result }
 {
@@ -195,6 +195,7 @@ impl FromAnswer for Option<bool> {
 
     ghost names = { of_nothing };
 
+    #[tactic(auto, using(crate::proofs::Hints::truth_told))]
     fn from_answer(answer: Answer) -> Option<bool> {
         match answer {
             Answer::Maybe(Some(object)) => Some(object == Fixed::True.node()),
