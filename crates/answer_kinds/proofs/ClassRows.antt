@@ -17,7 +17,7 @@ use Rattle.answer_kinds.proofs.Said.{either, takes-two, takes-three, takes-text}
 use Rattle.answer_kinds.proofs.Objects.{type-native}
 use Rattle.answer_kinds.proofs.Calls.{native-end}
 use Rattle.class_make.specs.Say.{Entries, the_member, has_name, text_of, namespace, Space, put, give, wrap_value, wrap, qualify, unhash, give_dict, completed, would_have_dict, dicted, functions_of, defined, with_functions, a_member, put_member, with_member, with_members, name_hook, bind_hook, bind_hooks, call_hook, unless_raised, call_hooks, without_metaclass, init_subclass, own_values, tell, whole_class, refusal, made_unless, with_slots, with_names, by_slots, made, with_namespace, on_layout, on_bases, winner, by_winner, classes_of, by_classes, by_bases, has_null, tuple_of, by_parts, from_three, three_of, by_one, no_class, make_class_say, type_new_of, type_new, class_in, called_with, type_call, type_by, class_job_say}
-use Rattle.plain_machine.specs.Plain.{Datum, AText, AClassMethod, Bindings, PlainWorld, DoBind, DoCall, ClassJob, DoMakeClass, DoType, ToAttribute, ToCall, Ended, Made, Said, Asks, Ends}
+use Rattle.plain_machine.specs.Plain.{Datum, AText, AClassMethod, Bindings, PlainWorld, DoBind, DoCall, DoNew, ClassJob, DoMakeClass, DoType, ToAttribute, ToCall, Ended, Made, Said, Asks, Ends}
 use Rattle.plain_machine.specs.World.{is_text, ref, datum_at, class_at, with_node}
 use Rattle.plain_machine.specs.Objects.{type_object, class_number, nearest_built_in, with_definer}
 use Rattle.plain_machine.specs.Known.{the_object, the_type, the_str, the_function, the_getset, the_class_method}
@@ -116,9 +116,12 @@ module _ (c : ℕ) (args : List PyObjectRef) (kw : Bindings) where
   bases-said : (w : PlainWorld) (meta : ℕ) (name : Text) (bases : List ℕ) (es : Entries) → Makes (on_bases w meta name bases es kw)
   bases-said w meta name bases es = layout-said w (refused_layout w.classes bases) meta name bases es
 
+  new-asked : (w : PlainWorld) (d : ℕ) → Makes (pass w (ToCall (DoNew d d args kw)))
+  new-asked w d = λ r f. ended kinds.Value r f
+
   winner-said : (w : PlainWorld) (meta : ℕ) (won : Option ℕ) (name : Text) (bases : List ℕ) (es : Entries) → Makes (by_winner w meta won name bases es args kw)
   winner-said w meta None name bases es = tt
-  winner-said w meta (Some d) name bases es = either-makes _ _ _ (λ r f. ended kinds.Value r f) (bases-said w d name bases es)
+  winner-said w meta (Some d) name bases es = either-makes _ _ _ (new-asked w d) (bases-said w d name bases es)
 
   no-class : (r : Ended) → Kinded kinds.Value (λ w. no_class w r)
   no-class (Ok a) = ended kinds.Value (fault MroEntries) tt

@@ -1,5 +1,5 @@
 -- The rows of iterations answer of their kinds.
-use Rattle.std.proofs.Common.{Bool, Err, None, Ok, Option, Result, Some, cond, eqb, false, is_some, pos, suc, true, zero, ℕ, ◌∷◌, if◌then◌else◌, []}
+use Rattle.std.proofs.Common.{◌||◌, Bool, Err, None, Ok, Option, Result, Some, cond, eqb, false, is_some, pos, suc, true, zero, ℕ, ◌∷◌, if◌then◌else◌, []}
 use  Rattle.py_node.specs.declared.refs.PyObjectRef.{PyObjectRef}
 use  Rattle.py_node.specs.declared.raised.Cause.TheVariants.{IndexRange, NotFound, NotIterator}
 use  Rattle.py_node.specs.declared.entry.SlotId.TheVariants.{Iter, Iternext, SeqItem, SeqContains}
