@@ -1,8 +1,8 @@
 -- The rows of the creation of classes answer with objects.
-use Rattle.std.proofs.Common.{◌+◌, Bool, Err, List, None, Ok, Option, Result, Some, cond, eqb, false, is_some, length, refl, true, ℕ, ◌∷◌, []}
+use Rattle.std.proofs.Common.{◌+◌, Bool, Err, List, None, Ok, Option, Result, Some, cond, eqb, false, is_some, length, refl, true, ℕ, ◌∷◌, [], ◌&&◌, not}
 use  Rattle.py_node.specs.declared.refs.PyObjectRef.{PyObjectRef}
 use  Rattle.py_node.specs.declared.raised.Cause.{Cause}
-use  Rattle.py_node.specs.declared.raised.Cause.TheVariants.{SetNameCalled, MroEntries, BasesNotTypes}
+use  Rattle.py_node.specs.declared.raised.Cause.TheVariants.{SetNameCalled, MroEntries, BasesNotTypes, NullInName, TypeArgs}
 use  Rattle.py_node.specs.declared.entry.SlotId.TheVariants.{New}
 use  Rattle.py_node.specs.declared.entry.TypeNative.{TypeNative}
 use Rattle.py_node.specs.declared.entry.TypeNative.TheVariants as type
@@ -18,14 +18,16 @@ use Rattle.answer_kinds.proofs.Objects.{type-native}
 use Rattle.answer_kinds.proofs.Calls.{native-end}
 use Rattle.class_make.specs.Say.{Entries, the_member, has_name, text_of, namespace, Space, put, give, wrap_value, wrap, qualify, unhash, give_dict, completed, would_have_dict, dicted, functions_of, defined, with_functions, a_member, put_member, with_member, with_members, name_hook, bind_hook, bind_hooks, call_hook, unless_raised, call_hooks, without_metaclass, init_subclass, own_values, tell, whole_class, refusal, made_unless, with_slots, with_names, by_slots, made, with_namespace, on_layout, on_bases, winner, by_winner, classes_of, by_classes, by_bases, has_null, tuple_of, by_parts, from_three, three_of, by_one, no_class, make_class_say, type_new_of, type_new, class_in, called_with, type_call, type_by, class_job_say}
 use Rattle.plain_machine.specs.Plain.{Datum, AText, AClassMethod, Bindings, PlainWorld, DoBind, DoCall, DoNew, ClassJob, DoMakeClass, DoType, ToAttribute, ToCall, Ended, Made, Said, Asks, Ends}
-use Rattle.plain_machine.specs.World.{is_text, ref, datum_at, class_at, with_node}
+use Rattle.plain_machine.specs.World.{is_text, text_keys, ref, datum_at, class_at, with_node}
 use Rattle.plain_machine.specs.Objects.{type_object, class_number, nearest_built_in, with_definer}
 use Rattle.plain_machine.specs.Known.{the_object, the_type, the_str, the_function, the_getset, the_class_method}
 use Rattle.plain_machine.specs.Row.{Row, start, end, value, pass, fault, is_attribute_error, on_value, on_done, noting}
 use Rattle.plain_machine.specs.Takes.{native_end}
 use Rattle.py_node.specs.Known.{known_text}
 use Rattle.py_node.specs.Tree.{Text}
+use Rattle.class_model.specs.BuiltIn.{natives_of}
 use Rattle.class_model.specs.Class.{found, found_past}
+use Rattle.class_model.specs.Slot.{entry}
 
 -- a class that was made is told of
 
@@ -121,7 +123,7 @@ module _ (c : ℕ) (args : List PyObjectRef) (kw : Bindings) where
 
   winner-said : (w : PlainWorld) (meta : ℕ) (won : Option ℕ) (name : Text) (bases : List ℕ) (es : Entries) → Makes (by_winner w meta won name bases es args kw)
   winner-said w meta None name bases es = tt
-  winner-said w meta (Some d) name bases es = either-makes _ _ _ (new-asked w d) (bases-said w d name bases es)
+  winner-said w meta (Some d) name bases es = either-makes (not (eqb d meta) && is_some (entry text_keys natives_of w.classes d New)) (pass w (ToCall (DoNew d d args kw))) (on_bases w d name bases es kw) (new-asked w d) (bases-said w d name bases es)
 
   no-class : (r : Ended) → Kinded kinds.Value (λ w. no_class w r)
   no-class (Ok a) = ended kinds.Value (fault MroEntries) tt
@@ -136,7 +138,7 @@ module _ (c : ℕ) (args : List PyObjectRef) (kw : Bindings) where
   by-bases w meta name (b ∷ bs) es = classes-said w meta name (b ∷ bs) (classes_of w (b ∷ bs)) es
 
   parts-said : (w : PlainWorld) (meta : ℕ) (name : Option Text) (bases : Option (List PyObjectRef)) (es : Option Entries) → Makes (by_parts w meta name bases es args kw)
-  parts-said w meta (Some name) (Some bases) (Some es) = either-makes (has_null name) _ _ tt (by-bases w meta name bases es)
+  parts-said w meta (Some name) (Some bases) (Some es) = either-makes (has_null name) (Ends w (fault NullInName)) (by_bases w meta name bases es args kw) tt (by-bases w meta name bases es)
   parts-said w meta name bases es = tt
 
   three-said : (w : PlainWorld) (meta : ℕ) (p : Option (PyObjectRef × (PyObjectRef × PyObjectRef))) → Makes (from_three w meta p args kw)
@@ -144,7 +146,7 @@ module _ (c : ℕ) (args : List PyObjectRef) (kw : Bindings) where
   three-said w meta (Some (n, (b, d))) = parts-said w meta (text_of (datum_at w n)) (tuple_of (datum_at w b)) (dict_in (datum_at w d))
 
   one-said : (w : PlainWorld) (meta : ℕ) (o : Option PyObjectRef) → Makes (by_one w meta o args kw)
-  one-said w meta (Some o) = either-makes (eqb meta the_type) _ _ tt tt
+  one-said w meta (Some o) = either-makes (eqb meta the_type) (Ends w (value (type_object w o))) (Ends w (fault TypeArgs)) tt tt
   one-said w meta None = three-said w meta (three_of args)
 
   make-row : Kinded kinds.Value (λ w. make_class_say w c args kw)
