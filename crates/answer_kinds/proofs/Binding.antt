@@ -1,51 +1,37 @@
 -- The natives that call an object, bind it, set in it or make one answer of their kinds.
-use Rattle.std.proofs.Common.{Bool, Err, List, None, Ok, Option, Some, cond, eqb, false, set, true, ℕ, ◌∷◌, []}
-use  Rattle.py_node.specs.declared.refs.PyObjectRef.{PyObjectRef}
-use  Rattle.py_node.specs.declared.raised.Cause.{Cause}
-use  Rattle.py_node.specs.declared.raised.Cause.TheVariants.{NoGetter}
-use  Rattle.py_node.specs.declared.built_in.BuiltIn.{BuiltIn}
-use  Rattle.py_node.specs.declared.entry.Detail.{Detail}
+use Rattle.std.proofs.Common.{Bool, Err, List, None, Ok, Option, Some, cond, false, true, ℕ, ◌∷◌, []}
+use Rattle.py_node.specs.declared.refs.PyObjectRef.{PyObjectRef}
+use Rattle.py_node.specs.declared.built_in.BuiltIn.{BuiltIn}
+use Rattle.py_node.specs.declared.entry.Detail.{Detail}
 use Rattle.py_node.specs.declared.entry.Detail.TheVariants as detail
-use  Rattle.py_node.specs.declared.entry.NativeEntry.{NativeEntry}
-use  Rattle.py_node.specs.declared.payload.MemberKind.{MemberKind}
-use Rattle.py_node.specs.declared.payload.MemberKind.TheVariants as member
-use  Rattle.py_node.specs.declared.payload.MemberGetter.{MemberGetter}
-use Rattle.py_node.specs.declared.payload.MemberGetter.TheVariants as getter
-use  Rattle.py_node.specs.declared.payload.MemberSetter.{MemberSetter}
-use  Rattle.native_calls.specs.declared.way.Kind.{Kind as Bound}
+use Rattle.py_node.specs.declared.entry.NativeEntry.{NativeEntry}
+use Rattle.native_calls.specs.declared.way.Kind.{Kind as Bound}
 use Rattle.native_calls.specs.declared.way.Kind.TheVariants as kind
-use  Rattle.native_calls.specs.declared.way.Setting.{Setting}
+use Rattle.native_calls.specs.declared.way.Setting.{Setting}
 use Rattle.native_calls.specs.declared.way.Setting.TheVariants as setting
-use  Rattle.native_calls.specs.declared.way.Wrapper.{Wrapper}
-use  Rattle.native_calls.specs.declared.way.Wrapper.TheVariants.{Class, Static}
-use  Rattle.native_calls.specs.declared.way.Way.{Way}
+use Rattle.native_calls.specs.declared.way.Wrapper.{Wrapper}
+use Rattle.native_calls.specs.declared.way.Way.{Way}
 use Rattle.native_calls.specs.declared.way.Way.TheVariants as way
 use Rattle.native_calls.specs.Say.{with_kind as of_kind, kind_of as setting_kind}
 use Rattle.native_calls.specs.Parts.{wrapped_in as wrapped_callable}
-use  Rattle.native_base.specs.Called.{call_native}
-use  Rattle.proto_descr.specs.Say.{class_of_option, function_get, native_get, getset_get, getset_set, class_for, class_method_get, class_method_by, static_method_get, start_with, read_by}
-use  Rattle.proto_descr.specs.Members.{member_get, member_set, read_member, or_empty}
-use  Rattle.proto_descr.specs.Properties.{property_get, property_set, call_part}
-use  Rattle.proto_descr.specs.Supers.{super_bound, super_get}
+use Rattle.native_base.specs.Called.{call_native}
+use Rattle.proto_descr.specs.Say.{class_of_option, class_for, class_method_get, class_method_by, start_with}
+use Rattle.proto_descr.specs.Supers.{super_bound, super_get}
 use Rattle.answer_kinds.specs.Kinds as kinds
 use Rattle.answer_kinds.specs.Kinds.{Kind, kind_of_native, kind_of}
-use Rattle.answer_kinds.proofs.Base.{So, Fits, within, wider, Family, GoesOn, Kinded, ended, Says, ends, asks, at_once, stepped, on-done, whatever, IsGiven, given, for_given, named-row, named-end}
+use Rattle.answer_kinds.proofs.Base.{Fits, within, wider, Family, GoesOn, Kinded, ended, Says, ends, asks, at_once, stepped, on-done, whatever, IsGiven, given, for_given, named-row, named-end}
 use Rattle.answer_kinds.proofs.Said.{either, no-keywords, takes-one, takes-two, takes-text}
 use Rattle.answer_kinds.proofs.Own.{takes-own, takes-heir}
 use Rattle.answer_kinds.proofs.Descriptors.{function-said, native-said, Takes, getset-said, member-said, property-said, static-method-said, class-method-by, super-bound, getset-set, member-set, property-set}
 use Rattle.answer_kinds.proofs.Calls.{Gives, call-gives}
-use Rattle.native_calls.specs.Say.{is_function, is_method_descriptor, called_task, asked_of_kind, call_by_name, get_by_name, is_getset, is_member, is_property, is_super, is_class_method, is_static_method, is_of_kind, function_get_by_name, native_get_by_name, getset_get_by_name, member_get_by_name, property_get_by_name, super_get_by_name, class_method_by_name, static_method_by_name, set_as, set_so, delete_so, none_said, set_by_name, delete_by_name, super_attribute_by_name, super_init_by_name, made_by, new_by_name, class_of_wrapper, wrapper_new, wrapping, wrapper_rest, by_way, none_end, way_rest}
+use Rattle.native_calls.specs.Say.{is_function, is_method_descriptor, called_task, asked_of_kind, call_by_name, get_by_name, is_getset, is_member, is_property, is_super, is_class_method, is_static_method, is_of_kind, function_get_by_name, native_get_by_name, getset_get_by_name, member_get_by_name, property_get_by_name, super_get_by_name, class_method_by_name, static_method_by_name, set_as, set_so, delete_so, none_said, set_by_name, delete_by_name, super_attribute_by_name, super_init_by_name, made_by, new_by_name, class_of_wrapper, wrapper_new, wrapper_rest, by_way, none_end, way_rest}
 use Rattle.native_calls.specs.Parts.{part_of_wrapped, or_not_abstract, with_get, marked_in, mark_with, mark_by_name}
-use Rattle.plain_machine.specs.Plain.{Datum, AGetSet, AClassMethod, AStaticMethod, AMember, AProperty, ASuper, Bindings, PlainWorld, PlainTask, AsValue, AsDone, Ended, ReadObjects, Told, Said, Asks, Ends}
+use Rattle.plain_machine.specs.Plain.{Datum, AClassMethod, ASuper, Bindings, PlainWorld, PlainTask, AsValue, AsDone, Ended, ReadObjects, Told, Said, Asks, Ends}
 use Rattle.plain_machine.specs.World.{datum_at, next_node}
-use Rattle.plain_machine.specs.Objects.{class_number, is_instance}
-use Rattle.plain_machine.specs.Row.{Row, end, value, none, pass, truth}
-use Rattle.plain_machine.specs.Native.{native_task}
-use Rattle.plain_machine.specs.Members.{value_at_place}
+use Rattle.plain_machine.specs.Objects.{class_number}
+use Rattle.plain_machine.specs.Row.{Row, end, value, none, truth}
 use Rattle.plain_machine.specs.Takes.{named_end}
-use Rattle.py_node.specs.Tree.{Text}
 use Rattle.class_model.specs.Class.{is_sub}
-use Rattle.class_model.specs.Layout.{place_at}
 
 -- what they take
 

@@ -1,6 +1,5 @@
 -- What stands in a slot of a class is a native of a built-in class, or no native.
-use Rattle.std.proofs.Common.{◌≡◌, ℕ, Bool, true, false, cond, List, [], ◌∷◌, Option, Some, None, option_and_then, slice_get, is_some, not, ◌&&◌}
-use Rattle.std.specs.Prelude.{find}
+use Rattle.std.proofs.Common.{ℕ, Bool, true, false, cond, List, [], ◌∷◌, Option, Some, None, option_and_then, slice_get, not, ◌&&◌}
 use Rattle.py_node.specs.declared.refs.PyObjectRef.{PyObjectRef}
 use Rattle.py_node.specs.declared.built_in.BuiltIn.{BuiltIn}
 use Rattle.py_node.specs.declared.entry.SlotId.{SlotId}
@@ -10,10 +9,10 @@ use Rattle.py_node.specs.declared.slots.Sort.{Sort}
 use Rattle.py_node.specs.declared.slots.Sort.TheVariants.{ByItself, BySequence, ByMapping, Nearest}
 use Rattle.py_node.specs.BuiltIns.{all_built_ins}
 use Rattle.py_node.specs.OwnAttrs.{own_attrs}
-use Rattle.py_node.specs.Slots.{is_slot, sort_of, all_slots}
+use Rattle.py_node.specs.Slots.{sort_of}
 use Rattle.py_node.specs.Tree.{Text}
-use Rattle.class_model.specs.Class.{Class, Classes, class_at, own_of, first_along, along, or_else, lin}
-use Rattle.class_model.specs.Slot.{wrapped, heap_entry, is_heap_at, given_entry, is_by_itself, entry, has_table, first_with, read_along, slot, is_name_of}
+use Rattle.class_model.specs.Class.{Classes, class_at, first_along, or_else, lin}
+use Rattle.class_model.specs.Slot.{wrapped, heap_entry, is_heap_at, given_entry, is_by_itself, entry, read_along, slot}
 use Rattle.class_model.specs.BuiltIn.{entry_among, natives_of}
 use Rattle.plain_machine.specs.Plain.{PlainWorld}
 use Rattle.plain_machine.specs.World.{text_keys, class_at as class_of, slot_at}

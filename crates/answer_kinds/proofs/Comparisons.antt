@@ -1,15 +1,14 @@
 -- The rows of comparisons answer of their kinds.
 use Rattle.std.proofs.Common.{Bool, None, Ok, Option, Some, cond, eqb, false, not, suc, true, zero, ℕ, ◌∷◌, []}
-use  Rattle.py_node.specs.declared.refs.PyObjectRef.{PyObjectRef}
-use  Rattle.py_node.specs.declared.raised.Cause.TheVariants.{UnsupportedOperand}
-use  Rattle.py_node.specs.declared.entry.NativeEntry.{NativeEntry}
-use  Rattle.py_node.specs.declared.entry.NativeEntry.TheVariants.{OfObject, Compare}
-use Rattle.py_node.specs.declared.entry.ObjectNative.TheVariants as object
-use  Rattle.py_node.specs.declared.entry.SlotId.TheVariants.{Richcompare}
-use  Rattle.py_node.specs.declared.entry.SlotEntry.{SlotEntry}
-use  Rattle.py_node.specs.declared.entry.SlotEntry.TheVariants.{Native}
-use  Rattle.py_node.specs.declared.task.PyComparisonOp.{PyComparisonOp}
-use  Rattle.py_node.specs.declared.task.PyComparisonOp.TheVariants.{Lt, Gt, Ne, Eq, Le, Ge}
+use Rattle.py_node.specs.declared.refs.PyObjectRef.{PyObjectRef}
+use Rattle.py_node.specs.declared.raised.Cause.TheVariants.{UnsupportedOperand}
+use Rattle.py_node.specs.declared.entry.NativeEntry.{NativeEntry}
+use Rattle.py_node.specs.declared.entry.NativeEntry.TheVariants.{OfObject, Compare}
+use Rattle.py_node.specs.declared.entry.SlotId.TheVariants.{Richcompare}
+use Rattle.py_node.specs.declared.entry.SlotEntry.{SlotEntry}
+use Rattle.py_node.specs.declared.entry.SlotEntry.TheVariants.{Native}
+use Rattle.py_node.specs.declared.task.PyComparisonOp.{PyComparisonOp}
+use Rattle.py_node.specs.declared.task.PyComparisonOp.TheVariants.{Lt, Gt, Ne, Eq, Le, Ge}
 use Rattle.plain_machine.specs.World.{class_at as class_of}
 use Rattle.answer_kinds.specs.Kinds as kinds
 use Rattle.answer_kinds.specs.Kinds.{kind_of_native, kind_of_compare, kind_of}

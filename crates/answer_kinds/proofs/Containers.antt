@@ -1,17 +1,17 @@
 -- The natives of containers that end at once answer of their kinds.
 use Rattle.std.proofs.Common.{◌++◌, ◌==◌, Bool, List, None, Option, Some, false, fold, is_some, length, nat_le, true, ◌∷◌, []}
-use  Rattle.py_node.specs.declared.refs.PyObjectRef.{PyObjectRef}
-use  Rattle.py_node.specs.declared.raised.Cause.TheVariants.{MissingKey}
-use  Rattle.py_node.specs.declared.entry.TupleNative.{TupleNative}
+use Rattle.py_node.specs.declared.refs.PyObjectRef.{PyObjectRef}
+use Rattle.py_node.specs.declared.raised.Cause.TheVariants.{MissingKey}
+use Rattle.py_node.specs.declared.entry.TupleNative.{TupleNative}
 use Rattle.py_node.specs.declared.entry.TupleNative.TheVariants as tuple
-use  Rattle.py_node.specs.declared.entry.ListNative.{ListNative}
+use Rattle.py_node.specs.declared.entry.ListNative.{ListNative}
 use Rattle.py_node.specs.declared.entry.ListNative.TheVariants as list
-use  Rattle.py_node.specs.declared.entry.DictNative.{DictNative}
+use Rattle.py_node.specs.declared.entry.DictNative.{DictNative}
 use Rattle.py_node.specs.declared.entry.DictNative.TheVariants as dict
-use  Rattle.py_node.specs.declared.entry.IteratorNative.{IteratorNative}
+use Rattle.py_node.specs.declared.entry.IteratorNative.{IteratorNative}
 use Rattle.py_node.specs.declared.entry.IteratorNative.TheVariants as iterator
-use  Rattle.py_node.specs.declared.entry.NativeEntry.TheVariants.{OfTuple, OfList, OfDict}
-use  Rattle.native_containers.specs.declared.take.Kind.{Kind as Container}
+use Rattle.py_node.specs.declared.entry.NativeEntry.TheVariants.{OfTuple, OfList, OfDict}
+use Rattle.native_containers.specs.declared.take.Kind.{Kind as Container}
 use Rattle.native_containers.specs.declared.take.Kind.TheVariants as kind
 use Rattle.native_containers.specs.Say.{given_or as value_or}
 use Rattle.native_containers.specs.Take.{with_own as with_container, is_of as is_container}

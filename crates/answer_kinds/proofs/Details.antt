@@ -1,30 +1,30 @@
 -- The natives of descriptors, getters and setters that end at once answer with objects.
-use Rattle.std.proofs.Common.{Bool, List, None, Ok, Option, Some, length, map, nat_le, option_and_then, option_map, pos, refl, ℕ, []}
-use  Rattle.py_node.specs.declared.refs.PyObjectRef.{PyObjectRef}
-use  Rattle.py_node.specs.declared.raised.Cause.{Cause}
-use  Rattle.py_node.specs.declared.raised.Cause.TheVariants.{NameType, NoAttribute, BasesShape, NotAClass, NoDict, CannotDelete, SelfType}
-use  Rattle.py_node.specs.declared.payload.PyProperty.{PyProperty}
-use  Rattle.py_node.specs.declared.built_in.BuiltIn.{BuiltIn}
+use Rattle.std.proofs.Common.{Bool, List, None, Ok, Option, Some, length, map, nat_le, option_and_then, option_map, pos, ℕ, []}
+use Rattle.py_node.specs.declared.refs.PyObjectRef.{PyObjectRef}
+use Rattle.py_node.specs.declared.raised.Cause.{Cause}
+use Rattle.py_node.specs.declared.raised.Cause.TheVariants.{NameType, NoAttribute, BasesShape, NotAClass, NoDict, CannotDelete}
+use Rattle.py_node.specs.declared.payload.PyProperty.{PyProperty}
+use Rattle.py_node.specs.declared.built_in.BuiltIn.{BuiltIn}
 use Rattle.py_node.specs.declared.built_in.BuiltIn.TheVariants as built_in
-use  Rattle.py_node.specs.declared.entry.Detail.{Detail}
+use Rattle.py_node.specs.declared.entry.Detail.{Detail}
 use Rattle.py_node.specs.declared.entry.Detail.TheVariants as detail
-use  Rattle.py_node.specs.declared.entry.Property.{Property}
+use Rattle.py_node.specs.declared.entry.Property.{Property}
 use Rattle.py_node.specs.declared.entry.Property.TheVariants as property
-use  Rattle.py_node.specs.declared.entry.CallableNative.{CallableNative}
+use Rattle.py_node.specs.declared.entry.CallableNative.{CallableNative}
 use Rattle.py_node.specs.declared.entry.CallableNative.TheVariants as callable
-use  Rattle.py_node.specs.declared.entry.DescriptorNative.{DescriptorNative}
+use Rattle.py_node.specs.declared.entry.DescriptorNative.{DescriptorNative}
 use Rattle.py_node.specs.declared.entry.DescriptorNative.TheVariants as descriptor
-use  Rattle.py_node.specs.declared.entry.PropertyNative.{PropertyNative}
+use Rattle.py_node.specs.declared.entry.PropertyNative.{PropertyNative}
 use Rattle.py_node.specs.declared.entry.PropertyNative.TheVariants as parts
-use  Rattle.py_node.specs.declared.entry.WrapperNative.{WrapperNative}
+use Rattle.py_node.specs.declared.entry.WrapperNative.{WrapperNative}
 use Rattle.py_node.specs.declared.entry.WrapperNative.TheVariants as wrapper
-use  Rattle.py_node.specs.declared.entry.SuperNative.{SuperNative}
+use Rattle.py_node.specs.declared.entry.SuperNative.{SuperNative}
 use Rattle.py_node.specs.declared.entry.SuperNative.TheVariants as super
 use Rattle.class_model.specs.Class.{class_at as class_numbered}
-use  Rattle.class_table.specs.Rebase.{refused_class, refused_rebase}
-use  Rattle.signatures.specs.Signature.{signature_of}
-use  Rattle.native_base.specs.Say.{in_length}
-use  Rattle.native_objects.specs.Takes.{method_in, member_in, super_in, static_in, property_in, with_own, there_or}
+use Rattle.class_table.specs.Rebase.{refused_class, refused_rebase}
+use Rattle.signatures.specs.Signature.{signature_of}
+use Rattle.native_base.specs.Say.{in_length}
+use Rattle.native_objects.specs.Takes.{method_in, member_in, super_in, static_in, property_in}
 use Rattle.native_objects.specs.Descriptors.{property_part as property_with_part}
 use Rattle.native_objects.specs.Names.{text_of as name_of}
 use Rattle.py_node.specs.declared.known.Known.TheVariants as known
@@ -45,9 +45,9 @@ use Rattle.native_objects.specs.Attributes.{class_dict, given_annotations, annot
 use Rattle.native_objects.specs.Names.{given, has_null, builtins}
 use Rattle.native_objects.specs.Objects.{or_nothing}
 use Rattle.plain_machine.specs.Plain.{Datum, ATuple, AList, ADict, AStaticMethod, AProperty, ASuper, Bindings, PlainWorld, Told, Said}
-use Rattle.plain_machine.specs.World.{ref, datum_at, class_at, with_node}
+use Rattle.plain_machine.specs.World.{ref, datum_at, class_at}
 use Rattle.plain_machine.specs.Objects.{class_number}
-use Rattle.plain_machine.specs.Known.{the_object, the_tuple, the_dict}
+use Rattle.plain_machine.specs.Known.{the_object, the_tuple}
 use Rattle.plain_machine.specs.Dicts.{dict_of}
 use Rattle.plain_machine.specs.ClassText.{name_at}
 use Rattle.py_node.specs.Known.{known_text}

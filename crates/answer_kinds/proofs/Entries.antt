@@ -1,10 +1,10 @@
 -- What a slot's entry is asked for, and rows that go over items.
 use Rattle.std.proofs.Common.{◌++◌, Bool, Err, List, Ok, Result, Some, cond, false, length, nat_le, suc, true, zero, ℕ, ℤ, ◌∷◌, []}
-use  Rattle.py_node.specs.declared.refs.PyObjectRef.{PyObjectRef}
-use  Rattle.py_node.specs.declared.entry.SlotEntry.{SlotEntry}
-use  Rattle.py_node.specs.declared.entry.SlotEntry.TheVariants.{Native, Wrapper, Unhashable}
-use  Rattle.py_node.specs.declared.raised.Cause.TheVariants.{TooLong}
-use  Rattle.py_node.specs.declared.known.Known.{Known}
+use Rattle.py_node.specs.declared.refs.PyObjectRef.{PyObjectRef}
+use Rattle.py_node.specs.declared.entry.SlotEntry.{SlotEntry}
+use Rattle.py_node.specs.declared.entry.SlotEntry.TheVariants.{Native, Wrapper, Unhashable}
+use Rattle.py_node.specs.declared.raised.Cause.TheVariants.{TooLong}
+use Rattle.py_node.specs.declared.known.Known.{Known}
 use Rattle.answer_kinds.specs.Kinds as kinds
 use Rattle.answer_kinds.specs.Kinds.{Kind, kind_of_entry, kind_of}
 use Rattle.answer_kinds.proofs.Base.{So, Fits, within, Family, GoesOn, KindedFor, Kinded, ended, Says, asks, asking, one_of, on-value, on-truth, on-number, native-asked, native-given, is_given}

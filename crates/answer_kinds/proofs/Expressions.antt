@@ -1,27 +1,24 @@
 -- The rows of expressions answer with objects.
-use Rattle.std.proofs.Common.{◌++◌, Bool, Err, List, None, Ok, Option, Some, cond, drop, eqb, false, is_some, length, nat_le, not, refl, take, true, ℕ, ℤ, ◌∷◌, []}
-use  Rattle.py_node.specs.declared.refs.PyObjectRef.{PyObjectRef}
-use  Rattle.py_node.specs.declared.raised.Cause.TheVariants.{ArgCount, IndexRange, IterEnd, KeyType, RepeatedKeyword, TooLong, Unbound, Body}
-use  Rattle.py_node.specs.declared.raised.Kind.{Kind as FaultKind}
-use  Rattle.py_node.specs.declared.entry.SlotId.TheVariants.{Call}
-use  Rattle.py_node.specs.declared.expr.Word.{Word}
+use Rattle.std.proofs.Common.{◌++◌, Bool, Err, List, None, Ok, Option, Some, cond, drop, eqb, false, is_some, length, nat_le, not, take, true, ℕ, ℤ, ◌∷◌, []}
+use Rattle.py_node.specs.declared.refs.PyObjectRef.{PyObjectRef}
+use Rattle.py_node.specs.declared.raised.Cause.TheVariants.{ArgCount, IterEnd, KeyType, RepeatedKeyword, TooLong, Body}
+use Rattle.py_node.specs.declared.entry.SlotId.TheVariants.{Call}
+use Rattle.py_node.specs.declared.expr.Word.{Word}
 use Rattle.py_node.specs.declared.expr.Word.TheVariants as word
 use Rattle.py_node.specs.declared.expr.SequenceWord.TheVariants as sequence
 use Rattle.py_node.specs.declared.expr.ObjectWord.TheVariants as object
 use Rattle.py_node.specs.declared.task.PyNumberBinaryOp.TheVariants as op
-use  Rattle.eval_forms.specs.declared.outcome.Outcome.{Outcome}
+use Rattle.eval_forms.specs.declared.outcome.Outcome.{Outcome}
 use Rattle.eval_forms.specs.declared.outcome.Outcome.TheVariants as outcome
-use  Rattle.eval_forms.specs.declared.manner.Manner.{Manner}
+use Rattle.eval_forms.specs.declared.manner.Manner.{Manner}
 use Rattle.eval_forms.specs.declared.manner.Manner.TheVariants as manner
-use  Rattle.eval_forms.specs.declared.bounds.Counted.{Counted}
+use Rattle.eval_forms.specs.declared.bounds.Counted.{Counted}
 use Rattle.eval_forms.specs.declared.bounds.Counted.TheVariants as counted
-use  Rattle.eval_forms.specs.declared.bounds.Part.{Part}
+use Rattle.eval_forms.specs.declared.bounds.Part.{Part}
 use Rattle.eval_forms.specs.declared.bounds.Part.TheVariants as part
 use Rattle.eval_forms.specs.Words.{is_of as same_of, on_objects as on_collected, made as made_of, asked as word_asked, one_of as lone, index_by as number_by}
-use  Rattle.eval_forms.specs.Say.{keyed}
-use  Rattle.py_node.specs.Tree.{Text, Tree, TAttr, TConst, TName, TBind, TTuple, TList, TDict, TFunc, TSetAttr, TDelAttr, TCall, TOp, TIf, TSeq, TRaise, TClass, KeyedTrees, no_keyed, Trees, Entries, Literal, LNone, LFalse, LTrue, LInt, LText, list_of, entry_trees}
+use Rattle.py_node.specs.Tree.{Text, Tree, TAttr, TConst, TName, TBind, TTuple, TList, TDict, TFunc, TSetAttr, TDelAttr, TCall, TOp, TIf, TSeq, TRaise, TClass, KeyedTrees, no_keyed, Trees, Entries, Literal, LNone, LFalse, LTrue, LInt, LText, list_of, entry_trees}
 use Rattle.py_node.specs.Tree.{keyed as keyed_tree}
-use  Rattle.std.specs.Prelude.{slice_get}
 use Rattle.answer_kinds.specs.Kinds as kinds
 use Rattle.answer_kinds.specs.Kinds.{Kind, kind_of}
 use Rattle.answer_kinds.proofs.Base.{So, Fits, within, Kinded, ended, Says, ends, asks, at_once, never, started, asking, finished, passed, on-value, on-truth, on-number, on-done, ended-by}

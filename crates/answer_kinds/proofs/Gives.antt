@@ -1,8 +1,7 @@
 -- What natives take that ask no task, and what they give.
 use Rattle.std.proofs.Common.{Bool, Err, List, None, Ok, Option, Result, Some, nat_le, ℕ, ℤ, ◌∷◌, []}
-use  Rattle.py_node.specs.declared.refs.PyObjectRef.{PyObjectRef}
-use  Rattle.py_node.specs.declared.raised.Raised.{Raised as Fault}
-use  Rattle.py_node.specs.declared.raised.Cause.{Cause}
+use Rattle.py_node.specs.declared.refs.PyObjectRef.{PyObjectRef}
+use Rattle.py_node.specs.declared.raised.Raised.{Raised as Fault}
 use Rattle.answer_kinds.specs.Kinds as kinds
 use Rattle.answer_kinds.specs.Kinds.{Kind}
 use Rattle.answer_kinds.proofs.Base.{Says, ends}

@@ -1,6 +1,6 @@
 -- A row that goes on only while a test of the world holds, and else ends.
 use Rattle.std.proofs.Common.{◌++◌, Bool, List, cond, false, inl, inr, length, nat_le, refl, subst, suc, sym, true, zero, ℕ, ◌∷◌, ◌≡◌, ◌⊎◌, []}
-use  Rattle.py_node.specs.declared.raised.Cause.TheVariants.{TooLong}
+use Rattle.py_node.specs.declared.raised.Cause.TheVariants.{TooLong}
 use Rattle.answer_kinds.specs.Kinds as kinds
 use Rattle.answer_kinds.specs.Kinds.{Kind}
 use Rattle.answer_kinds.proofs.Base.{Fits, Family, after, GoesOn, KindedFor, Kinded, ended, ends, finished, one_of}

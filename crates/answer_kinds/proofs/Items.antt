@@ -1,10 +1,10 @@
 -- The rows of items, slices and views answer of their kinds.
-use Rattle.std.proofs.Common.{Bool, Err, List, None, Ok, Option, Some, cond, false, suc, true, zero, ℕ, ℤ, ◌∷◌, []}
-use  Rattle.py_node.specs.declared.refs.PyObjectRef.{PyObjectRef}
-use  Rattle.py_node.specs.declared.raised.Cause.TheVariants.{NotSubscriptable, NonIterableMethod}
-use  Rattle.py_node.specs.declared.entry.SlotId.TheVariants.{MapSubscript, MapAssSubscript, SeqItem}
-use  Rattle.py_node.specs.declared.entry.SlotEntry.{SlotEntry}
-use  Rattle.py_node.specs.declared.known.Known.{Known}
+use Rattle.std.proofs.Common.{Bool, Err, None, Ok, Option, Some, cond, false, suc, true, zero, ℕ, ℤ, ◌∷◌, []}
+use Rattle.py_node.specs.declared.refs.PyObjectRef.{PyObjectRef}
+use Rattle.py_node.specs.declared.raised.Cause.TheVariants.{NotSubscriptable, NonIterableMethod}
+use Rattle.py_node.specs.declared.entry.SlotId.TheVariants.{MapSubscript, MapAssSubscript, SeqItem}
+use Rattle.py_node.specs.declared.entry.SlotEntry.{SlotEntry}
+use Rattle.py_node.specs.declared.known.Known.{Known}
 use Rattle.py_node.specs.declared.known.Known.TheVariants as known
 use Rattle.answer_kinds.specs.Kinds as kinds
 use Rattle.answer_kinds.specs.Kinds.{Kind}
@@ -17,15 +17,15 @@ use Rattle.answer_kinds.proofs.Containers.{pairs-given}
 use Rattle.answer_kinds.proofs.Entries.{entered-asked, entry-value, all-row}
 use Rattle.proto_items.specs.Say.{items_job_say}
 use Rattle.proto_items.specs.Items.{is_subscripted, get_item_by, item_by, class_item, get_item_rest, get_item_say, deleted, set_item_by, del_item_by, assigner, ends_done}
-use Rattle.proto_items.specs.Slices.{the_slice, with_slice, get_slice_by, set_slice_by, del_slice_by}
+use Rattle.proto_items.specs.Slices.{with_slice, get_slice_by, set_slice_by, del_slice_by}
 use Rattle.proto_items.specs.Views.{on_method, on_iterable, listed_by, listed, view_by, view_say}
 use Rattle.proto_base.specs.Each.{all_items}
 use Rattle.proto_base.specs.Entered.{entered, is_exactly}
 use Rattle.native_containers.specs.Say.{list_made, keys_of, values_of, pairs_made}
 use Rattle.native_containers.specs.Take.{entries_at}
-use Rattle.plain_machine.specs.Plain.{ANumber, ATuple, AList, PlainWorld, DoInvoke, DoCall, DoGetItem, DoSetItem, DoDelItem, DoGetSlice, DoSetSlice, DoDelSlice, DoKeys, DoValues, DoItems, ToAttribute, ToCall, AsValue, AsFunction, AsAttribute, Ended, Chose, Told, Said}
+use Rattle.plain_machine.specs.Plain.{AList, PlainWorld, DoInvoke, DoCall, DoGetItem, DoSetItem, DoDelItem, DoGetSlice, DoSetSlice, DoDelSlice, DoKeys, DoValues, DoItems, ToAttribute, ToCall, AsValue, AsFunction, AsAttribute, Ended, Chose, Told, Said}
 use Rattle.plain_machine.specs.World.{slot_at}
-use Rattle.plain_machine.specs.Known.{the_int, the_tuple, the_list, the_dict}
+use Rattle.plain_machine.specs.Known.{the_list, the_dict}
 use Rattle.plain_machine.specs.Row.{start, ask, end, done, pass, fault, is_attribute_error, on_value, make}
 use Rattle.plain_machine.specs.Dicts.{Entries}
 

@@ -1,12 +1,12 @@
 -- The rows of iterations answer of their kinds.
 use Rattle.std.proofs.Common.{◌||◌, Bool, Err, None, Ok, Option, Result, Some, cond, eqb, false, is_some, pos, suc, true, zero, ℕ, ◌∷◌, if◌then◌else◌, []}
-use  Rattle.py_node.specs.declared.refs.PyObjectRef.{PyObjectRef}
-use  Rattle.py_node.specs.declared.raised.Cause.TheVariants.{IndexRange, NotFound, NotIterator}
-use  Rattle.py_node.specs.declared.entry.SlotId.TheVariants.{Iter, Iternext, SeqItem, SeqContains}
-use  Rattle.py_node.specs.declared.entry.SlotEntry.{SlotEntry}
-use  Rattle.py_node.specs.declared.entry.SlotEntry.TheVariants.{Native}
+use Rattle.py_node.specs.declared.refs.PyObjectRef.{PyObjectRef}
+use Rattle.py_node.specs.declared.raised.Cause.TheVariants.{IndexRange, NotFound, NotIterator}
+use Rattle.py_node.specs.declared.entry.SlotId.TheVariants.{Iter, Iternext, SeqItem, SeqContains}
+use Rattle.py_node.specs.declared.entry.SlotEntry.{SlotEntry}
+use Rattle.py_node.specs.declared.entry.SlotEntry.TheVariants.{Native}
 use Rattle.py_node.specs.declared.known.Known.TheVariants as known
-use  Rattle.py_node.specs.BuiltIns.{fixed_true, fixed_false}
+use Rattle.py_node.specs.BuiltIns.{fixed_true, fixed_false}
 use Rattle.proto_base.specs.Each.{number as number_ended}
 use Rattle.native_numbers.specs.Say.{truth_of as truth_in}
 use Rattle.answer_kinds.specs.Kinds as kinds

@@ -1,11 +1,9 @@
 -- A task's answer is of its kind, where each task's row is: whatever is asked on the way is so before.
-use Rattle.std.proofs.Common.{◌≡◌, ℕ, zero, suc, Bool, true, false, cond, nat_lt, length, List, [], ◌∷◌, ◌++◌, Ok, sym, subst, append_assoc, append-nil}
-use Rattle.py_node.specs.declared.raised.Cause.TheVariants.{DepthLimit}
+use Rattle.std.proofs.Common.{◌≡◌, ℕ, zero, suc, Bool, true, false, cond, nat_lt, length, [], ◌∷◌, ◌++◌, Ok, subst, append_assoc, append-nil}
 use Rattle.plain_machine.specs.Plain.{PlainWorld, PlainTask, PlainAnswer, Ended, Answered, Told, Said, Asks, Ends, Saying}
-use Rattle.plain_machine.specs.Row.{fault}
 use Rattle.plain_machine.specs.Answer.{Over, NoUnits, Outcome, Out, Follow, carry, asked, step, follow, reach, closing, answer}
 use Rattle.answer_kinds.specs.Kinds.{Kind, is_of, kind_of}
-use Rattle.answer_kinds.proofs.Base.{So, Fits, Family, after, GoesOn, Kinded, goes-on}
+use Rattle.answer_kinds.proofs.Base.{So, Fits, Family, GoesOn, Kinded, goes-on}
 
 -- where a task is over, its answer is of the kind
 abbrev pub IsGood : Kind → Outcome → Type 0

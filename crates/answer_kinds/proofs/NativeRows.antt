@@ -1,11 +1,11 @@
 -- Each native that stands in no group of tasks answers of its kind.
 use Rattle.std.proofs.Common.{List, Some}
-use  Rattle.py_node.specs.declared.refs.PyObjectRef.{PyObjectRef}
-use  Rattle.py_node.specs.declared.built_in.BuiltIn.{BuiltIn}
+use Rattle.py_node.specs.declared.refs.PyObjectRef.{PyObjectRef}
+use Rattle.py_node.specs.declared.built_in.BuiltIn.{BuiltIn}
 use Rattle.py_node.specs.declared.built_in.BuiltIn.TheVariants as built_in
 use Rattle.py_node.specs.declared.entry.CallableNative.TheVariants as callable
 use Rattle.py_node.specs.declared.entry.DescriptorNative.TheVariants as descriptor
-use  Rattle.py_node.specs.declared.entry.Detail.{Detail}
+use Rattle.py_node.specs.declared.entry.Detail.{Detail}
 use Rattle.py_node.specs.declared.entry.Detail.TheVariants as detail
 use Rattle.py_node.specs.declared.entry.DictNative.TheVariants as dict
 use Rattle.py_node.specs.declared.entry.IteratorNative.TheVariants as iterator
@@ -15,8 +15,8 @@ use Rattle.py_node.specs.declared.entry.StrNative.TheVariants as str
 use Rattle.py_node.specs.declared.entry.SuperNative.TheVariants as super
 use Rattle.py_node.specs.declared.entry.TupleNative.TheVariants as tuple
 use Rattle.py_node.specs.declared.entry.WrapperNative.TheVariants as wrapper
-use  Rattle.py_node.specs.declared.entry.NativeEntry.{NativeEntry}
-use  Rattle.py_node.specs.declared.entry.NativeEntry.TheVariants.{OfObject, OfType, OfInt, OfCallable, OfFixed, OfNumber, OfArithmetic, OfBits, OfStr, OfTuple, OfList, OfDict, OfDescriptor, OfProperty, OfWrapper, OfSuper, OfIterator, Compare, Getter, Setter, GetterOf, SetterOf, NewOf, NewWrapper}
+use Rattle.py_node.specs.declared.entry.NativeEntry.{NativeEntry}
+use Rattle.py_node.specs.declared.entry.NativeEntry.TheVariants.{OfObject, OfType, OfInt, OfCallable, OfFixed, OfNumber, OfArithmetic, OfBits, OfStr, OfTuple, OfList, OfDict, OfDescriptor, OfProperty, OfWrapper, OfSuper, OfIterator, Compare, Getter, Setter, GetterOf, SetterOf, NewOf, NewWrapper}
 use Rattle.native_containers.specs.declared.take.Kind.TheVariants as kind
 use Rattle.native_parts.specs.declared.take.Container.TheVariants as shown
 use Rattle.native_parts.specs.declared.wrapped.Wrapper.TheVariants as wraps
@@ -24,18 +24,18 @@ use Rattle.native_repeats.specs.declared.kind.Repeated.TheVariants as repeated
 use Rattle.native_calls.specs.declared.way.Kind.TheVariants as bound
 use Rattle.native_calls.specs.declared.way.Setting.TheVariants as setting
 use Rattle.native_calls.specs.declared.way.Wrapper.TheVariants as wrapping
-use  Rattle.natives.specs.Say.{NativeJob, native_say, native_job_say, native_by}
-use  Rattle.py_node.specs.declared.entry.StrNative.{StrNative}
-use  Rattle.py_node.specs.declared.entry.TupleNative.{TupleNative}
-use  Rattle.py_node.specs.declared.entry.ListNative.{ListNative}
-use  Rattle.py_node.specs.declared.entry.DictNative.{DictNative}
-use  Rattle.py_node.specs.declared.entry.IteratorNative.{IteratorNative}
-use  Rattle.py_node.specs.declared.entry.CallableNative.{CallableNative}
-use  Rattle.py_node.specs.declared.entry.DescriptorNative.{DescriptorNative}
-use  Rattle.py_node.specs.declared.entry.PropertyNative.{PropertyNative}
-use  Rattle.py_node.specs.declared.entry.WrapperNative.{WrapperNative}
-use  Rattle.py_node.specs.declared.entry.SuperNative.{SuperNative}
-use  Rattle.py_node.specs.declared.entry.CompareNative.{CompareNative}
+use Rattle.natives.specs.Say.{NativeJob, native_say, native_job_say, native_by}
+use Rattle.py_node.specs.declared.entry.StrNative.{StrNative}
+use Rattle.py_node.specs.declared.entry.TupleNative.{TupleNative}
+use Rattle.py_node.specs.declared.entry.ListNative.{ListNative}
+use Rattle.py_node.specs.declared.entry.DictNative.{DictNative}
+use Rattle.py_node.specs.declared.entry.IteratorNative.{IteratorNative}
+use Rattle.py_node.specs.declared.entry.CallableNative.{CallableNative}
+use Rattle.py_node.specs.declared.entry.DescriptorNative.{DescriptorNative}
+use Rattle.py_node.specs.declared.entry.PropertyNative.{PropertyNative}
+use Rattle.py_node.specs.declared.entry.WrapperNative.{WrapperNative}
+use Rattle.py_node.specs.declared.entry.SuperNative.{SuperNative}
+use Rattle.py_node.specs.declared.entry.CompareNative.{CompareNative}
 use Rattle.answer_kinds.specs.Kinds as kinds
 use Rattle.answer_kinds.specs.Kinds.{Kind, kind_of_native}
 use Rattle.answer_kinds.proofs.Base.{Kinded, Says, ends, never, finished}

@@ -1,13 +1,12 @@
 -- The rows by which an object stands for a truth value, a whole number or a length answer of their kinds.
 use Rattle.std.proofs.Common.{Bool, Err, None, Ok, Option, Some, cond, int_lt, is_some, not, pos, suc, zero, ℕ, ℤ, ◌∷◌, []}
-use  Rattle.py_node.specs.declared.refs.PyObjectRef.{PyObjectRef}
-use  Rattle.py_node.specs.declared.raised.Raised.{Raised as Fault}
-use  Rattle.py_node.specs.declared.raised.Cause.TheVariants.{BoolType, IndexReturn, IntReturn, TruncReturn, IndexRange, NegativeLength}
+use Rattle.py_node.specs.declared.refs.PyObjectRef.{PyObjectRef}
+use Rattle.py_node.specs.declared.raised.Cause.TheVariants.{IndexReturn, IntReturn, TruncReturn, IndexRange, NegativeLength}
 use Rattle.py_node.specs.declared.entry.SlotId.TheVariants as slots
-use  Rattle.py_node.specs.declared.entry.SlotEntry.{SlotEntry}
-use  Rattle.py_node.specs.declared.entry.SlotEntry.TheVariants.{Native, Wrapper}
+use Rattle.py_node.specs.declared.entry.SlotEntry.{SlotEntry}
+use Rattle.py_node.specs.declared.entry.SlotEntry.TheVariants.{Native, Wrapper}
 use Rattle.py_node.specs.declared.known.Known.TheVariants as known
-use  Rattle.std.specs.Option.{option_or}
+use Rattle.std.specs.Option.{option_or}
 use Rattle.proto_number.specs.Lengths.{tested as length_tested, as_number as length_number, length_given, length_by, length_rest, length_slot, length_say, is_type_error, or_given, expected_by, hinted, expected_given, expected_say, hint_rest, hint_say}
 use Rattle.native_numbers.specs.Say.{truth_of as truth_in}
 use Rattle.answer_kinds.specs.Kinds as kinds

@@ -1,17 +1,14 @@
 -- The rows of what all objects can do answer of their kinds.
 use Rattle.std.proofs.Common.{◌&&◌, ◌++◌, Bool, Err, List, None, Ok, Option, Some, cond, eqb, false, map, suc, true, zero, ℕ, ℤ, ◌∷◌, []}
-use  Rattle.py_node.specs.declared.refs.PyObjectRef.{PyObjectRef}
-use  Rattle.py_node.specs.declared.raised.Cause.{Cause}
-use  Rattle.py_node.specs.declared.raised.Cause.TheVariants.{ClassArg, ReprType, StrType, FormatType}
-use  Rattle.py_node.specs.declared.entry.SlotId.TheVariants.{Hash, Repr}
-use  Rattle.py_node.specs.declared.entry.SlotEntry.{SlotEntry}
-use Rattle.py_node.specs.declared.entry.SlotEntry.TheVariants as entry
-use  Rattle.py_node.specs.declared.known.Known.{Known}
+use Rattle.py_node.specs.declared.refs.PyObjectRef.{PyObjectRef}
+use Rattle.py_node.specs.declared.raised.Cause.{Cause}
+use Rattle.py_node.specs.declared.raised.Cause.TheVariants.{ClassArg, ReprType, StrType, FormatType}
+use Rattle.py_node.specs.declared.entry.SlotId.TheVariants.{Hash, Repr}
+use Rattle.py_node.specs.declared.entry.SlotEntry.{SlotEntry}
+use Rattle.py_node.specs.declared.known.Known.{Known}
 use Rattle.py_node.specs.declared.known.Known.TheVariants as known
-use Rattle.proto_base.specs.Each.{number as number_ended}
-use  Rattle.native_objects.specs.Attributes.{keyed}
-use  Rattle.native_texts.specs.Say.{text_of}
-use  Rattle.native_numbers.specs.Numbers.{number_hash}
+use Rattle.native_objects.specs.Attributes.{keyed}
+use Rattle.native_texts.specs.Say.{text_of}
 use Rattle.answer_kinds.specs.Kinds as kinds
 use Rattle.answer_kinds.specs.Kinds.{kind_of_object, kind_of}
 use Rattle.answer_kinds.proofs.Base.{So, Fits, within, GoesOn, Kinded, ended, Says, ends, asks, at_once, on_way, stepped, goes-on, started, forked, asking, passed, chosen, read_objects_once, on-value, ended-by, either-fits, IsGiven, for_given, started-given}

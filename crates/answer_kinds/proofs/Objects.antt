@@ -1,12 +1,12 @@
 -- The natives of `object` and `type` that ask no task answer of their kinds.
 use Rattle.std.proofs.Common.{Bool, List, None, Option, Some, length, map, nat_le, ℕ, ◌∷◌, []}
-use  Rattle.py_node.specs.declared.refs.PyObjectRef.{PyObjectRef}
-use  Rattle.py_node.specs.declared.entry.ObjectNative.{ObjectNative}
+use Rattle.py_node.specs.declared.refs.PyObjectRef.{PyObjectRef}
+use Rattle.py_node.specs.declared.entry.ObjectNative.{ObjectNative}
 use Rattle.py_node.specs.declared.entry.ObjectNative.TheVariants as object
-use  Rattle.py_node.specs.declared.entry.TypeNative.{TypeNative}
+use Rattle.py_node.specs.declared.entry.TypeNative.{TypeNative}
 use Rattle.py_node.specs.declared.entry.TypeNative.TheVariants as type
-use  Rattle.py_node.specs.declared.entry.NativeEntry.TheVariants.{OfObject}
-use  Rattle.py_node.specs.declared.raised.Cause.TheVariants.{SelfType}
+use Rattle.py_node.specs.declared.entry.NativeEntry.TheVariants.{OfObject}
+use Rattle.py_node.specs.declared.raised.Cause.TheVariants.{SelfType}
 use Rattle.answer_kinds.specs.Kinds as kinds
 use Rattle.answer_kinds.specs.Kinds.{Kind, kind_of_native}
 use Rattle.answer_kinds.proofs.Base.{Says, ends}
@@ -16,10 +16,10 @@ use Rattle.answer_kinds.proofs.Own.{there-or, takes-class, takes-lone-class, tak
 use Rattle.native_objects.specs.Objects.{repr_of, object_subclass_hook, object_native_say, or_nothing, type_native_say}
 use Rattle.native_objects.specs.Attributes.{keyed, dict_made, keys_made, or_no_attributes}
 use Rattle.native_objects.specs.Names.{object_text, class_text}
-use Rattle.plain_machine.specs.Plain.{AText, AList, ADict, Bindings, PlainWorld, Told}
-use Rattle.plain_machine.specs.World.{is_text, ref, datum_at, class_at, with_node}
+use Rattle.plain_machine.specs.Plain.{AList, ADict, Bindings, PlainWorld, Told}
+use Rattle.plain_machine.specs.World.{is_text, ref, datum_at, class_at}
 use Rattle.plain_machine.specs.Objects.{class_number}
-use Rattle.plain_machine.specs.Known.{the_str, the_list, the_dict}
+use Rattle.plain_machine.specs.Known.{the_list, the_dict}
 use Rattle.plain_machine.specs.Dicts.{Entries}
 use Rattle.class_model.specs.Class.{lin, subclasses}
 use Rattle.class_model.specs.Collect.{all_attributes}

@@ -1,5 +1,4 @@
 -- What the natives of the built-in classes answer that stand in the slots of operators.
-use Rattle.std.proofs.Common.{Option, Some, None}
 use Rattle.py_node.specs.declared.refs.PyObjectRef.{PyObjectRef}
 use Rattle.py_node.specs.declared.built_in.BuiltIn.{BuiltIn}
 use Rattle.py_node.specs.declared.built_in.BuiltIn.TheVariants as built_in
@@ -12,7 +11,7 @@ use Rattle.py_node.specs.Slots.{names_of, slot_names, filling_of, slot_fillings}
 use Rattle.py_node.specs.Slots.{place_of as slot_place}
 use Rattle.class_model.specs.BuiltIn.{entry_among}
 use Rattle.plain_machine.specs.Plain.{PlainWorld}
-use Rattle.answer_kinds.specs.Kinds.{Kind, Value, kind_of_native}
+use Rattle.answer_kinds.specs.Kinds.{Value, kind_of_native}
 use Rattle.answer_kinds.proofs.Base.{So}
 use Rattle.answer_kinds.proofs.Columns.{gives_in, Column, slot-at-gives}
 use Rattle.proto_ops.specs.Binary.{slot_in_place}

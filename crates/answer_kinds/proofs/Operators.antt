@@ -1,24 +1,24 @@
 -- The rows of operators answer of their kinds.
 use Rattle.std.proofs.Common.{◌&&◌, Bool, Err, List, None, Ok, Option, Some, cond, eqb, false, suc, true, zero, ℕ, ℤ, ◌∷◌, []}
-use  Rattle.py_node.specs.declared.refs.PyObjectRef.{PyObjectRef}
-use  Rattle.py_node.specs.declared.raised.Cause.{Cause}
-use  Rattle.py_node.specs.declared.raised.Cause.TheVariants.{UnsupportedOperand, NotConcatenable, NotRepeatable, RepeatTooLong}
-use  Rattle.py_node.specs.declared.entry.ListNative.TheVariants.{InplaceMultiply}
-use  Rattle.py_node.specs.declared.entry.NativeEntry.{NativeEntry}
-use  Rattle.py_node.specs.declared.entry.NativeEntry.TheVariants.{OfList}
-use  Rattle.py_node.specs.declared.entry.SlotId.{SlotId}
+use Rattle.py_node.specs.declared.refs.PyObjectRef.{PyObjectRef}
+use Rattle.py_node.specs.declared.raised.Cause.{Cause}
+use Rattle.py_node.specs.declared.raised.Cause.TheVariants.{UnsupportedOperand, NotConcatenable, NotRepeatable, RepeatTooLong}
+use Rattle.py_node.specs.declared.entry.ListNative.TheVariants.{InplaceMultiply}
+use Rattle.py_node.specs.declared.entry.NativeEntry.{NativeEntry}
+use Rattle.py_node.specs.declared.entry.NativeEntry.TheVariants.{OfList}
+use Rattle.py_node.specs.declared.entry.SlotId.{SlotId}
 use Rattle.py_node.specs.declared.entry.SlotId.TheVariants as slots
-use  Rattle.py_node.specs.declared.entry.SlotEntry.{SlotEntry}
-use  Rattle.py_node.specs.declared.entry.SlotEntry.TheVariants.{Native, Wrapper, Unhashable}
-use  Rattle.py_node.specs.declared.known.Known.{Known}
-use  Rattle.py_node.specs.declared.task.PyNumberBinaryOp.{PyNumberBinaryOp}
+use Rattle.py_node.specs.declared.entry.SlotEntry.{SlotEntry}
+use Rattle.py_node.specs.declared.entry.SlotEntry.TheVariants.{Native, Wrapper, Unhashable}
+use Rattle.py_node.specs.declared.known.Known.{Known}
+use Rattle.py_node.specs.declared.task.PyNumberBinaryOp.{PyNumberBinaryOp}
 use Rattle.py_node.specs.declared.task.PyNumberBinaryOp.TheVariants as op
-use  Rattle.py_node.specs.declared.task.PyNumberUnaryOp.{PyNumberUnaryOp}
-use  Rattle.py_node.specs.Natives.{is_same_entry}
+use Rattle.py_node.specs.declared.task.PyNumberUnaryOp.{PyNumberUnaryOp}
+use Rattle.py_node.specs.Natives.{is_same_entry}
 use Rattle.class_model.specs.Slot.{in_turn as either_turn, without_same}
 use Rattle.plain_machine.specs.World.{class_at as class_of}
 use Rattle.std.specs.List.{list_any as any_in}
-use  Rattle.std.specs.Option.{option_or}
+use Rattle.std.specs.Option.{option_or}
 use Rattle.native_base.specs.Repeats.{repeated as native_repeated}
 use Rattle.answer_kinds.specs.Kinds as kinds
 use Rattle.answer_kinds.specs.Kinds.{Kind, kind_of_native, kind_of_entry, kind_of_operator, kind_of}
@@ -33,7 +33,7 @@ use Rattle.proto_ops.specs.Binary.{in_turn, binop1_say, method_of, asked_of_meth
 use Rattle.proto_ops.specs.Powers.{enter_power_by, enter_power_say, thirds, third_of, third_by, power_in_turn, power_say, power_in_place_by, power_in_place_rest, inplace_power_say}
 use Rattle.proto_ops.specs.Sequences.{joined, is_sequence, concat_by, concat_rest, concat_say, inplace_concat_slot, inplace_concat_say, repeated_by, repeated_rest, repeated, mul_say, inplace_mul_say, repeat_by, repeat_rest, repeat_say, inplace_repeat_slot, inplace_repeat_say}
 use Rattle.native_base.specs.Repeats.{on_count, sequence_for, with_times, list_repeated, native_repeat}
-use Rattle.plain_machine.specs.Plain.{Datum, ANumber, AText, ATuple, AList, Bindings, PlainWorld, OperatorJob, DoAdd, DoBinOp1, DoEnter, DoBinary, DoInplaceOp1, DoInplace, DoConcat, DoInplaceAdd, DoInplaceConcat, DoMul, DoRepeat, DoInplaceMul, DoInplaceRepeat, DoNativeRepeat, DoEnterPower, DoPower, DoInplacePower, DoUnary, DoInt, PlainTask, ToOperator, AsValue, Ended, Chose, Told, Said}
+use Rattle.plain_machine.specs.Plain.{Datum, AText, ATuple, AList, Bindings, PlainWorld, OperatorJob, DoAdd, DoBinOp1, DoEnter, DoBinary, DoInplaceOp1, DoInplace, DoConcat, DoInplaceAdd, DoInplaceConcat, DoMul, DoRepeat, DoInplaceMul, DoInplaceRepeat, DoNativeRepeat, DoEnterPower, DoPower, DoInplacePower, DoUnary, DoInt, PlainTask, ToOperator, AsValue, Ended, Chose, Told, Said}
 use Rattle.plain_machine.specs.World.{text_keys, datum_at, number_of, slot_at, candidates_at, next_node}
 use Rattle.plain_machine.specs.Objects.{special_at}
 use Rattle.plain_machine.specs.Known.{the_int, the_str, the_tuple, the_list}

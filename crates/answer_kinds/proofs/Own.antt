@@ -1,10 +1,9 @@
 -- What the natives of objects, classes and descriptors take.
 use Rattle.std.proofs.Common.{Bool, List, None, Option, Some, eqb, ℕ, ◌∷◌, []}
-use  Rattle.py_node.specs.declared.refs.PyObjectRef.{PyObjectRef}
-use  Rattle.py_node.specs.declared.raised.Cause.{Cause}
-use  Rattle.py_node.specs.declared.raised.Cause.TheVariants.{SelfType}
-use  Rattle.py_node.specs.declared.built_in.BuiltIn.{BuiltIn}
-use Rattle.answer_kinds.specs.Kinds as kinds
+use Rattle.py_node.specs.declared.refs.PyObjectRef.{PyObjectRef}
+use Rattle.py_node.specs.declared.raised.Cause.{Cause}
+use Rattle.py_node.specs.declared.raised.Cause.TheVariants.{SelfType}
+use Rattle.py_node.specs.declared.built_in.BuiltIn.{BuiltIn}
 use Rattle.answer_kinds.specs.Kinds.{Kind}
 use Rattle.answer_kinds.proofs.Base.{Says, ends}
 use Rattle.answer_kinds.proofs.Said.{either, no-keywords, takes-one, takes-two}

@@ -1,36 +1,34 @@
 -- The natives that make, show, hash, compare and repeat what has parts answer of their kinds.
 use Rattle.std.proofs.Common.{◌++◌, Bool, Err, List, None, Ok, Option, Result, Some, cond, eqb, false, inl, inr, length, not, pos, refl, set, true, zip, ℕ, ℤ, ◌∷◌, ◌≡◌, ◌⊎◌, []}
-use  Rattle.py_node.specs.declared.refs.PyObjectRef.{PyObjectRef}
-use  Rattle.py_node.specs.declared.raised.Cause.TheVariants.{ArgCount, SelfType, QualnameType}
-use  Rattle.py_node.specs.declared.raised.Raised.{Raised as Fault}
+use Rattle.py_node.specs.declared.refs.PyObjectRef.{PyObjectRef}
+use Rattle.py_node.specs.declared.raised.Cause.TheVariants.{SelfType}
+use Rattle.py_node.specs.declared.raised.Raised.{Raised as Fault}
 use Rattle.py_node.specs.declared.built_in.BuiltIn.TheVariants as built_in
-use  Rattle.py_node.specs.declared.entry.NativeEntry.{NativeEntry}
-use  Rattle.py_node.specs.declared.entry.NativeEntry.TheVariants.{OfList}
-use  Rattle.py_node.specs.declared.entry.CompareNative.{CompareNative}
+use Rattle.py_node.specs.declared.entry.NativeEntry.{NativeEntry}
+use Rattle.py_node.specs.declared.entry.NativeEntry.TheVariants.{OfList}
+use Rattle.py_node.specs.declared.entry.CompareNative.{CompareNative}
 use Rattle.py_node.specs.declared.entry.CompareNative.TheVariants as compare
-use  Rattle.py_node.specs.declared.task.PyNumberBinaryOp.TheVariants.{Or}
+use Rattle.py_node.specs.declared.task.PyNumberBinaryOp.TheVariants.{Or}
 use Rattle.py_node.specs.declared.known.Known.TheVariants as known
 use Rattle.native_containers.specs.Take.{is_of as is_container}
-use  Rattle.native_containers.specs.declared.take.Kind.{Kind as Container}
+use Rattle.native_containers.specs.declared.take.Kind.{Kind as Container}
 use Rattle.native_containers.specs.declared.take.Kind.TheVariants as kind
-use  Rattle.native_parts.specs.declared.take.Container.{Container as Shown}
-use Rattle.native_parts.specs.declared.take.Container.TheVariants as shown
-use  Rattle.native_parts.specs.declared.wrapped.Wrapper.{Wrapper}
-use  Rattle.native_compare.specs.declared.way.Way.{Way}
+use Rattle.native_parts.specs.declared.take.Container.{Container as Shown}
+use Rattle.native_parts.specs.declared.wrapped.Wrapper.{Wrapper}
+use Rattle.native_compare.specs.declared.way.Way.{Way}
 use Rattle.native_compare.specs.declared.way.Way.TheVariants as way
-use  Rattle.native_compare.specs.declared.way.Turns.{Turns}
+use Rattle.native_compare.specs.declared.way.Turns.{Turns}
 use Rattle.native_compare.specs.declared.way.Turns.TheVariants as turn
-use  Rattle.native_repeats.specs.declared.kind.Repeated.{Repeated}
-use  Rattle.native_base.specs.Say.{in_length}
-use  Rattle.native_base.specs.Repeats.{on_count, sequence_for, list_repeated, with_times, native_repeat}
-use  Rattle.native_objects.specs.Takes.{with_own, property_in, there_or}
+use Rattle.native_repeats.specs.declared.kind.Repeated.{Repeated}
+use Rattle.native_base.specs.Say.{in_length}
+use Rattle.native_base.specs.Repeats.{on_count, sequence_for, list_repeated}
+use Rattle.native_objects.specs.Takes.{with_own, property_in, there_or}
 use Rattle.native_parts.specs.Texts.{kind_of as shown_kind}
 use Rattle.native_compare.specs.Containers.{answered as way_answered, in_turn as pairs_in_turn, asked as way_asked}
 use Rattle.native_details.specs.Say.{with_name as named_datum}
-use Rattle.py_node.specs.declared.payload.MemberGetter.TheVariants as getter
 use Rattle.answer_kinds.specs.Kinds as kinds
 use Rattle.answer_kinds.specs.Kinds.{Kind, kind_of}
-use Rattle.answer_kinds.proofs.Base.{So, Fits, within, wider, Family, GoesOn, Kinded, ended, Says, ends, asks, at_once, never, stepped, goes-on, started, asking, finished, passed, one_of, read_objects_once, on-value, on-truth, on-maybe, either-fits}
+use Rattle.answer_kinds.proofs.Base.{Fits, within, wider, Family, GoesOn, Kinded, ended, Says, ends, asks, at_once, never, stepped, goes-on, started, asking, finished, passed, one_of, read_objects_once, on-value, on-truth, on-maybe, either-fits}
 use Rattle.answer_kinds.proofs.Said.{either, no-keywords, takes-one, takes-two}
 use Rattle.answer_kinds.proofs.Gives.{object-given, text-given}
 use Rattle.answer_kinds.proofs.Own.{there-or, takes-own, takes-heir}

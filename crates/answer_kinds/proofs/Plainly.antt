@@ -1,36 +1,36 @@
 -- The natives that end at once answer of their kinds.
 use Rattle.std.proofs.Common.{◌++◌, ◌==◌, Bool, Err, List, None, Ok, Option, Result, Some, codes, eqb, false, length, not, true, ℕ, ℤ, ◌∷◌, []}
-use  Rattle.py_node.specs.declared.refs.PyObjectRef.{PyObjectRef}
-use  Rattle.py_node.specs.declared.raised.Raised.{Raised as Fault}
-use  Rattle.py_node.specs.declared.entry.FixedNative.{FixedNative}
+use Rattle.py_node.specs.declared.refs.PyObjectRef.{PyObjectRef}
+use Rattle.py_node.specs.declared.raised.Raised.{Raised as Fault}
+use Rattle.py_node.specs.declared.entry.FixedNative.{FixedNative}
 use Rattle.py_node.specs.declared.entry.FixedNative.TheVariants as fixed
-use  Rattle.py_node.specs.declared.entry.NumberNative.{NumberNative}
+use Rattle.py_node.specs.declared.entry.NumberNative.{NumberNative}
 use Rattle.py_node.specs.declared.entry.NumberNative.TheVariants as number
-use  Rattle.py_node.specs.declared.entry.ArithmeticNative.{ArithmeticNative}
+use Rattle.py_node.specs.declared.entry.ArithmeticNative.{ArithmeticNative}
 use Rattle.py_node.specs.declared.entry.ArithmeticNative.TheVariants as arithmetic
-use  Rattle.py_node.specs.declared.entry.BitNative.{BitNative}
-use  Rattle.py_node.specs.declared.entry.StrNative.{StrNative}
+use Rattle.py_node.specs.declared.entry.BitNative.{BitNative}
+use Rattle.py_node.specs.declared.entry.StrNative.{StrNative}
 use Rattle.py_node.specs.declared.entry.StrNative.TheVariants as str
-use  Rattle.py_node.specs.declared.entry.CompareNative.{CompareNative}
+use Rattle.py_node.specs.declared.entry.CompareNative.{CompareNative}
 use Rattle.py_node.specs.declared.entry.CompareNative.TheVariants as compare
-use  Rattle.py_node.specs.declared.entry.NativeEntry.TheVariants.{OfNumber, OfStr}
-use  Rattle.native_numbers.specs.Say.{truth_text}
-use  Rattle.native_numbers.specs.Numbers.{is_zero, negated, absolute, inverted, difference, product, quotient, remainder, power}
-use  Rattle.native_texts.specs.Texts.{repr_text, stands_in}
-use  Rattle.native_base.specs.Say.{in_length, int_made, numbers_of}
-use  Rattle.std.specs.Fmt.{signed_decimal}
-use  Rattle.std.specs.Str.{str_to_ascii_uppercase}
-use  Rattle.py_node.specs.BuiltIns.{fixed_none, fixed_not_implemented, fixed_true, fixed_false}
-use Rattle.native_numbers.specs.Say.{compared as numbers_compared, compare_say as numbers_say, truth_or, truth_by, truth_of as truth_in, bits_of, bits_by, bits_say, fixed_first, with_fixed, fixed_say, as_int, number_by, number_say, unless_third, with_powers, with_operands, pair_made, divided_by, divided, arithmetic_by, arithmetic_say, is_int}
-use Rattle.native_texts.specs.Say.{compared as texts_compared, text_of as text_in, contains_by as text_contains, add_by, text_say, compare_text_say, with_own_text, with_lone_text, with_text_and, is_str, str_contains}
+use Rattle.py_node.specs.declared.entry.NativeEntry.TheVariants.{OfNumber, OfStr}
+use Rattle.native_numbers.specs.Say.{truth_text}
+use Rattle.native_numbers.specs.Numbers.{is_zero, negated, absolute, inverted, difference, product, quotient, remainder, power}
+use Rattle.native_texts.specs.Texts.{repr_text, stands_in}
+use Rattle.native_base.specs.Say.{in_length, int_made, numbers_of}
+use Rattle.std.specs.Fmt.{signed_decimal}
+use Rattle.std.specs.Str.{str_to_ascii_uppercase}
+use Rattle.py_node.specs.BuiltIns.{fixed_none, fixed_not_implemented}
+use Rattle.native_numbers.specs.Say.{compared as numbers_compared, compare_say as numbers_say, truth_or, truth_by, truth_of as truth_in, bits_of, bits_by, bits_say, fixed_first, with_fixed, fixed_say, as_int, number_by, number_say, unless_third, with_powers, with_operands, pair_made, divided_by, arithmetic_by, arithmetic_say, is_int}
+use Rattle.native_texts.specs.Say.{compared as texts_compared, text_of as text_in, contains_by as text_contains, add_by, text_say, compare_text_say, with_own_text, with_lone_text, with_text_and, is_str}
 use Rattle.answer_kinds.specs.Kinds as kinds
 use Rattle.answer_kinds.specs.Kinds.{Kind, kind_of_native}
 use Rattle.answer_kinds.proofs.Base.{Fits, Says, ends, never}
 use Rattle.answer_kinds.proofs.Said.{either, takes-one, takes-two, takes-three, takes-text}
 use Rattle.answer_kinds.proofs.Gives.{int-given, text-given, iterator-given, takes-lone-number, takes-number-and, numbers-held, takes-numbers}
-use Rattle.plain_machine.specs.Plain.{ANumber, ATuple, Bindings, PlainWorld, Said}
+use Rattle.plain_machine.specs.Plain.{ANumber, Bindings, PlainWorld, Said}
 use Rattle.plain_machine.specs.World.{datum_at, class_at, number_of, with_node, next_node}
-use Rattle.plain_machine.specs.Known.{the_int, the_tuple}
+use Rattle.plain_machine.specs.Known.{the_int}
 use Rattle.plain_machine.specs.Row.{value, truth}
 use Rattle.plain_machine.specs.Takes.{with_one, with_two}
 use Rattle.py_node.specs.Tree.{Text}

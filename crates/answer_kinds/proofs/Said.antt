@@ -1,13 +1,12 @@
 -- What is said of what natives take, and of branches, so that an end is of a kind.
-use Rattle.std.proofs.Common.{Bool, true, false, cond, List, [], ◌∷◌, Option, Some, None}
+use Rattle.std.proofs.Common.{Bool, true, false, cond, List, [], ◌∷◌, Option, Some}
 use Rattle.py_node.specs.declared.refs.PyObjectRef.{PyObjectRef}
 use Rattle.py_node.specs.Tree.{Text}
-use Rattle.plain_machine.specs.Plain.{Datum, AText, PlainWorld, PlainTask, Bindings, Told, Said, Asks}
+use Rattle.plain_machine.specs.Plain.{Datum, AText, PlainWorld, Bindings, Told, Said}
 use Rattle.plain_machine.specs.Takes.{without_keywords, with_one, with_two, with_three, text_in, with_text}
 use Rattle.plain_machine.specs.World.{datum_at}
-use Rattle.plain_machine.specs.Row.{Row, pass}
-use Rattle.answer_kinds.specs.Kinds.{Kind, kind_of}
-use Rattle.answer_kinds.proofs.Base.{So, Says, ends, asks, at_once, within}
+use Rattle.answer_kinds.specs.Kinds.{Kind}
+use Rattle.answer_kinds.proofs.Base.{Says, ends}
 
 pub either : {q : Told → Kind → Bool} {k : Kind} {x y : Said} (b : Bool) → Says q k x → Says q k y → Says q k (cond b x y)
 either true p r = p

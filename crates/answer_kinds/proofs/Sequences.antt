@@ -1,20 +1,20 @@
 -- The natives that read and set items, go over them, compare, repeat, make or show what has parts answer of their kinds.
-use Rattle.std.proofs.Common.{◌++◌, ◌||◌, Bool, Err, List, None, Ok, Option, Some, cond, drop, encode_utf8_all, false, inl, inr, length, pos, refl, subst, suc, sym, take, true, ℕ, ◌∷◌, ◌≡◌, ◌⊎◌, []}
-use  Rattle.py_node.specs.declared.refs.PyObjectRef.{PyObjectRef}
-use  Rattle.py_node.specs.declared.raised.Cause.TheVariants.{IndexOut, IterEnd, SelfType}
-use  Rattle.py_node.specs.declared.payload.PySlice.{PySlice}
-use  Rattle.py_node.specs.declared.payload.SequenceIterator.{SequenceIterator}
+use Rattle.std.proofs.Common.{◌++◌, ◌||◌, Bool, Err, List, None, Ok, Option, Some, cond, drop, encode_utf8_all, false, inl, inr, length, refl, subst, suc, sym, take, true, ℕ, ◌∷◌, ◌≡◌, ◌⊎◌, []}
+use Rattle.py_node.specs.declared.refs.PyObjectRef.{PyObjectRef}
+use Rattle.py_node.specs.declared.raised.Cause.TheVariants.{IterEnd, SelfType}
+use Rattle.py_node.specs.declared.payload.PySlice.{PySlice}
+use Rattle.py_node.specs.declared.payload.SequenceIterator.{SequenceIterator}
 use Rattle.native_containers.specs.Take.{is_of as is_container}
-use  Rattle.native_containers.specs.declared.take.Kind.{Kind as Container}
+use Rattle.native_containers.specs.declared.take.Kind.{Kind as Container}
 use Rattle.native_containers.specs.declared.take.Kind.TheVariants as kind
-use  Rattle.native_items.specs.declared.next.Found.{Found}
+use Rattle.native_items.specs.declared.next.Found.{Found}
 use Rattle.native_items.specs.declared.next.Found.TheVariants as seen
 use Rattle.native_items.specs.Items.{placed as at_index, answered as when_answered}
-use  Rattle.native_items.specs.Places.{slice_at, part, place_at, put_part}
-use  Rattle.native_items.specs.Iterators.{iterator_in}
-use  Rattle.std.specs.Str.{chars}
-use  Rattle.std.specs.Prelude.{slice_get, slice_set}
-use  Rattle.native_texts.specs.Say.{text_of, with_text_and, with_own_text}
+use Rattle.native_items.specs.Places.{slice_at, part, place_at, put_part}
+use Rattle.native_items.specs.Iterators.{iterator_in}
+use Rattle.std.specs.Str.{chars}
+use Rattle.std.specs.Prelude.{slice_get, slice_set}
+use Rattle.native_texts.specs.Say.{with_text_and, with_own_text}
 use Rattle.answer_kinds.specs.Kinds as kinds
 use Rattle.answer_kinds.specs.Kinds.{Kind, kind_of}
 use Rattle.answer_kinds.proofs.Base.{So, Fits, within, wider, Family, GoesOn, Kinded, ended, Says, ends, asks, at_once, never, stepped, goes-on, started, finished, read_objects_once, on-value, either-fits}
@@ -23,14 +23,14 @@ use Rattle.answer_kinds.proofs.Gives.{object-given, text-given}
 use Rattle.answer_kinds.proofs.Entries.{on-objects, any-row}
 use Rattle.answer_kinds.proofs.Containers.{unless-long, list-changed}
 use Rattle.native_items.specs.Items.{at_place, stood, as_stood, is_number, item_ends, item_asked, item_got, get_item, tuple_get_item, list_get_item, chars_at, char_asked, character_at, character_made, char_rest, str_get_item, set_asked, part_set, set_rest, set_item, list_set_item, del_asked, del_rest, del_item, list_del_item, is_among, look_for, contains, list_extended, extend_rest, extend, list_extend}
-use Rattle.native_items.specs.Iterators.{found_in, next_in, next_from, next_by, is_end, moved, next_rest, next_item, iterator_next}
+use Rattle.native_items.specs.Iterators.{found_in, next_in, next_from, next_by, is_end, next_rest, next_item, iterator_next}
 use Rattle.native_containers.specs.Asking.{as_said, argument, tested_first, taking_one, taking_two, taking_three}
 use Rattle.native_containers.specs.Take.{items_at, with_lone, with_own_and, with_own_and_two}
 use Rattle.native_containers.specs.Say.{tuple_made, list_made, list_changed}
 use Rattle.proto_base.specs.Entered.{is_plain}
-use Rattle.plain_machine.specs.Plain.{ANumber, ATuple, AList, Bindings, PlainWorld, DoIdEq, DoIndex, DoCollect, PlainTask, ToCompare, ToProtocol, AsValue, AsObjects, Ended, ReadObjects, Told, Said, Asks, Ends}
+use Rattle.plain_machine.specs.Plain.{ATuple, AList, Bindings, PlainWorld, DoIdEq, DoIndex, DoCollect, PlainTask, ToCompare, ToProtocol, AsValue, AsObjects, Ended, ReadObjects, Told, Said, Asks, Ends}
 use Rattle.plain_machine.specs.World.{datum_at}
-use Rattle.plain_machine.specs.Known.{the_int, the_str, the_tuple, the_list}
+use Rattle.plain_machine.specs.Known.{the_tuple, the_list}
 use Rattle.plain_machine.specs.Row.{Row, value, fault, truth}
 use Rattle.plain_machine.specs.Takes.{with_two}
 use Rattle.py_node.specs.Tree.{Text}

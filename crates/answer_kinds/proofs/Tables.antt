@@ -6,7 +6,7 @@ use Rattle.py_node.specs.OwnAttrs.{own_attrs}
 use Rattle.py_node.specs.Slots.{names_of, slot_names, filling_of, slot_fillings}
 use Rattle.py_node.specs.Slots.{place_of as slot_place}
 use Rattle.class_model.specs.BuiltIn.{entry_among}
-use Rattle.answer_kinds.specs.Kinds.{Kind, Value, TruthValue, Number, kind_of_native}
+use Rattle.answer_kinds.specs.Kinds.{Value, TruthValue, Number, kind_of_native}
 use Rattle.answer_kinds.proofs.Base.{So}
 use Rattle.answer_kinds.proofs.Columns.{gives_in, Column}
 

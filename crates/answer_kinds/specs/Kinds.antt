@@ -1,5 +1,5 @@
 -- Of which kind a task's answer is.
-use Rattle.std.specs.Prelude.{Bool, true, false, eqb, ◌||◌, IsTrue, Option, Some, None}
+use Rattle.std.specs.Prelude.{Bool, true, false, eqb, ◌||◌, IsTrue, Some, None}
 use Rattle.py_node.specs.declared.refs.PyObjectRef.{PyObjectRef}
 use Rattle.py_node.specs.declared.entry.DictNative.TheVariants as dict
 use Rattle.py_node.specs.declared.entry.ListNative.TheVariants as list
@@ -13,7 +13,7 @@ use Rattle.py_node.specs.declared.entry.SlotEntry.{SlotEntry}
 use Rattle.py_node.specs.declared.entry.SlotEntry.TheVariants.{Native}
 use Rattle.py_node.specs.BuiltIns.{fixed_false, fixed_true}
 use Rattle.plain_machine.specs.Plain.{PlainTask, PlainAnswer, AsValue, AsDone, AsNumber, AsTruth, AsMaybe, AsObjects, AsExhausted, AsFunction, AsAttribute, AsStart}
-use Rattle.plain_machine.specs.Plain.{EvalJob, AttributeJob, DescriptorJob, CallJob, ClassJob, OperatorJob, CompareJob, ProtocolJob, ObjectJob, ToEval, ToAttribute, ToDescriptor, ToCall, ToClass, ToOperator, ToCompare, ToProtocol, ToObject, ToNative}
+use Rattle.plain_machine.specs.Plain.{AttributeJob, DescriptorJob, CallJob, OperatorJob, CompareJob, ProtocolJob, ObjectJob, ToEval, ToAttribute, ToDescriptor, ToCall, ToClass, ToOperator, ToCompare, ToProtocol, ToObject, ToNative}
 use Rattle.plain_machine.specs.Plain.{DoGenericOpt, DoSetAttr, DoGenericSet, DoTypeSet, DoHasAttr, DoLoadMethod, DoDescrSet, DoSuperInit, DoSuperCheck, DoInit, DoObject, DoEnter, DoEnterPower, DoRichBool, DoBoolEq, DoIdEq, DoSeqLt, DoSeqGt}
 use Rattle.plain_machine.specs.Plain.{DoIsTrue, DoLength, DoHint, DoSetItem, DoDelItem, DoSetSlice, DoDelSlice, DoNext, DoCollect, DoContains, DoCount, DoFind, DoHash, DoIsInstance, DoInst, DoIsSubclass, DoSub, DoAbsSub}
 
