@@ -28,6 +28,7 @@ use crate::renew::{Renewed, renew_all, swap_in};
 use crate::settle::settle_all;
 use crate::steps::Steps;
 use crate::stored::{Stored, has};
+use crate::table::ClassTable;
 use crate::trial::{Change, trials};
 use py_node::{Cause, PyTypeRef};
 use std::alloc::Global;
@@ -261,4 +262,19 @@ pub(crate) fn rebase<L: Ledger>(
     };
     change_bases(classes, class, bases, plan, steps);
     Ok(())
+}
+
+impl ClassTable {
+    /// Whether a class may have other bases, as far as the tests go that need no order, or the first that fails. It takes
+    /// no memory, and counts nothing.
+    pub fn may_rebase(&self, class: PyTypeRef, bases: &[PyTypeRef]) -> Result<(), Cause>
+        requires own { is_class self.now class.0 ≡ true }
+        requires there { AreThere self.now (numbers bases.now) }
+        ensures { cause_of result ≡ refused_change self.now class.0 (numbers bases.now) }
+    {
+        match test_change(&self.classes, class, bases) {
+            Ok(_) => Ok(()),
+            Err(cause) => Err(cause),
+        }
+    }
 }

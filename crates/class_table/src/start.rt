@@ -45,8 +45,7 @@ impl ClassTable {
         Ok(table)
     }
 
-    /// A table of the built-in classes without any attributes, for a world that makes the objects that these hold and
-    /// puts each attribute by `put_attr`.
+    /// A table of the built-in classes without any attributes: `put_attr` puts each.
     pub fn bare(alloc: Global) -> Result<ClassTable, OutOfMemory>
         ensures { IfOk result (λ t. t ≡ built_in_classes) }
     {

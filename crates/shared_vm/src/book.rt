@@ -3,12 +3,12 @@
 ghost use Rattle.std.specs.Prelude.{◌≡◌, ◌++◌, ◌∷◌, [], length, IfOk, OnErr, IfSome, Option, true, false};
 ghost use Rattle.py_node.specs.Tree.{tree_of};
 ghost use Rattle.shared_vm.specs.declared.entry.Entry.{Entry};
-ghost use Rattle.shared_vm.specs.Book.{Adds, IsOf, IsTrue, Stepped, Tells};
+ghost use Rattle.shared_vm.specs.Book.{Adds, IsNameOf, IsOf, IsTrue, Stepped, Tells};
 
 use crate::entry::{Entry, ExecFault, Receipt};
 use crate::number::next_number;
 use crate::single::run_single;
-use py_node::{Command, OutOfMemory};
+use py_node::{Command, OutOfMemory, PyStrInterned};
 use seat_lock::Turns;
 use std::alloc::Global;
 use std::marker::Model;
@@ -77,6 +77,14 @@ impl Book {
                 Err(ExecFault::OutOfMemory)
             }
         }
+    }
+
+    /// The name of a text, if one of the machine's names is, also where the machine has failed. It takes no memory.
+    pub fn interned(&self, text: &str) -> Option<PyStrInterned>
+        ensures name { IsNameOf result self.now text.now }
+        ensures keeps { IsTrue self.now }
+    {
+        self.machine.world().names().interned_str(text)
     }
 
     // Runs a command and adds its entry, for which there is room before the command runs.
