@@ -1,1 +1,3 @@
 pub mod Composed
+pub mod Hints
+pub mod Kinded

@@ -1,4 +1,4 @@
-pub mod Readings
+pub mod Answers
 pub mod Told
 pub mod Tests
 pub mod Views
