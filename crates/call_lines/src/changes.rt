@@ -2,7 +2,7 @@
 
 ghost use Rattle.std.specs.Prelude.{◌≡◌, ◌≤◌};
 
-use crate::classes::{CHILD, FIRST, OBJECT, SINGLE, STATIC, VALUE, there};
+use crate::classes::{CHILD, FIRST, SINGLE, STATIC, VALUE, there};
 use class_table::{ClassTable, Steps};
 use py_node::{Known, PyObjectRef, PyStrInterned, PyTypeRef, SlotEntry, SlotId};
 use std::alloc::Global;
@@ -27,7 +27,6 @@ pub fn put(table: &mut Table, classes: &mut ClassTable, alloc: Global) {
     table.put("ClassTable::del_attr_direct", take_attr(classes));
     table.put("ClassTable::slot", late_slot(classes));
     table.put("ClassTable::get_attributes", inherited(classes));
-    table.put("ClassTable::put_attr", put_attr(classes));
     table.put("ClassTable::set_name", set_name(classes));
     table.put("ClassTable::set_bases", counted(classes, alloc));
 }
@@ -93,14 +92,6 @@ fn late_slot(classes: &mut ClassTable) -> Result<bool, NoValue> {
     classes.set_attr(first, Known::Add.interned(), VALUE)?;
     let child = there(classes, CHILD)?;
     Ok(classes.slot(child, SlotId::Add) == Some(SlotEntry::Wrapper(SlotId::Add)))
-}
-
-// An attribute of a built-in class.
-fn put_attr(classes: &mut ClassTable) -> Result<Option<PyObjectRef>, NoValue> {
-    let object = there(classes, OBJECT)?;
-    classes.put_attr(object, OTHER, VALUE)?;
-    let object = there(classes, OBJECT)?;
-    Ok(classes.get_direct_attr(object, OTHER))
 }
 
 fn set_name(classes: &mut ClassTable) -> Result<(&str, bool), NoValue> {

@@ -30,6 +30,7 @@ pub fn put(table: &mut Table, world: &mut World) {
     table.put("World::get_attributes", inherited(world));
     table.put_text("World::set_name", renamed(world));
     table.put("World::set_bases", counted(world));
+    table.tell("World::class_log", &world.class_log().len());
     table.tell("World::has_dict", &dicts(world));
     table.put("World::members_of_slots", slots(world));
 }

@@ -1,5 +1,5 @@
 -- A list of changes that follows a log.
-use Rattle.std.specs.Prelude.{◌≡◌, List, ◌++◌}
+use Rattle.std.specs.Prelude.{◌≡◌, ℕ, List, ◌++◌, Some, slice_get}
 use Rattle.class_log.specs.Change.{Change}
 use Rattle.class_log.specs.Shown.{shown}
 use Rattle.class_log.specs.Refused.{AreMade}
@@ -7,6 +7,10 @@ use Rattle.class_log.specs.Refused.{AreMade}
 -- the whole begins with the part
 abbrev pub BeginsWith : {A : Type 0} → List A → List A → Type 0
 BeginsWith {A} part whole = (rest : List A) × (part ++ rest ≡ whole)
+
+-- each of some changes stands in its place still. So what is after begins with what was before
+abbrev pub Keeps : List Change → List Change → Type 0
+Keeps old new = (n : ℕ) (c : Change) → slice_get old n ≡ Some c → slice_get new n ≡ Some c
 
 -- a log begins with some changes, and each of the others is made in its turn
 pub record CanFollow (done log : List Change) : Type 0 where

@@ -99,14 +99,16 @@ first-kept test (z ∷ l) (y ∷ xs) (inr s) d h = go (test y) refl (first-kept 
     go true e more = absurd (d.0 (Subsequence-holds (z ∷ l) xs y s (h y (inl refl) e)))
     go false e more = more
 
-lines-at : (f : ℕ → Option (List ℕ)) (bs : List ℕ) (ls : List (List ℕ)) (l : List ℕ) → map f bs ≡ map Some ls → Includes ls l → (b : ℕ) × Includes bs b × (f b ≡ Some l)
+-- each line is one of a base
+pub lines-at : (f : ℕ → Option (List ℕ)) (bs : List ℕ) (ls : List (List ℕ)) (l : List ℕ) → map f bs ≡ map Some ls → Includes ls l → (b : ℕ) × Includes bs b × (f b ≡ Some l)
 lines-at f [] [] l e h = absurd h
 lines-at f [] (m ∷ ls) l e h = cc
 lines-at f (b ∷ bs) [] l e h = absurd h
 lines-at f (b ∷ bs) (m ∷ ls) l e (inl q) = let here : f b ≡ Some m = cc in (b, inl refl, here ∙ ap Some q)
 lines-at f (b ∷ bs) (m ∷ ls) l e (inr h) = let rest : map f bs ≡ map Some ls = cc in let r = lines-at f bs ls l rest h in (r.0, inr r.1, r.2)
 
-line-of : (f : ℕ → Option (List ℕ)) (bs : List ℕ) (ls : List (List ℕ)) (b : ℕ) → map f bs ≡ map Some ls → Includes bs b → (l : List ℕ) × Includes ls l × (f b ≡ Some l)
+-- and each base has one
+pub line-of : (f : ℕ → Option (List ℕ)) (bs : List ℕ) (ls : List (List ℕ)) (b : ℕ) → map f bs ≡ map Some ls → Includes bs b → (l : List ℕ) × Includes ls l × (f b ≡ Some l)
 line-of f [] ls b e h = absurd h
 line-of f (c ∷ bs) [] b e h = cc
 line-of f (c ∷ bs) (m ∷ ls) b e (inl q) = let here : f c ≡ Some m = cc in (m, inl refl, ap f (sym q) ∙ here)

@@ -22,5 +22,6 @@ pub mod Made
 pub mod Best
 pub mod Lines
 pub mod Layouts
+pub mod Offsets
 pub mod Failing
 mod Checks

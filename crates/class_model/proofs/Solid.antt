@@ -198,3 +198,21 @@ module _ {K : Type 0} where
     pub base-attr : (d : ℕ) → base (with_class_attr same t c n v) d ≡ base t d
     base-attr d =
         base-agrees (with_class_attr same t c n v) t (λ x. Unit {0}) (λ x bs b p e h. tt) (λ x p. bases_of-attr x) (λ x p. lin-attr same t c n v x) (λ x p. is_solid-attr x) d tt (λ b p. solid-attr b)
+
+-- what is found is found of what is there
+pub bound : {A B : Type 0} (f : A → Option B) (o : Option A) (y : B) → option_and_then f o ≡ Some y → (x : A) × (o ≡ Some x) × (f x ≡ Some y)
+bound f None y e = cc
+bound f (Some x) y e = (x, refl, e)
+
+-- a solid class is solid itself
+pub solid-solid : {K : Type 0} (t : Classes K) (n b x : ℕ) → solid_within t n b ≡ Some x → is_solid t x ≡ true
+unfolding solid_within
+solid-solid t zero b x e = cc
+solid-solid t (suc n) b x e = go (is_solid t b) refl e (λ y q. solid-solid t n y x q)
+  where
+    go : (w : Bool) → is_solid t b ≡ w → cond w (Some b) (option_and_then (λ ws. option_and_then (solid_within t n) (first_best t (solid_within t n) ws ws)) (bases_of t b)) ≡ Some x → ((y : ℕ) → solid_within t n y ≡ Some x → is_solid t x ≡ true) → is_solid t x ≡ true
+    go true h e more = let s : b ≡ x = cc in ap (is_solid t) (sym s) ∙ h
+    go false h e more =
+        let r = bound (λ ws. option_and_then (solid_within t n) (first_best t (solid_within t n) ws ws)) (bases_of t b) x e in
+        let q = bound (solid_within t n) (first_best t (solid_within t n) r.0 r.0) x r.2 in
+        more q.0 q.2

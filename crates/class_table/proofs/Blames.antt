@@ -33,7 +33,7 @@ abbrev pub under : ℕ → List ℕ → List StoredClass → Classes PyStrIntern
 under c bs kept = map (under_one c bs) kept
 
 -- past the changed class nothing changes
-under-past : (c : ℕ) (bs : List ℕ) (n : ℕ) (kept : List StoredClass) → c < n → ascend_from n (numbers_of (classes_of kept)) ≡ true → under c bs kept ≡ classes_of kept
+pub under-past : (c : ℕ) (bs : List ℕ) (n : ℕ) (kept : List StoredClass) → c < n → ascend_from n (numbers_of (classes_of kept)) ≡ true → under c bs kept ≡ classes_of kept
 under-past c bs n [] l up = refl
 under-past c bs n (k ∷ kept) l up =
     let q = and_parts (leb n k.number) (ascend_from (suc k.number) (numbers_of (classes_of kept))) up in

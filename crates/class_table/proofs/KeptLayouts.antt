@@ -19,7 +19,8 @@ use Rattle.class_model.proofs.Solid.{first_best-held, solid-held}
 use Rattle.class_table.specs.Refused.{AreThere}
 use Rattle.class_table.specs.Rebase.{refused_rebase}
 use Rattle.class_table.proofs.Rebased.{own-base, past-head, classes-kept}
-use Rattle.class_table.proofs.Rebases.{bound, held-some, came, solid-kept}
+use Rattle.class_model.proofs.Solid.{bound}
+use Rattle.class_table.proofs.Rebases.{held-some, came, solid-kept}
 use Rattle.class_table.proofs.Passed.{facts, sound-passed, order-passed, base-away_passed, base-here_passed}
 
 -- the solid classes of a line, where all of them stand in a part of it

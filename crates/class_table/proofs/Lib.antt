@@ -13,6 +13,8 @@ pub mod Descended
 pub mod Probed
 pub mod Settles
 pub mod Blames
+pub mod Listed
+pub mod Touched
 pub mod Swapped
 pub mod Renewing
 pub mod Counted

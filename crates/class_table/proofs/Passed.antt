@@ -20,7 +20,8 @@ use Rattle.class_table.specs.Refused.{refused_attr, refused_layout, most_derived
 use Rattle.class_table.specs.Rebase.{any_derives, is_same, unless, refused_change, refused_rebase, Refusal}
 use Rattle.class_table.proofs.Bests.{best-there}
 use Rattle.class_table.proofs.Rebased.{not-root, order-rebased}
-use Rattle.class_table.proofs.Rebases.{bound, sound-rebased, solid-rebased, base-away, base-here}
+use Rattle.class_model.proofs.Solid.{bound}
+use Rattle.class_table.proofs.Rebases.{sound-rebased, solid-rebased, base-away, base-here}
 
 pub either-none : {A : Type 0} (a b : Option A) → option_or a b ≡ None → (a ≡ None) × (b ≡ None)
 either-none None b e = (refl, e)

@@ -19,25 +19,8 @@ use Rattle.class_model.proofs.Rule.{lin-from, lin-held, lin-member, lin-inside, 
 use Rattle.class_model.proofs.Lines.{all_some-some}
 use Rattle.class_model.proofs.Dict.{alike-same, dicts-rebased}
 use Rattle.class_model.proofs.Layouts.{top, best-along, solid-rule}
-use Rattle.class_model.proofs.Solid.{first_best-held, solid-held}
+use Rattle.class_model.proofs.Solid.{bound, first_best-held, solid-held, solid-solid}
 use Rattle.class_table.proofs.Rebased.{base-apart, bases-away, bases-here, classes-kept, line-base, order-rebased, not-root}
-
--- a solid class is solid itself
-pub bound : {A B : Type 0} (f : A → Option B) (o : Option A) (y : B) → option_and_then f o ≡ Some y → (x : A) × (o ≡ Some x) × (f x ≡ Some y)
-bound f None y e = cc
-bound f (Some x) y e = (x, refl, e)
-
-solid-solid : {K : Type 0} (t : Classes K) (n b x : ℕ) → solid_within t n b ≡ Some x → is_solid t x ≡ true
-unfolding solid_within
-solid-solid t zero b x e = cc
-solid-solid t (suc n) b x e = go (is_solid t b) refl e (λ y q. solid-solid t n y x q)
-  where
-    go : (w : Bool) → is_solid t b ≡ w → cond w (Some b) (option_and_then (λ ws. option_and_then (solid_within t n) (first_best t (solid_within t n) ws ws)) (bases_of t b)) ≡ Some x → ((y : ℕ) → solid_within t n y ≡ Some x → is_solid t x ≡ true) → is_solid t x ≡ true
-    go true h e more = let s : b ≡ x = cc in ap (is_solid t) (sym s) ∙ h
-    go false h e more =
-        let r = bound (λ ws. option_and_then (solid_within t n) (first_best t (solid_within t n) ws ws)) (bases_of t b) x e in
-        let q = bound (solid_within t n) (first_best t (solid_within t n) r.0 r.0) x r.2 in
-        more q.0 q.2
 
 maps-same : (f g : ℕ → Option ℕ) (ws : List ℕ) → ((b : ℕ) → Includes ws b → f b ≡ g b) → map f ws ≡ map g ws
 maps-same f g [] h = refl

@@ -1,45 +1,63 @@
--- What other bases make of each class, put in its place.
-use Rattle.std.proofs.Common.{◌≡◌, ℕ, ◌+◌, ◌<◌, ◌≤◌, List, length, get_or, set, Some, inl, inr, refl, sym, ap, ◌∙◌, arith}
+-- What other bases make of some classes, put in its place.
+use Rattle.std.proofs.Common.{◌≡◌, ℕ, zero, suc, ◌+◌, ◌<◌, ◌≤◌, List, [], ◌∷◌, length, get_or, set, Some, inl, inr, refl, sym, ap, ◌∙◌, arith}
 use Rattle.std.specs.Prelude.{slice_get}
 use Rattle.std.proofs.lemmas.Bool.{cases_eq}
 use Rattle.std.proofs.lemmas.List.{length-set}
 use Rattle.std.proofs.lemmas.Option.{slice_get_within}
+use Rattle.class_model.specs.Order.{Distinct}
+use Rattle.class_model.proofs.Held.{Includes-equal}
 use Rattle.class_table.specs.Stored.{StoredClass}
 use Rattle.class_table.specs.declared.renew.Renewed.{Renewed}
 use Rattle.class_table.specs.Renewed.{with_renewed, AreSwapped}
 use Rattle.class_table.proofs.Places.{get-set_at, get-set_away}
 use Rattle.class_table.proofs.Trials.{read-is}
+use Rattle.class_table.proofs.Descended.{Includes-at}
 
--- the first classes got it
-pub record Swapping (orig : List Renewed) (old : List StoredClass) (n : ℕ) (renewed : List Renewed) (cur : List StoredClass) : Type 0 where
+-- in a list without repeats an element has one place
+distinct-at : (ps : List ℕ) → Distinct ps → (i j p : ℕ) → slice_get ps i ≡ Some p → slice_get ps j ≡ Some p → i ≡ j
+distinct-at [] d i j p e f = cc
+distinct-at (x ∷ ps) d zero zero p e f = refl
+distinct-at (x ∷ ps) d zero (suc j) p e f = let q : p ≡ x = cc in absurd (d.0 (Includes-equal ps p x q (Includes-at ps j p f)))
+distinct-at (x ∷ ps) d (suc i) zero p e f = let q : p ≡ x = cc in absurd (d.0 (Includes-equal ps p x q (Includes-at ps i p e)))
+distinct-at (x ∷ ps) d (suc i) (suc j) p e f = ap suc (distinct-at ps d.1 i j p e f)
+
+-- the classes at the first of some places got it
+pub record Swapping (orig : List Renewed) (old : List StoredClass) (places : List ℕ) (n : ℕ) (renewed : List Renewed) (cur : List StoredClass) : Type 0 where
   pub count : length cur ≡ length old
   pub left : length renewed ≡ length orig
   pub rest : (i : ℕ) (r : Renewed) → n ≤ i → slice_get orig i ≡ Some r → slice_get renewed i ≡ Some r
-  pub before : (i : ℕ) (k : StoredClass) (r : Renewed) → i < n → slice_get old i ≡ Some k → slice_get orig i ≡ Some r → slice_get cur i ≡ Some (with_renewed r k)
-  pub after : (i : ℕ) (k : StoredClass) → n ≤ i → slice_get old i ≡ Some k → slice_get cur i ≡ Some k
+  pub before : (j i : ℕ) (k : StoredClass) (r : Renewed) → j < n → slice_get places j ≡ Some i → slice_get old i ≡ Some k → slice_get orig j ≡ Some r → slice_get cur i ≡ Some (with_renewed r k)
+  pub after : (i : ℕ) (k : StoredClass) → ((j : ℕ) → j < n → slice_get places j ≡ Some i → ⊥) → slice_get old i ≡ Some k → slice_get cur i ≡ Some k
 
-pub swapping-start : (orig : List Renewed) (old : List StoredClass) → Swapping orig old 0 orig old
-swapping-start orig old = record { count = refl; left = refl; rest = λ i r l e. e; before = λ i k r l e f. absurd (omega (arith, l)); after = λ i k l e. e }
+pub swapping-start : (orig : List Renewed) (old : List StoredClass) (places : List ℕ) → Swapping orig old places 0 orig old
+swapping-start orig old places = record { count = refl; left = refl; rest = λ i r l e. e; before = λ j i k r l p e f. absurd (omega (arith, l)); after = λ i k h e. e }
 
-module _ (orig : List Renewed) (old : List StoredClass) (n : ℕ) (renewed : List Renewed) (cur : List StoredClass) (s : Swapping orig old n renewed cur) where
+module _ (orig : List Renewed) (old : List StoredClass) (places : List ℕ) (n : ℕ) (renewed : List Renewed) (cur : List StoredClass) (s : Swapping orig old places n renewed cur) where
   -- one more
-  pub swapping-next : n < length cur → (x : StoredClass) (y : Renewed) (z : StoredClass) (back : Renewed) → x ≡ get_or cur n x → y ≡ get_or renewed n y → z ≡ with_renewed y x → Swapping orig old (n + 1) (set renewed n back) (set cur n z)
-  swapping-next l x y z back hx hy is = record {
-    count = length-set cur n z ∙ s.count;
+  pub swapping-next : Distinct places → (p : ℕ) → slice_get places n ≡ Some p → p < length cur → (x : StoredClass) (y : Renewed) (z : StoredClass) (back : Renewed) → x ≡ get_or cur p x → y ≡ get_or renewed n y → z ≡ with_renewed y x → Swapping orig old places (n + 1) (set renewed n back) (set cur p z)
+  swapping-next d p here l x y z back hx hy is = record {
+    count = length-set cur p z ∙ s.count;
     left = length-set renewed n back ∙ s.left;
     rest = λ i r m e. get-set_away renewed n back i (λ q. omega (arith, m, q)) ∙ s.rest i r (omega (arith, m)) e;
-    before = λ i k r m e f. elim (cases_eq i n) [
-      | inl q ↦
-          let old-k = s.after n k (omega arith) (ap (slice_get old) (sym q) ∙ e) in
-          let old-r = s.rest n r (omega arith) (ap (slice_get orig) (sym q) ∙ f) in
-          ap (slice_get (set cur n z)) q
-          ∙ get-set_at cur n z l
-          ∙ ap Some (is ∙ ap (λ w. with_renewed w x) (read-is renewed n y r hy old-r) ∙ ap (with_renewed r) (read-is cur n x k hx old-k))
-      | inr q ↦ get-set_away cur n z i q ∙ s.before i k r (omega (arith, m, q)) e f
+    before = λ j i k r m q e f. elim (cases_eq j n) [
+      | inl w ↦
+          let same : i ≡ p = let v : slice_get places n ≡ Some i = ap (slice_get places) (sym w) ∙ q in cc in
+          let old-k = s.after p k (λ j2 m2 q2. let t = distinct-at places d j2 n p q2 here in omega (arith, m2, t)) (ap (slice_get old) (sym same) ∙ e) in
+          let old-r = s.rest n r (omega arith) (ap (slice_get orig) (sym w) ∙ f) in
+          ap (slice_get (set cur p z)) same
+          ∙ get-set_at cur p z l
+          ∙ ap Some (is ∙ ap (λ v. with_renewed v x) (read-is renewed n y r hy old-r) ∙ ap (with_renewed r) (read-is cur p x k hx old-k))
+      | inr w ↦
+          get-set_away cur p z i (λ v. w (distinct-at places d j n p (q ∙ ap Some v) here)) ∙ s.before j i k r (omega (arith, m, w)) q e f
     ];
-    after = λ i k m e. get-set_away cur n z i (λ q. omega (arith, m, q)) ∙ s.after i k (omega (arith, m)) e;
+    after = λ i k h e.
+        get-set_away cur p z i (λ v. h n (omega arith) (here ∙ ap Some (sym v))) ∙ s.after i k (λ j m q. h j (omega (arith, m)) q) e;
   }
 
   -- all
-  pub swapping-end : length old ≤ n → AreSwapped orig old cur
-  swapping-end l = record { count = s.count; at = λ i k r e f. s.before i k r (let m = slice_get_within old i k e in omega (arith, l, m)) e f }
+  pub swapping-end : length places ≤ n → AreSwapped places orig old cur
+  swapping-end l = record {
+    count = s.count;
+    at = λ j i k r q e f. s.before j i k r (let m = slice_get_within places j i q in omega (arith, l, m)) q e f;
+    away = λ i k h e. s.after i k (λ j m q. h (Includes-at places j i q)) e;
+  }

@@ -21,3 +21,4 @@ pub mod Blame
 pub mod Renewed
 pub mod Probe
 pub mod Settle
+pub mod Affected

@@ -1,6 +1,7 @@
--- What other bases of a class make of what is kept of each class.
+-- What other bases of a class make of what is kept of some classes.
 use Rattle.std.specs.Prelude.{◌≡◌, ℕ, List, length, Some, slice_get}
 use Rattle.py_node.specs.declared.refs.PyStrInterned.{PyStrInterned}
+use Rattle.class_model.specs.Order.{Includes}
 use Rattle.class_model.specs.Class.{Classes, lin, subclasses}
 use Rattle.class_model.specs.Layout.{base, place_count}
 use Rattle.class_model.specs.Change.{with_bases}
@@ -15,16 +16,17 @@ pub record IsRenewed (t : Classes PyStrInterned) (x : ℕ) (r : Renewed) : Type 
   pub subclasses : numbers r.subclasses.items ≡ subclasses t x
   pub places : place_count t x ≡ Some r.places
 
--- it is so of each class
-pub record AreRenewed (kept : List StoredClass) (c : ℕ) (bs : List ℕ) (renewed : List Renewed) : Type 0 where
-  pub count : length renewed ≡ length kept
-  pub at : (i : ℕ) (k : StoredClass) (r : Renewed) → slice_get kept i ≡ Some k → slice_get renewed i ≡ Some r → IsRenewed (with_bases (classes_of kept) c bs) k.number r
+-- it is so of the class at each place, in order
+pub record AreRenewed (kept : List StoredClass) (c : ℕ) (bs places : List ℕ) (renewed : List Renewed) : Type 0 where
+  pub count : length renewed ≡ length places
+  pub at : (j i : ℕ) (k : StoredClass) (r : Renewed) → slice_get places j ≡ Some i → slice_get kept i ≡ Some k → slice_get renewed j ≡ Some r → IsRenewed (with_bases (classes_of kept) c bs) k.number r
 
 -- a class with it
 abbrev pub with_renewed : Renewed → StoredClass → StoredClass
 with_renewed r k = record k { mro = numbers r.mro.items; base = number_of r.base; subclasses = numbers r.subclasses.items; places = r.places }
 
--- each class got its own
-pub record AreSwapped (renewed : List Renewed) (old new : List StoredClass) : Type 0 where
+-- the class at each place got its own, and all others stay
+pub record AreSwapped (places : List ℕ) (renewed : List Renewed) (old new : List StoredClass) : Type 0 where
   pub count : length new ≡ length old
-  pub at : (i : ℕ) (k : StoredClass) (r : Renewed) → slice_get old i ≡ Some k → slice_get renewed i ≡ Some r → slice_get new i ≡ Some (with_renewed r k)
+  pub at : (j i : ℕ) (k : StoredClass) (r : Renewed) → slice_get places j ≡ Some i → slice_get old i ≡ Some k → slice_get renewed j ≡ Some r → slice_get new i ≡ Some (with_renewed r k)
+  pub away : (i : ℕ) (k : StoredClass) → (Includes places i → ⊥) → slice_get old i ≡ Some k → slice_get new i ≡ Some k

@@ -22,7 +22,7 @@ pub(crate) struct Ranked {
 }
 
 // Adds the places of some classes.
-fn add_places(
+pub(crate) fn add_places(
     classes: &[Stored],
     found: &mut PlaceSet,
     some: &[PyTypeRef],
@@ -46,7 +46,11 @@ fn subclasses_at(classes: &[Stored], at: usize) -> &[PyTypeRef]
 }
 
 // The places of the class and of all that derive from it: those of the direct subclasses of each that was found.
-fn descendants(classes: &[Stored], alloc: Global, class: PyTypeRef) -> Result<PlaceSet, OutOfMemory>
+pub(crate) fn descendants(
+    classes: &[Stored],
+    alloc: Global,
+    class: PyTypeRef,
+) -> Result<PlaceSet, OutOfMemory>
     requires coherent { IsCoherent classes.now }
     requires own { is_class (classes_of classes.now) class.0 ≡ true }
     ensures { IfOk result (λ v. AreDescendants classes.now class.0 v) }

@@ -1,13 +1,13 @@
 //! What is so of every table of classes, and is the result of no call.
 
-ghost use Rattle.std.specs.Prelude.{◌≡◌, ◌↔◌, ℕ, List, true, Some, None};
+ghost use Rattle.std.specs.Prelude.{◌≡◌, ◌<◌, ◌↔◌, ℕ, List, true, Some, None};
 ghost use Rattle.class_model.specs.Order.{Distinct, Includes, Subsequence};
 ghost use Rattle.py_node.specs.declared.refs.PyObjectRef.{PyObjectRef};
 ghost use Rattle.py_node.specs.declared.refs.PyStrInterned.{PyStrInterned};
 ghost use Rattle.py_node.specs.Attributes.{is_same_name};
 ghost use Rattle.class_model.specs.Class.{class_at, is_class, own_of, bases_of, lin, is_sub};
 ghost use Rattle.class_model.specs.Change.{with_class_attr, without_class_attr, with_bases};
-ghost use Rattle.class_model.specs.Layout.{layout};
+ghost use Rattle.class_model.specs.Layout.{layout, place_at, place_count};
 ghost use Rattle.class_model.specs.Sound.{AreSound};
 ghost use Rattle.class_model.specs.Failing.{FailsAsSaid, PassesAsSaid};
 ghost use Rattle.class_table.specs.Refused.{AreThere};
@@ -72,6 +72,14 @@ pub fn bases_that_pass_keep_classes_sound(classes: &ClassTable)
 pub fn bases_that_pass_keep_layouts(classes: &ClassTable)
     ensures { (c : ℕ) (bs : List ℕ) (d : ℕ) → is_class classes.now c ≡ true → AreThere classes.now bs →
         refused_rebase classes.now c bs ≡ None → layout (with_bases classes.now c bs) d ≡ layout classes.now d }
+{
+    classes.sound();
+}
+
+/// A place of a class's objects has the same offset in the objects of each class that derives from it.
+pub fn places_keep_their_offsets(classes: &ClassTable)
+    ensures { (c d n k : ℕ) → is_sub classes.now c d ≡ true → place_count classes.now d ≡ Some k → n < k →
+        place_at classes.now c n ≡ place_at classes.now d n }
 {
     classes.sound();
 }

@@ -2,6 +2,7 @@
 #![tactic(auto)]
 
 pub mod add;
+pub mod affected;
 mod attributes_of_built_ins;
 pub mod blame;
 pub mod candidates;

@@ -14,8 +14,10 @@ ghost use Rattle.class_table.specs.Steps.{RiseBy};
 ghost use Rattle.class_table.specs.Descendants.{descendants, AreRanked};
 ghost use Rattle.class_table.specs.Probe.{special_count};
 ghost use Rattle.class_table.specs.Settle.{line_places};
+ghost use Rattle.class_table.specs.Affected.{AreAffected};
 ghost use Rattle.class_table.specs.Renewed.{AreRenewed};
 
+use crate::affected::affected;
 use crate::blame::blamed;
 use crate::chain::base_of;
 use crate::descendants::{Ranked, in_order};
@@ -24,10 +26,12 @@ use crate::fault::ClassFault;
 use crate::heap::is_heap;
 use crate::inherit::{best_base, inherited};
 use crate::place::{place, stored_at};
+use crate::place_set::PlaceSet;
 use crate::renew::{Renewed, renew_all, swap_in};
 use crate::settle::settle_all;
 use crate::steps::Steps;
 use crate::stored::{Stored, has};
+use crate::table::ClassTable;
 use crate::trial::{Change, trials};
 use py_node::{Cause, PyTypeRef};
 use std::alloc::Global;
@@ -122,9 +126,10 @@ fn test_shape(classes: &[Stored], class: PyTypeRef, bases: &[PyTypeRef]) -> Resu
     Ok(best)
 }
 
-/// What other bases make of each class, and the places of those whose slots are found anew.
+/// What other bases make of the classes at some places, and of which classes the slots are found anew.
 #[derive(Drop)]
 struct Planned {
+    places: PlaceSet,
     renewed: Vec<Renewed>,
     ranked: Vec<Ranked>,
 }
@@ -141,8 +146,10 @@ fn plan<L: Ledger>(
     requires there { AreThere (classes_of change.classes.now) (numbers change.bases.now) }
     requires early { refused_change (classes_of change.classes.now) change.class.0 (numbers change.bases.now) ≡ None }
     requires best { best_of (classes_of change.classes.now) (numbers change.bases.now) ≡ Some best.0 }
-    ensures renewed { IfOk result (λ v.
-        AreRenewed change.entry.classes.now change.entry.class.0 (numbers change.entry.bases.now) v.renewed.items) }
+    ensures affected { IfOk result (λ v.
+        AreAffected change.entry.classes.now change.entry.class.0 (numbers change.entry.bases.now) v.places) }
+    ensures renewed { IfOk result (λ v. AreRenewed change.entry.classes.now change.entry.class.0
+        (numbers change.entry.bases.now) v.places v.renewed.items) }
     ensures ranked { IfOk result (λ v. AreRanked change.entry.classes.now change.entry.class.0 v.ranked.items) }
     ensures refused { WithMemory result (told result ≡
         refused_rebase (classes_of change.entry.classes.now) change.entry.class.0 (numbers change.entry.bases.now)) }
@@ -161,10 +168,19 @@ fn plan<L: Ledger>(
         Ok(()) => {}
         Err(fault) => return Err(fault),
     }
-    match renew_all(change, alloc, &trials, best) {
-        Ok(renewed) => Ok(Planned { renewed, ranked }),
-        Err(_) => Err(ClassFault::OutOfMemory),
-    }
+    let places = match affected(change, alloc) {
+        Ok(places) => places,
+        Err(_) => return Err(ClassFault::OutOfMemory),
+    };
+    let renewed = match renew_all(change, alloc, places.all(), &trials, best) {
+        Ok(renewed) => renewed,
+        Err(_) => return Err(ClassFault::OutOfMemory),
+    };
+    Ok(Planned {
+        places,
+        renewed,
+        ranked,
+    })
 }
 
 // Changes the bases of a class, where they pass every test, and what follows in each class. It takes no memory.
@@ -179,7 +195,8 @@ fn change_bases<L: Ledger>(
     requires own { is_class (classes_of classes.old) class.0 ≡ true }
     requires there { AreThere (classes_of classes.old) (numbers bases.items) }
     requires passed { refused_rebase (classes_of classes.old) class.0 (numbers bases.items) ≡ None }
-    requires renewed { AreRenewed classes.old class.0 (numbers bases.items) plan.renewed.items }
+    requires affected { AreAffected classes.old class.0 (numbers bases.items) plan.places }
+    requires renewed { AreRenewed classes.old class.0 (numbers bases.items) plan.places plan.renewed.items }
     requires ranked { AreRanked classes.old class.0 plan.ranked.items }
     ensures coherent { IsCoherent classes.new }
     ensures set { classes_of classes.new ≡ with_bases (classes_of classes.old) class.0 (numbers bases.items) }
@@ -189,8 +206,12 @@ fn change_bases<L: Ledger>(
 {
     let at = place(classes, class);
     classes[at].set_bases(bases);
-    let Planned { renewed, ranked } = plan;
-    swap_in(classes, renewed);
+    let Planned {
+        places,
+        renewed,
+        ranked,
+    } = plan;
+    swap_in(classes, places.all(), renewed);
     settle_all(classes, &ranked, steps);
 }
 
@@ -206,7 +227,8 @@ fn prepare<L: Ledger>(
     requires coherent { IsCoherent classes.now }
     requires own { is_class (classes_of classes.now) class.0 ≡ true }
     requires there { AreThere (classes_of classes.now) (numbers bases.now) }
-    ensures renewed { IfOk result (λ v. AreRenewed classes.now class.0 (numbers bases.now) v.renewed.items) }
+    ensures affected { IfOk result (λ v. AreAffected classes.now class.0 (numbers bases.now) v.places) }
+    ensures renewed { IfOk result (λ v. AreRenewed classes.now class.0 (numbers bases.now) v.places v.renewed.items) }
     ensures ranked { IfOk result (λ v. AreRanked classes.now class.0 v.ranked.items) }
     ensures early { IsToldFirst (classes_of classes.now) class.0 (numbers bases.now) (told result) }
     ensures refused { WithMemory result (told result ≡
@@ -261,4 +283,19 @@ pub(crate) fn rebase<L: Ledger>(
     };
     change_bases(classes, class, bases, plan, steps);
     Ok(())
+}
+
+impl ClassTable {
+    /// Whether a class may have other bases, as far as the tests go that need no order, or the first that fails. It takes
+    /// no memory, and counts nothing.
+    pub fn may_rebase(&self, class: PyTypeRef, bases: &[PyTypeRef]) -> Result<(), Cause>
+        requires own { is_class self.now class.0 ≡ true }
+        requires there { AreThere self.now (numbers bases.now) }
+        ensures { cause_of result ≡ refused_change self.now class.0 (numbers bases.now) }
+    {
+        match test_change(&self.classes, class, bases) {
+            Ok(_) => Ok(()),
+            Err(cause) => Err(cause),
+        }
+    }
 }

@@ -1,6 +1,8 @@
-//! What other bases of a class make of what is kept of each class: made before anything is changed, then put in place.
+//! What other bases of a class make of what is kept of the classes that they touch: made before anything is changed, then
+//! put in place.
 
-ghost use Rattle.std.specs.Prelude.{◌≡◌, ◌<◌, ℕ, true, length, None, Some, IfOk, slice_get};
+ghost use Rattle.std.specs.Prelude.{◌≡◌, ◌<◌, ◌++◌, ◌∷◌, [], ℕ, cond, true, nat_lt, filter, length, None, Some, IfOk, OnOk, slice_get, slice_set, slice_index_or};
+ghost use Rattle.class_model.specs.Order.{Includes, Distinct};
 ghost use Rattle.class_model.specs.Class.{is_class, lin, subclasses};
 ghost use Rattle.class_model.specs.Layout.{best_of, base};
 ghost use Rattle.class_model.specs.Numbers.{is_ascending};
@@ -10,12 +12,12 @@ ghost use Rattle.class_table.specs.Coherent.{IsCoherent};
 ghost use Rattle.class_table.specs.Refused.{AreThere};
 ghost use Rattle.class_table.specs.Rebase.{refused_rebase};
 ghost use Rattle.class_table.specs.Trial.{changed, AreKnown};
-ghost use Rattle.class_table.specs.Renewed.{IsRenewed, AreRenewed, AreSwapped};
+ghost use Rattle.class_table.specs.Renewed.{IsRenewed, AreRenewed, with_renewed, AreSwapped};
 
 use crate::count::count_along;
-use crate::place::find_place;
+use crate::place::{find_place, stored_at};
 use crate::stored::{Stored, has};
-use crate::trial::{Change, bases_under, line_of};
+use crate::trial::{Change, line_of};
 use crate::trial_map::Trials;
 use py_node::{OutOfMemory, PyTypeRef};
 use std::alloc::Global;
@@ -30,22 +32,66 @@ pub(crate) struct Renewed {
     pub(crate) places: usize,
 }
 
-// The classes that have a class among their bases under the change.
+// Those of some classes whose numbers are less than a class's.
+fn push_below(
+    found: &mut Vec<PyTypeRef>,
+    some: &[PyTypeRef],
+    class: PyTypeRef,
+) -> Result<(), OutOfMemory>
+    ensures { OnOk result (numbers found.new.items ≡
+        numbers found.old.items ++ filter (λ n. nat_lt n class.0) (numbers some.now)) }
+{
+    for next in some {
+        if next.0 < class.0 {
+            found.push(*next)?;
+        }
+    }
+    Ok(())
+}
+
+// Those whose numbers are greater.
+fn push_above(
+    found: &mut Vec<PyTypeRef>,
+    some: &[PyTypeRef],
+    class: PyTypeRef,
+) -> Result<(), OutOfMemory>
+    ensures { OnOk result (numbers found.new.items ≡
+        numbers found.old.items ++ filter (λ n. nat_lt class.0 n) (numbers some.now)) }
+{
+    for next in some {
+        if class.0 < next.0 {
+            found.push(*next)?;
+        }
+    }
+    Ok(())
+}
+
+// A class, if it is to be there.
+fn push_if(found: &mut Vec<PyTypeRef>, is: bool, class: PyTypeRef) -> Result<(), OutOfMemory>
+    ensures { OnOk result (numbers found.new.items ≡ numbers found.old.items ++ cond is (class.0 ∷ []) []) }
+{
+    if is {
+        found.push(class)?;
+    }
+    Ok(())
+}
+
+// The direct subclasses of a class under the change: those of now, with the changed class in its place or without it.
 fn subclasses_under(
     change: Change<'_>,
     alloc: Global,
     number: PyTypeRef,
 ) -> Result<Vec<PyTypeRef>, OutOfMemory>
-    requires { is_ascending (classes_of change.classes.now) ≡ true }
+    requires coherent { IsCoherent change.classes.now }
+    requires own { is_class (classes_of change.classes.now) change.class.0 ≡ true }
+    requires there { is_class (classes_of change.classes.now) number.0 ≡ true }
     ensures { IfOk result (λ v. numbers v.items ≡ subclasses (changed change.entry) number.0) }
 {
+    let subclasses = stored_at(change.classes, number).subclasses();
     let mut found = Vec::new(alloc);
-    for at in 0..change.classes.len() {
-        let stored = &change.classes[at];
-        if has(bases_under(change, stored), number) {
-            found.push(stored.number())?;
-        }
-    }
+    push_below(&mut found, subclasses, change.class)?;
+    push_if(&mut found, has(change.bases, number), change.class)?;
+    push_above(&mut found, subclasses, change.class)?;
     Ok(found)
 }
 
@@ -73,6 +119,8 @@ fn renew(
     best: Option<PyTypeRef>,
 ) -> Result<Renewed, OutOfMemory>
     requires coherent { IsCoherent change.classes.now }
+    requires own { is_class (classes_of change.classes.now) change.class.0 ≡ true }
+    requires class { is_class (classes_of change.classes.now) number.0 ≡ true }
     requires line { lin (changed change) number.0 ≡ Some (numbers line.now) }
     requires base { base (changed change) number.0 ≡ number_of best }
     ensures { IfOk result (λ r. IsRenewed (changed change.entry) number.0 r) }
@@ -121,10 +169,35 @@ fn line_under<'a>(change: Change<'a>, trials: &'a Trials, class: PyTypeRef) -> &
     }
 }
 
-// What the change makes of each class.
+// What the change makes of the class at a place.
+fn renew_at(
+    change: Change<'_>,
+    alloc: Global,
+    trials: &Trials,
+    best: PyTypeRef,
+    at: usize,
+) -> Result<Renewed, OutOfMemory>
+    requires coherent { IsCoherent change.classes.now }
+    requires own { is_class (classes_of change.classes.now) change.class.0 ≡ true }
+    requires there { AreThere (classes_of change.classes.now) (numbers change.bases.now) }
+    requires passed { refused_rebase (classes_of change.classes.now) change.class.0 (numbers change.bases.now) ≡ None }
+    requires best { best_of (classes_of change.classes.now) (numbers change.bases.now) ≡ Some best.0 }
+    requires known { AreKnown change.classes.now change.class.0 (numbers change.bases.now) trials.now }
+    requires inside { at < length change.classes.now }
+    ensures { IfOk result (λ r. (k : StoredClass) → slice_get change.entry.classes.now at ≡ Some k →
+        IsRenewed (changed change.entry) k.number r) }
+{
+    let number = change.classes[at].number();
+    let line = line_under(change, trials, number);
+    let base = base_under(change, best, at);
+    renew(change, alloc, number, line, base)
+}
+
+// What the change makes of the classes at some places.
 pub(crate) fn renew_all(
     change: Change<'_>,
     alloc: Global,
+    places: &[usize],
     trials: &Trials,
     best: PyTypeRef,
 ) -> Result<Vec<Renewed>, OutOfMemory>
@@ -134,25 +207,35 @@ pub(crate) fn renew_all(
     requires passed { refused_rebase (classes_of change.classes.now) change.class.0 (numbers change.bases.now) ≡ None }
     requires best { best_of (classes_of change.classes.now) (numbers change.bases.now) ≡ Some best.0 }
     requires known { AreKnown change.classes.now change.class.0 (numbers change.bases.now) trials.now }
-    ensures { IfOk result (λ v.
-        AreRenewed change.entry.classes.now change.entry.class.0 (numbers change.entry.bases.now) v.items) }
+    requires inside { (i : ℕ) → Includes places.now i → i < length change.classes.now }
+    ensures { IfOk result (λ v. AreRenewed change.entry.classes.now change.entry.class.0
+        (numbers change.entry.bases.now) places.now v.items) }
 {
     let mut all = Vec::new(alloc);
-    for at in 0..change.classes.len() {
-        let number = change.classes[at].number();
-        let line = line_under(change, trials, number);
-        let base = base_under(change, best, at);
-        all.push(renew(change, alloc, number, line, base)?)?;
+    for place in places {
+        let renewed = renew_at(change, alloc, trials, best, *place)?;
+        all.push(renewed)?;
     }
     Ok(all)
 }
 
-// Puts what the change makes of each class in its place. It takes no memory.
-pub(crate) fn swap_in(classes: &mut [Stored], mut renewed: Vec<Renewed>)
-    requires { length renewed.items ≡ length classes.old }
-    ensures { AreSwapped renewed.items classes.old classes.new }
+// Puts what the change makes of the class at a place there, and takes back what it had.
+fn swap_at(classes: &mut [Stored], at: usize, renewed: &mut Renewed)
+    requires { at < length classes.old }
+    ensures { (d : StoredClass) → classes.new ≡
+        slice_set classes.old at (with_renewed renewed.old (slice_index_or classes.old at d)) }
 {
-    for at in 0..classes.len() {
-        classes[at].renew(&mut renewed[at]);
+    classes[at].renew(renewed);
+}
+
+// The same of the classes at some places. It takes no memory.
+pub(crate) fn swap_in(classes: &mut [Stored], places: &[usize], mut renewed: Vec<Renewed>)
+    requires count { length renewed.items ≡ length places.now }
+    requires distinct { Distinct places.now }
+    requires inside { (i : ℕ) → Includes places.now i → i < length classes.old }
+    ensures { AreSwapped places.now renewed.items classes.old classes.new }
+{
+    for index in 0..places.len() {
+        swap_at(classes, places[index], &mut renewed[index]);
     }
 }

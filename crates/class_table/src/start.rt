@@ -45,9 +45,8 @@ impl ClassTable {
         Ok(table)
     }
 
-    /// A table of the built-in classes without any attributes, for a world that makes the objects that these hold and
-    /// puts each attribute by `put_attr`.
-    pub fn bare(alloc: Global) -> Result<ClassTable, OutOfMemory>
+    // A table of the built-in classes without any attributes: `put_attr` puts each.
+    fn bare(alloc: Global) -> Result<ClassTable, OutOfMemory>
         ensures { IfOk result (λ t. t ≡ built_in_classes) }
     {
         let mut table = ClassTable::empty(alloc);

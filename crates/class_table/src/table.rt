@@ -282,9 +282,9 @@ impl ClassTable {
         rebase(&mut self.classes, alloc, class, bases, steps)
     }
 
-    /// Gives a built-in class an own attribute, while a world is set up. What a script sets goes by
-    /// `set_attr`, which refuses a built-in class.
-    pub fn put_attr(
+    // Gives a built-in class an own attribute, while the table is set up. What a script sets goes by
+    // `set_attr`, which refuses a built-in class.
+    pub(crate) fn put_attr(
         &mut self,
         class: PyTypeRef,
         name: PyStrInterned,

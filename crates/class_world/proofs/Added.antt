@@ -15,7 +15,7 @@ use Rattle.plain_machine.specs.World.{ref, has_dict as plain_has_dict, push_node
 use Rattle.class_world.specs.Held.{Held}
 use Rattle.class_world.specs.Added.{with_object, number_of_object, HasNoEntries, IsEmptyDict}
 use Rattle.class_world.specs.Reading.{Reading, places_of, datum, node_of, plain}
-use Rattle.class_world.specs.Sound.{IsNode, IsClass, IsOf, Holding, GetsDict, Holds, AllHold, Grows, Sound, home_of, home_at, class_in, of_node, of_option, of_payload}
+use Rattle.class_world.specs.Sound.{IsNode, IsClass, IsOf, Holding, GetsDict, Holds, AllHold, Grows, SoundWith, Sound, home_of, home_at, class_in, of_node, of_option, of_payload}
 use Rattle.class_world.proofs.Claims.{all-grow, get-end}
 use Rattle.class_world.proofs.Growth.{grows-itself, grows-on, node-grows}
 use Rattle.class_world.proofs.Changes.{node-sound}
@@ -112,7 +112,7 @@ module _ (w : Held) (c : PyTypeRef) (p : Payload) where
   unfolding Holds
   gets o g class q = (class, sym (ap (λ k. is_none k && has_dict w.classes c.0) q ∙ g))
 
-  object-sound : (o : Option Node) → has_dict w.classes c.0 ≡ is_some o → IfSome o IsEmptyDict → AllHold w (of_option of_node o) → Holds w (IsClass c.0) → Holds w (IsOf c.0 (home_of p)) → class_in p ≡ None → AllHold w (of_payload p) → Sound w → Sound (made o)
+  pub object-sound : {Log : Type 0} (o : Option Node) → has_dict w.classes c.0 ≡ is_some o → IfSome o IsEmptyDict → AllHold w (of_option of_node o) → Holds w (IsClass c.0) → Holds w (IsOf c.0 (home_of p)) → class_in p ≡ None → AllHold w (of_payload p) → SoundWith Log w → SoundWith Log (made o)
   unfolding Holds
   object-sound None g e h class of q held s = node-sound w s (stored None) q (class, (of, (tt, (gets None g class q, held))))
   object-sound (Some d) g e h class of q held s =
@@ -139,7 +139,7 @@ module _ (w : Held) (c : PyTypeRef) (p : Payload) where
       let n : r.0 ≡ length (w.nodes ++ d ∷ []) = let k : r.0 ≡ length w.nodes + 1 = ap (λ (r : PyObjectRef). r.0) e in omega (arith, l, k) in
       ap (home_at ((w.nodes ++ d ∷ []) ++ new ∷ [])) n ∙ ap (option_map (λ (x : Node). home_of x.payload)) (get-end (w.nodes ++ d ∷ []) new)
 
-  object-read : (t : Reading) (o : Option Node) → IfSome o IsEmptyDict → plain_has_dict (plain t w) c.0 ≡ is_some o → plain t (made o) ≡ with_node (plain t w) c.0 (datum t p)
+  pub object-read : (t : Reading) (o : Option Node) → IfSome o IsEmptyDict → plain_has_dict (plain t w) c.0 ≡ is_some o → plain t (made o) ≡ with_node (plain t w) c.0 (datum t p)
   unfolding plain
   object-read t None e h =
       ap (λ (ns : List PlainNode). record (plain t w) { nodes = ns }) (map-push (node_of t) w.nodes (stored None))

@@ -160,10 +160,10 @@ module _ (w : Held) where
 
 -- other variables, scopes and notes
 pub other-lasts : (w : Held) (vars : Bound) (scopes : List Scope) (calls : List Started) → Lasts w (record w { vars = vars; scopes = scopes; calls = calls })
-other-lasts w vars scopes calls = same-lasts w (record w { vars = vars; scopes = scopes; calls = calls }) refl refl refl refl
+other-lasts w vars scopes calls = same-lasts w (record w { vars = vars; scopes = scopes; calls = calls }) refl refl refl refl refl
 
 other-grows : (w : Held) (vars : Bound) (scopes : List Scope) → length scopes ≡ length w.scopes → Grows w (record w { vars = vars; scopes = scopes })
-other-grows w vars scopes e = record { still = (other-lasts w vars scopes w.calls).still; bodies = e; notes = refl }
+other-grows w vars scopes e = record { still = (other-lasts w vars scopes w.calls).still; log = (other-lasts w vars scopes w.calls).log; bodies = e; notes = refl }
 
 length-bound : (ss : List Scope) (x : PyStrInterned) (r : PyObjectRef) → length (bound_scopes ss x r) ≡ length ss
 length-bound [] x r = refl
@@ -175,7 +175,7 @@ other-sound w vars scopes calls s h k a b =
     let new = record w { vars = vars; scopes = scopes; calls = calls } in
     let more = other-lasts w vars scopes calls in
     let go = all-last w new more in
-    record { forms = go _ s.forms; below = s.below; nodes = go _ s.nodes; classes = go _ s.classes; vars = go _ h; scopes = go _ k; fixed = fixed-grow w new s.fixed more; built_in = built_in-grow w new s.built_in more; own = λ b. more.still _ (s.own b); flags = λ b. more.still _ (s.flags b); of_none = more.still _ s.of_none; unmarked = s.unmarked; standing = λ c e. more.still _ (s.standing c e); itself = s.itself; apart = a; scopes_apart = b; known = s.known }
+    record { forms = go _ s.forms; below = s.below; nodes = go _ s.nodes; classes = go _ s.classes; vars = go _ h; scopes = go _ k; fixed = fixed-grow w new s.fixed more; built_in = built_in-grow w new s.built_in more; own = λ b. more.still _ (s.own b); flags = λ b. more.still _ (s.flags b); of_none = more.still _ s.of_none; unmarked = s.unmarked; standing = λ c e. more.still _ (s.standing c e); itself = s.itself; apart = a; scopes_apart = b; known = s.known; logged = s.logged }
 
 -- a variable is bound, or memory ran out and nothing changed
 module _ {A E : Type 0} (w : Held) (x : PyStrInterned) (r : PyObjectRef) (vars : Bound) (scopes : List Scope) where

@@ -11,9 +11,11 @@ use Rattle.class_model.proofs.Kept.{is_class-kept, lin-kept, is_place-kept}
 use Rattle.plain_machine.specs.World.{is_text}
 use Rattle.plain_machine.specs.Change.{SetName, apply, without_own_attr}
 use Rattle.plain_machine.proofs.Offsets.{offset-kept}
+use Rattle.class_log.specs.Change.{Change}
+use Rattle.class_log.specs.Following.{Keeps}
 use Rattle.class_world.specs.Held.{Held}
 use Rattle.class_world.specs.Reading.{Reading, Reads, spelled, plain}
-use Rattle.class_world.specs.Sound.{AllHold, Sound, of_binding, of_class, of_dict, of_each}
+use Rattle.class_world.specs.Sound.{AllHold, SoundWith, Sound, of_binding, of_class, of_dict, of_each}
 use Rattle.class_world.proofs.Claims.{all-append, all-first, all-rest}
 use Rattle.class_world.proofs.Homes.{by_line}
 use Rattle.class_world.proofs.Growth.{Like, like-itself}
@@ -34,12 +36,12 @@ changed-read t f g same (k ∷ ks) c =
     ]
 
 -- and so in the plain world, unless the change was refused
-pub change-read : {A E : Type 0} (f : HeldClass → HeldClass) (g : Reading → Class Text → Class Text) → ((t : Reading) (k : HeldClass) → rekeyed (spelled t) (f k) ≡ g t (rekeyed (spelled t) k)) → (w now : Held) (c : ℕ) (ks : List HeldClass) (o : Result A E) → OnOk o (ks ≡ with_changed f w.classes c) → w ≡ now → OnOk o ((t : Reading) → plain t (record w { classes = ks }) ≡ record (plain t now) { classes = with_changed (g t) (plain t now).classes c })
+pub change-read : {A E : Type 0} (f : HeldClass → HeldClass) (g : Reading → Class Text → Class Text) → ((t : Reading) (k : HeldClass) → rekeyed (spelled t) (f k) ≡ g t (rekeyed (spelled t) k)) → (w now : Held) (c : ℕ) (ks : List HeldClass) (log : List Change) (o : Result A E) → OnOk o (ks ≡ with_changed f w.classes c) → w ≡ now → OnOk o ((t : Reading) → plain t (record w { classes = ks; log = log }) ≡ record (plain t now) { classes = with_changed (g t) (plain t now).classes c })
 unfolding plain
-change-read f g same w now c ks (Ok a) p v = λ t.
-    subst (λ n. plain t (record w { classes = ks }) ≡ record (plain t n) { classes = with_changed (g t) (plain t n).classes c }) v
+change-read f g same w now c ks log (Ok a) p v = λ t.
+    subst (λ n. plain t (record w { classes = ks; log = log }) ≡ record (plain t n) { classes = with_changed (g t) (plain t n).classes c }) v
     (ap (λ (ks : Classes Text). record (plain t w) { classes = ks }) (ap (renamed (spelled t)) p ∙ changed-read t f (g t) (same t) w.classes c))
-change-read f g same w now c ks (Err e) p v = tt
+change-read f g same w now c ks log (Err e) p v = tt
 
 pub changed-holds : (w : Held) (f : HeldClass → HeldClass) → ((k : HeldClass) → AllHold w (of_class k) → AllHold w (of_class (f k))) → (ks : List HeldClass) (c : ℕ) → AllHold w (of_each of_class ks) → AllHold w (of_each of_class (with_changed f ks c))
 changed-holds w f keep [] c h = tt
@@ -67,12 +69,12 @@ module _ (f : HeldClass → HeldClass) (number : (k : HeldClass) → (f k).numbe
     change-like (Ok a) p q = subst (Like w.classes) (sym p) (changed-like w.classes c)
     change-like (Err e) p q = subst (Like w.classes) (sym q) (like-itself w.classes)
 
-    pub change-sound : (o : Result A E) → OnOk o (ks ≡ with_changed f w.classes c) → OnErr o (ks ≡ w.classes) → ((k : HeldClass) → AllHold w (of_class k) → AllHold w (of_class (f k))) → Sound w → Sound (record w { classes = ks })
-    change-sound (Ok a) p q keep s =
-        classes-sound w ks (change-like (Ok a) p q) (subst (SameFlags w.classes) (sym p) (λ d. at-changed f number (option_map (λ (k : HeldClass). k.flags)) (λ k. ap Some (flags k)) w.classes c d)) (subst (λ ks. AllHold w (of_each of_class ks)) (sym p) (changed-holds w f keep w.classes c s.classes))
+    pub change-sound : {More : Type 0} (log : List Change) → Keeps w.log log → More → (o : Result A E) → OnOk o (ks ≡ with_changed f w.classes c) → OnErr o (ks ≡ w.classes) → ((k : HeldClass) → AllHold w (of_class k) → AllHold w (of_class (f k))) → Sound w → SoundWith More (record w { classes = ks; log = log })
+    change-sound log keeps said (Ok a) p q keep s =
+        classes-sound w ks log keeps said (change-like (Ok a) p q) (subst (SameFlags w.classes) (sym p) (λ d. at-changed f number (option_map (λ (k : HeldClass). k.flags)) (λ k. ap Some (flags k)) w.classes c d)) (subst (λ ks. AllHold w (of_each of_class ks)) (sym p) (changed-holds w f keep w.classes c s.classes))
         (subst (AreStanding w) (sym p) (λ d e. s.standing d (sym (is_class-kept f number w.classes c d) ∙ e))) s
-    change-sound (Err e) p q keep s =
-        classes-sound w ks (change-like (Err e) p q) (subst (SameFlags w.classes) (sym q) (λ d. refl)) (subst (λ ks. AllHold w (of_each of_class ks)) (sym q) s.classes) (subst (AreStanding w) (sym q) s.standing) s
+    change-sound log keeps said (Err e) p q keep s =
+        classes-sound w ks log keeps said (change-like (Err e) p q) (subst (SameFlags w.classes) (sym q) (λ d. refl)) (subst (λ ks. AllHold w (of_each of_class ks)) (sym q) s.classes) (subst (AreStanding w) (sym q) s.standing) s
 
 -- a class without one of its own attributes
 abbrev pub without : PyStrInterned → HeldClass → HeldClass
@@ -83,16 +85,16 @@ without-holds w x k h =
     let dict = of_dict (has_flag (2 ^ 40) k) in
     (h.0, (h.1.0, all-append w dict (of_each of_binding (without_key is_same_name k.attrs x)) (all-first w dict _ h.1.1) (without_key-holds w k.attrs x (all-rest w dict _ h.1.1))))
 
-pub without-read : {A E : Type 0} (w now : Held) (c : ℕ) (x : PyStrInterned) (ks : List HeldClass) (o : Result A E) → OnOk o (ks ≡ without_class_attr is_same_name w.classes c x) → w ≡ now → OnOk o ((t : Reading) → plain t (record w { classes = ks }) ≡ without_own_attr (plain t now) c (t.text x.0))
-without-read w now c x ks o p v =
-    change-read (without x) (λ t k. record k { attrs = without_key is_text k.attrs (spelled t x) }) (λ t k. ap (λ bs. record (rekeyed (spelled t) k) { attrs = bs }) (without_key-read t k.attrs x)) w now c ks o p v
+pub without-read : {A E : Type 0} (w now : Held) (c : ℕ) (x : PyStrInterned) (ks : List HeldClass) (log : List Change) (o : Result A E) → OnOk o (ks ≡ without_class_attr is_same_name w.classes c x) → w ≡ now → OnOk o ((t : Reading) → plain t (record w { classes = ks; log = log }) ≡ without_own_attr (plain t now) c (t.text x.0))
+without-read w now c x ks log o p v =
+    change-read (without x) (λ t k. record k { attrs = without_key is_text k.attrs (spelled t x) }) (λ t k. ap (λ bs. record (rekeyed (spelled t) k) { attrs = bs }) (without_key-read t k.attrs x)) w now c ks log o p v
 
 -- a class with another name
 abbrev pub called : Text → HeldClass → HeldClass
 called x k = record k { name = x }
 
-pub called-read : {A E : Type 0} (w now : Held) (c : ℕ) (x : Text) (ks : List HeldClass) (o : Result A E) → OnOk o (ks ≡ with_class_name w.classes c x) → w ≡ now → OnOk o ((t : Reading) → plain t (record w { classes = ks }) ≡ apply (plain t now) (SetName c x))
-called-read w now c x ks o p v = change-read (called x) (λ t k. record k { name = x }) (λ t k. refl) w now c ks o p v
+pub called-read : {A E : Type 0} (w now : Held) (c : ℕ) (x : Text) (ks : List HeldClass) (log : List Change) (o : Result A E) → OnOk o (ks ≡ with_class_name w.classes c x) → w ≡ now → OnOk o ((t : Reading) → plain t (record w { classes = ks; log = log }) ≡ apply (plain t now) (SetName c x))
+called-read w now c x ks log o p v = change-read (called x) (λ t k. record k { name = x }) (λ t k. refl) w now c ks log o p v
 
 -- whether it was there
 pub own-told : {E : Type 0} (w now : Held) (v : w ≡ now) (c : ℕ) (x : PyStrInterned) (o : Result Bool E) → IfOk o (λ b. b ≡ is_some (own_of (λ k. is_same_name k x) (class_at w.classes c))) → IfOk o (λ b. (t : Reading) → Reads t now → b ≡ is_some (own_of (λ y. is_text y (t.text x.0)) (class_at (plain t now).classes c)))

@@ -9,7 +9,7 @@ use Rattle.py_node.specs.declared.payload.Form.TheVariants as form
 use Rattle.class_model.specs.Class.{is_class}
 use Rattle.class_world.specs.Held.{Held}
 use Rattle.class_world.specs.Tables.{IsBelow, AreBelow}
-use Rattle.class_world.specs.Sound.{IsNode, IsClass, class_in, held_class, Holds, AllHold, Lasts, of_node, of_form, Sound}
+use Rattle.class_world.specs.Sound.{IsNode, IsClass, class_in, held_class, Holds, AllHold, Lasts, of_node, of_form, SoundWith, Sound}
 use Rattle.class_world.proofs.Claims.{all-grow, each-push}
 use Rattle.class_world.proofs.Growth.{grows-lasts, node-grows, form-grows, names-grow}
 
@@ -101,21 +101,21 @@ itself-push k (y ∷ ns) x h g (suc n) c e =
 pub other-push : (ns : List Node) (x : Node) → class_in x.payload ≡ None → ((n c : ℕ) → held_class ns (record { 0 = n }) ≡ Some c → n ≡ c) → (n c : ℕ) → held_class (ns ++ x ∷ []) (record { 0 = n }) ≡ Some c → n ≡ c
 other-push ns x q g n c e = let p = itself-push 0 ns x (λ d r. cc) (λ m d r. let p = g m d r in omega arith) n c e in omega arith
 
-module _ (w : Held) (s : Sound w) where
-  pub node-sound : (n : Node) → class_in n.payload ≡ None → AllHold w (of_node n) → Sound (record w { nodes = w.nodes ++ n ∷ [] })
-  node-sound n q h =
-      let new = record w { nodes = w.nodes ++ n ∷ [] } in
-      let go = all-grow w new (node-grows w n) in
-      record { forms = go _ s.forms; below = s.below; nodes = each-push new of_node w.nodes n (go _ s.nodes) (go (of_node n) h); classes = go _ s.classes; vars = go _ s.vars; scopes = go _ s.scopes; fixed = fixed-grow w new s.fixed (grows-lasts w new (node-grows w n)); built_in = built_in-grow w new s.built_in (grows-lasts w new (node-grows w n)); own = λ b. (node-grows w n).still _ (s.own b); flags = λ b. (node-grows w n).still _ (s.flags b); of_none = (node-grows w n).still _ s.of_none; unmarked = s.unmarked; standing = λ c e. (node-grows w n).still _ (s.standing c e); itself = other-push w.nodes n q s.itself; apart = s.apart; scopes_apart = s.scopes_apart; known = s.known }
+pub node-sound : {Log : Type 0} (w : Held) (s : SoundWith Log w) (n : Node) → class_in n.payload ≡ None → AllHold w (of_node n) → SoundWith Log (record w { nodes = w.nodes ++ n ∷ [] })
+node-sound w s n q h =
+    let new = record w { nodes = w.nodes ++ n ∷ [] } in
+    let go = all-grow w new (node-grows w n) in
+    record { forms = go _ s.forms; below = s.below; nodes = each-push new of_node w.nodes n (go _ s.nodes) (go (of_node n) h); classes = go _ s.classes; vars = go _ s.vars; scopes = go _ s.scopes; fixed = fixed-grow w new s.fixed (grows-lasts w new (node-grows w n)); built_in = built_in-grow w new s.built_in (grows-lasts w new (node-grows w n)); own = λ b. (node-grows w n).still _ (s.own b); flags = λ b. (node-grows w n).still _ (s.flags b); of_none = (node-grows w n).still _ s.of_none; unmarked = s.unmarked; standing = λ c e. (node-grows w n).still _ (s.standing c e); itself = other-push w.nodes n q s.itself; apart = s.apart; scopes_apart = s.scopes_apart; known = s.known; logged = s.logged }
 
+module _ (w : Held) (s : Sound w) where
   pub form-sound : (f : Form) → AllHold w (of_form f) → Sound (record w { forms = w.forms ++ f ∷ [] })
   form-sound f h =
       let new = record w { forms = w.forms ++ f ∷ [] } in
       let go = all-grow w new (form-grows w f) in
-      record { forms = each-push new of_form w.forms f (go _ s.forms) (go (of_form f) h); below = below-push w.forms f s.below (form-below w f h); nodes = go _ s.nodes; classes = go _ s.classes; vars = go _ s.vars; scopes = go _ s.scopes; fixed = fixed-grow w new s.fixed (grows-lasts w new (form-grows w f)); built_in = built_in-grow w new s.built_in (grows-lasts w new (form-grows w f)); own = λ b. (form-grows w f).still _ (s.own b); flags = λ b. (form-grows w f).still _ (s.flags b); of_none = (form-grows w f).still _ s.of_none; unmarked = s.unmarked; standing = λ c e. (form-grows w f).still _ (s.standing c e); itself = s.itself; apart = s.apart; scopes_apart = s.scopes_apart; known = s.known }
+      record { forms = each-push new of_form w.forms f (go _ s.forms) (go (of_form f) h); below = below-push w.forms f s.below (form-below w f h); nodes = go _ s.nodes; classes = go _ s.classes; vars = go _ s.vars; scopes = go _ s.scopes; fixed = fixed-grow w new s.fixed (grows-lasts w new (form-grows w f)); built_in = built_in-grow w new s.built_in (grows-lasts w new (form-grows w f)); own = λ b. (form-grows w f).still _ (s.own b); flags = λ b. (form-grows w f).still _ (s.flags b); of_none = (form-grows w f).still _ s.of_none; unmarked = s.unmarked; standing = λ c e. (form-grows w f).still _ (s.standing c e); itself = s.itself; apart = s.apart; scopes_apart = s.scopes_apart; known = s.known; logged = s.logged }
 
   pub names-sound : (names : List (List ℕ)) → length w.names ≤ length names → ((n : ℕ) (x : List ℕ) → slice_get w.names n ≡ Some x → slice_get names n ≡ Some x) → Sound (record w { names = names })
   names-sound names l k =
       let new = record w { names = names } in
       let go = all-grow w new (names-grow w names l) in
-      record { forms = go _ s.forms; below = s.below; nodes = go _ s.nodes; classes = go _ s.classes; vars = go _ s.vars; scopes = go _ s.scopes; fixed = fixed-grow w new s.fixed (grows-lasts w new (names-grow w names l)); built_in = built_in-grow w new s.built_in (grows-lasts w new (names-grow w names l)); own = λ b. (names-grow w names l).still _ (s.own b); flags = λ b. (names-grow w names l).still _ (s.flags b); of_none = (names-grow w names l).still _ s.of_none; unmarked = s.unmarked; standing = λ c e. (names-grow w names l).still _ (s.standing c e); itself = s.itself; apart = s.apart; scopes_apart = s.scopes_apart; known = λ n x e. k n x (s.known n x e) }
+      record { forms = go _ s.forms; below = s.below; nodes = go _ s.nodes; classes = go _ s.classes; vars = go _ s.vars; scopes = go _ s.scopes; fixed = fixed-grow w new s.fixed (grows-lasts w new (names-grow w names l)); built_in = built_in-grow w new s.built_in (grows-lasts w new (names-grow w names l)); own = λ b. (names-grow w names l).still _ (s.own b); flags = λ b. (names-grow w names l).still _ (s.flags b); of_none = (names-grow w names l).still _ s.of_none; unmarked = s.unmarked; standing = λ c e. (names-grow w names l).still _ (s.standing c e); itself = s.itself; apart = s.apart; scopes_apart = s.scopes_apart; known = λ n x e. k n x (s.known n x e); logged = s.logged }

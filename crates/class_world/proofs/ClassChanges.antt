@@ -19,9 +19,12 @@ use Rattle.class_model.proofs.Kept.{is_place-kept}
 use Rattle.class_table.specs.Refused.{AreThere}
 use Rattle.class_table.specs.Keys.{numbers}
 use Rattle.plain_machine.specs.World.{is_text, with_own_attr, with_new_class}
+use Rattle.class_log.specs.Change.{Change}
+use Rattle.class_log.specs.Following.{Keeps}
+use Rattle.class_log.specs.Logged.{IsLogged}
 use Rattle.class_world.specs.Held.{Held}
 use Rattle.class_world.specs.Reading.{Reading, spelled, node_of, plain}
-use Rattle.class_world.specs.Sound.{IsName, IsNode, IsClass, IsOf, GetsDict, Standing, AreNames, class_in, held_class, Holds, AllHold, Grows, Sound, flags_at, is_marked_heap, of_binding, of_class, of_class_ref, of_dict, of_node, of_each}
+use Rattle.class_world.specs.Sound.{IsName, IsNode, IsClass, IsOf, GetsDict, Standing, AreNames, class_in, held_class, Holds, AllHold, Grows, SoundWith, Sound, flags_at, is_marked_heap, of_binding, of_class, of_class_ref, of_dict, of_node, of_each}
 use Rattle.class_world.proofs.Claims.{all-grow, all-append, all-first, all-rest, each-push, get-end}
 use Rattle.class_world.proofs.MemberPlaces.{no-members}
 use Rattle.py_node.specs.declared.built_in.BuiltIn.{BuiltIn}
@@ -64,8 +67,8 @@ attr-there : (ks : HeldClasses) (c d : ℕ) (x : PyStrInterned) (r : PyObjectRef
 attr-there ks c d x r = at-changed (λ (k : Class PyStrInterned). record k { attrs = with_value is_same_name k.attrs x r }) (λ k. refl) is_some (λ k. refl) ks c d
 
 -- as many classes as before
-pub classes-grow : (w : Held) (ks : HeldClasses) → Like w.classes ks → Grows w (record w { classes = ks })
-classes-grow w ks k = grows w (record w { classes = ks }) refl refl (omega arith) (omega arith) (λ m f h. h) (omega arith) (keep-itself w.classes w.nodes) k
+pub classes-grow : (w : Held) (ks : HeldClasses) (log : List Change) → Keeps w.log log → Like w.classes ks → Grows w (record w { classes = ks; log = log })
+classes-grow w ks log more k = grows w (record w { classes = ks; log = log }) more refl refl (omega arith) (omega arith) (λ m f h. h) (omega arith) (keep-itself w.classes w.nodes) k
 
 abbrev pub AreStanding : Held → HeldClasses → Type 0
 AreStanding w ks = (c : ℕ) → is_class ks c ≡ true → Holds w (Standing c (record { 0 = c }))
@@ -74,12 +77,13 @@ AreStanding w ks = (c : ℕ) → is_class ks c ≡ true → Holds w (Standing c 
 abbrev pub SameFlags : HeldClasses → HeldClasses → Type 0
 SameFlags old new = (c : ℕ) → flags_at new c ≡ flags_at old c
 
-pub classes-sound : (w : Held) (ks : HeldClasses) → Like w.classes ks → SameFlags w.classes ks → AllHold w (of_each of_class ks) → AreStanding w ks → Sound w → Sound (record w { classes = ks })
-classes-sound w ks k f h a s =
-    let new = record w { classes = ks } in
-    let more = classes-grow w ks k in
+-- whatever is said of the log before and after
+pub classes-sound : {Log More : Type 0} (w : Held) (ks : HeldClasses) (log : List Change) → Keeps w.log log → More → Like w.classes ks → SameFlags w.classes ks → AllHold w (of_each of_class ks) → AreStanding w ks → SoundWith Log w → SoundWith More (record w { classes = ks; log = log })
+classes-sound w ks log keeps said k f h a s =
+    let new = record w { classes = ks; log = log } in
+    let more = classes-grow w ks log keeps k in
     let go = all-grow w new more in
-    record { forms = go _ s.forms; below = s.below; nodes = go _ s.nodes; classes = go _ h; vars = go _ s.vars; scopes = go _ s.scopes; fixed = fixed-grow w new s.fixed (grows-lasts w new more); built_in = built_in-grow w new s.built_in (grows-lasts w new more); own = λ b. more.still _ (s.own b); flags = λ b. more.still _ (s.flags b); of_none = more.still _ s.of_none; unmarked = λ c n e. s.unmarked c n (sym (f c) ∙ e); standing = λ d e. more.still _ (a d e); itself = s.itself; apart = s.apart; scopes_apart = s.scopes_apart; known = s.known }
+    record { forms = go _ s.forms; below = s.below; nodes = go _ s.nodes; classes = go _ h; vars = go _ s.vars; scopes = go _ s.scopes; fixed = fixed-grow w new s.fixed (grows-lasts w new more); built_in = built_in-grow w new s.built_in (grows-lasts w new more); own = λ b. more.still _ (s.own b); flags = λ b. more.still _ (s.flags b); of_none = more.still _ s.of_none; unmarked = λ c n e. s.unmarked c n (sym (f c) ∙ e); standing = λ d e. more.still _ (a d e); itself = s.itself; apart = s.apart; scopes_apart = s.scopes_apart; known = s.known; logged = said }
 
 -- an attribute is set, or memory ran out and nothing changed
 module _ {A E : Type 0} (w : Held) (c : ℕ) (x : PyStrInterned) (r : PyObjectRef) (ks : HeldClasses) where
@@ -93,22 +97,23 @@ module _ {A E : Type 0} (w : Held) (c : ℕ) (x : PyStrInterned) (r : PyObjectRe
   })
   set-like (Err e) p f = subst (Like w.classes) (sym f) (like-itself w.classes)
 
-  pub set-sound : (o : Result A E) → OnOk o (ks ≡ with_class_attr is_same_name w.classes c x r) → OnErr o (ks ≡ w.classes) → Sound w → Holds w (IsName x) → Holds w (IsNode r) → Sound (record w { classes = ks })
-  set-sound (Ok a) p f s n k =
-      classes-sound w ks (set-like (Ok a) p f) (subst (SameFlags w.classes) (sym p) (λ d. at-changed (λ (k : Class PyStrInterned). record k { attrs = with_value is_same_name k.attrs x r }) (λ k. refl) (option_map (λ (k : Class PyStrInterned). k.flags)) (λ k. refl) w.classes c d)) (subst (λ ks. AllHold w (of_each of_class ks)) (sym p) (attr-holds w w.classes c x r s.classes n k))
+  pub set-sound : {Log More : Type 0} (log : List Change) → Keeps w.log log → More → (o : Result A E) → OnOk o (ks ≡ with_class_attr is_same_name w.classes c x r) → OnErr o (ks ≡ w.classes) → SoundWith Log w → Holds w (IsName x) → Holds w (IsNode r) → SoundWith More (record w { classes = ks; log = log })
+  set-sound log keeps said (Ok a) p f s n k =
+      classes-sound w ks log keeps said (set-like (Ok a) p f) (subst (SameFlags w.classes) (sym p) (λ d. at-changed (λ (k : Class PyStrInterned). record k { attrs = with_value is_same_name k.attrs x r }) (λ k. refl) (option_map (λ (k : Class PyStrInterned). k.flags)) (λ k. refl) w.classes c d)) (subst (λ ks. AllHold w (of_each of_class ks)) (sym p) (attr-holds w w.classes c x r s.classes n k))
       (subst (AreStanding w) (sym p) (λ d e. s.standing d (sym (attr-there w.classes c d x r) ∙ e))) s
-  set-sound (Err e) p f s n k = classes-sound w ks (set-like (Err e) p f) (subst (SameFlags w.classes) (sym f) (λ d. refl)) (subst (λ ks. AllHold w (of_each of_class ks)) (sym f) s.classes) (subst (AreStanding w) (sym f) s.standing) s
+  set-sound log keeps said (Err e) p f s n k = classes-sound w ks log keeps said (set-like (Err e) p f) (subst (SameFlags w.classes) (sym f) (λ d. refl)) (subst (λ ks. AllHold w (of_each of_class ks)) (sym f) s.classes) (subst (AreStanding w) (sym f) s.standing) s
 
-  pub set-read : (now : Held) (o : Result A E) → OnOk o (ks ≡ with_class_attr is_same_name w.classes c x r) → w ≡ now → OnOk o ((t : Reading) → plain t (record w { classes = ks }) ≡ with_own_attr (plain t now) c (t.text x.0) r)
+  pub set-read : (log : List Change) (now : Held) (o : Result A E) → OnOk o (ks ≡ with_class_attr is_same_name w.classes c x r) → w ≡ now → OnOk o ((t : Reading) → plain t (record w { classes = ks; log = log }) ≡ with_own_attr (plain t now) c (t.text x.0) r)
   unfolding plain
-  set-read now (Ok a) p v = λ t.
-      subst (λ n. plain t (record w { classes = ks }) ≡ with_own_attr (plain t n) c (t.text x.0) r) v
+  set-read log now (Ok a) p v = λ t.
+      subst (λ n. plain t (record w { classes = ks; log = log }) ≡ with_own_attr (plain t n) c (t.text x.0) r) v
       (ap (λ (ks : HeldClasses). record (plain t w) { classes = renamed (spelled t) ks }) p ∙ ap (λ (ks : Classes Text). record (plain t w) { classes = ks }) (attr-read t w.classes c x r))
-  set-read now (Err e) p v = tt
+  set-read log now (Err e) p v = tt
 
-  pub set-held : (now : Held) (o : Result A E) → OnOk o (ks ≡ with_class_attr is_same_name w.classes c x r) → w ≡ now → OnOk o (record w { classes = ks } ≡ record now { classes = with_class_attr is_same_name now.classes c x r })
-  set-held now (Ok a) p v = ap (λ (ks : HeldClasses). record w { classes = ks }) p ∙ ap (λ (u : Held). record u { classes = with_class_attr is_same_name u.classes c x r }) v
-  set-held now (Err e) p v = tt
+-- a change that was refused leaves classes and log as they were
+pub unchanged : {A E : Type 0} (w now : Held) → w ≡ now → (ks : HeldClasses) (log : List Change) (o : Result A E) → OnErr o (ks ≡ w.classes) → OnErr o (log ≡ w.log) → OnErr o (record w { classes = ks; log = log } ≡ now)
+unchanged w now v ks log (Ok a) p q = tt
+unchanged w now v ks log (Err e) p q = (λ i. record w { classes = p i; log = q i }) ∙ v
 
 -- every class's number is that of a node, so a further node has room for one
 pub room : (w : Held) (ks : HeldClasses) → AllHold w (of_each of_class ks) → limit ks ≤ length w.nodes
@@ -139,14 +144,14 @@ flags-there t c n e = go (class_at t c) e
     go (Some k) e = refl
 
 -- a class with its node
-module _ (w : Held) (meta : PyTypeRef) (k : Class PyStrInterned) where
+module _ (w : Held) (meta : PyTypeRef) (k : Class PyStrInterned) (log : List Change) (keeps : Keeps w.log log) where
   abbrev pub class_made : PyTypeRef → Held
-  class_made c = record w { nodes = w.nodes ++ record { class = meta; dict = None; members = []; payload = payload.Class c } ∷ []; classes = w.classes ++ k ∷ [] }
+  class_made c = record w { nodes = w.nodes ++ record { class = meta; dict = None; members = []; payload = payload.Class c } ∷ []; classes = w.classes ++ k ∷ []; log = log }
 
   pub made-grows : (c : PyTypeRef) → Grows w (class_made c)
   made-grows c =
       let n = length-append w.nodes (record { class = meta; dict = None; members = []; payload = payload.Class c } ∷ []) in
-      grows w (class_made c) refl refl (omega arith) (omega arith) (λ m f h. h) (omega arith) (keep-push w.classes w.nodes (record { class = meta; dict = None; members = []; payload = payload.Class c })) (like-push w.classes k)
+      grows w (class_made c) keeps refl refl (omega arith) (omega arith) (λ m f h. h) (omega arith) (keep-push w.classes w.nodes (record { class = meta; dict = None; members = []; payload = payload.Class c })) (like-push w.classes k)
 
   pub node-made : (c : PyTypeRef) (r : PyObjectRef) → r.0 ≡ length w.nodes → Holds (class_made c) (IsNode r)
   unfolding Holds
@@ -198,8 +203,8 @@ module _ (w : Held) (meta : PyTypeRef) (k : Class PyStrInterned) where
         let at = itself-push 0 w.nodes (record { class = meta; dict = None; members = []; payload = payload.Class c }) (λ d p. let same : c.0 ≡ d = cc in omega arith) (λ m d p. let r = s.itself m d p in omega arith) n d q in
         omega arith
 
-    pub made-sound : is_marked_heap k.flags ≡ false → Holds w (AreNames k.members) → Holds w (IsClass meta.0) → Holds w (IsOf meta.0 TypeType) → AllHold w (of_each of_binding k.attrs) → Sound (class_made c)
-    made-sound u q m p a =
+    pub made-sound : IsLogged log (w.classes ++ k ∷ []) → is_marked_heap k.flags ≡ false → Holds w (AreNames k.members) → Holds w (IsClass meta.0) → Holds w (IsOf meta.0 TypeType) → AllHold w (of_each of_binding k.attrs) → Sound (class_made c)
+    made-sound said u q m p a =
         let new = class_made c in
         let more = made-grows c in
         let go = all-grow w new more in
@@ -225,6 +230,7 @@ module _ (w : Held) (meta : PyTypeRef) (k : Class PyStrInterned) where
           apart = s.apart;
           scopes_apart = s.scopes_apart;
           known = s.known;
+          logged = said;
         }
 
   pub made-read : (now : Held) (c : PyTypeRef) → w ≡ now → k.number ≡ c.0 → (t : Reading) → plain t (class_made c) ≡ with_new_class (plain t now) meta.0 (rekeyed (spelled t) k)

@@ -11,6 +11,7 @@ use Rattle.py_node.specs.declared.payload.Payload.{Payload}
 use Rattle.py_node.specs.declared.payload.Payload.TheVariants as payload
 use Rattle.plain_machine.specs.Plain.{AFunction, Node}
 use Rattle.plain_machine.specs.Objects.{or_class, defined_by, with_datum_in, with_definer}
+use Rattle.class_log.proofs.Logged.{keeps-itself}
 use Rattle.class_world.specs.Held.{Held}
 use Rattle.class_world.specs.Reading.{Reading, spelled, datum, node_of, plain}
 use Rattle.class_world.specs.Sound.{Claim, IsClass, IsOf, GetsDict, class_in, held_class, Holds, AllHold, Grows, Sound, of_option, of_class_ref, of_dict_ref, of_payload, of_node, of_each}
@@ -142,7 +143,7 @@ module _ (w : Held) (c : PyTypeRef) (r : PyObjectRef) (n new : StoredNode) where
   pub define-grows : n ≡ get_or w.nodes r.0 n → new ≡ defined_node c n → Grows w defined
   define-grows e k =
       let l = set-length w.nodes r.0 new in
-      grows w defined refl refl (omega arith) (omega arith) (λ m f h. h) (omega arith) (record { stays = stays-set w.classes w.nodes r.0 n new e (ap (λ (x : StoredNode). lasting x.payload) k ∙ lasting-stays c n.payload) (λ h. ap (λ (x : StoredNode). x.class) k) }) (like-itself w.classes)
+      grows w defined (keeps-itself w.log) refl refl (omega arith) (omega arith) (λ m f h. h) (omega arith) (record { stays = stays-set w.classes w.nodes r.0 n new e (ap (λ (x : StoredNode). lasting x.payload) k ∙ lasting-stays c n.payload) (λ h. ap (λ (x : StoredNode). x.class) k) }) (like-itself w.classes)
 
   pub define-sound : r.0 < length w.nodes → n ≡ get_or w.nodes r.0 n → new ≡ defined_node c n → Holds w (IsClass c.0) → Sound w → Sound defined
   define-sound l e k h s =
@@ -151,7 +152,7 @@ module _ (w : Held) (c : PyTypeRef) (r : PyObjectRef) (n new : StoredNode) where
       let here = each-get w of_node w.nodes r.0 n (got w.nodes r.0 n l e) s.nodes in
       let there = subst (λ m. AllHold w (of_node m)) (sym k) (node-holds w c n h here) in
       let same : class_in new.payload ≡ class_in n.payload = ap (λ (x : StoredNode). class_in x.payload) k ∙ ap (λ (l : Lasting). l.class) (lasting-stays c n.payload) in
-      record { forms = go _ s.forms; below = s.below; nodes = go _ (each-set w of_node w.nodes r.0 new s.nodes there); classes = go _ s.classes; vars = go _ s.vars; scopes = go _ s.scopes; fixed = fixed-grow w defined s.fixed (grows-lasts w defined more); built_in = built_in-grow w defined s.built_in (grows-lasts w defined more); own = λ b. more.still _ (s.own b); flags = λ b. more.still _ (s.flags b); of_none = more.still _ s.of_none; unmarked = s.unmarked; standing = λ d e. more.still _ (s.standing d e); itself = λ m d q. s.itself m d (class-set w.nodes r.0 n new e same m d q); apart = s.apart; scopes_apart = s.scopes_apart; known = s.known }
+      record { forms = go _ s.forms; below = s.below; nodes = go _ (each-set w of_node w.nodes r.0 new s.nodes there); classes = go _ s.classes; vars = go _ s.vars; scopes = go _ s.scopes; fixed = fixed-grow w defined s.fixed (grows-lasts w defined more); built_in = built_in-grow w defined s.built_in (grows-lasts w defined more); own = λ b. more.still _ (s.own b); flags = λ b. more.still _ (s.flags b); of_none = more.still _ s.of_none; unmarked = s.unmarked; standing = λ d e. more.still _ (s.standing d e); itself = λ m d q. s.itself m d (class-set w.nodes r.0 n new e same m d q); apart = s.apart; scopes_apart = s.scopes_apart; known = s.known; logged = s.logged }
 
   pub define-read : (now : Held) → w ≡ now → r.0 < length w.nodes → n ≡ get_or w.nodes r.0 n → new ≡ defined_node c n → (t : Reading) → plain t defined ≡ with_definer (plain t now) c.0 r
   unfolding plain

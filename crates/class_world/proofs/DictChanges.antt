@@ -10,6 +10,7 @@ use Rattle.py_node.specs.declared.payload.Payload.TheVariants as payload
 use Rattle.plain_machine.specs.Plain.{ADict, Node}
 use Rattle.plain_machine.specs.Objects.{with_datum_in}
 use Rattle.plain_machine.specs.Dicts.{Entries, with_entries}
+use Rattle.class_log.proofs.Logged.{keeps-itself}
 use Rattle.class_world.specs.Held.{Held}
 use Rattle.class_world.specs.Keyed.{entries_of, held_entries, entries_at, of_entries, HasEntries, HasOther, put_at}
 use Rattle.class_world.specs.Reading.{Reading, places_of, datum, node_of, plain}
@@ -205,7 +206,7 @@ module _ (w : Held) (r : PyObjectRef) (n new : StoredNode) where
   pub other-grows : (es : Entries) → n ≡ get_or w.nodes r.0 n → home_of n.payload ≡ Dict → HasOther n new es → Grows w changed
   other-grows es e d o =
       let l = set-length w.nodes r.0 new in
-      grows w changed refl refl (omega arith) (omega arith) (λ m f h. h) (omega arith) (record { stays = stays-set w.classes w.nodes r.0 n new e (same-lasting es d o) (λ h. o.0) }) (like-itself w.classes)
+      grows w changed (keeps-itself w.log) refl refl (omega arith) (omega arith) (λ m f h. h) (omega arith) (record { stays = stays-set w.classes w.nodes r.0 n new e (same-lasting es d o) (λ h. o.0) }) (like-itself w.classes)
 
   pub other-sound : (es : Entries) → r.0 < length w.nodes → n ≡ get_or w.nodes r.0 n → home_of n.payload ≡ Dict → HasOther n new es → AllHold w (of_entries es) → Sound w → Sound changed
   other-sound es l e d o h s =
@@ -221,7 +222,7 @@ module _ (w : Held) (r : PyObjectRef) (n new : StoredNode) where
       let gets : Holds w (GetsDict (class_in new.payload) new.class.0 (is_some new.dict)) = subst (λ o. Holds w (GetsDict o new.class.0 (is_some new.dict))) (ap (λ (l : Lasting). l.class) (sym q)) (subst (λ d. Holds w (GetsDict (class_in n.payload) new.class.0 (is_some d))) (sym o.1) (subst (λ c. Holds w (GetsDict (class_in n.payload) c.0 (is_some n.dict))) (sym o.0) all.1.1.1.0)) in
       let there : AllHold w (of_node new) = (class.0, (like, (members, (gets, all-append w (of_option of_dict_ref new.dict) _ dict (has-holds es w new.payload o.3 h))))) in
       let same : class_in new.payload ≡ class_in n.payload = ap (λ (l : Lasting). l.class) q in
-      record { forms = go _ s.forms; below = s.below; nodes = go _ (each-set w of_node w.nodes r.0 new s.nodes there); classes = go _ s.classes; vars = go _ s.vars; scopes = go _ s.scopes; fixed = fixed-grow w changed s.fixed (grows-lasts w changed more); built_in = built_in-grow w changed s.built_in (grows-lasts w changed more); own = λ b. more.still _ (s.own b); flags = λ b. more.still _ (s.flags b); of_none = more.still _ s.of_none; unmarked = s.unmarked; standing = λ c e. more.still _ (s.standing c e); itself = λ m c q. s.itself m c (class-set w.nodes r.0 n new e same m c q); apart = s.apart; scopes_apart = s.scopes_apart; known = s.known }
+      record { forms = go _ s.forms; below = s.below; nodes = go _ (each-set w of_node w.nodes r.0 new s.nodes there); classes = go _ s.classes; vars = go _ s.vars; scopes = go _ s.scopes; fixed = fixed-grow w changed s.fixed (grows-lasts w changed more); built_in = built_in-grow w changed s.built_in (grows-lasts w changed more); own = λ b. more.still _ (s.own b); flags = λ b. more.still _ (s.flags b); of_none = more.still _ s.of_none; unmarked = s.unmarked; standing = λ c e. more.still _ (s.standing c e); itself = λ m c q. s.itself m c (class-set w.nodes r.0 n new e same m c q); apart = s.apart; scopes_apart = s.scopes_apart; known = s.known; logged = s.logged }
 
   node-read : (t : Reading) (es : Entries) → HasOther n new es → node_of t new ≡ record (node_of t n) { datum = ADict es }
   node-read t es o =

@@ -25,6 +25,9 @@ use Rattle.py_node.specs.declared.members.MemberPlace.{MemberPlace}
 use Rattle.py_node.specs.declared.payload.Node.{Node}
 use Rattle.py_node.specs.declared.payload.Payload.{Payload}
 use Rattle.py_node.specs.declared.payload.Form.{Form}
+use Rattle.class_log.specs.Change.{Change}
+use Rattle.class_log.specs.Following.{Keeps}
+use Rattle.class_log.proofs.Logged.{keeps-itself, keeps-on}
 use Rattle.class_world.specs.Held.{Held}
 use Rattle.class_world.specs.Sound.{Claim, IsNode, AreNodes, IsExpression, AreExpressions, IsName, AreNames, IsClass, IsOf, Holding, Standing, CanBeKeys, KeysDiffer, HasForm, HasParams, HasValues, AreMembers, IsOffset, HasFlags, GetsDict, OfStatic, class_ref_at, flags_at, StandsThere, IsMember, params_in, held_params, AreFilled, home_of, home_at, key_in, held_key, class_in, held_class, Holds, Lasts, Grows}
 use Rattle.class_world.proofs.Claims.{get-pushed}
@@ -210,33 +213,36 @@ grows-at old new x e s n p l (OfStatic r c) h =
     (static-still old.classes old.nodes new.nodes p r.0 c h.0 h.2, l.there c h.1, heap-still old.classes new.classes l c h.1 ∙ h.2)
 grows-at old new x e s n p l (GetsDict o c b) h = (l.there c h.0, h.1 ∙ sym (ap (λ v. is_none o && v) (dict-still old.classes new.classes l c h.0)))
 
+same-log : (old new : List Change) → old ≡ new → Keeps old new
+same-log old new e = subst (Keeps old) e (keeps-itself old)
+
 -- where no table is shorter
-lasts : (old new : Held) → length old.names ≤ length new.names → length old.forms ≤ length new.forms → Stays old.forms new.forms → length old.nodes ≤ length new.nodes → Keep old.classes old.nodes new.nodes → Like old.classes new.classes → Lasts old new
-lasts old new x e s n p l = record { still = grows-at old new x e s n p l }
+lasts : (old new : Held) → old.log ≡ new.log → length old.names ≤ length new.names → length old.forms ≤ length new.forms → Stays old.forms new.forms → length old.nodes ≤ length new.nodes → Keep old.classes old.nodes new.nodes → Like old.classes new.classes → Lasts old new
+lasts old new log x e s n p l = record { still = grows-at old new x e s n p l; log = same-log old.log new.log log }
 
 -- and the same bodies run, and the same notes stand
-pub grows : (old new : Held) → old.scopes ≡ new.scopes → old.calls ≡ new.calls → length old.names ≤ length new.names → length old.forms ≤ length new.forms → Stays old.forms new.forms → length old.nodes ≤ length new.nodes → Keep old.classes old.nodes new.nodes → Like old.classes new.classes → Grows old new
-grows old new b q x e s n p l = record { still = grows-at old new x e s n p l; bodies = ap length (sym b); notes = sym q }
+pub grows : (old new : Held) → Keeps old.log new.log → old.scopes ≡ new.scopes → old.calls ≡ new.calls → length old.names ≤ length new.names → length old.forms ≤ length new.forms → Stays old.forms new.forms → length old.nodes ≤ length new.nodes → Keep old.classes old.nodes new.nodes → Like old.classes new.classes → Grows old new
+grows old new log b q x e s n p l = record { still = grows-at old new x e s n p l; log = log; bodies = ap length (sym b); notes = sym q }
 
 pub grows-lasts : (old new : Held) → Grows old new → Lasts old new
-grows-lasts old new g = record { still = g.still }
+grows-lasts old new g = record { still = g.still; log = g.log }
 
 pub grows-itself : (w : Held) → Grows w w
-grows-itself w = record { still = λ c h. h; bodies = refl; notes = refl }
+grows-itself w = record { still = λ c h. h; log = keeps-itself w.log; bodies = refl; notes = refl }
 
 pub grows-on : (a b c : Held) → Grows a b → Grows b c → Grows a c
-grows-on a b c g h = record { still = λ k p. h.still k (g.still k p); bodies = h.bodies ∙ g.bodies; notes = h.notes ∙ g.notes }
+grows-on a b c g h = record { still = λ k p. h.still k (g.still k p); log = keeps-on a.log b.log c.log g.log h.log; bodies = h.bodies ∙ g.bodies; notes = h.notes ∙ g.notes }
 
 pub lasts-on : (a b c : Held) → Lasts a b → Lasts b c → Lasts a c
-lasts-on a b c g h = record { still = λ k p. h.still k (g.still k p) }
+lasts-on a b c g h = record { still = λ k p. h.still k (g.still k p); log = keeps-on a.log b.log c.log g.log h.log }
 
 -- where the tables are the same
-pub same-lasts : (old new : Held) → old.names ≡ new.names → old.forms ≡ new.forms → old.nodes ≡ new.nodes → old.classes ≡ new.classes → Lasts old new
-same-lasts old new x e n k =
+pub same-lasts : (old new : Held) → old.log ≡ new.log → old.names ≡ new.names → old.forms ≡ new.forms → old.nodes ≡ new.nodes → old.classes ≡ new.classes → Lasts old new
+same-lasts old new log x e n k =
     let a = ap length x in
     let b = ap length e in
     let d = ap length n in
-    lasts old new (omega arith) (omega arith) (λ m f h. subst (λ fs. slice_get fs m ≡ Some f) e h) (omega arith) (subst (λ ns. Keep old.classes old.nodes ns) n (keep-itself old.classes old.nodes)) (subst (λ ks. Like old.classes ks) k (like-itself old.classes))
+    lasts old new log (omega arith) (omega arith) (λ m f h. subst (λ fs. slice_get fs m ≡ Some f) e h) (omega arith) (subst (λ ns. Keep old.classes old.nodes ns) n (keep-itself old.classes old.nodes)) (subst (λ ks. Like old.classes ks) k (like-itself old.classes))
 
 pub grows-seen : (w now new : Held) → w ≡ now → Grows w new → Grows now new
 grows-seen w now new e g = subst (λ w. Grows w new) e g
@@ -245,10 +251,10 @@ pub lasts-seen : (w now new : Held) → w ≡ now → Lasts w new → Lasts now 
 lasts-seen w now new e g = subst (λ w. Lasts w new) e g
 
 pub node-grows : (w : Held) (n : Node) → Grows w (record w { nodes = w.nodes ++ n ∷ [] })
-node-grows w n = let l = length-append w.nodes (n ∷ []) in grows w (record w { nodes = w.nodes ++ n ∷ [] }) refl refl (omega arith) (omega arith) (λ m f h. h) (omega arith) (keep-push w.classes w.nodes n) (like-itself w.classes)
+node-grows w n = let l = length-append w.nodes (n ∷ []) in grows w (record w { nodes = w.nodes ++ n ∷ [] }) (keeps-itself w.log) refl refl (omega arith) (omega arith) (λ m f h. h) (omega arith) (keep-push w.classes w.nodes n) (like-itself w.classes)
 
 pub form-grows : (w : Held) (f : Form) → Grows w (record w { forms = w.forms ++ f ∷ [] })
-form-grows w f = let l = length-append w.forms (f ∷ []) in grows w (record w { forms = w.forms ++ f ∷ [] }) refl refl (omega arith) (omega arith) (λ m g h. get-pushed w.forms f m g h) (omega arith) (keep-itself w.classes w.nodes) (like-itself w.classes)
+form-grows w f = let l = length-append w.forms (f ∷ []) in grows w (record w { forms = w.forms ++ f ∷ [] }) (keeps-itself w.log) refl refl (omega arith) (omega arith) (λ m g h. get-pushed w.forms f m g h) (omega arith) (keep-itself w.classes w.nodes) (like-itself w.classes)
 
 pub names-grow : (w : Held) (names : List (List ℕ)) → length w.names ≤ length names → Grows w (record w { names = names })
-names-grow w names l = grows w (record w { names = names }) refl refl l (omega arith) (λ m f h. h) (omega arith) (keep-itself w.classes w.nodes) (like-itself w.classes)
+names-grow w names l = grows w (record w { names = names }) (keeps-itself w.log) refl refl l (omega arith) (λ m f h. h) (omega arith) (keep-itself w.classes w.nodes) (like-itself w.classes)

@@ -22,7 +22,7 @@ pub mod Defined
 pub mod StartSound
 pub mod SoundWorld
 pub mod NewNodes
-pub mod OwnNumbers
+pub mod Opening
 pub mod DictEntries
 pub mod DictChanges
 pub mod PayloadChanges

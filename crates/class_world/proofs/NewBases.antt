@@ -26,9 +26,11 @@ use Rattle.class_table.proofs.KeptLayouts.{layout-passed}
 use Rattle.class_table.proofs.Renames.{layout-alike}
 use Rattle.plain_machine.specs.Change.{SetBases, apply}
 use Rattle.plain_machine.proofs.Offsets.{offset-agrees}
+use Rattle.class_log.specs.Change.{Change}
+use Rattle.class_log.specs.Following.{Keeps}
 use Rattle.class_world.specs.Held.{Held}
 use Rattle.class_world.specs.Reading.{Reading, spelled, plain}
-use Rattle.class_world.specs.Sound.{AllHold, Sound, of_class, of_each}
+use Rattle.class_world.specs.Sound.{AllHold, SoundWith, Sound, of_class, of_each}
 use Rattle.class_world.proofs.ChangedClass.{changed-read, changed-holds, change-read}
 use Rattle.class_world.proofs.ClassChanges.{AreStanding, SameFlags, classes-sound}
 use Rattle.class_world.proofs.Growth.{Like, like-itself}
@@ -144,13 +146,13 @@ module _ (w : Held) (c : ℕ) (bs : List ℕ) (ok : AreSound w.classes) (here : 
   bases-like ks (Ok a) p q h = subst (Like w.classes) (sym p) (passed-like (sym h))
   bases-like ks (Err e) p q h = subst (Like w.classes) (sym q) (like-itself w.classes)
 
-  pub bases-sound : {T : Type 0} (ks : List HeldClass) (o : Result T ClassFault) → OnOk o (ks ≡ with_bases w.classes c bs) → OnErr o (ks ≡ w.classes) → WithMemory o (told o ≡ refused_rebase w.classes c bs) → Sound w → Sound (record w { classes = ks })
-  bases-sound {T = T} ks (Ok a) p q h s =
+  pub bases-sound : {T More : Type 0} (ks : List HeldClass) (log : List Change) → Keeps w.log log → More → (o : Result T ClassFault) → OnOk o (ks ≡ with_bases w.classes c bs) → OnErr o (ks ≡ w.classes) → WithMemory o (told o ≡ refused_rebase w.classes c bs) → Sound w → SoundWith More (record w { classes = ks; log = log })
+  bases-sound {T = T} ks log keeps said (Ok a) p q h s =
       let f : HeldClass → HeldClass = λ k. record k { bases = bs } in
-      classes-sound w ks (bases-like {T = T} ks (Ok a) p q h) (subst (SameFlags w.classes) (sym p) (λ d. at-changed f (λ k. refl) (option_map (λ (k : HeldClass). k.flags)) (λ k. refl) w.classes c d)) (subst (λ ks. AllHold w (of_each of_class ks)) (sym p) (changed-holds w f (λ k h. h) w.classes c s.classes))
+      classes-sound w ks log keeps said (bases-like {T = T} ks (Ok a) p q h) (subst (SameFlags w.classes) (sym p) (λ d. at-changed f (λ k. refl) (option_map (λ (k : HeldClass). k.flags)) (λ k. refl) w.classes c d)) (subst (λ ks. AllHold w (of_each of_class ks)) (sym p) (changed-holds w f (λ k h. h) w.classes c s.classes))
       (subst (AreStanding w) (sym p) (λ d e. s.standing d (sym (is_class-kept f (λ k. refl) w.classes c d) ∙ e))) s
-  bases-sound {T = T} ks (Err e) p q h s =
-      classes-sound w ks (bases-like {T = T} ks (Err e) p q h) (subst (SameFlags w.classes) (sym q) (λ d. refl)) (subst (λ ks. AllHold w (of_each of_class ks)) (sym q) s.classes) (subst (AreStanding w) (sym q) s.standing) s
+  bases-sound {T = T} ks log keeps said (Err e) p q h s =
+      classes-sound w ks log keeps said (bases-like {T = T} ks (Err e) p q h) (subst (SameFlags w.classes) (sym q) (λ d. refl)) (subst (λ ks. AllHold w (of_each of_class ks)) (sym q) s.classes) (subst (AreStanding w) (sym q) s.standing) s
 
-pub bases-set : {T E : Type 0} (w now : Held) (c : ℕ) (bs : List ℕ) (ks : List HeldClass) (o : Result T E) → OnOk o (ks ≡ with_bases w.classes c bs) → w ≡ now → OnOk o ((t : Reading) → plain t (record w { classes = ks }) ≡ apply (plain t now) (SetBases c bs))
-bases-set w now c bs ks o p v = change-read (λ k. record k { bases = bs }) (λ t k. record k { bases = bs }) (λ t k. refl) w now c ks o p v
+pub bases-set : {T E : Type 0} (w now : Held) (c : ℕ) (bs : List ℕ) (ks : List HeldClass) (log : List Change) (o : Result T E) → OnOk o (ks ≡ with_bases w.classes c bs) → w ≡ now → OnOk o ((t : Reading) → plain t (record w { classes = ks; log = log }) ≡ apply (plain t now) (SetBases c bs))
+bases-set w now c bs ks log o p v = change-read (λ k. record k { bases = bs }) (λ t k. record k { bases = bs }) (λ t k. refl) w now c ks log o p v

@@ -8,6 +8,7 @@ use Rattle.plain_machine.specs.World.{with_node_changed}
 use Rattle.plain_machine.specs.Change.{with_object_changed}
 use Rattle.class_model.specs.Class.{class_at}
 use Rattle.class_model.specs.Slot.{is_heap_at}
+use Rattle.class_log.proofs.Logged.{keeps-itself}
 use Rattle.class_world.specs.Held.{Held}
 use Rattle.class_world.specs.Reading.{Reading, node_of, plain}
 use Rattle.class_world.specs.Sound.{class_in, AllHold, Grows, Sound, of_node}
@@ -23,14 +24,14 @@ module _ (w : Held) (r : PyObjectRef) (n new : StoredNode) (is : n ≡ get_or w.
   pub change-grows : Grows w changed
   change-grows =
       let l = set-length w.nodes r.0 new in
-      grows w changed refl refl (omega arith) (omega arith) (λ m f h. h) (omega arith) (record { stays = stays-set w.classes w.nodes r.0 n new is same of }) (like-itself w.classes)
+      grows w changed (keeps-itself w.log) refl refl (omega arith) (omega arith) (λ m f h. h) (omega arith) (record { stays = stays-set w.classes w.nodes r.0 n new is same of }) (like-itself w.classes)
 
   pub change-sound : AllHold w (of_node new) → Sound w → Sound changed
   change-sound there s =
       let more = change-grows in
       let go = all-grow w changed more in
       let class : class_in new.payload ≡ class_in n.payload = ap (λ (l : Lasting). l.class) same in
-      record { forms = go _ s.forms; below = s.below; nodes = go _ (each-set w of_node w.nodes r.0 new s.nodes there); classes = go _ s.classes; vars = go _ s.vars; scopes = go _ s.scopes; fixed = fixed-grow w changed s.fixed (grows-lasts w changed more); built_in = built_in-grow w changed s.built_in (grows-lasts w changed more); own = λ b. more.still _ (s.own b); flags = λ b. more.still _ (s.flags b); of_none = more.still _ s.of_none; unmarked = s.unmarked; standing = λ c e. more.still _ (s.standing c e); itself = λ m c q. s.itself m c (class-set w.nodes r.0 n new is class m c q); apart = s.apart; scopes_apart = s.scopes_apart; known = s.known }
+      record { forms = go _ s.forms; below = s.below; nodes = go _ (each-set w of_node w.nodes r.0 new s.nodes there); classes = go _ s.classes; vars = go _ s.vars; scopes = go _ s.scopes; fixed = fixed-grow w changed s.fixed (grows-lasts w changed more); built_in = built_in-grow w changed s.built_in (grows-lasts w changed more); own = λ b. more.still _ (s.own b); flags = λ b. more.still _ (s.flags b); of_none = more.still _ s.of_none; unmarked = s.unmarked; standing = λ c e. more.still _ (s.standing c e); itself = λ m c q. s.itself m c (class-set w.nodes r.0 n new is class m c q); apart = s.apart; scopes_apart = s.scopes_apart; known = s.known; logged = s.logged }
 
 nodes-read : (t : Reading) (f : Node → Node) (n new : StoredNode) → node_of t new ≡ f (node_of t n) → (ns : List StoredNode) (i : ℕ) → i < length ns → n ≡ get_or ns i n → map (node_of t) (slice_set ns i new) ≡ with_node_changed f (map (node_of t) ns) i
 nodes-read t f n new e [] i l is = absurd (omega arith)

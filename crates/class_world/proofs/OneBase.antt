@@ -1,16 +1,18 @@
 -- Classes with one base.
-use Rattle.std.proofs.Common.{◌≡◌, ℕ, ◌-◌, ◌^◌, Bool, true, false, [], cond, Some, None, refl, ap, ◌∙◌, arith}
+use Rattle.std.proofs.Common.{◌≡◌, ℕ, ◌-◌, ◌^◌, Bool, true, false, [], cond, Some, None, refl, sym, ap, ◌∙◌, subst, arith}
 use Rattle.std.specs.Prelude.{option_map, ◌&&◌, ◌==◌}
-use Rattle.std.specs.Int.RustNames.{bit_and}
-use Rattle.std.proofs.lemmas.Nat.{and_or_apart}
+use Rattle.std.specs.Int.RustNames.{bit_and, bit_or}
+use Rattle.std.specs.Int.Bits.{and_self}
+use Rattle.std.proofs.lemmas.Nat.{and_assoc, and_or_apart}
 use Rattle.std.proofs.lemmas.Grind.{and-not_self}
-use Rattle.py_node.specs.BuiltIns.{heap_type, method_descriptor, has_dict as dict_flag}
+use Rattle.py_node.specs.BuiltIns.{heap_flags, heap_type, method_descriptor, has_dict as dict_flag}
 use Rattle.py_node.specs.declared.raised.Cause.TheVariants.{NotBaseType}
 use Rattle.py_node.specs.declared.refs.PyStrInterned.{PyStrInterned}
 use Rattle.py_node.specs.Tree.{Text}
 use Rattle.class_model.specs.Class.{Class, is_class}
 use Rattle.class_table.specs.Refused.{is_base_at}
-use Rattle.class_table.specs.OneBase.{refused_single, static_flags}
+use Rattle.class_table.specs.OneBase.{refused_single, says_so, static_flags}
+use Rattle.class_log.specs.Logged.{IsGivenTo, IsGiven}
 use Rattle.class_world.specs.Held.{Held}
 use Rattle.class_world.specs.Reading.{Reading, plain}
 use Rattle.class_world.specs.Sound.{Holds, IsClass, AreNames, flags_at, is_marked_heap}
@@ -35,6 +37,29 @@ no-heap flags true = and_or_apart heap_type (bit_and flags (2 ^ 64 - 1 - heap_ty
 pub static-unmarked : (flags : ℕ) (dict : Bool) → is_marked_heap (static_flags flags dict) ≡ false
 static-unmarked flags dict =
     ap (λ n. (n == heap_type) && (bit_and (static_flags flags dict) method_descriptor == method_descriptor)) (no-heap flags dict)
+
+-- flags without that of scripts stay as they are where it is taken out
+stripped-twice : (flags : ℕ) → bit_and (bit_and flags (2 ^ 64 - 1 - heap_type)) (2 ^ 64 - 1 - heap_type) ≡ bit_and flags (2 ^ 64 - 1 - heap_type)
+stripped-twice flags = and_assoc (2 ^ 64 - 1 - heap_type) flags (2 ^ 64 - 1 - heap_type) ∙ ap (bit_and flags) (and_self (2 ^ 64 - 1 - heap_type))
+
+static-twice : (flags : ℕ) (dict : Bool) → static_flags flags dict ≡ static_flags (static_flags flags false) dict
+static-twice flags false = sym (stripped-twice flags)
+static-twice flags true = ap (λ n. bit_or n dict_flag) (sym (stripped-twice flags))
+
+-- and say of dicts what they said
+stripped-says : (flags : ℕ) → says_so flags ≡ says_so (static_flags flags false)
+stripped-says flags =
+    let kept : bit_and (2 ^ 64 - 1 - heap_type) dict_flag ≡ dict_flag = refl in
+    ap (λ n. n == dict_flag) (sym (and_assoc dict_flag flags (2 ^ 64 - 1 - heap_type) ∙ ap (bit_and flags) kept))
+
+-- a static class follows from the flags that are given but for that of scripts, and a script's class from those of scripts
+pub static-given : (flags : ℕ) (dict : Bool) → IsGiven (static_flags flags false) (static_flags flags dict) (says_so flags) dict
+static-given flags dict =
+    subst (λ b. IsGivenTo b (static_flags flags false) (static_flags flags dict) (says_so flags) dict) (sym (ap (λ n. n == heap_type) (no-heap flags false)))
+    (static-twice flags dict, stripped-says flags)
+
+pub script-given : (flags : ℕ) (dict : Bool) → flags ≡ heap_flags true → IsGiven flags flags true dict
+script-given flags dict e = subst (λ n. IsGiven n n true dict) (sym e) (refl, refl, refl)
 
 -- what is seen of the classes by numbers is seen by texts
 module _ (w now : Held) (v : w ≡ now) (t : Reading) (c : ℕ) where

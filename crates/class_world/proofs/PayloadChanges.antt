@@ -8,6 +8,7 @@ use Rattle.py_node.specs.declared.payload.Payload.{Payload}
 use Rattle.py_node.specs.declared.payload.Payload.TheVariants as payload
 use Rattle.plain_machine.specs.Plain.{Node}
 use Rattle.plain_machine.specs.Objects.{with_datum_in, with_datum}
+use Rattle.class_log.proofs.Logged.{keeps-itself}
 use Rattle.class_world.specs.Held.{Held}
 use Rattle.class_world.specs.Reading.{Reading, datum, node_of, plain}
 use Rattle.class_world.specs.Sound.{IsNode, IsOf, GetsDict, Holding, home_of, is_lasting, class_in, with_payload, Holds, AllHold, Grows, Sound, of_option, of_dict_ref, of_payload, of_node}
@@ -65,7 +66,7 @@ module _ (w now : Held) (r : PyObjectRef) (n : StoredNode) (p : Payload) where
   pub payload-grows : n ≡ get_or w.nodes r.0 n → is_lasting (home_of p) ≡ false → home_of n.payload ≡ home_of p → Grows w changed
   payload-grows e k h =
       let l = set-length w.nodes r.0 (with_payload n p) in
-      grows w changed refl refl (omega arith) (omega arith) (λ m f h. h) (omega arith) (record { stays = stays-set w.classes w.nodes r.0 n (with_payload n p) e (same-lasting k h) (λ h. refl) }) (like-itself w.classes)
+      grows w changed (keeps-itself w.log) refl refl (omega arith) (omega arith) (λ m f h. h) (omega arith) (record { stays = stays-set w.classes w.nodes r.0 n (with_payload n p) e (same-lasting k h) (λ h. refl) }) (like-itself w.classes)
 
   pub payload-sound : n ≡ get_or w.nodes r.0 n → is_lasting (home_of p) ≡ false → IsThere → AllHold w (of_payload p) → Sound w → Sound changed
   payload-sound e k i h s =
@@ -78,7 +79,7 @@ module _ (w now : Held) (r : PyObjectRef) (n : StoredNode) (p : Payload) where
       let gets : Holds w (GetsDict (class_in p) n.class.0 (is_some n.dict)) = subst (λ o. Holds w (GetsDict o n.class.0 (is_some n.dict))) (ap (λ (l : Lasting). l.class) (sym q)) all.1.1.1.0 in
       let there : AllHold w (of_node (with_payload n p)) = (all.0, (like, (all.1.1.0, (gets, all-append w (of_option of_dict_ref n.dict) _ dict h)))) in
       let same : class_in p ≡ class_in n.payload = ap (λ (l : Lasting). l.class) q in
-      record { forms = go _ s.forms; below = s.below; nodes = go _ (each-set w of_node w.nodes r.0 (with_payload n p) s.nodes there); classes = go _ s.classes; vars = go _ s.vars; scopes = go _ s.scopes; fixed = fixed-grow w changed s.fixed (grows-lasts w changed more); built_in = built_in-grow w changed s.built_in (grows-lasts w changed more); own = λ b. more.still _ (s.own b); flags = λ b. more.still _ (s.flags b); of_none = more.still _ s.of_none; unmarked = s.unmarked; standing = λ c e. more.still _ (s.standing c e); itself = λ m c q. s.itself m c (class-set w.nodes r.0 n (with_payload n p) e same m c q); apart = s.apart; scopes_apart = s.scopes_apart; known = s.known }
+      record { forms = go _ s.forms; below = s.below; nodes = go _ (each-set w of_node w.nodes r.0 (with_payload n p) s.nodes there); classes = go _ s.classes; vars = go _ s.vars; scopes = go _ s.scopes; fixed = fixed-grow w changed s.fixed (grows-lasts w changed more); built_in = built_in-grow w changed s.built_in (grows-lasts w changed more); own = λ b. more.still _ (s.own b); flags = λ b. more.still _ (s.flags b); of_none = more.still _ s.of_none; unmarked = s.unmarked; standing = λ c e. more.still _ (s.standing c e); itself = λ m c q. s.itself m c (class-set w.nodes r.0 n (with_payload n p) e same m c q); apart = s.apart; scopes_apart = s.scopes_apart; known = s.known; logged = s.logged }
 
   nodes-read : (t : Reading) (ns : List StoredNode) (i : ℕ) → i < length ns → n ≡ get_or ns i n → map (node_of t) (slice_set ns i (with_payload n p)) ≡ with_datum_in (λ m. datum t p) (map (node_of t) ns) i
   nodes-read t [] i l e = absurd (omega arith)

@@ -1,5 +1,5 @@
 -- The world of a new machine is sound, and is the plain machine's.
-use Rattle.std.proofs.Common.{◌≡◌, ℕ, zero, suc, ◌+◌, ◌^◌, ◌<◌, ◌≤◌, Bool, true, false, cond, List, [], ◌∷◌, ◌++◌, length, Option, Some, None, refl, sym, ap, subst, arith, map}
+use Rattle.std.proofs.Common.{◌≡◌, ℕ, zero, suc, ◌+◌, ◌^◌, ◌<◌, ◌≤◌, Bool, true, false, cond, List, [], ◌∷◌, ◌++◌, length, Some, None, refl, sym, ap, subst, arith, map}
 use Rattle.std.specs.Prelude.{◌&&◌, eqb, ltb, is_some, option_map}
 use Rattle.std.specs.List.{IsDistinct}
 use Rattle.std.proofs.lemmas.Bool.{eqb-true, eqb-false, ltb-true}
@@ -19,7 +19,7 @@ use Rattle.plain_machine.specs.Row.{none}
 use Rattle.class_world.specs.Held.{Held}
 use Rattle.class_world.specs.StartNodes.{class_node, fixed_nodes, start_nodes}
 use Rattle.class_world.specs.Reading.{Reading, node_of, spelled, plain}
-use Rattle.class_world.specs.Sound.{Standing, HasFlags, OfStatic, GetsDict, held_class, flags_at, is_marked_heap, Holds, AllHold, Sound, of_node, of_dict, of_class, of_each}
+use Rattle.class_world.specs.Sound.{Standing, HasFlags, OfStatic, GetsDict, held_class, flags_at, is_marked_heap, Holds, AllHold, SoundWith, of_node, of_dict, of_class, of_each}
 use Rattle.class_world.proofs.Claims.{each-append, all-append}
 use Rattle.class_table.proofs.StartParts.{split}
 
@@ -61,7 +61,7 @@ module _ (w : Held) where
 
 -- the world of the names that are known, the built-in classes and their nodes
 abbrev pub started : Held
-started = record { names = known_texts; forms = []; nodes = start_nodes; classes = map built all_built_ins; vars = []; scopes = []; calls = [] }
+started = record { names = known_texts; forms = []; nodes = start_nodes; classes = map built all_built_ins; vars = []; scopes = []; calls = []; log = [] }
 
 -- by computing each linearisation
 started-own : (b : BuiltIn) → held_by started.classes (place_of b) ≡ Some (holds_as b)
@@ -242,7 +242,8 @@ started-there : (c : ℕ) → c < 23 → is_class started.classes c ≡ true
 unfolding all_built_ins place_of
 started-there c l = there-from 0 all_built_ins refl c (omega arith) (omega arith)
 
-pub started-sound : Sound started
+-- but for its log, which is that of the classes with their own attributes
+pub started-sound : SoundWith (Unit {0}) started
 unfolding all_built_ins place_of Holds IsDistinct
 started-sound = record {
   forms = tt;
@@ -262,6 +263,7 @@ started-sound = record {
   standing = λ c e. places-stand 0 all_built_ins refl c e;
   itself = λ n c e. let p = classes-itself 0 all_built_ins refl n c e in omega arith;
   known = λ n x e. e;
+  logged = tt;
 }
 
 module _ (t : Reading) where

@@ -7,9 +7,10 @@ use Rattle.py_node.specs.declared.payload.Form.{Form}
 use Rattle.py_node.specs.Replies.{Started}
 use Rattle.class_model.specs.Class.{Class}
 use Rattle.class_table.specs.Start.{Numbered}
+use Rattle.class_log.specs.Change.{Change}
 use Rattle.class_world.specs.declared.scope.Scope.{Scope}
 
--- the tables of names and of expressions, the nodes, the classes, the variables, the scopes of running bodies, and the bodies that were started
+-- the tables of names and of expressions, the nodes, the classes, the variables, the scopes of running bodies, the bodies that were started, and the changes of classes that were accepted, in order
 pub record Held : Type 0 where
   pub names : List (List ℕ)
   pub forms : List Form
@@ -18,6 +19,7 @@ pub record Held : Type 0 where
   pub vars : List (PyStrInterned × PyObjectRef)
   pub scopes : List Scope
   pub calls : List Started
+  pub log : List Change
 
 -- the classes, and the number of the next node
 abbrev pub numbered : Held → Numbered

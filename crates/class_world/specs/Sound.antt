@@ -23,6 +23,8 @@ use Rattle.class_model.specs.Slot.{is_heap_at}
 use Rattle.plain_machine.specs.Known.{the_dict, the_none_type}
 use Rattle.plain_machine.specs.Row.{none}
 use Rattle.plain_machine.specs.Sound.{holds_as, held_by, is_offset, read_offset, set_offset, Key, NumberKey, TextKey, AreKeys}
+use Rattle.class_log.specs.Following.{Keeps}
+use Rattle.class_log.specs.Logged.{IsLogged}
 use Rattle.class_world.specs.declared.scope.Scope.{Scope}
 use Rattle.class_world.specs.Held.{Held}
 use Rattle.class_world.specs.Tables.{AreBelow}
@@ -192,13 +194,15 @@ abbrev pub AllHold : Held → List Claim → Type 0
 AllHold w [] = Unit {0}
 AllHold w (c ∷ cs) = Holds w c × AllHold w cs
 
--- what held of a number holds still
+-- what held of a number holds still, and the log goes on
 pub record Lasts (old new : Held) : Type 0 where
   pub still : (c : Claim) → Holds old c → Holds new c
+  pub log : Keeps old.log new.log
 
 -- the same; as many bodies run, and the notes of those that were started are as before
 pub record Grows (old new : Held) : Type 0 where
   pub still : (c : Claim) → Holds old c → Holds new c
+  pub log : Keeps old.log new.log
   pub bodies : length new.scopes ≡ length old.scopes
   pub notes : new.calls ≡ old.calls
 
@@ -297,8 +301,8 @@ of_dict false = []
 abbrev pub of_class : Class PyStrInterned → List Claim
 of_class k = IsNode (record { 0 = k.number }) ∷ AreNames k.members ∷ of_dict (has_flag dict_flag k) ++ of_each of_binding k.attrs
 
--- all that the world says is so, the parts of each expression stand before it, and the names that are known come first
-pub record Sound (w : Held) : Type 0 where
+-- all that the world says is so, the parts of each expression stand before it, and the names that are known come first. What is so of its log is said apart: a world has its log only once it has its first classes
+pub record SoundWith (Log : Type 0) (w : Held) : Type 0 where
   pub forms : AllHold w (of_each of_form w.forms)
   pub below : AreBelow w.forms
   pub nodes : AllHold w (of_each of_node w.nodes)
@@ -321,3 +325,8 @@ pub record Sound (w : Held) : Type 0 where
   -- no class that a script made marks its objects as methods
   pub unmarked : (c n : ℕ) → flags_at w.classes c ≡ Some n → is_marked_heap n ≡ false
   pub known : (n : ℕ) (x : List ℕ) → slice_get known_texts n ≡ Some x → slice_get w.names n ≡ Some x
+  pub logged : Log
+
+-- and the log's changes were made in order to the classes of a new world, and show these classes but for their names
+abbrev pub Sound : Held → Type 0
+Sound w = SoundWith (IsLogged w.log w.classes) w

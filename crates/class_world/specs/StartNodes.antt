@@ -1,12 +1,22 @@
--- The nodes of a new machine, as they are stored.
-use Rattle.std.specs.Prelude.{pos, List, [], ◌∷◌, ◌++◌, None, map}
+-- The nodes of a new machine, as they are stored: those that are fixed, and those that own attributes of built-in classes hold.
+use Rattle.std.specs.Prelude.{pos, cond, List, [], ◌∷◌, ◌++◌, Some, None, map, fold}
+use Rattle.py_node.specs.declared.attr.Attr.{Attr}
+use Rattle.py_node.specs.declared.attr.Attr.TheVariants.{New, Method as MethodAttr, ClassMethod as ClassMethodAttr, ReadOnly, Settable, Part, SettablePart, NoHash}
 use Rattle.py_node.specs.declared.built_in.BuiltIn.{BuiltIn}
 use Rattle.py_node.specs.declared.payload.Node.{Node}
 use Rattle.py_node.specs.declared.payload.Payload.{Payload}
-use Rattle.py_node.specs.declared.payload.Payload.TheVariants.{Object, Class, Number}
+use Rattle.py_node.specs.declared.entry.NativeEntry.TheVariants.{Getter, Setter, GetterOf, SetterOf, NewWrapper}
+use Rattle.py_node.specs.declared.known.Known.{Known}
+use Rattle.py_node.specs.declared.payload.Payload.TheVariants.{Object, Class, Number, NativeFunction, MethodDescriptor, GetSet}
+use Rattle.py_node.specs.declared.refs.PyStrInterned.{PyStrInterned}
 use Rattle.py_node.specs.declared.refs.PyTypeRef.{PyTypeRef}
 use Rattle.py_node.specs.BuiltIns.{place_of, all_built_ins}
+use Rattle.py_node.specs.Known.{number_of}
+use Rattle.py_node.specs.OwnAttrs.{own_attrs}
 use Rattle.plain_machine.specs.Known.{the_type, the_none_type, the_not_implemented_type, the_bool}
+use Rattle.plain_machine.specs.Objects.{object_method, class_method}
+use Rattle.plain_machine.specs.Start.{attr_class, is_made}
+use Rattle.plain_machine.specs.World.{ref}
 
 abbrev pub type_ref : PyTypeRef
 type_ref = record { 0 = the_type }
@@ -25,3 +35,29 @@ fixed_nodes =
 
 abbrev pub start_nodes : List Node
 start_nodes = map class_node all_built_ins ++ fixed_nodes
+
+-- what the object is that an own attribute of a class holds, under a name
+abbrev pub own_payload : BuiltIn → PyStrInterned → Attr → Payload
+own_payload b x New = NativeFunction (record { name = x; entry = NewWrapper; target = Some (ref (place_of b)); doc = None })
+own_payload b x (MethodAttr n) = MethodDescriptor (record { class = record { 0 = place_of b }; name = x; entry = n; flags = object_method; doc = None })
+own_payload b x (ClassMethodAttr n) = MethodDescriptor (record { class = record { 0 = place_of b }; name = x; entry = n; flags = class_method; doc = None })
+own_payload b x (ReadOnly p) = GetSet (record { class = record { 0 = place_of b }; name = x; getter = Some (Getter p); setter = None })
+own_payload b x (Settable p) = GetSet (record { class = record { 0 = place_of b }; name = x; getter = Some (Getter p); setter = Some (Setter p) })
+own_payload b x (Part d) = GetSet (record { class = record { 0 = place_of b }; name = x; getter = Some (GetterOf b d); setter = None })
+own_payload b x (SettablePart d) = GetSet (record { class = record { 0 = place_of b }; name = x; getter = Some (GetterOf b d); setter = Some (SetterOf b d) })
+own_payload b x NoHash = Object
+
+abbrev pub own_node : BuiltIn → PyStrInterned → Attr → Node
+own_node b x a = plain_node (record { 0 = place_of (attr_class a) }) (own_payload b x a)
+
+-- one more such object, but for None, which is there
+unfoldable pub with_own_node : BuiltIn → List Node → Known × Attr → List Node
+with_own_node b ns a = cond (is_made a.1) (ns ++ own_node b (record { 0 = number_of a.0 }) a.1 ∷ []) ns
+
+-- those of a class, in order
+abbrev pub with_own_nodes : List Node → BuiltIn → List Node
+with_own_nodes ns b = fold (with_own_node b) ns (own_attrs b)
+
+-- those of all built-in classes
+unfoldable pub opening_nodes : List Node
+opening_nodes = fold with_own_nodes start_nodes all_built_ins

@@ -1,6 +1,6 @@
 //! Another name and other bases for a class of a world.
 
-ghost use Rattle.std.specs.Prelude.{◌≡◌, ◌+◌, ◌*◌, ◌≤◌, true, length, OnOk, OnErr, IsSome};
+ghost use Rattle.std.specs.Prelude.{◌≡◌, ◌+◌, ◌*◌, ◌≤◌, ◌++◌, ◌∷◌, [], true, length, OnOk, OnErr, IsSome};
 ghost use Rattle.class_model.specs.Change.{with_bases};
 ghost use Rattle.class_model.specs.Class.{class_at as class_numbered};
 ghost use Rattle.class_model.specs.Slot.{is_heap_at};
@@ -9,6 +9,7 @@ ghost use Rattle.class_table.specs.Keys.{numbers};
 ghost use Rattle.class_table.specs.Refused.{WithMemory};
 ghost use Rattle.class_table.specs.Settle.{line_places};
 ghost use Rattle.class_table.specs.Rebase.{refused_change, refused_rebase, told, IsToldFirst};
+ghost use Rattle.class_log.specs.Change.{SetBases as SetBasesChange};
 ghost use Rattle.plain_machine.specs.Change.{SetBases, SetName, apply};
 ghost use Rattle.class_world.specs.Reading.{Reading, Reads, plain};
 ghost use Rattle.class_world.specs.Sound.{IsClass, Holds, AllHold, Grows, of_class_ref, of_each};
@@ -20,13 +21,15 @@ use std::sync::ledger::Ledger;
 
 #[tactic(auto, unfolding(crate::specs::Reading::plain))]
 impl World {
-    /// Gives a class that a script made another name. Where memory runs out, the world stays as it was.
+    /// Gives a class that a script made another name, of which the log tells nothing. Where memory runs out, the world stays
+    /// as it was.
     pub fn set_name(&mut self, class: PyTypeRef, name: &str) -> Result<(), OutOfMemory>
         requires class { Holds self.old (IsClass class.0) }
         requires heap { is_heap_at (class_numbered self.old.classes class.0) ≡ true }
         ensures named { OnOk result ((t : Reading) → plain t self.new ≡
             apply (plain t self.old) (SetName class.0 name.now)) }
         ensures err { OnErr result (self.new ≡ self.old) }
+        ensures unlogged { self.new.log ≡ self.old.log }
         ensures reads { (t : Reading) → Reads t self.new → Reads t self.old }
         ensures grows { Grows self.old self.new }
     {
@@ -54,6 +57,8 @@ impl World {
             refused_rebase (plain t self.old).classes class.0 (numbers bases.items)) }
         ensures set { OnOk result ((t : Reading) → plain t self.new ≡
             apply (plain t self.old) (SetBases class.0 (numbers bases.items))) }
+        ensures logged { OnOk result (self.new.log ≡ self.old.log ++
+            SetBasesChange class.0 (numbers bases.items) ∷ []) }
         ensures err { OnErr result (self.new ≡ self.old) }
         ensures merges { steps.old.merges ≤ steps.new.merges }
         ensures probes { steps.old.probes ≤ steps.new.probes }
@@ -68,6 +73,6 @@ impl World {
         ensures grows { Grows self.old self.new }
     {
         self.classes.sound();
-        self.classes.set_bases(class, bases, steps)
+        self.log.set_bases(&mut self.classes, class, bases, steps)
     }
 }

@@ -4,13 +4,14 @@ ghost use Rattle.std.specs.Prelude.{◌≡◌, ℕ, ◌<◌, ◌≤◌, ◌∷�
 ghost use Rattle.std.specs.Option.{option_or};
 ghost use Rattle.py_node.specs.declared.built_in.BuiltIn.{BuiltIn};
 ghost use Rattle.py_node.specs.declared.built_in.BuiltIn.TheVariants.{TypeType};
-ghost use Rattle.py_node.specs.Attributes.{is_same_name};
-ghost use Rattle.class_model.specs.Change.{with_class, with_class_attr};
-ghost use Rattle.class_model.specs.Layout.{built_ins, best_of};
+ghost use Rattle.class_model.specs.Change.{with_class};
+ghost use Rattle.class_model.specs.Layout.{best_of};
 ghost use Rattle.class_model.specs.Numbers.{limit};
 ghost use Rattle.class_model.specs.Dict.{heap_class};
 ghost use Rattle.class_table.specs.Keys.{numbers, table_keys, slot_names};
 ghost use Rattle.class_table.specs.Refused.{refusal, WithMemory, IsEarly, AreThere, refused_attr, refused_layout, refused_bases, NamesNoClass};
+ghost use Rattle.class_log.specs.Change.{SetOwn};
+ghost use Rattle.class_log.specs.Logged.{IsLogged, made_by_script};
 ghost use Rattle.plain_machine.specs.Objects.{with_definer};
 ghost use Rattle.plain_machine.specs.World.{ref, text_keys, datum_at, with_new_class, with_own_attr};
 ghost use Rattle.class_world.specs.NewHeap.{class_node, holds_text, qualified, refused_name, refused_heap, slot_texts, of_slots};
@@ -19,6 +20,7 @@ ghost use Rattle.class_world.specs.Sound.{IsNode, IsClass, IsOf, IsName, Holds, 
 
 use crate::definer::define;
 use crate::world::World;
+use class_log::ClassLog;
 use class_table::{ClassFault, ClassTable};
 use py_node::{
     Cause, Known, Node, OutOfMemory, Payload, PyAttributes, PyMembers, PyObjectRef, PyStrInterned,
@@ -45,32 +47,10 @@ impl World {
         ensures err { OnErr result (self.new ≡ self.old) }
         ensures reads { (t : Reading) → Reads t self.new → Reads t self.old }
         ensures grows { Grows self.old self.new }
+        ensures logged { OnOk result (self.new.log ≡ self.old.log ++ SetOwn class.0 name value ∷ []) }
         ensures names { NamesNoClass result }
     {
-        self.classes.set_attr(class, name, value)
-    }
-
-    /// Gives a built-in class an own attribute.
-    pub(crate) fn put_class_attr(
-        &mut self,
-        class: PyTypeRef,
-        name: PyStrInterned,
-        value: PyObjectRef,
-    ) -> Result<(), OutOfMemory>
-        requires class { Holds self.old (IsClass class.0) }
-        requires first { class.0 < built_ins }
-        requires name { Holds self.old (IsName name) }
-        requires value { Holds self.old (IsNode value) }
-        ensures set { OnOk result ((t : Reading) → plain t self.new ≡
-            with_own_attr (plain t self.old) class.0 (t.text name.0) value) }
-        ensures held { OnOk result (self.new ≡ record self.old {
-          classes = with_class_attr is_same_name self.old.classes class.0 name value;
-        }) }
-        ensures err { OnErr result (self.new ≡ self.old) }
-        ensures reads { (t : Reading) → Reads t self.new → Reads t self.old }
-        ensures grows { Grows self.old self.new }
-    {
-        self.classes.put_attr(class, name, value)
+        self.log.set_attr(&mut self.classes, class, name, value)
     }
 
     /// A class that a script makes, and the node that stands for it: with the name, the bases, the attributes and what
@@ -96,6 +76,9 @@ impl World {
             (heap_class text_keys (plain t self.old).classes name.now (length (plain t self.old).nodes)
             (numbers bases.items) (bindings t attrs) (slot_texts t slots))) }
         ensures number { IfOk result (λ c. (t : Reading) → c.0 ≡ length (plain t self.old).nodes) }
+        ensures logged { OnOk result (self.new.log ≡ self.old.log ++
+            made_by_script self.old.classes (length self.old.nodes) name.now (numbers bases.items) attrs
+            (slot_names slots) ∷ []) }
         ensures early { (t : Reading) → IsEarly (plain t self.old).classes (numbers bases.items) (refusal result) }
         ensures refused { (t : Reading) → Reads t self.old → WithMemory result (refusal result ≡
             refused_heap (plain t self.old) (numbers bases.items) (bindings t attrs)) }
@@ -200,6 +183,9 @@ impl World {
             (heap_class text_keys (plain t self.old).classes name.now (length (plain t self.old).nodes)
             (numbers bases.items) (bindings t attrs) (slot_texts t slots))) }
         ensures number { IfOk result (λ c. (t : Reading) → c.0 ≡ length (plain t self.old).nodes) }
+        ensures logged { OnOk result (self.new.log ≡ self.old.log ++
+            made_by_script self.old.classes (length self.old.nodes) name.now (numbers bases.items) attrs
+            (slot_names slots) ∷ []) }
         ensures refused { WithMemory result (refusal result ≡ refused_bases self.old.classes (numbers bases.items)) }
         ensures err { OnErr result (self.new ≡ self.old) }
         ensures reads { (t : Reading) → Reads t self.new → Reads t self.old }
@@ -214,6 +200,7 @@ impl World {
         let alloc = self.alloc;
         let made = heap_with_node(
             &mut self.classes,
+            &mut self.log,
             &mut self.nodes,
             alloc,
             name,
@@ -238,9 +225,11 @@ impl World {
     }
 }
 
-// A class, and the node that stands for it. Where the bases are refused or memory runs out, there is neither.
+// A class, and the node that stands for it; the change is logged. Where the bases are refused or memory runs out, there
+// is neither.
 fn heap_with_node(
     classes: &mut ClassTable,
+    log: &mut ClassLog,
     nodes: &mut Vec<Node>,
     alloc: Global,
     name: &str,
@@ -254,11 +243,15 @@ fn heap_with_node(
     ensures added { OnOk result (classes.new ≡ with_class classes.old
         (heap_class table_keys classes.old name.now (length nodes.old.items) (numbers bases.items) attrs
         (slot_names slots))) }
+    ensures logged { OnOk result (log.new ≡ log.old ++
+        made_by_script classes.old (length nodes.old.items) name.now (numbers bases.items) attrs (slot_names slots) ∷ []) }
+    ensures law { IsLogged log.old classes.old → IsLogged log.new classes.new }
     ensures node { IfOk result (λ c. nodes.new.items ≡ nodes.old.items ++ class_node metaclass c ∷ []) }
     ensures number { IfOk result (λ c. c.0 ≡ length nodes.old.items) }
     ensures refused { WithMemory result (refusal result ≡ refused_bases classes.old (numbers bases.items)) }
     ensures err { OnErr result (classes.new ≡ classes.old) }
     ensures no_node { OnErr result (nodes.new.items ≡ nodes.old.items) }
+    ensures unlogged { OnErr result (log.new ≡ log.old) }
     ensures names { NamesNoClass result }
 {
     match nodes.reserve(1) {
@@ -266,7 +259,7 @@ fn heap_with_node(
         Err(_) => return Err(ClassFault::OutOfMemory),
     }
     let number = PyTypeRef(nodes.len() as u64);
-    match classes.new_heap_slots(number, name, bases, attrs, slots) {
+    match log.new_heap_slots(classes, number, name, bases, attrs, slots) {
         Err(fault) => Err(fault),
         Ok(class) => {
             push_class_node(nodes, alloc, class, metaclass);

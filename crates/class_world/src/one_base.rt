@@ -10,6 +10,8 @@ ghost use Rattle.class_model.specs.Numbers.{limit};
 ghost use Rattle.class_table.specs.Refused.{refusal, refused_attr, NamesNoClass};
 ghost use Rattle.class_model.specs.Dict.{gives_dict, has_dict as class_has_dict, heap_class};
 ghost use Rattle.class_table.specs.OneBase.{refused_single, single_class, says_so, static_flags};
+ghost use Rattle.class_log.specs.Logged.{IsLogged, IsGiven, made_single};
+ghost use Rattle.py_node.specs.BuiltIns.{heap_flags};
 ghost use Rattle.plain_machine.specs.Known.{the_type, the_dict};
 ghost use Rattle.plain_machine.specs.World.{ref, text_keys, has_dict, with_new_class, with_own_attr};
 ghost use Rattle.class_world.specs.NewHeap.{class_node};
@@ -18,6 +20,7 @@ ghost use Rattle.class_world.specs.Sound.{IsNode, IsClass, IsOf, Holds, AllHold,
 
 use crate::heap::push_class_node;
 use crate::world::World;
+use class_log::ClassLog;
 use class_table::one_base::flags_of_static;
 use class_table::{ClassFault, ClassTable};
 use py_node::{BuiltIn, Cause, Node, PyAttributes, PyObjectRef, PyTypeFlags, PyTypeRef};
@@ -25,7 +28,8 @@ use std::alloc::Global;
 
 #[tactic(auto, unfolding(crate::specs::Reading::plain))]
 impl World {
-    // A class with one base and these flags, and the node that stands for it, unless the base may have no subclasses.
+    // A class with one base and these flags, and the node that stands for it, unless the base may have no subclasses. It
+    // is logged with the flags from which these follow.
     fn add_single(
         &mut self,
         name: &str,
@@ -33,11 +37,13 @@ impl World {
         attrs: PyAttributes,
         flags: PyTypeFlags,
         brings: bool,
+        given: PyTypeFlags,
         metaclass: PyTypeRef,
     ) -> Result<PyTypeRef, ClassFault>
         requires base { Holds self.old (IsClass base.0) }
         requires attrs { AllHold self.old (of_each of_binding attrs) }
         requires dict { says_so flags.0 ≡ (brings || class_has_dict self.old.classes base.0) }
+        requires given { IsGiven given.0 flags.0 brings (class_has_dict self.old.classes base.0) }
         requires unmarked { is_marked_heap flags.0 ≡ false }
         requires metaclass { Holds self.old (IsClass metaclass.0) }
         requires of_classes { Holds self.old (IsOf metaclass.0 TypeType) }
@@ -45,6 +51,8 @@ impl World {
             with_new_class (plain t self.old) metaclass.0
             (single_class name.now (length (plain t self.old).nodes) base.0 (bindings t attrs) flags.0 brings)) }
         ensures number { IfOk result (λ c. (t : Reading) → c.0 ≡ length (plain t self.old).nodes) }
+        ensures logged { OnOk result (self.new.log ≡ self.old.log ++
+            made_single (length self.old.nodes) name.now base.0 attrs given.0 ∷ []) }
         ensures refused { refusal result ≡ refused_single self.old.classes base.0 }
         ensures err { OnErr result (self.new ≡ self.old) }
         ensures reads { (t : Reading) → Reads t self.new → Reads t self.old }
@@ -58,6 +66,7 @@ impl World {
         let alloc = self.alloc;
         let made = single_with_node(
             &mut self.classes,
+            &mut self.log,
             &mut self.nodes,
             alloc,
             name,
@@ -65,6 +74,7 @@ impl World {
             attrs,
             flags,
             brings,
+            given,
             metaclass,
         );
         self.classes.sound();
@@ -78,6 +88,8 @@ impl World {
         ensures made { OnOk result ((t : Reading) → plain t self.new ≡ with_new_class (plain t self.old) the_type
             (heap_class text_keys (plain t self.old).classes name.now (length (plain t self.old).nodes) (base.0 ∷ []) [] None)) }
         ensures number { IfOk result (λ c. (t : Reading) → c.0 ≡ length (plain t self.old).nodes) }
+        ensures logged { OnOk result (self.new.log ≡ self.old.log ++
+            made_single (length self.old.nodes) name.now base.0 [] (heap_flags true) ∷ []) }
         ensures refused { (t : Reading) → refusal result ≡ refused_single (plain t self.old).classes base.0 }
         ensures err { OnErr result (self.new ≡ self.old) }
         ensures reads { (t : Reading) → Reads t self.new → Reads t self.old }
@@ -90,7 +102,7 @@ impl World {
         let attrs = PyAttributes::new(self.alloc());
         let metaclass = self.class_of_classes();
         let flags = PyTypeFlags::of_script_class(true);
-        self.add_single(name, base, attrs, flags, true, metaclass)
+        self.add_single(name, base, attrs, flags, true, flags, metaclass)
     }
 
     // The class of classes.
@@ -104,8 +116,8 @@ impl World {
     }
 
     /// A static class, which scripts can't change, and the node that stands for it: with one base and attributes,
-    /// and with the flags but for what the base settles. It is refused where the base may have no subclasses;
-    /// then, and where memory runs out, the world stays as it was.
+    /// and with the flags but for what the base settles. It is logged with these flags, but that no script makes it. It is
+    /// refused where the base may have no subclasses; then, and where memory runs out, the world stays as it was.
     pub fn new_static(
         &mut self,
         name: &str,
@@ -122,6 +134,8 @@ impl World {
             with_new_class (plain t self.old) metaclass.0 (single_class name.now (length (plain t self.old).nodes)
             base.0 (bindings t attrs) (static_flags flags.0 (has_dict (plain t self.old) base.0)) (says_so flags.0))) }
         ensures number { IfOk result (λ c. (t : Reading) → c.0 ≡ length (plain t self.old).nodes) }
+        ensures logged { OnOk result (self.new.log ≡ self.old.log ++
+            made_single (length self.old.nodes) name.now base.0 attrs (static_flags flags.0 false) ∷ []) }
         ensures refused { (t : Reading) → refusal result ≡ refused_single (plain t self.old).classes base.0 }
         ensures err { OnErr result (self.new ≡ self.old) }
         ensures reads { (t : Reading) → Reads t self.new → Reads t self.old }
@@ -132,8 +146,9 @@ impl World {
         ensures names { NamesNoClass result }
     {
         let brings = flags.has_feature(PyTypeFlags::HAS_DICT);
+        let given = flags_of_static(flags, false);
         let flags = flags_of_static(flags, self.has_dict(base));
-        self.add_single(name, base, attrs, flags, brings, metaclass)
+        self.add_single(name, base, attrs, flags, brings, given, metaclass)
     }
 
     /// Whether a class gives its objects a dict: it brings one, or one of its bases gives one. Its flags say so too.
@@ -184,10 +199,11 @@ impl World {
     }
 }
 
-// A class with one base, and the node that stands for it. Where the base may have no subclasses or memory runs out,
-// there is neither.
+// A class with one base, and the node that stands for it; the change is logged with the flags that are given. Where the
+// base may have no subclasses or memory runs out, there is neither.
 fn single_with_node(
     classes: &mut ClassTable,
+    log: &mut ClassLog,
     nodes: &mut Vec<Node>,
     alloc: Global,
     name: &str,
@@ -195,18 +211,24 @@ fn single_with_node(
     attrs: PyAttributes,
     flags: PyTypeFlags,
     brings: bool,
+    given: PyTypeFlags,
     metaclass: PyTypeRef,
 ) -> Result<PyTypeRef, ClassFault>
     requires base { is_class classes.old base.0 ≡ true }
     requires fresh { limit classes.old ≤ length nodes.old.items }
     requires dict { says_so flags.0 ≡ (brings || class_has_dict classes.old base.0) }
+    requires given { IsGiven given.0 flags.0 brings (class_has_dict classes.old base.0) }
     ensures added { OnOk result (classes.new ≡ with_class classes.old
         (single_class name.now (length nodes.old.items) base.0 attrs flags.0 brings)) }
+    ensures logged { OnOk result (log.new ≡ log.old ++
+        made_single (length nodes.old.items) name.now base.0 attrs given.0 ∷ []) }
+    ensures law { IsLogged log.old classes.old → IsLogged log.new classes.new }
     ensures node { IfOk result (λ c. nodes.new.items ≡ nodes.old.items ++ class_node metaclass c ∷ []) }
     ensures number { IfOk result (λ c. c.0 ≡ length nodes.old.items) }
     ensures refused { refusal result ≡ refused_single classes.old base.0 }
     ensures err { OnErr result (classes.new ≡ classes.old) }
     ensures no_node { OnErr result (nodes.new.items ≡ nodes.old.items) }
+    ensures unlogged { OnErr result (log.new ≡ log.old) }
     ensures names { NamesNoClass result }
 {
     if !classes.is_base(base) {
@@ -217,7 +239,7 @@ fn single_with_node(
         Err(_) => return Err(ClassFault::OutOfMemory),
     }
     let number = PyTypeRef(nodes.len() as u64);
-    match classes.new_single(number, name, base, attrs, flags, brings) {
+    match log.new_single(classes, number, name, base, attrs, flags, brings, given) {
         Err(fault) => Err(fault),
         Ok(class) => {
             push_class_node(nodes, alloc, class, metaclass);

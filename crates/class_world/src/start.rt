@@ -41,7 +41,7 @@ fn class_node(alloc: Global, class: BuiltIn) -> Node
 }
 
 // An object of a built-in class that has no dict.
-fn plain_node(alloc: Global, class: BuiltIn, payload: Payload) -> Node
+pub(crate) fn plain_node(alloc: Global, class: BuiltIn, payload: Payload) -> Node
     ensures { result ≡ stored (record { 0 = place_of class }) payload }
 {
     Node {

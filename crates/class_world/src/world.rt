@@ -1,24 +1,27 @@
 //! The world, and how it begins.
 
-ghost use Rattle.std.specs.Prelude.{◌≡◌, ◌<◌, ℕ, List, false, map, Some, IfOk, slice_get};
+ghost use Rattle.std.specs.Prelude.{◌≡◌, ◌<◌, ℕ, List, false, [], map, Some, IfOk, slice_get};
 ghost use Rattle.py_node.specs.declared.built_in.BuiltIn.{BuiltIn};
-ghost use Rattle.py_node.specs.BuiltIns.{place_of, flags_of, fixed_node_count};
+ghost use Rattle.py_node.specs.BuiltIns.{place_of, flags_of};
 ghost use Rattle.py_node.specs.Replies.{started_of};
 ghost use Rattle.py_node.specs.Known.{known_texts};
-ghost use Rattle.class_model.specs.Start.{built_in_classes};
 ghost use Rattle.class_table.specs.Start.{start_classes};
+ghost use Rattle.class_log.specs.Change.{change_of};
+ghost use Rattle.class_log.specs.Logged.{AreSameButForNames};
+ghost use Rattle.class_log.specs.Refused.{AreMade};
+ghost use Rattle.class_log.specs.Shown.{shown, first_classes};
 ghost use Rattle.plain_machine.specs.Known.{the_none_type};
 ghost use Rattle.plain_machine.specs.Row.{none};
 ghost use Rattle.plain_machine.specs.World.{class_at};
-ghost use Rattle.plain_machine.specs.Start.{bare, start};
+ghost use Rattle.plain_machine.specs.Start.{start};
 ghost use Rattle.plain_machine.specs.Sound.{IsSound};
-ghost use Rattle.class_world.specs.Held.{Held, numbered};
+ghost use Rattle.class_world.specs.Held.{Held};
 ghost use Rattle.class_world.specs.Reading.{Reading, Reads, plain, IsReadable};
 ghost use Rattle.class_world.specs.Sound.{flags_at, is_marked_heap};
 
-use crate::attributes_of_built_ins::add_own_attrs;
+use crate::attributes_of_built_ins::opening_nodes;
 use crate::scope::Scope;
-use crate::start::start_nodes;
+use class_log::{ClassChange, ClassLog};
 use class_table::ClassTable;
 use class_table::start::known_names;
 use py_node::{BodyCall, Form, Names, Node, OutOfMemory, PyAttributes};
@@ -26,7 +29,7 @@ use std::alloc::Global;
 use std::marker::Model;
 
 /// The world: tables of names and of expressions, nodes and classes, variables, a scope for each
-/// running body, and the bodies that were started in this command.
+/// running body, the bodies that were started in this command, and a log of the changes of classes.
 #[derive(Drop)]
 pub struct World {
     pub(crate) names: Names,
@@ -36,6 +39,7 @@ pub struct World {
     pub(crate) vars: PyAttributes,
     pub(crate) scopes: Vec<Scope>,
     pub(crate) calls: Vec<BodyCall>,
+    pub(crate) log: ClassLog,
     pub(crate) alloc: Global,
 }
 
@@ -56,6 +60,7 @@ impl Model for World {
       vars = a.vars;
       scopes = a.scopes.items;
       calls = map started_of a.calls.items;
+      log = a.log;
     } };
 
     ghost invariant = { λ a. Sound (record {
@@ -66,6 +71,7 @@ impl Model for World {
       vars = a.vars;
       scopes = a.scopes.items;
       calls = map started_of a.calls.items;
+      log = a.log;
     }) };
 }
 
@@ -78,21 +84,11 @@ impl World {
         ensures known { IfOk result (λ w. (n : ℕ) (x : List ℕ) → slice_get known_texts n ≡ Some x →
             slice_get w.names n ≡ Some x) }
         ensures classes { IfOk result (λ w. w.classes ≡ start_classes) }
-    {
-        let mut world = World::bare(alloc)?;
-        add_own_attrs(&mut world)?;
-        world.knows_names();
-        Ok(world)
-    }
-
-    // The same without attributes.
-    fn bare(alloc: Global) -> Result<World, OutOfMemory>
-        ensures plain { IfOk result (λ w. (t : Reading) → plain t w ≡ bare) }
-        ensures held { IfOk result (λ w. numbered w ≡ (built_in_classes, fixed_node_count)) }
+        ensures log { IfOk result (λ w. w.log ≡ []) }
     {
         let names = known_names(alloc)?;
-        let nodes = start_nodes(alloc)?;
-        let classes = ClassTable::bare(alloc)?;
+        let nodes = opening_nodes(alloc)?;
+        let classes = ClassTable::new(alloc)?;
         Ok(World {
             names,
             forms: Vec::new(alloc),
@@ -101,15 +97,9 @@ impl World {
             vars: PyAttributes::new(alloc),
             scopes: Vec::new(alloc),
             calls: Vec::new(alloc),
+            log: ClassLog::new(alloc),
             alloc,
         })
-    }
-
-    // The names that are known have their numbers.
-    fn knows_names(&self)
-        ensures { (n : ℕ) (x : List ℕ) → slice_get known_texts n ≡ Some x → slice_get self.now.names n ≡ Some x }
-    {
-        let _names = &self.names;
     }
 
     /// What the world takes its memory from.
@@ -131,6 +121,17 @@ impl World {
         ensures known { (n : ℕ) (x : List ℕ) → slice_get known_texts n ≡ Some x → slice_get self.now.names n ≡ Some x }
     {
         &self.classes
+    }
+
+    /// The accepted changes of classes, in the order in which they were made since the world was new. What they show are
+    /// the world's classes but for their names, of which no change tells. Each was made in its turn: what it names was
+    /// there, and no test refused it.
+    pub fn class_log(&self) -> &[ClassChange]
+        ensures log { map change_of result.now ≡ self.now.log }
+        ensures shown { AreSameButForNames (shown (map change_of result.now)) self.now.classes }
+        ensures made { AreMade first_classes (map change_of result.now) }
+    {
+        self.log.changes()
     }
 
     /// The world is sound.

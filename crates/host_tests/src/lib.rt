@@ -1,5 +1,5 @@
 //! Tests of what no script reaches: what hosts are refused, scripts, words and streams, the orders of hierarchies, the ends
-//! of `serve`, and that sessions run at once.
+//! of `serve`, that sessions run at once, and that what a seat publishes is found.
 #![tactic(auto)]
 
 #[cfg(test)]
@@ -14,3 +14,6 @@ mod sessions;
 mod streams;
 #[cfg(test)]
 mod tops;
+#[cfg(test)]
+mod viewed;
+mod views;

@@ -23,6 +23,7 @@ pub fn put(table: &mut Table, vm: &mut VirtualMachine) {
     table.put("VirtualMachine::del_attr_direct", attribute_out(vm));
     table.put("VirtualMachine::set_bases", counted(vm));
     table.put("VirtualMachine::extend_methods", extended(vm));
+    table.tell("VirtualMachine::class_log", &vm.class_log().len());
 }
 
 // A simple class below `object`.

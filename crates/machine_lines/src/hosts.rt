@@ -1,7 +1,7 @@
 //! What a host hands to a machine and takes from it: values, the orders of its classes, a book, and a machine with seats.
 
 use class_orders::hierarchy_of;
-use order_check::all_orders;
+use order_check::{all_orders, well_formed};
 use py_node::{Command, Constant, Expr, OutOfMemory, PyResult};
 use shared_vm::{Book, SharedVm};
 use std::alloc::Global;
@@ -13,6 +13,7 @@ pub fn put(table: &mut Table, vm: &mut VirtualMachine, alloc: Global) {
     table.put("vm_calls::new_int", number(vm));
     table.put("vm_calls::new_text", text(vm, alloc));
     table.put("class_orders::hierarchy_of", ordered(vm, alloc));
+    table.put("order_check::well_formed", formed(vm, alloc));
     table.put("Book::step", stepped(alloc));
     table.put("SharedVm::new", seats(alloc));
 }
@@ -36,6 +37,11 @@ fn ordered(vm: &VirtualMachine, alloc: Global) -> Result<(usize, bool), OutOfMem
     let orders = all_orders(alloc, &hierarchy)?;
     let are_found = orders.iter().all(|order| order.is_some());
     Ok((orders.len(), are_found))
+}
+
+// Whether they are as classes of a hierarchy have to be.
+fn formed(vm: &VirtualMachine, alloc: Global) -> Result<bool, OutOfMemory> {
+    well_formed(alloc, &hierarchy_of(alloc, vm.classes())?)
 }
 
 // The place of a first command's entry, and its number among those of its seat.

@@ -4,6 +4,7 @@ pub mod LeastMerge
 pub mod Steps
 pub mod Mapped
 pub mod Linearised
+pub mod Alone
 pub mod Repeats
 pub mod Precedence
 pub mod Bases

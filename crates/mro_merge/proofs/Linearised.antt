@@ -11,7 +11,7 @@ use Rattle.mro_merge.specs.Steps.{struck, merged}
 use Rattle.mro_merge.proofs.Struck.{ranks-struck}
 use Rattle.mro_merge.proofs.Merged.{Free, first-free, struck-rest, merge-sound, merge-best, merge-none}
 
-itself : (xs : List ℕ) → is_lexicographic xs xs ≡ true
+pub itself : (xs : List ℕ) → is_lexicographic xs xs ≡ true
 itself xs = elim (cases_Bool (is_lexicographic xs xs)) [ inl t ↦ t | inr f ↦ other_way xs xs f ]
 
 pub least-merge : (ls : List (List ℕ)) (xs : List ℕ) → merged ls ≡ Some xs → IsLeastMerge ls xs

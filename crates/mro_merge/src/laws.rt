@@ -60,6 +60,10 @@ pub fn linearise_mro(
     if breaks_precedence(&lists) {
         return Err(MroFault::LocalPrecedence);
     }
+    // (a line alone is its own merge)
+    if lists.len() == 1 {
+        return Ok(lists.remove(0));
+    }
     let last = heads(alloc, &lists)?;
     lists.push(last)?;
     match merge(alloc, lists)? {

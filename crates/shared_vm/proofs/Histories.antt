@@ -5,7 +5,7 @@ use Rattle.std.proofs.lemmas.List.{append-nil}
 use Rattle.std.proofs.lemmas.List.Elements.{filter_map-append}
 use Rattle.std.proofs.lemmas.List.Folds.{list_any-append}
 use mathlib.Core.List.{IsPrefix}
-use Rattle.py_node.specs.Tree.{Tree}
+use Rattle.py_node.specs.Tree.{Text, Tree}
 use Rattle.seat_lock.specs.declared.history.Turn.{Turn}
 use Rattle.seat_lock.specs.History.{turns_by}
 use Rattle.seat_lock.specs.Known.{Known, IsSameSeat, with_turn}
@@ -13,8 +13,9 @@ use Rattle.shared_vm.specs.declared.entry.Entry.{Entry}
 use Rattle.shared_vm.specs.declared.entry.Receipt.{Receipt}
 use Rattle.shared_vm.specs.declared.entry.ExecFault.TheVariants.{OutOfMemory, Failed}
 use Rattle.shared_vm.specs.Journal.{plain_journal, Legal}
-use Rattle.shared_vm.specs.Book.{Pages, Adds, IsOf, Stepped, Tells}
-use Rattle.shared_vm.specs.Turns.{entries_in, has_lost, Stands, turn, newest, Makes, Executed}
+use Rattle.py_node.specs.declared.refs.PyStrInterned.{PyStrInterned}
+use Rattle.shared_vm.specs.Book.{Pages, Adds, IsNameOf, IsOf, IsTrue, Stepped, Tells}
+use Rattle.shared_vm.specs.Turns.{entries_in, has_lost, Stands, turn, newest, Makes, Executed, Named}
 
 left_at_end : {A : Type 0} (xs : List A) (left : Option A) → slice_get (xs ++ option_to_list left) (length xs) ≡ left
 left_at_end [] None = refl
@@ -66,11 +67,11 @@ module _ (seen : List (Turn Entry)) (by : ℕ) where
     })
 
 -- a seat that took the book and gave it back with a turn
-makes : (old mid new : Known Entry) (given picked : Turn Entry) → IsSameSeat old mid → IsPrefix old.seen mid.seen → new ≡ with_turn mid given → given ≡ picked → Makes old new mid.seen picked
+pub makes : (old mid new : Known Entry) (given picked : Turn Entry) → IsSameSeat old mid → IsPrefix old.seen mid.seen → new ≡ with_turn mid given → given ≡ picked → Makes old new mid.seen picked
 makes old mid new given picked same more is eq =
     (more, is ∙ (λ i. record { lock = same.0 i; number = same.1 i; made = same.2 i ++ eq i ∷ []; seen = mid.seen ++ eq i ∷ []; in_turn = false }))
 
-numbered : (left : Option Entry) (lost : Bool) (a b : ℕ) → a ≡ b → turn a left lost ≡ turn b left lost
+pub numbered : (left : Option Entry) (lost : Bool) (a b : ℕ) → a ≡ b → turn a left lost ≡ turn b left lost
 numbered left lost a b e = ap (λ (n : ℕ). turn n left lost) e
 
 -- a book that has failed has no entry more
@@ -134,3 +135,11 @@ module _ (old mid new : Known Entry) (book after : Pages) (command : Tree) (budg
         legal = legal_seen picked (stands_kept mid.seen mid.number book after None was adds (ap (λ (b : Pages). b.machine.failed) step.1)) is;
         own = own;
       }
+
+-- a seat that took the book, asked it for a name and gave it back
+pub named : (old mid new : Known Entry) (book : Pages) (text : Text) (result : Option PyStrInterned) → IsSameSeat old mid → IsPrefix old.seen mid.seen → Stands book mid.seen → IsTrue book → IsNameOf result book text → turns_by new.number new.seen ≡ new.made → new ≡ with_turn mid (newest mid.number mid.seen book.journal false) → Named old new text result
+named old mid new book text result same more was keeps is own made =
+    let adds = adds_none book book refl in
+    let picked = newest mid.number mid.seen book.journal false in
+    let turned = newest_is mid.seen mid.number book book None was adds false ∙ numbered None false mid.number old.number same.1 in
+    record { before = mid.seen; makes = makes old mid new picked (turn old.number None false) same more made turned; book = book; stands = was; keeps = keeps; is = is; own = own }

@@ -1,4 +1,4 @@
 mod Journals
 mod Steps
-mod Histories
+pub mod Histories
 mod Working

@@ -1,7 +1,8 @@
 -- The book that is under the lock: what always holds of it, and what a step of it comes to.
-use Rattle.std.specs.Prelude.{◌≡◌, ℕ, true, false, List, [], ◌∷◌, ◌++◌, length, Option, Result, Ok, Err, IfSome, option_to_list}
+use Rattle.std.specs.Prelude.{◌≡◌, ℕ, true, false, List, [], ◌∷◌, ◌++◌, length, Option, Some, None, Result, Ok, Err, IfSome, option_to_list, slice_get}
+use Rattle.py_node.specs.declared.refs.PyStrInterned.{PyStrInterned}
 use Rattle.py_node.specs.Replies.{PlainReply, reply_of}
-use Rattle.py_node.specs.Tree.{Tree, tree_of}
+use Rattle.py_node.specs.Tree.{Text, Tree, tree_of}
 use Rattle.plain_machine.specs.Answer.{plain_run}
 use Rattle.class_world.specs.Held.{Held}
 use Rattle.class_world.specs.Reading.{Reading, Reads, plain, IsReadable}
@@ -58,3 +59,8 @@ Stepped old new seat command budget (Err OutOfMemory) =
     (old.machine.failed ≡ false) × (new.machine.failed ≡ true) × ((left : Option Entry) × Adds old.journal new.journal left × IfSome left (IsOf seat command budget))
 Stepped old new seat command budget (Err (Failed after)) =
     (old.machine.failed ≡ true) × (new ≡ old) × (after ≡ length old.journal)
+
+-- the name of a text among those of the book's machine; none where it has no such name
+abbrev pub IsNameOf : Option PyStrInterned → Pages → Text → Type 0
+IsNameOf (Some x) book text = slice_get book.machine.world.names x.0 ≡ Some text
+IsNameOf None book text = (n : ℕ) → slice_get book.machine.world.names n ≡ Some text → ⊥

@@ -2,7 +2,8 @@
 use Rattle.std.specs.Prelude.{◌≡◌, ℕ, Bool, true, false, List, length, Option, Some, None, Result, Ok, Err, IfSome, slice_get}
 use Rattle.std.specs.List.{filter_map, list_any}
 use mathlib.Core.List.{IsPrefix}
-use Rattle.py_node.specs.Tree.{Tree}
+use Rattle.py_node.specs.declared.refs.PyStrInterned.{PyStrInterned}
+use Rattle.py_node.specs.Tree.{Text, Tree}
 use Rattle.seat_lock.specs.declared.history.Turn.{Turn}
 use Rattle.seat_lock.specs.History.{turns_by}
 use Rattle.seat_lock.specs.Known.{Known, with_turn}
@@ -11,7 +12,7 @@ use Rattle.shared_vm.specs.declared.entry.Receipt.{Receipt}
 use Rattle.shared_vm.specs.declared.entry.ExecFault.{ExecFault}
 use Rattle.shared_vm.specs.declared.entry.ExecFault.TheVariants.{OutOfMemory, Failed}
 use Rattle.shared_vm.specs.Journal.{plain_journal, Legal}
-use Rattle.shared_vm.specs.Book.{Pages, IsOf, Tells}
+use Rattle.shared_vm.specs.Book.{Pages, IsNameOf, IsOf, IsTrue, Tells}
 
 -- the entries that turns left
 abbrev pub entries_in : List (Turn Entry) → List Entry
@@ -52,4 +53,14 @@ Leaves old new command budget (Err (Failed after)) =
 pub record Executed (old new : Known Entry) (command : Tree) (budget : ℕ) (result : Result Receipt ExecFault) : Type 0 where
   pub leaves : Leaves old new command budget result
   pub legal : Legal (plain_journal (entries_in new.seen))
+  pub own : turns_by new.number new.seen ≡ new.made
+
+-- a seat was told the name of a text by the book that stood for all turns before its own, which is empty and isn't lost
+pub record Named (old new : Known Entry) (text : Text) (result : Option PyStrInterned) : Type 0 where
+  pub before : List (Turn Entry)
+  pub makes : Makes old new before (turn old.number None false)
+  pub book : Pages
+  pub stands : Stands book before
+  pub keeps : IsTrue book
+  pub is : IsNameOf result book text
   pub own : turns_by new.number new.seen ≡ new.made

@@ -2,13 +2,15 @@
 
 ghost use Rattle.std.specs.Prelude.{◌≡◌, ◌++◌, ◌∷◌, [], length, IfOk, OnErr, IfSome, Option, true, false};
 ghost use Rattle.py_node.specs.Tree.{tree_of};
+ghost use Rattle.class_log.specs.Following.{Keeps};
 ghost use Rattle.shared_vm.specs.declared.entry.Entry.{Entry};
-ghost use Rattle.shared_vm.specs.Book.{Adds, IsOf, IsTrue, Stepped, Tells};
+ghost use Rattle.shared_vm.specs.Book.{Adds, IsNameOf, IsOf, IsTrue, Stepped, Tells};
 
 use crate::entry::{Entry, ExecFault, Receipt};
 use crate::number::next_number;
+use crate::shared::Closed;
 use crate::single::run_single;
-use py_node::{Command, OutOfMemory};
+use py_node::{Command, OutOfMemory, PyStrInterned};
 use seat_lock::Turns;
 use std::alloc::Global;
 use std::marker::Model;
@@ -60,9 +62,11 @@ impl Book {
     }
 
     /// Runs a command of a seat with so many units and adds its entry. The receipt tells of it. Where memory can't be
-    /// had the machine has failed, whether the entry stands or not, and no later step does anything.
+    /// had the machine has failed, whether the entry stands or not, and no later step does anything. Each change of classes
+    /// that the machine has logged stands in its place still.
     pub fn step(&mut self, seat: u32, command: Command, budget: u64) -> Result<Receipt, ExecFault>
         ensures step { Stepped self.old self.new seat (tree_of command.expr) budget result }
+        ensures log { Keeps self.old.machine.world.log self.new.machine.world.log }
         ensures keeps { IsTrue self.new }
     {
         if self.machine.has_failed() {
@@ -79,9 +83,43 @@ impl Book {
         }
     }
 
+    /// The name of a text, if one of the machine's names is, also where the machine has failed. It takes no memory.
+    pub fn interned(&self, text: &str) -> Option<PyStrInterned>
+        ensures name { IsNameOf result self.now text.now }
+        ensures keeps { IsTrue self.now }
+    {
+        self.machine.world().names().interned_str(text)
+    }
+
+    /// The machine.
+    pub fn machine(&self) -> &VirtualMachine
+        ensures { result.now ≡ self.now.machine }
+    {
+        &self.machine
+    }
+
+    /// The commands that the machine ran, in their order.
+    pub fn journal(&self) -> &[Entry]
+        ensures journal { result.now ≡ self.now.journal }
+        ensures keeps { IsTrue self.now }
+    {
+        &self.journal
+    }
+
+    /// Ends the book.
+    pub fn into_closed(self) -> Closed
+        ensures journal { result.journal.items ≡ self.journal }
+        ensures machine { result.machine ≡ self.machine }
+        ensures keeps { IsTrue self }
+    {
+        let Book { machine, journal } = self;
+        Closed { journal, machine }
+    }
+
     // Runs a command and adds its entry, for which there is room before the command runs.
     fn add(&mut self, seat: u32, command: Command, budget: u64) -> Result<Receipt, OutOfMemory>
         requires { self.old.machine.failed ≡ false }
+        ensures log { Keeps self.old.machine.world.log self.new.machine.world.log }
         ensures clear { IfOk result (λ r. self.new.machine.failed ≡ false) }
         ensures added { IfOk result (λ r. (e : Entry) × (self.new.journal ≡ self.old.journal ++ e ∷ []) ×
             IsOf seat (tree_of command.expr) budget e × Tells r (length self.old.journal) e) }

@@ -10,11 +10,11 @@ ghost use Rattle.seat_lock.specs.Known.{IsFree, IsSameSeat, fresh_seat, with_tur
 ghost use Rattle.shared_vm.specs.declared.entry.Entry.{Entry};
 ghost use Rattle.shared_vm.specs.Journal.{Legal, plain_journal};
 ghost use Rattle.shared_vm.specs.Book.{IsReplay};
-ghost use Rattle.shared_vm.specs.Turns.{entries_in, has_lost, newest, Stands, Executed};
+ghost use Rattle.shared_vm.specs.Turns.{entries_in, has_lost, newest, Stands, Executed, Named};
 
 use crate::book::Book;
 use crate::entry::{Entry, ExecFault, Receipt};
-use py_node::{Command, OutOfMemory};
+use py_node::{Command, OutOfMemory, PyStrInterned};
 use seat_lock::{LockSeat, MOST_TURNS, SeatLock};
 use std::alloc::Global;
 use std::marker::Model;
@@ -92,6 +92,20 @@ impl SharedVm {
                 Err(ExecFault::Failed { after })
             }
         }
+    }
+
+    /// Waits for the seat's turn and tells the name of a text, if one of the machine's names is, also where the machine has
+    /// failed. The turn is empty, and it takes no memory. Only a seat of this machine may that is in no turn and has made
+    /// fewer than `MOST_TURNS`.
+    pub fn interned<R: Wait>(&self, rt: &R, seat: &mut Seat, text: &str) -> Option<PyStrInterned>
+        requires seat { IsFree self.now.id seat.old }
+        requires room { length seat.old.made < MOST_TURNS }
+        ensures { Named seat.old seat.new text.now result }
+    {
+        let book = self.lock.take(rt, seat);
+        let name = book.interned(text);
+        keep(&self.lock, seat, book);
+        name
     }
 
     /// Lets the first seat see all that the second has seen; neither may be in a turn. The turns that either made stay

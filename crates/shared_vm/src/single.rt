@@ -3,6 +3,7 @@
 ghost use Rattle.std.specs.Prelude.{◌≡◌, IfOk, OnOk, OnErr, true, false};
 ghost use Rattle.py_node.specs.Replies.{reply_of};
 ghost use Rattle.py_node.specs.Tree.{tree_of};
+ghost use Rattle.class_log.specs.Following.{Keeps};
 ghost use Rattle.class_world.specs.Reading.{IsReadable};
 ghost use Rattle.shared_vm.specs.Book.{Ran};
 
@@ -19,6 +20,7 @@ pub(crate) fn run_single(
     requires { machine.old.failed ≡ false }
     ensures ran { IfOk result (λ reply.
         Ran (tree_of command.now.expr) machine.old.world units machine.new.world (reply_of reply)) }
+    ensures log { Keeps machine.old.world.log machine.new.world.log }
     ensures readable { OnOk result (IsReadable machine.new.world) }
     ensures clear { OnOk result (machine.new.failed ≡ false) }
     ensures failed { OnErr result (machine.new.failed ≡ true) }

@@ -1,5 +1,5 @@
 -- What calls tell that make an object before or after they ask a task.
-use Rattle.std.proofs.Common.{◌≡◌, ℕ, ℤ, true, List, Result, Ok, IsTrue, length, cond, nat_le, sym, subst, ap, ◌∙◌}
+use Rattle.std.proofs.Common.{◌≡◌, ℕ, ℤ, true, List, Result, Ok, IsTrue, length, cond, nat_le, subst, ap, ◌∙◌}
 use Rattle.std.specs.Global.{Vec}
 use Rattle.std.proofs.lemmas.Result.{IfOk-weaker}
 use Rattle.py_node.specs.declared.refs.PyObjectRef.{PyObjectRef}
@@ -18,17 +18,17 @@ use Rattle.class_world.specs.Reading.{Reading, plain, task_of}
 use Rattle.class_world.specs.Sound.{Claim}
 use Rattle.class_world.proofs.Growth.{grows-on}
 use Rattle.vm_eval.specs.declared.machine.RunFault.{RunFault}
-use Rattle.vm_eval.specs.Asks.{Asked, ending_in, unnoted, of_done}
+use Rattle.vm_eval.specs.Asks.{Asked, ending_in, unnoted}
 use Rattle.vm_eval.specs.Say.{say}
 use Rattle.vm_eval.specs.State.{State}
-use Rattle.vm_calls.specs.Told.{EndIs, Tells, Told, told_by}
-use Rattle.vm_calls.specs.Views.{AskedWith, ItemsOf, MakesNode, TellsMadeOf, ToldWith, lacks, made_of, objects_in, of_items}
+use Rattle.vm_calls.specs.Told.{EndIs, Tells, Told}
+use Rattle.vm_calls.specs.Views.{AskedWith, MakesNode, TellsItems, TellsMadeOf, ToldWith, lacks, made_of}
 
 -- what an answer is told of is no failed machine
 was-clear : {A : Type 0} (Leads : Held → Held → A → Type 0) (of : A → List Claim) (old new : State) (x : A) → Tells Leads of old new (Ok x) → IsTrue old.failed → ⊥
 was-clear Leads of old new x h f = let e = (h.failed f).0 in cc
 
-module _ {T : Type 0} (z : ℤ) (read : Answer → T) (of : T → List Claim) (asked : PyObjectRef → PlainTask) (units : ℕ) (old mid new : State) (k : PyObjectRef) (n : MakesNode the_int (λ t. ANumber z) old mid (Ok k)) (job : Task) (is : (t : Reading) → task_of t job ≡ asked k) where
+module _ {T : Type 0} (z : ℤ) (Is : T → Answer → Type 0) (of : T → List Claim) (asked : PyObjectRef → PlainTask) (units : ℕ) (old mid new : State) (k : PyObjectRef) (n : MakesNode the_int (λ t. ANumber z) old mid (Ok k)) (job : Task) (is : (t : Reading) → task_of t job ≡ asked k) where
   -- the world in which the task was asked is the one with the number
   with-number : (end : PyResult Answer) → Asked job mid.world units new.world end → AskedWith z asked units old.world new.world end
   with-number end h t r =
@@ -38,9 +38,9 @@ module _ {T : Type 0} (z : ℤ) (read : Answer → T) (of : T → List Claim) (a
       (m.0, g.1, subst (λ (w : PlainWorld). unnoted (answer say w (asked (next_node (plain t old.world) the_int)) units 0) ≡ Out (plain t new.world) (ending_in end) g.1) m.1 (subst (λ (j : PlainTask). unnoted (answer say (plain t mid.world) j units 0) ≡ Out (plain t new.world) (ending_in end) g.1) e g.2))
 
   -- a number was made, and then the task was asked
-  pub by-number : (result : Result (PyResult T) RunFault) → Told read of job units mid new result → ToldWith read of z asked units old new result
+  pub by-number : (result : Result (PyResult T) RunFault) → Told Is of job units mid new result → ToldWith Is of z asked units old new result
   by-number result h = record {
-    leads = IfOk-weaker result _ _ (λ told (x : EndIs (λ w. Asked job w units) read mid.world new.world told). (x.0, with-number x.0 x.1, x.2)) h.leads;
+    leads = IfOk-weaker result _ _ (λ told (x : EndIs (λ w. Asked job w units) Is mid.world new.world told). (x.0, with-number x.0 x.1, x.2)) h.leads;
     holds = h.holds;
     failed = λ f. absurd (was-clear _ _ old mid k n f);
     memory = λ f e. h.memory (n.works ∙ f) e;
@@ -54,19 +54,18 @@ module _ {T : Type 0} (z : ℤ) (read : Answer → T) (of : T → List Claim) (a
 
 module _ (class : ℕ) (datum : List PyObjectRef → Datum) (o : PyObjectRef) (units : ℕ) (old mid new : State) (items : Vec PyObjectRef) (r : PyObjectRef) where
   -- so many items become one object
-  is-made : (t : Reading) (end : PyResult Answer) → Done items.items ≡ told_by objects_in end → nat_le (length items.items) most_items ≡ true → plain t new.world ≡ with_node (plain t mid.world) class (datum items.items) → r ≡ next_node (plain t mid.world) class → made_of class datum (plain t mid.world) (told_by objects_in end) ≡ (plain t new.world, Done r)
-  is-made t end is few p q =
-      ap (made_of class datum (plain t mid.world)) (sym is)
+  is-made : (t : Reading) (told : PyResult (Vec PyObjectRef)) → told ≡ Done items → nat_le (length items.items) most_items ≡ true → plain t new.world ≡ with_node (plain t mid.world) class (datum items.items) → r ≡ next_node (plain t mid.world) class → made_of class datum (plain t mid.world) told ≡ (plain t new.world, Done r)
+  is-made t told is few p q =
+      ap (made_of class datum (plain t mid.world)) is
       ∙ ap (λ b. cond b (with_node (plain t mid.world) class (datum items.items), Done (next_node (plain t mid.world) class)) (plain t mid.world, lacks TooLong)) few
       ∙ cc
 
   -- the items were told, and then an object was made of them
-  pub items-made : (told : PyResult (Vec PyObjectRef)) → Tells (ItemsOf o units) (of_done of_items) old mid (Ok told) → told ≡ Done items → nat_le (length items.items) most_items ≡ true → MakesNode class (λ t. datum items.items) mid new (Ok r) → TellsMadeOf class datum o units old new (Ok (Done r))
+  pub items-made : (told : PyResult (Vec PyObjectRef)) → TellsItems o units old mid (Ok told) → told ≡ Done items → nat_le (length items.items) most_items ≡ true → MakesNode class (λ t. datum items.items) mid new (Ok r) → TellsMadeOf class datum o units old new (Ok (Done r))
   items-made told h done few n =
       let l = h.leads in
-      let is : Done items.items ≡ told_by objects_in l.0 = ap (told_by (λ v. v.items)) (sym done) ∙ l.2 in
       record {
-        leads = (l.0, λ t s. let m = n.leads t s in let g = l.1 t m.0 in (g.0, plain t mid.world, g.1, g.2, is-made t l.0 is few m.1 m.2));
+        leads = (told, l.0, l.2, λ t s. let m = n.leads t s in let g = l.1 t m.0 in (g.0, plain t mid.world, g.1, g.2, is-made t told done few m.1 m.2));
         holds = n.holds;
         failed = λ f. absurd (was-clear _ _ old mid told h f);
         memory = λ f e. cc;

@@ -1,1 +1,4 @@
 pub mod Composed
+pub mod Hints
+pub mod Kinded
+pub mod Loading

@@ -1,4 +1,5 @@
-pub mod Readings
+pub mod Answers
+pub mod Loaded
 pub mod Told
 pub mod Tests
 pub mod Views

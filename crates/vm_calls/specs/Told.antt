@@ -1,5 +1,5 @@
 -- What a host is told that asks the machine for a task.
-use Rattle.std.specs.Prelude.{◌≡◌, ℕ, ℤ, Bool, true, false, cond, List, [], Option, Some, None, Result, Ok, Err, IfOk, OnOk, OnErr, IsTrue}
+use Rattle.std.specs.Prelude.{◌≡◌, ℕ, ℤ, Bool, true, false, cond, List, [], Option, None, Result, Ok, Err, IfOk, OnOk, OnErr, IsTrue}
 use Rattle.py_node.specs.declared.refs.PyObjectRef.{PyObjectRef}
 use Rattle.py_node.specs.declared.task.Answer.{Answer}
 use Rattle.py_node.specs.declared.task.PyMethod.{PyMethod}
@@ -16,13 +16,14 @@ use Rattle.vm_eval.specs.declared.machine.RunFault.{RunFault}
 use Rattle.vm_eval.specs.declared.machine.RunFault.TheVariants as run_fault
 use Rattle.vm_eval.specs.Asks.{Asked, of_done}
 use Rattle.vm_eval.specs.State.{State}
-use Rattle.vm_calls.specs.Readings.{object_in, maybe_in, truth_in, opposite_in, order_in, method_in, number_in, length_in, length_opt_in, length_or}
+use Rattle.vm_calls.specs.Answers.{IsAnswer, IsObject, IsMaybe, IsMethod, IsDone, IsTruth, IsOpposite, IsOrder, IsNumber, IsLength, IsHint, IsHintOr, IsSome}
 
--- how a task ended, its value as it is read
-abbrev pub told_by : {A T : Type 0} → (A → T) → PyResult A → PyResult T
-told_by read (Done a) = Done (read a)
-told_by read (Raised x) = Raised x
-told_by read Budget = Budget
+-- a call ends as the task did: what is told is such of the answer
+abbrev pub EndsAs : {T : Type 0} → (T → Answer → Type 0) → PyResult T → PyResult Answer → Type 0
+EndsAs Is (Done x) (Done a) = Is x a
+EndsAs Is (Raised x) (Raised y) = x ≡ y
+EndsAs Is Budget Budget = Unit {0}
+EndsAs Is _ _ = ⊥
 
 -- the machine tells something: where there is an answer, this holds of the worlds before and after it and of the answer; what it names is there. On a machine that has failed nothing is done, else only want of memory is another answer, and the machine has failed then. However it ends, the world is sound, what held of numbers holds still, and no body runs
 pub record Tells {R : Type 0} (Leads : Held → Held → R → Type 0) (of : R → List Claim) (old new : State) (result : Result R RunFault) : Type 0 where
@@ -37,13 +38,13 @@ pub record Tells {R : Type 0} (Leads : Held → Held → R → Type 0) (of : R �
   pub rests : (t : Reading) → (plain t new.world).scopes ≡ []
   pub sound : (t : Reading) → IsSound (plain t new.world)
 
--- this task ended between the worlds, and its value is told as it is read
-abbrev pub EndIs : {T : Type 0} → (Held → Held → PyResult Answer → Type 0) → (Answer → T) → Held → Held → PyResult T → Type 0
-EndIs Ended read old new told = (end : PyResult Answer) × Ended old new end × (told ≡ told_by read end)
+-- this task ended between the worlds, and what is told is such of its answer
+abbrev pub EndIs : {T : Type 0} → (Held → Held → PyResult Answer → Type 0) → (T → Answer → Type 0) → Held → Held → PyResult T → Type 0
+EndIs Ended Is old new told = (end : PyResult Answer) × Ended old new end × EndsAs Is told end
 
--- the machine answers the task, from one machine to the other: the answer and the world then are the plain machine's, the value as it is read
-abbrev pub Told : {T : Type 0} → (Answer → T) → (T → List Claim) → Task → ℕ → State → State → Result (PyResult T) RunFault → Type 0
-Told read of task units = Tells (EndIs (λ old. Asked task old units) read) (of_done of)
+-- the machine answers the task, from one machine to the other: the answer and the world then are the plain machine's, and what is told is such of the answer
+abbrev pub Told : {T : Type 0} → (T → Answer → Type 0) → (T → List Claim) → Task → ℕ → State → State → Result (PyResult T) RunFault → Type 0
+Told Is of task units = Tells (EndIs (λ old. Asked task old units) Is) (of_done of)
 
 -- what names nothing
 abbrev pub of_nothing : {T : Type 0} → T → List Claim
@@ -52,59 +53,59 @@ of_nothing x = []
 -- the same, by what the value is
 
 abbrev pub TellsAnswer : Task → ℕ → State → State → Result (PyResult Answer) RunFault → Type 0
-TellsAnswer = Told (λ a. a) of_answer
+TellsAnswer = Told IsAnswer of_answer
 
 abbrev pub TellsObject : Task → ℕ → State → State → Result (PyResult PyObjectRef) RunFault → Type 0
-TellsObject = Told object_in of_node_ref
+TellsObject = Told IsObject of_node_ref
 
 abbrev pub TellsMaybe : Task → ℕ → State → State → Result (PyResult (Option PyObjectRef)) RunFault → Type 0
-TellsMaybe = Told maybe_in (of_option of_node_ref)
+TellsMaybe = Told IsMaybe (of_option of_node_ref)
 
 abbrev pub TellsMethod : Task → ℕ → State → State → Result (PyResult PyMethod) RunFault → Type 0
-TellsMethod = Told method_in of_method
+TellsMethod = Told IsMethod of_method
 
 abbrev pub TellsDone : Task → ℕ → State → State → Result (PyResult (Unit {0})) RunFault → Type 0
-TellsDone = Told (λ a. tt) of_nothing
+TellsDone = Told IsDone of_nothing
 
 abbrev pub TellsTruth : Task → ℕ → State → State → Result (PyResult Bool) RunFault → Type 0
-TellsTruth = Told truth_in of_nothing
+TellsTruth = Told IsTruth of_nothing
 
 abbrev pub TellsOpposite : Task → ℕ → State → State → Result (PyResult Bool) RunFault → Type 0
-TellsOpposite = Told opposite_in of_nothing
+TellsOpposite = Told IsOpposite of_nothing
 
 abbrev pub TellsOrder : Task → ℕ → State → State → Result (PyResult (Option Bool)) RunFault → Type 0
-TellsOrder = Told order_in of_nothing
+TellsOrder = Told IsOrder of_nothing
 
 abbrev pub TellsNumber : Task → ℕ → State → State → Result (PyResult ℤ) RunFault → Type 0
-TellsNumber = Told number_in of_nothing
+TellsNumber = Told IsNumber of_nothing
 
 abbrev pub TellsLength : Task → ℕ → State → State → Result (PyResult ℕ) RunFault → Type 0
-TellsLength = Told length_in of_nothing
+TellsLength = Told IsLength of_nothing
 
 abbrev pub TellsLengthOpt : Task → ℕ → State → State → Result (PyResult (Option ℕ)) RunFault → Type 0
-TellsLengthOpt = Told length_opt_in of_nothing
+TellsLengthOpt = Told IsHint of_nothing
 
 abbrev pub TellsLengthOr : ℕ → Task → ℕ → State → State → Result (PyResult ℕ) RunFault → Type 0
-TellsLengthOr n = Told (length_or n) of_nothing
+TellsLengthOr n = Told (IsHintOr n) of_nothing
 
 -- no task is asked and nothing changes: the call ends so, unless the machine has failed
 abbrev pub Keeps : {T : Type 0} → PyResult T → State → State → Result (PyResult T) RunFault → Type 0
 Keeps end old new result = (new ≡ old) × (result ≡ cond old.failed (Err run_fault.Failed) (Ok end))
 
 -- the same task, its value told as some
-abbrev pub ToldSome : {T : Type 0} → (Answer → T) → (T → List Claim) → Task → ℕ → State → State → Result (PyResult (Option T)) RunFault → Type 0
-ToldSome read of = Told (λ a. Some (read a)) (of_option of)
+abbrev pub ToldSome : {T : Type 0} → (T → Answer → Type 0) → (T → List Claim) → Task → ℕ → State → State → Result (PyResult (Option T)) RunFault → Type 0
+ToldSome Is of = Told (IsSome Is) (of_option of)
 
 -- the task is asked where the test holds of the world, and what it gives is told as some; else none is told
-pub record ToldWhere {T : Type 0} (test : PlainWorld → Bool) (read : Answer → T) (of : T → List Claim) (task : Task) (units : ℕ) (old new : State) (result : Result (PyResult (Option T)) RunFault) : Type 0 where
-  pub some : (t : Reading) → Reads t old.world → test (plain t old.world) ≡ true → ToldSome read of task units old new result
+pub record ToldWhere {T : Type 0} (test : PlainWorld → Bool) (Is : T → Answer → Type 0) (of : T → List Claim) (task : Task) (units : ℕ) (old new : State) (result : Result (PyResult (Option T)) RunFault) : Type 0 where
+  pub some : (t : Reading) → Reads t old.world → test (plain t old.world) ≡ true → ToldSome Is of task units old new result
   pub none : (t : Reading) → Reads t old.world → test (plain t old.world) ≡ false → Keeps (Done None) old new result
 
 abbrev pub TellsObjectWhere : (PlainWorld → Bool) → Task → ℕ → State → State → Result (PyResult (Option PyObjectRef)) RunFault → Type 0
-TellsObjectWhere test = ToldWhere test object_in of_node_ref
+TellsObjectWhere test = ToldWhere test IsObject of_node_ref
 
 abbrev pub TellsLengthWhere : (PlainWorld → Bool) → Task → ℕ → State → State → Result (PyResult (Option ℕ)) RunFault → Type 0
-TellsLengthWhere test = ToldWhere test length_in of_nothing
+TellsLengthWhere test = ToldWhere test IsLength of_nothing
 
 abbrev pub TellsLengthSome : Task → ℕ → State → State → Result (PyResult (Option ℕ)) RunFault → Type 0
-TellsLengthSome = ToldSome length_in of_nothing
+TellsLengthSome = ToldSome IsLength of_nothing

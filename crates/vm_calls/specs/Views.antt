@@ -7,7 +7,6 @@ use Rattle.py_node.specs.declared.raised.Cause.TheVariants.{NoItemAssignment, No
 use Rattle.py_node.specs.declared.protocol.ProtocolTask.TheVariants.{SetItem, DelItem, Collect}
 use Rattle.py_node.specs.declared.refs.PyObjectRef.{PyObjectRef}
 use Rattle.py_node.specs.declared.task.Answer.{Answer}
-use Rattle.py_node.specs.declared.task.Answer.TheVariants.{Objects}
 use Rattle.py_node.specs.declared.task.PyResult.{PyResult}
 use Rattle.py_node.specs.declared.task.PyResult.TheVariants.{Done, Raised, Budget}
 use Rattle.py_node.specs.declared.task.Task.{Task}
@@ -22,12 +21,13 @@ use Rattle.class_world.specs.Held.{Held}
 use Rattle.class_world.specs.Reading.{Reading, Reads, plain}
 use Rattle.class_world.specs.Sound.{Claim, AreNodes, of_node_ref}
 use Rattle.vm_eval.specs.declared.machine.RunFault.{RunFault}
-use Rattle.vm_eval.specs.Asks.{Asked, ending_in, unnoted, of_done}
+use Rattle.vm_eval.specs.Asks.{ending_in, unnoted, of_done}
 use Rattle.vm_eval.specs.Say.{say}
 use Rattle.vm_eval.specs.State.{State}
 use Rattle.vm_calls.specs.declared.made.Made.{Made}
 use Rattle.vm_calls.specs.declared.made.Made.TheVariants as made
-use Rattle.vm_calls.specs.Told.{EndIs, Keeps, Tells, told_by}
+use Rattle.vm_calls.specs.Answers.{AreObjects}
+use Rattle.vm_calls.specs.Told.{EndIs, EndsAs, Keeps, Tells, Told}
 
 -- a fault of a cause
 abbrev pub lacks : {T : Type 0} → Cause → PyResult T
@@ -67,24 +67,15 @@ abbrev pub AskedWith : ℤ → (PyObjectRef → PlainTask) → ℕ → Held → 
 AskedWith z task units old new end =
     (t : Reading) → Reads t new → Reads t old × (left : ℕ) × (unnoted (answer say (with_node (plain t old) the_int (ANumber z)) (task (next_node (plain t old) the_int)) units 0) ≡ Out (plain t new) (ending_in end) left)
 
-abbrev pub ToldWith : {T : Type 0} → (Answer → T) → (T → List Claim) → ℤ → (PyObjectRef → PlainTask) → ℕ → State → State → Result (PyResult T) RunFault → Type 0
-ToldWith read of z task units = Tells (EndIs (AskedWith z task units) read) (of_done of)
-
--- the objects that were collected; none where the value is another one
-abbrev pub objects_in : Answer → List PyObjectRef
-objects_in (Objects rs) = rs.items
-objects_in _ = []
+abbrev pub ToldWith : {T : Type 0} → (T → Answer → Type 0) → (T → List Claim) → ℤ → (PyObjectRef → PlainTask) → ℕ → State → State → Result (PyResult T) RunFault → Type 0
+ToldWith Is of z task units = Tells (EndIs (AskedWith z task units) Is) (of_done of)
 
 abbrev pub of_items : Vec PyObjectRef → List Claim
 of_items v = AreNodes v.items ∷ []
 
 -- the items of an object are told
-abbrev pub ItemsOf : PyObjectRef → ℕ → Held → Held → PyResult (Vec PyObjectRef) → Type 0
-ItemsOf o units old new told =
-    (end : PyResult Answer) × Asked (task.Protocol (Collect o)) old units new end × (told_by (λ v. v.items) told ≡ told_by objects_in end)
-
 abbrev pub TellsItems : PyObjectRef → ℕ → State → State → Result (PyResult (Vec PyObjectRef)) RunFault → Type 0
-TellsItems o units = Tells (ItemsOf o units) (of_done of_items)
+TellsItems o = Told AreObjects of_items (task.Protocol (Collect o))
 
 -- of which class it is what is made of items, and what it holds
 abbrev pub class_of : Made → ℕ
@@ -96,15 +87,15 @@ datum_of made.Tuple rs = ATuple rs
 datum_of made.List rs = AList rs
 
 -- an object of the class is made of items, unless they are too many for one: the world then, and how the call ends
-abbrev pub made_of : ℕ → (List PyObjectRef → Datum) → PlainWorld → PyResult (List PyObjectRef) → PlainWorld × PyResult PyObjectRef
-made_of class datum w (Done rs) = cond (nat_le (length rs) most_items) (with_node w class (datum rs), Done (next_node w class)) (w, lacks TooLong)
+abbrev pub made_of : ℕ → (List PyObjectRef → Datum) → PlainWorld → PyResult (Vec PyObjectRef) → PlainWorld × PyResult PyObjectRef
+made_of class datum w (Done v) = cond (nat_le (length v.items) most_items) (with_node w class (datum v.items), Done (next_node w class)) (w, lacks TooLong)
 made_of class datum w (Raised x) = (w, Raised x)
 made_of class datum w Budget = (w, Budget)
 
 -- the items of an object are collected, which leads to some world, and a new object of the class is made of them there
 abbrev pub MadeOfItems : ℕ → (List PyObjectRef → Datum) → PyObjectRef → ℕ → Held → Held → PyResult PyObjectRef → Type 0
 MadeOfItems class datum o units old new told =
-    (end : PyResult Answer) × ((t : Reading) → Reads t new → Reads t old × (mid : PlainWorld) × (left : ℕ) × (unnoted (answer say (plain t old) (ToProtocol (DoCollect o)) units 0) ≡ Out mid (ending_in end) left) × (made_of class datum mid (told_by objects_in end) ≡ (plain t new, told)))
+    (items : PyResult (Vec PyObjectRef)) × (end : PyResult Answer) × EndsAs AreObjects items end × ((t : Reading) → Reads t new → Reads t old × (mid : PlainWorld) × (left : ℕ) × (unnoted (answer say (plain t old) (ToProtocol (DoCollect o)) units 0) ≡ Out mid (ending_in end) left) × (made_of class datum mid items ≡ (plain t new, told)))
 
 abbrev pub TellsMadeOf : ℕ → (List PyObjectRef → Datum) → PyObjectRef → ℕ → State → State → Result (PyResult PyObjectRef) RunFault → Type 0
 TellsMadeOf class datum o units = Tells (MadeOfItems class datum o units) (of_done of_node_ref)

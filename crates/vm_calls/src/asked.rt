@@ -1,44 +1,54 @@
-//! How a task is asked, and how its value is read.
+//! How a task is asked, and how its value is told.
 //!
-//! Nothing states that the tasks of one sort give values of one kind alone. So each reading is one of any
-//! value, and has something fixed for a value of another kind.
+//! A task's answers are of one kind (`answer_kinds`), so that each type is read of its own kind of answers alone.
 
 ghost use Rattle.std.specs.Prelude.{◌≡◌, List, cond};
 ghost use Rattle.py_node.specs.declared.task.Answer.{Answer as GivenValue};
 ghost use Rattle.class_world.specs.Claims.{of_answer, of_method, of_task};
+ghost use Rattle.class_world.specs.Held.{Held};
 ghost use Rattle.class_world.specs.Sound.{AllHold, Claim, of_node_ref, of_option};
-ghost use Rattle.vm_calls.specs.Readings.{object_in, maybe_in, truth_in, order_in, method_in, number_in, length_of, length_in, length_opt_in};
+ghost use Rattle.answer_kinds.specs.Kinds as kinds;
+ghost use Rattle.vm_calls.specs.Answers.{GivesJust, IsAnswer, IsDone, IsHint, IsLength, IsMaybe, IsMethod, IsNumber, IsObject, IsOrder, IsTruth, AreObjects, Of, length_of};
 ghost use Rattle.vm_calls.specs.Told.{Told, ToldSome, of_nothing};
-ghost use Rattle.vm_calls.specs.Views.{lacks};
+ghost use Rattle.vm_calls.specs.Views.{lacks, of_items};
 
-use class_world::{Fixed, World};
+use answer_kinds::answers_are_of_their_kinds;
+use class_world::Fixed;
 use py_node::{Answer, Cause, PyMethod, PyObjectRef, PyResult, Raised, Task};
 use vm_eval::{RunFault, VirtualMachine};
 
-/// What is read of a task's value.
+/// What is told of a task's answer.
 pub trait FromAnswer: Sized + Drop {
-    ghost read: { GivenValue → Self };
+    // The answers that it is read of.
+    ghost fits: { GivenValue → Type 0 };
+
+    // What is told of an answer.
+    ghost told: { Self → GivenValue → Type 0 };
 
     // What is said of what it names.
     ghost names: { Self → List Claim };
 
-    /// A task's value, as it is read. What it names is there, where what the value names is.
-    fn from_answer(world: &World, answer: Answer) -> Self
-        ensures reads { result ≡ read answer }
-        ensures holds { AllHold world.now (of_answer answer) → AllHold world.now (names result) };
+    /// What is told of such an answer. What it names is there, where what the answer names is.
+    fn from_answer(answer: Answer) -> Self
+        requires { fits answer }
+        ensures told { told result answer }
+        ensures holds { (w : Held) → AllHold w (of_answer answer) → AllHold w (names result) };
 }
 
-/// Asks the machine for a task, which may use so many units, and tells how it ended.
+/// Asks the machine for a task, which may use so many units, and tells how it ended. The answers of the task's kind must be
+/// such that this can be read of them.
 pub fn ask<T: FromAnswer>(
     vm: &mut VirtualMachine,
     task: Task,
     budget: u64,
 ) -> Result<PyResult<T>, RunFault>
-    requires { AllHold vm.old.world (of_task task) }
-    ensures { Told T.read T.names task budget vm.old vm.new result }
+    requires there { AllHold vm.old.world (of_task task) }
+    requires kind { GivesJust T.fits task }
+    ensures { Told T.told T.names task budget vm.old vm.new result }
 {
+    answers_are_of_their_kinds();
     match vm.ask(task, budget)? {
-        PyResult::Done(answer) => Ok(PyResult::Done(T::from_answer(vm.world(), answer))),
+        PyResult::Done(answer) => Ok(PyResult::Done(T::from_answer(answer))),
         PyResult::Raised(raised) => Ok(PyResult::Raised(raised)),
         PyResult::Budget => Ok(PyResult::Budget),
     }
@@ -50,8 +60,9 @@ pub fn ask_some<T: FromAnswer>(
     task: Task,
     budget: u64,
 ) -> Result<PyResult<Option<T>>, RunFault>
-    requires { AllHold vm.old.world (of_task task) }
-    ensures { ToldSome T.read T.names task budget vm.old vm.new result }
+    requires there { AllHold vm.old.world (of_task task) }
+    requires kind { GivesJust T.fits task }
+    ensures { ToldSome T.told T.names task budget vm.old vm.new result }
 {
     match ask::<T>(vm, task, budget)? {
         PyResult::Done(value) => Ok(PyResult::Done(Some(value))),
@@ -81,123 +92,161 @@ pub fn lacking<T>(vm: &VirtualMachine, cause: Cause) -> Result<PyResult<T>, RunF
 }
 
 impl FromAnswer for Answer {
-    ghost read = { λ a. a };
+    ghost fits = { λ a. Unit {0} };
+
+    ghost told = { IsAnswer };
 
     ghost names = { of_answer };
 
-    fn from_answer(_world: &World, answer: Answer) -> Answer {
+    fn from_answer(answer: Answer) -> Answer {
         answer
     }
 }
 
 impl FromAnswer for PyObjectRef {
-    ghost read = { object_in };
+    ghost fits = { Of kinds.Value };
+
+    ghost told = { IsObject };
 
     ghost names = { of_node_ref };
 
-    fn from_answer(world: &World, answer: Answer) -> PyObjectRef {
+    fn from_answer(answer: Answer) -> PyObjectRef {
         match answer {
             Answer::Value(object) => object,
-            _ => world.fixed(Fixed::None),
+            _ => unreachable!(),
         }
     }
 }
 
 impl FromAnswer for Option<PyObjectRef> {
-    ghost read = { maybe_in };
+    ghost fits = { Of kinds.Maybe };
+
+    ghost told = { IsMaybe };
 
     ghost names = { of_option of_node_ref };
 
-    fn from_answer(_world: &World, answer: Answer) -> Option<PyObjectRef> {
+    fn from_answer(answer: Answer) -> Option<PyObjectRef> {
         match answer {
             Answer::Maybe(object) => object,
-            _ => None,
+            _ => unreachable!(),
+        }
+    }
+}
+
+impl FromAnswer for Vec<PyObjectRef> {
+    ghost fits = { Of kinds.Objects };
+
+    ghost told = { AreObjects };
+
+    ghost names = { of_items };
+
+    fn from_answer(answer: Answer) -> Vec<PyObjectRef> {
+        match answer {
+            Answer::Objects(items) => items,
+            _ => unreachable!(),
         }
     }
 }
 
 impl FromAnswer for PyMethod {
-    ghost read = { method_in };
+    ghost fits = { Of kinds.Method };
+
+    ghost told = { IsMethod };
 
     ghost names = { of_method };
 
-    fn from_answer(world: &World, answer: Answer) -> PyMethod {
+    fn from_answer(answer: Answer) -> PyMethod {
         match answer {
             Answer::Method(method) => method,
-            _ => PyMethod::Attribute(world.fixed(Fixed::None)),
+            _ => unreachable!(),
         }
     }
 }
 
 impl FromAnswer for () {
-    ghost read = { λ a. tt };
+    ghost fits = { λ a. Unit {0} };
+
+    ghost told = { IsDone };
 
     ghost names = { of_nothing };
 
-    fn from_answer(_world: &World, _answer: Answer) {}
+    fn from_answer(_answer: Answer) {}
 }
 
 impl FromAnswer for bool {
-    ghost read = { truth_in };
+    ghost fits = { Of kinds.Truth };
+
+    ghost told = { IsTruth };
 
     ghost names = { of_nothing };
 
-    fn from_answer(_world: &World, answer: Answer) -> bool {
+    fn from_answer(answer: Answer) -> bool {
         match answer {
             Answer::Truth(truth) => truth,
-            _ => false,
+            _ => unreachable!(),
         }
     }
 }
 
 impl FromAnswer for Option<bool> {
-    ghost read = { order_in };
+    ghost fits = { Of kinds.TruthOrNone };
+
+    ghost told = { IsOrder };
 
     ghost names = { of_nothing };
 
-    fn from_answer(_world: &World, answer: Answer) -> Option<bool> {
+    #[tactic(auto, using(crate::proofs::Hints::truth_told))]
+    fn from_answer(answer: Answer) -> Option<bool> {
         match answer {
             Answer::Maybe(Some(object)) => Some(object == Fixed::True.node()),
-            _ => None,
+            Answer::Maybe(None) => None,
+            _ => unreachable!(),
         }
     }
 }
 
 impl FromAnswer for i64 {
-    ghost read = { number_in };
+    ghost fits = { Of kinds.Number };
+
+    ghost told = { IsNumber };
 
     ghost names = { of_nothing };
 
-    fn from_answer(_world: &World, answer: Answer) -> i64 {
+    fn from_answer(answer: Answer) -> i64 {
         match answer {
             Answer::Number(number) => number,
-            _ => 0,
+            _ => unreachable!(),
         }
     }
 }
 
 impl FromAnswer for usize {
-    ghost read = { length_in };
+    ghost fits = { Of kinds.Number };
+
+    ghost told = { IsLength };
 
     ghost names = { of_nothing };
 
-    fn from_answer(_world: &World, answer: Answer) -> usize {
+    fn from_answer(answer: Answer) -> usize {
         match answer {
             Answer::Number(number) => length_of(number),
-            _ => 0,
+            _ => unreachable!(),
         }
     }
 }
 
 impl FromAnswer for Option<usize> {
-    ghost read = { length_opt_in };
+    ghost fits = { Of kinds.NumberOrNone };
+
+    ghost told = { IsHint };
 
     ghost names = { of_nothing };
 
-    fn from_answer(_world: &World, answer: Answer) -> Option<usize> {
+    fn from_answer(answer: Answer) -> Option<usize> {
         match answer {
             Answer::Number(number) => Some(length_of(number)),
-            _ => None,
+            Answer::Maybe(None) => None,
+            _ => unreachable!(),
         }
     }
 }

@@ -8,6 +8,7 @@ pub mod callable;
 pub mod calls;
 pub mod comparisons;
 pub mod in_place;
+pub mod laws;
 mod lengths;
 mod made;
 pub mod mapping;

@@ -3,18 +3,15 @@
 ghost use Rattle.std.specs.Prelude.{◌≡◌, [], ◌∷◌, None};
 ghost use Rattle.plain_machine.specs.Known.{the_int};
 ghost use Rattle.plain_machine.specs.Plain.{ANumber};
-ghost use Rattle.class_world.specs.Claims.{of_answer};
-ghost use Rattle.class_world.specs.Held.{Held};
 ghost use Rattle.class_world.specs.Reading.{datum};
 ghost use Rattle.class_world.specs.Sound.{AllHold, AreNodes, Holds, IsClass, IsNode, IsOf, class_in, home_of, of_payload};
-ghost use Rattle.vm_calls.specs.Views.{MakesNode, TellsItems, TellsMadeOf, class_of, datum_of, objects_in};
+ghost use Rattle.vm_calls.specs.Views.{MakesNode, TellsItems, TellsMadeOf, class_of, datum_of};
 
 use crate::asked::ask;
 use class_world::limits::is_within_limit;
 use py_node::{
-    Answer, BuiltIn, Cause, Payload, ProtocolTask, PyObjectRef, PyResult, PyTypeRef, Raised, Task,
+    BuiltIn, Cause, Payload, ProtocolTask, PyObjectRef, PyResult, PyTypeRef, Raised, Task,
 };
-use std::alloc::Global;
 use vm_eval::{RunFault, VirtualMachine};
 
 /// What is made of the items of an object.
@@ -79,24 +76,8 @@ pub(crate) fn items(
     requires { AllHold vm.old.world (IsNode object ∷ []) }
     ensures { TellsItems object budget vm.old vm.new result }
 {
-    let alloc = vm.world().alloc();
     let task = Task::Protocol(ProtocolTask::Collect(object));
-    match ask::<Answer>(vm, task, budget)? {
-        PyResult::Done(answer) => Ok(PyResult::Done(objects_in(alloc, answer))),
-        PyResult::Raised(raised) => Ok(PyResult::Raised(raised)),
-        PyResult::Budget => Ok(PyResult::Budget),
-    }
-}
-
-// The objects that were collected, or none where the value is another one.
-fn objects_in(alloc: Global, answer: Answer) -> Vec<PyObjectRef>
-    ensures items { result.items ≡ objects_in answer }
-    ensures holds { (w : Held) → AllHold w (of_answer answer) → Holds w (AreNodes result.items) }
-{
-    match answer {
-        Answer::Objects(items) => items,
-        _ => Vec::new(alloc),
-    }
+    ask(vm, task, budget)
 }
 
 // A new tuple or list of the items of an object.

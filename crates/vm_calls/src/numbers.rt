@@ -131,6 +131,7 @@ fn has_length(world: &World, object: PyObjectRef) -> bool
 }
 
 /// An object's length, or what it says to expect, or else the number that is given.
+#[tactic(auto, using(crate::proofs::Hints::hint_or))]
 pub fn length_hint(
     vm: &mut VirtualMachine,
     object: PyObjectRef,

@@ -4,7 +4,7 @@ ghost use Rattle.std.specs.Prelude.{[], ◌∷◌};
 ghost use Rattle.plain_machine.specs.Known.{the_list, the_tuple};
 ghost use Rattle.plain_machine.specs.Plain.{AList, ATuple, DoDelItem, DoGetItem, DoSetItem, ToProtocol};
 ghost use Rattle.class_world.specs.Sound.{AllHold, IsNode, of_node_ref};
-ghost use Rattle.vm_calls.specs.Readings.{object_in};
+ghost use Rattle.vm_calls.specs.Answers.{IsDone, IsObject};
 ghost use Rattle.vm_calls.specs.Told.{TellsDone, TellsLength, TellsLengthSome, TellsObject, TellsTruth, of_nothing};
 ghost use Rattle.vm_calls.specs.Views.{TellsItems, TellsMadeOf, ToldIf, ToldWith, lacks};
 
@@ -108,7 +108,7 @@ pub fn get_item(
 ) -> Result<PyResult<PyObjectRef>, RunFault>
     requires { AllHold vm.old.world (IsNode view.now.obj ∷ []) }
     ensures { ToldIf view.now.methods.item (lacks Cause.NotSubscriptable)
-        (ToldWith object_in of_node_ref i (λ k. ToProtocol (DoGetItem view.now.obj k)) budget) vm.old vm.new result }
+        (ToldWith IsObject of_node_ref i (λ k. ToProtocol (DoGetItem view.now.obj k)) budget) vm.old vm.new result }
 {
     if view.methods.item.is_none() {
         return lacking(vm, Cause::NotSubscriptable);
@@ -129,7 +129,7 @@ pub fn set_item(
 ) -> Result<PyResult<()>, RunFault>
     requires { AllHold vm.old.world (IsNode view.now.obj ∷ IsNode value ∷ []) }
     ensures { ToldIf view.now.methods.ass_item (lacks Cause.NoItemAssignment)
-        (ToldWith (λ a. tt) of_nothing i (λ k. ToProtocol (DoSetItem view.now.obj k value)) budget)
+        (ToldWith IsDone of_nothing i (λ k. ToProtocol (DoSetItem view.now.obj k value)) budget)
         vm.old vm.new result }
 {
     if view.methods.ass_item.is_none() {
@@ -150,7 +150,7 @@ pub fn del_item(
 ) -> Result<PyResult<()>, RunFault>
     requires { AllHold vm.old.world (IsNode view.now.obj ∷ []) }
     ensures { ToldIf view.now.methods.ass_item (lacks Cause.NoItemDeletion)
-        (ToldWith (λ a. tt) of_nothing i (λ k. ToProtocol (DoDelItem view.now.obj k)) budget)
+        (ToldWith IsDone of_nothing i (λ k. ToProtocol (DoDelItem view.now.obj k)) budget)
         vm.old vm.new result }
 {
     if view.methods.ass_item.is_none() {

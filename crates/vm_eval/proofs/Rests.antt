@@ -35,4 +35,4 @@ quiet-held t w h = h
 
 -- from rest to rest
 pub rest-grows : (old new : Held) → Lasts old new → old.scopes ≡ [] → new.scopes ≡ [] → old.calls ≡ [] → new.calls ≡ [] → Grows old new
-rest-grows old new l a b p q = record { still = l.still; bodies = ap length b ∙ sym (ap length a); notes = q ∙ sym p }
+rest-grows old new l a b p q = record { still = l.still; log = l.log; bodies = ap length b ∙ sym (ap length a); notes = q ∙ sym p }

@@ -1,19 +1,22 @@
 //! Classes that a host makes and changes on a machine. Each call is the world's own: its refusals and what it changes are
 //! those. Want of memory sets the machine's mark.
 
-ghost use Rattle.std.specs.Prelude.{◌≡◌, ◌+◌, ◌*◌, ◌≤◌, ◌∷◌, [], ℕ, Ok, None, Some, IfOk, OnOk, OnErr, IsSome, is_some, length, false};
+ghost use Rattle.std.specs.Prelude.{◌≡◌, ◌+◌, ◌*◌, ◌≤◌, ◌∷◌, [], ℕ, Ok, None, Some, IfOk, OnOk, OnErr, IsSome, is_some, length, ◌++◌, true, false};
 ghost use Rattle.py_node.specs.declared.built_in.BuiltIn.{BuiltIn};
 ghost use Rattle.py_node.specs.declared.built_in.BuiltIn.TheVariants.{TypeType};
 ghost use Rattle.class_model.specs.Change.{with_bases};
 ghost use Rattle.class_model.specs.Class.{class_at as class_numbered, own_of};
 ghost use Rattle.class_model.specs.Layout.{best_of};
 ghost use Rattle.class_table.specs.Descendants.{descendants};
-ghost use Rattle.class_table.specs.Keys.{numbers};
+ghost use Rattle.class_table.specs.Keys.{numbers, slot_names};
 ghost use Rattle.class_model.specs.Dict.{heap_class};
 ghost use Rattle.class_table.specs.OneBase.{refused_single, single_class, says_so, static_flags};
 ghost use Rattle.class_table.specs.Settle.{line_places};
 ghost use Rattle.class_table.specs.Rebase.{refused_change, refused_rebase, told, IsToldFirst};
-ghost use Rattle.class_table.specs.Refused.{refusal, WithMemory, NeedsNoMemory, IsEarly, refused_attr, NamesNoClass};
+ghost use Rattle.class_table.specs.Refused.{refusal, WithMemory, IsEarly, refused_attr, NamesNoClass};
+ghost use Rattle.class_log.specs.Change.{SetOwn, DelOwn, SetBases as SetBasesChange};
+ghost use Rattle.class_log.specs.Logged.{made_by_script, made_single};
+ghost use Rattle.py_node.specs.BuiltIns.{heap_flags};
 ghost use Rattle.plain_machine.specs.Change.{SetBases, apply, without_own_attr};
 ghost use Rattle.plain_machine.specs.Known.{the_type};
 ghost use Rattle.plain_machine.specs.World.{ref, is_text, text_keys, has_dict, with_new_class, with_own_attr};
@@ -50,6 +53,9 @@ impl VirtualMachine {
             MadeHeap t self.old.world self.new.world metaclass.0 name.now bases.items attrs
             (slot_texts t slots)) }
         ensures number { IfOk result (λ c. (t : Reading) → c.0 ≡ length (plain t self.old.world).nodes) }
+        ensures logged { OnOk result (self.new.world.log ≡ self.old.world.log ++
+            made_by_script self.old.world.classes (length self.old.world.nodes) name.now (numbers bases.items) attrs
+            (slot_names slots) ∷ []) }
         ensures early { (t : Reading) →
             IsEarly (plain t self.old.world).classes (numbers bases.items) (refusal result) }
         ensures refused { (t : Reading) → Reads t self.old.world →
@@ -121,6 +127,7 @@ impl VirtualMachine {
         ensures refused { (t : Reading) → refusal result ≡ refused_attr (plain t self.old.world).classes class.0 }
         ensures set { OnOk result ((t : Reading) → plain t self.new.world ≡
             with_own_attr (plain t self.old.world) class.0 (t.text name.0) value) }
+        ensures logged { OnOk result (self.new.world.log ≡ self.old.world.log ++ SetOwn class.0 name value ∷ []) }
         ensures err { OnErr result (self.new.world ≡ self.old.world) }
         ensures reads { (t : Reading) → Reads t self.new.world → Reads t self.old.world }
         ensures grows { Grows self.old.world self.new.world }
@@ -139,6 +146,8 @@ impl VirtualMachine {
             (heap_class text_keys (plain t self.old.world).classes name.now (length (plain t self.old.world).nodes)
             (base.0 ∷ []) [] None)) }
         ensures number { IfOk result (λ c. (t : Reading) → c.0 ≡ length (plain t self.old.world).nodes) }
+        ensures logged { OnOk result (self.new.world.log ≡ self.old.world.log ++
+            made_single (length self.old.world.nodes) name.now base.0 [] (heap_flags true) ∷ []) }
         ensures refused { (t : Reading) → refusal result ≡ refused_single (plain t self.old.world).classes base.0 }
         ensures err { OnErr result (self.new.world ≡ self.old.world) }
         ensures reads { (t : Reading) → Reads t self.new.world → Reads t self.old.world }
@@ -172,6 +181,8 @@ impl VirtualMachine {
             with_new_class (plain t self.old.world) metaclass.0 (single_class name.now (length (plain t self.old.world).nodes)
             base.0 (bindings t attrs) (static_flags flags.0 (has_dict (plain t self.old.world) base.0)) (says_so flags.0))) }
         ensures number { IfOk result (λ c. (t : Reading) → c.0 ≡ length (plain t self.old.world).nodes) }
+        ensures logged { OnOk result (self.new.world.log ≡ self.old.world.log ++
+            made_single (length self.old.world.nodes) name.now base.0 attrs (static_flags flags.0 false) ∷ []) }
         ensures refused { (t : Reading) → refusal result ≡ refused_single (plain t self.old.world).classes base.0 }
         ensures err { OnErr result (self.new.world ≡ self.old.world) }
         ensures reads { (t : Reading) → Reads t self.new.world → Reads t self.old.world }
@@ -209,8 +220,8 @@ impl VirtualMachine {
         self.marked_as(set)
     }
 
-    /// Takes an own attribute out of a class that a script made, and says whether it was there. Where it is refused, the
-    /// machine's world stays as it was.
+    /// Takes an own attribute out of a class that a script made, and says whether it was there. Where it is refused, and
+    /// where memory runs out, the machine's world stays as it was.
     pub fn del_attr_direct(
         &mut self,
         class: PyTypeRef,
@@ -219,11 +230,12 @@ impl VirtualMachine {
         requires class { Holds self.old.world (IsClass class.0) }
         requires name { Holds self.old.world (IsName name) }
         ensures refused { (t : Reading) → refusal result ≡ refused_attr (plain t self.old.world).classes class.0 }
-        ensures memory { NeedsNoMemory result }
         ensures there { IfOk result (λ b. (t : Reading) → Reads t self.old.world → b ≡
             is_some (own_of (λ y. is_text y (t.text name.0)) (class_numbered (plain t self.old.world).classes class.0))) }
         ensures taken { OnOk result ((t : Reading) → plain t self.new.world ≡
             without_own_attr (plain t self.old.world) class.0 (t.text name.0)) }
+        ensures logged { result ≡ Ok true →
+            self.new.world.log ≡ self.old.world.log ++ DelOwn class.0 name ∷ [] }
         ensures absent { result ≡ Ok false → self.new.world ≡ self.old.world }
         ensures err { OnErr result (self.new.world ≡ self.old.world) }
         ensures reads { (t : Reading) → Reads t self.new.world → Reads t self.old.world }
@@ -256,6 +268,8 @@ impl VirtualMachine {
             refused_rebase (plain t self.old.world).classes class.0 (numbers bases.items)) }
         ensures set { OnOk result ((t : Reading) → plain t self.new.world ≡
             apply (plain t self.old.world) (SetBases class.0 (numbers bases.items))) }
+        ensures logged { OnOk result (self.new.world.log ≡ self.old.world.log ++
+            SetBasesChange class.0 (numbers bases.items) ∷ []) }
         ensures err { OnErr result (self.new.world ≡ self.old.world) }
         ensures merges { steps.old.merges ≤ steps.new.merges }
         ensures probes { steps.old.probes ≤ steps.new.probes }

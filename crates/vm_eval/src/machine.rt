@@ -1,6 +1,10 @@
 //! The virtual machine: a world, and whether a run of it found no memory.
 
-ghost use Rattle.std.specs.Prelude.{◌≡◌, ◌≤◌, [], IfErr, IfOk, OnOk, OnErr, Err, IsTrue, false, true};
+ghost use Rattle.std.specs.Prelude.{◌≡◌, ◌≤◌, [], map, IfErr, IfOk, OnOk, OnErr, Err, IsTrue, false, true};
+ghost use Rattle.class_log.specs.Change.{change_of};
+ghost use Rattle.class_log.specs.Logged.{AreSameButForNames};
+ghost use Rattle.class_log.specs.Refused.{AreMade};
+ghost use Rattle.class_log.specs.Shown.{shown, first_classes};
 ghost use Rattle.plain_machine.specs.Start.{start};
 ghost use Rattle.class_world.specs.Reading.{Reading, Reads, plain, IsReadable};
 ghost use Rattle.plain_machine.specs.Sound.{IsSound};
@@ -9,6 +13,7 @@ ghost use Rattle.vm_eval.specs.Runs.{Runs};
 
 use crate::run::replies;
 use crate::stack::{DEPTH, Kept};
+use class_log::ClassChange;
 use class_world::World;
 use py_node::{Command, OutOfMemory, Reply};
 use std::alloc::Global;
@@ -87,6 +92,17 @@ impl VirtualMachine {
         ensures { result.now ≡ self.now.world }
     {
         &self.world
+    }
+
+    /// The accepted changes of classes, in the order in which they were made since the machine was new, by scripts and by
+    /// the host. What they show are the classes of the machine's world but for their names, of which no change tells. Each
+    /// was made in its turn, so that a replica can follow the log.
+    pub fn class_log(&self) -> &[ClassChange]
+        ensures log { map change_of result.now ≡ self.now.world.log }
+        ensures shown { AreSameButForNames (shown (map change_of result.now)) self.now.world.classes }
+        ensures made { AreMade first_classes (map change_of result.now) }
+    {
+        self.world.class_log()
     }
 
     /// Runs commands, each of which may use so many units. The replies are the plain machine's, and so

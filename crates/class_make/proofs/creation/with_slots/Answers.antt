@@ -4,6 +4,7 @@ use Rattle.class_table.specs.Refused.{refused_layout}
 use Rattle.class_world.specs.NewHeap.{slot_texts, of_slots}
 use Rattle.class_world.specs.Reading.{bindings, plain}
 use Rattle.class_world.proofs.Claims.{all-grow}
+use Rattle.class_world.proofs.Growth.{grows-on}
 use Rattle.class_make.specs.Say.{dicted, made_in, with_slots}
 use Rattle.class_make.proofs.Making.{goes-from}
 use Rattle.class_make.proofs.Spaces.{dicted-classes}
@@ -38,3 +39,10 @@ new_class-requires-clause-layout c = λ t r.
     ap (λ s. refused_layout s.0.classes b) (e.becomes t r)
     ∙ ap (λ ks. refused_layout ks b) (dicted-classes _ (slot_texts t c.args.slots) (old, bindings t c.args.plan.attrs))
     ∙ c.requires.layout t (e.reads t r)
+
+pub returns-clause-safe : goal.returns-clause-safe
+returns-clause-safe c =
+    let safe = c.new_class.ensures.safe in (
+      grows-on c.args.world.now c.dicted.new.world c.new_class.new.world c.in_ok-attrs.ensures.grows safe.0,
+      safe.1,
+    )

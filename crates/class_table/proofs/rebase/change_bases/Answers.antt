@@ -4,7 +4,8 @@ use Rattle.class_model.specs.Class.{is_heap}
 use Rattle.class_model.specs.Change.{with_bases}
 use Rattle.class_table.specs.Keys.{numbers}
 use Rattle.class_table.specs.Stored.{StoredClass, class_of, classes_of}
-use Rattle.class_table.specs.Renewed.{AreSwapped}
+use Rattle.class_table.specs.Affected.{AreAffected}
+use Rattle.class_table.specs.Renewed.{AreRenewed, AreSwapped}
 use Rattle.class_table.specs.Descendants.{descendants, AreRanked}
 use Rattle.class_table.specs.Settle.{is_ranked, line_places, places_kept}
 use Rattle.class_table.specs.declared.descendants.Ranked.{Ranked}
@@ -25,7 +26,19 @@ pub bounds-classes-at : goal.bounds-classes-at
 bounds-classes-at g c = number-within c.args.classes.now c.place-at.result c.args.class.0 c.place-at.ensures
 
 pub swap_in-requires : goal.swap_in-requires
-swap_in-requires g c = c.requires.renewed.count ∙ sym (length-set c.args.classes.now c.place-at.result c.set_bases.new.self)
+swap_in-requires g c =
+    let kept = c.args.classes.now in
+    let bs = numbers c.args.bases.items in
+    let A : List ℕ → Type 0 = λ ps. AreAffected kept c.args.class.0 bs ps in
+    let B : List ℕ → Type 0 = λ ps. AreRenewed kept c.args.class.0 bs ps c.args.plan.renewed.items in
+    let affected = subst A (sym c.all.ensures.all) c.requires.affected in
+    let are = subst B (sym c.all.ensures.all) c.requires.renewed in
+    let n = length-set kept c.place-at.result c.set_bases.new.self in
+    record {
+      count = are.count;
+      distinct = affected.distinct;
+      inside = λ i h. let l = affected.within i h in omega (arith, l, n);
+    }
 
 pub settle_all-requires-clause-lines : goal.settle_all-requires-clause-lines
 settle_all-requires-clause-lines g c =
@@ -36,9 +49,14 @@ settle_all-requires-clause-lines g c =
     let at = c.place-at.result in
     let mid = c.swap_in.new.classes in
     let first = put kept at bs k c.set_bases.new.self c.index-classes-at.is c.set_bases.ensures in
-    let P : List StoredClass → Type 0 = λ ys. AreSwapped renewed ys mid in
+    let P : List StoredClass → Type 0 = λ ys. AreSwapped c.all.result.now renewed ys mid in
     let swapped = subst P first c.swap_in.ensures in
-    lines-mid kept c.requires.coherent c.args.class.0 bs c.requires.own c.requires.there c.requires.passed renewed c.requires.renewed at c.place-at.ensures k c.index-classes-at.is mid swapped
+    let touched = c.all.result.now in
+    let A : List ℕ → Type 0 = λ ps. AreAffected kept c.args.class.0 bs ps in
+    let B : List ℕ → Type 0 = λ ps. AreRenewed kept c.args.class.0 bs ps renewed in
+    let affected = subst A (sym c.all.ensures.all) c.requires.affected in
+    let are = subst B (sym c.all.ensures.all) c.requires.renewed in
+    lines-mid kept c.requires.coherent c.args.class.0 bs c.requires.own c.requires.there c.requires.passed touched affected renewed are at c.place-at.ensures k c.index-classes-at.is mid swapped
 
 pub settle_all-requires-clause-full : goal.settle_all-requires-clause-full
 settle_all-requires-clause-full g c =
@@ -49,9 +67,14 @@ settle_all-requires-clause-full g c =
     let at = c.place-at.result in
     let mid = c.swap_in.new.classes in
     let first = put kept at bs k c.set_bases.new.self c.index-classes-at.is c.set_bases.ensures in
-    let P : List StoredClass → Type 0 = λ ys. AreSwapped renewed ys mid in
+    let P : List StoredClass → Type 0 = λ ys. AreSwapped c.all.result.now renewed ys mid in
     let swapped = subst P first c.swap_in.ensures in
-    full-mid kept c.requires.coherent c.args.class.0 bs c.requires.own c.requires.there c.requires.passed renewed c.requires.renewed at c.place-at.ensures k c.index-classes-at.is mid swapped
+    let touched = c.all.result.now in
+    let A : List ℕ → Type 0 = λ ps. AreAffected kept c.args.class.0 bs ps in
+    let B : List ℕ → Type 0 = λ ps. AreRenewed kept c.args.class.0 bs ps renewed in
+    let affected = subst A (sym c.all.ensures.all) c.requires.affected in
+    let are = subst B (sym c.all.ensures.all) c.requires.renewed in
+    full-mid kept c.requires.coherent c.args.class.0 bs c.requires.own c.requires.there c.requires.passed touched affected renewed are at c.place-at.ensures k c.index-classes-at.is mid swapped
 
 pub settle_all-requires-clause-inside : goal.settle_all-requires-clause-inside
 settle_all-requires-clause-inside g c =
@@ -62,11 +85,16 @@ settle_all-requires-clause-inside g c =
     let at = c.place-at.result in
     let mid = c.swap_in.new.classes in
     let first = put kept at bs k c.set_bases.new.self c.index-classes-at.is c.set_bases.ensures in
-    let P : List StoredClass → Type 0 = λ ys. AreSwapped renewed ys mid in
+    let P : List StoredClass → Type 0 = λ ys. AreSwapped c.all.result.now renewed ys mid in
     let swapped = subst P first c.swap_in.ensures in
+    let touched = c.all.result.now in
+    let A : List ℕ → Type 0 = λ ps. AreAffected kept c.args.class.0 bs ps in
+    let B : List ℕ → Type 0 = λ ps. AreRenewed kept c.args.class.0 bs ps renewed in
+    let affected = subst A (sym c.all.ensures.all) c.requires.affected in
+    let are = subst B (sym c.all.ensures.all) c.requires.renewed in
     let Q : List Ranked → Type 0 = λ rs. AreRanked kept c.args.class.0 rs in
     let all = subst Q (sym c.deref.ensures.value) c.requires.ranked in
-    inside-mid kept c.requires.coherent c.args.class.0 bs c.requires.own c.requires.there c.requires.passed renewed c.requires.renewed at c.place-at.ensures k c.index-classes-at.is mid swapped c.deref.result.now all
+    inside-mid kept c.requires.coherent c.args.class.0 bs c.requires.own c.requires.there c.requires.passed touched affected renewed are at c.place-at.ensures k c.index-classes-at.is mid swapped c.deref.result.now all
 
 pub settle_all-requires-clause-away : goal.settle_all-requires-clause-away
 settle_all-requires-clause-away g c =
@@ -77,11 +105,16 @@ settle_all-requires-clause-away g c =
     let at = c.place-at.result in
     let mid = c.swap_in.new.classes in
     let first = put kept at bs k c.set_bases.new.self c.index-classes-at.is c.set_bases.ensures in
-    let P : List StoredClass → Type 0 = λ ys. AreSwapped renewed ys mid in
+    let P : List StoredClass → Type 0 = λ ys. AreSwapped c.all.result.now renewed ys mid in
     let swapped = subst P first c.swap_in.ensures in
+    let touched = c.all.result.now in
+    let A : List ℕ → Type 0 = λ ps. AreAffected kept c.args.class.0 bs ps in
+    let B : List ℕ → Type 0 = λ ps. AreRenewed kept c.args.class.0 bs ps renewed in
+    let affected = subst A (sym c.all.ensures.all) c.requires.affected in
+    let are = subst B (sym c.all.ensures.all) c.requires.renewed in
     let Q : List Ranked → Type 0 = λ rs. AreRanked kept c.args.class.0 rs in
     let all = subst Q (sym c.deref.ensures.value) c.requires.ranked in
-    away-mid kept c.requires.coherent c.args.class.0 bs c.requires.own c.requires.there c.requires.passed renewed c.requires.renewed at c.place-at.ensures k c.index-classes-at.is mid swapped c.deref.result.now all
+    away-mid kept c.requires.coherent c.args.class.0 bs c.requires.own c.requires.there c.requires.passed touched affected renewed are at c.place-at.ensures k c.index-classes-at.is mid swapped c.deref.result.now all
 
 pub returns-clause-coherent : goal.returns-clause-coherent
 returns-clause-coherent g c =
@@ -92,12 +125,17 @@ returns-clause-coherent g c =
     let at = c.place-at.result in
     let mid = c.swap_in.new.classes in
     let first = put kept at bs k c.set_bases.new.self c.index-classes-at.is c.set_bases.ensures in
-    let P : List StoredClass → Type 0 = λ ys. AreSwapped renewed ys mid in
+    let P : List StoredClass → Type 0 = λ ys. AreSwapped c.all.result.now renewed ys mid in
     let swapped = subst P first c.swap_in.ensures in
+    let touched = c.all.result.now in
+    let A : List ℕ → Type 0 = λ ps. AreAffected kept c.args.class.0 bs ps in
+    let B : List ℕ → Type 0 = λ ps. AreRenewed kept c.args.class.0 bs ps renewed in
+    let affected = subst A (sym c.all.ensures.all) c.requires.affected in
+    let are = subst B (sym c.all.ensures.all) c.requires.renewed in
     let Q : List Ranked → Type 0 = λ rs. AreRanked kept c.args.class.0 rs in
     let all = subst Q (sym c.deref.ensures.value) c.requires.ranked in
     let plain = settled-plain (λ k. is_heap (class_of k)) (λ t k. refl) (λ i k. is_ranked c.deref.result.now i) mid c.settle_all.new.classes c.settle_all.ensures.settled in
-    coherent-final kept c.requires.coherent c.args.class.0 bs c.requires.own c.requires.there c.requires.passed renewed c.requires.renewed at c.place-at.ensures k c.index-classes-at.is mid swapped c.deref.result.now all c.settle_all.new.classes c.settle_all.ensures.settled plain
+    coherent-final kept c.requires.coherent c.args.class.0 bs c.requires.own c.requires.there c.requires.passed touched affected renewed are at c.place-at.ensures k c.index-classes-at.is mid swapped c.deref.result.now all c.settle_all.new.classes c.settle_all.ensures.settled plain
 
 pub returns-clause-set : goal.returns-clause-set
 returns-clause-set g c =
@@ -108,12 +146,17 @@ returns-clause-set g c =
     let at = c.place-at.result in
     let mid = c.swap_in.new.classes in
     let first = put kept at bs k c.set_bases.new.self c.index-classes-at.is c.set_bases.ensures in
-    let P : List StoredClass → Type 0 = λ ys. AreSwapped renewed ys mid in
+    let P : List StoredClass → Type 0 = λ ys. AreSwapped c.all.result.now renewed ys mid in
     let swapped = subst P first c.swap_in.ensures in
+    let touched = c.all.result.now in
+    let A : List ℕ → Type 0 = λ ps. AreAffected kept c.args.class.0 bs ps in
+    let B : List ℕ → Type 0 = λ ps. AreRenewed kept c.args.class.0 bs ps renewed in
+    let affected = subst A (sym c.all.ensures.all) c.requires.affected in
+    let are = subst B (sym c.all.ensures.all) c.requires.renewed in
     let Q : List Ranked → Type 0 = λ rs. AreRanked kept c.args.class.0 rs in
     let all = subst Q (sym c.deref.ensures.value) c.requires.ranked in
     let plain = settled-plain (λ k. is_heap (class_of k)) (λ t k. refl) (λ i k. is_ranked c.deref.result.now i) mid c.settle_all.new.classes c.settle_all.ensures.settled in
-    plain-final kept c.requires.coherent c.args.class.0 bs c.requires.own c.requires.there c.requires.passed renewed c.requires.renewed at c.place-at.ensures k c.index-classes-at.is mid swapped c.deref.result.now all c.settle_all.new.classes c.settle_all.ensures.settled plain
+    plain-final kept c.requires.coherent c.args.class.0 bs c.requires.own c.requires.there c.requires.passed touched affected renewed are at c.place-at.ensures k c.index-classes-at.is mid swapped c.deref.result.now all c.settle_all.new.classes c.settle_all.ensures.settled plain
 
 pub returns-clause-steps : goal.returns-clause-steps
 returns-clause-steps g c =
@@ -124,9 +167,14 @@ returns-clause-steps g c =
     let at = c.place-at.result in
     let mid = c.swap_in.new.classes in
     let first = put kept at bs k c.set_bases.new.self c.index-classes-at.is c.set_bases.ensures in
-    let P : List StoredClass → Type 0 = λ ys. AreSwapped renewed ys mid in
+    let P : List StoredClass → Type 0 = λ ys. AreSwapped c.all.result.now renewed ys mid in
     let swapped = subst P first c.swap_in.ensures in
+    let touched = c.all.result.now in
+    let A : List ℕ → Type 0 = λ ps. AreAffected kept c.args.class.0 bs ps in
+    let B : List ℕ → Type 0 = λ ps. AreRenewed kept c.args.class.0 bs ps renewed in
+    let affected = subst A (sym c.all.ensures.all) c.requires.affected in
+    let are = subst B (sym c.all.ensures.all) c.requires.renewed in
     let Q : List Ranked → Type 0 = λ rs. AreRanked kept c.args.class.0 rs in
     let all = subst Q (sym c.deref.ensures.value) c.requires.ranked in
-    let few = places-mid kept c.requires.coherent c.args.class.0 bs c.requires.own c.requires.there c.requires.passed renewed c.requires.renewed at c.place-at.ensures k c.index-classes-at.is mid swapped c.deref.result.now all in
+    let few = places-mid kept c.requires.coherent c.args.class.0 bs c.requires.own c.requires.there c.requires.passed touched affected renewed are at c.place-at.ensures k c.index-classes-at.is mid swapped c.deref.result.now all in
     rise-within 0 (70 * places_kept mid c.deref.result.now) 0 (70 * line_places (with_bases (classes_of kept) c.args.class.0 bs) (descendants (classes_of kept) c.args.class.0)) c.args.steps.now c.settle_all.new.steps c.settle_all.ensures.steps (omega arith) (omega (arith, few))

@@ -1,53 +1,39 @@
-use Rattle.std.proofs.Common.{◌≡◌, ℕ, [], ◌∷◌, length, inl, inr, sym, ap, subst, ◌∙◌, arith}
+use Rattle.std.proofs.Common.{◌≡◌, ℕ, [], ◌∷◌, length, get_or, Some, inl, inr, sym, ap, subst, ◌∙◌, arith}
 use Rattle.std.specs.Prelude.{slice_get}
 use Rattle.std.proofs.lemmas.List.{length-append}
-use Rattle.class_model.specs.Class.{is_class}
-use Rattle.class_model.specs.Layout.{base}
+use Rattle.std.proofs.lemmas.Option.{slice_get-get_or}
 use Rattle.class_model.specs.Change.{with_bases}
 use Rattle.class_table.specs.declared.renew.Renewed.{Renewed}
 use Rattle.class_table.specs.Keys.{numbers}
-use Rattle.class_table.specs.Stored.{StoredClass, classes_of}
+use Rattle.class_table.specs.Stored.{classes_of}
 use Rattle.class_table.specs.Renewed.{IsRenewed}
 use Rattle.class_table.proofs.Places.{get-push_cases}
-use Rattle.class_table.proofs.Trials.{read-at, read-is, is-there}
+use Rattle.class_table.proofs.Descended.{Includes-in}
 use Rattle.class_table.proofs.renew.renew_all.Goals as goal
 
-pub line_under-line-requires-clause-class : goal.line_under-line-requires-clause-class
-line_under-line-requires-clause-class c =
-    let kept = c.args.change.classes.now in
-    let k = c.index-change-at.result in
-    let e = read-at kept c.loop-at.at k c.loop-at-test.true c.index-change-at.is in
-    ap (is_class (classes_of kept)) (c.number-number.ensures ∙ ap (λ (z : StoredClass). z.number) (sym c.index-change-at.is))
-    ∙ is-there kept c.requires.coherent c.args.change.class.0 (numbers c.args.change.bases.now) c.loop-at.at k e
+pub renew_at-requires-clause-inside : goal.renew_at-requires-clause-inside
+renew_at-requires-clause-inside c = c.requires.inside _ (Includes-in c.args.places.now c.loop-place.place-index 0 c.loop-place-test.true)
 
-pub renew-requires-clause-base : goal.renew-requires-clause-base
-renew-requires-clause-base c =
-    let kept = c.args.change.classes.now in
-    let k = c.index-change-at.result in
-    let e = read-at kept c.loop-at.at k c.loop-at-test.true c.index-change-at.is in
-    ap (base (with_bases (classes_of kept) c.args.change.class.0 (numbers c.args.change.bases.now))) (c.number-number.ensures ∙ ap (λ (z : StoredClass). z.number) (sym c.index-change-at.is))
-    ∙ c.base_under-base.ensures k e
-
-pub loop-at-preserved : goal.loop-at-preserved
-loop-at-preserved c =
+pub loop-place-preserved : goal.loop-place-preserved
+loop-place-preserved c =
     let kept = c.args.change.classes.now in
     let u = with_bases (classes_of kept) c.args.change.class.0 (numbers c.args.change.bases.now) in
-    let at = c.loop-at.at in
-    let x = c.index-change-at.result in
-    let before = c.loop-at.all.items in
-    let y = c.in_ok-renew.field-0 in
-    let count = c.loop-at.invariant.count in
+    let places = c.args.places.now in
+    let at = c.loop-place.place-index in
+    let p : ℕ = get_or places at 0 in
+    let here : slice_get places at ≡ Some p = slice_get-get_or places at 0 c.loop-place-test.true in
+    let before = c.loop-place.all.items in
+    let y = c.in_ok-renewed.renewed in
+    let items = c.in_ok-push.ensures.items in
+    let count = c.loop-place.invariant.count in
     let more = length-append before (y ∷ []) in
-    let number = c.number-number.ensures ∙ ap (λ (z : StoredClass). z.number) (sym c.index-change-at.is) in
     record {
-      count = ap length c.in_ok-push.ensures.items ∙ omega (arith, count, more);
-      each = λ i k r e f. elim (get-push_cases before y i r (ap (λ ys. slice_get ys i) (sym c.in_ok-push.ensures.items) ∙ f)) [
-        | inl a ↦ c.loop-at.invariant.each i k r e a
+      count = ap length items ∙ omega (arith, count, more);
+      each = λ j i k r q e f. elim (get-push_cases before y j r (ap (λ ys. slice_get ys j) (sym items) ∙ f)) [
+        | inl a ↦ c.loop-place.invariant.each j i k r q e a
         | inr b ↦
-            let here : i ≡ at = b.0 ∙ count in
-            let same = read-is kept at x k c.index-change-at.is (ap (slice_get kept) (sym here) ∙ e) in
-            let P : ℕ → Type 0 = λ n. IsRenewed u n y in
+            let same : i ≡ p = let v : slice_get places at ≡ Some i = ap (slice_get places) (sym (b.0 ∙ count)) ∙ q in cc in
             let Q : Renewed → Type 0 = λ z. IsRenewed u k.number z in
-            subst Q b.1 (subst P (number ∙ ap (λ (z : StoredClass). z.number) same) c.in_ok-renew.ensures)
+            subst Q b.1 (c.in_ok-renewed.ensures k (ap (slice_get kept) (sym same) ∙ e))
       ];
     }

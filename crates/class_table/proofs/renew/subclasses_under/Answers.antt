@@ -1,8 +1,9 @@
-use Rattle.std.proofs.Common.{◌++◌, append-nil, sym, ap, ◌∙◌}
-use Rattle.std.proofs.Math.ListN.{drop_of_length-le}
-use Rattle.class_model.specs.Class.{subclasses}
+use Rattle.std.proofs.Common.{cond, List, ℕ, [], ◌∷◌, ◌++◌, filter, sym, ap, ◌∙◌}
+use Rattle.std.specs.Prelude.{nat_lt}
+use Rattle.class_model.specs.Order.{has}
 use Rattle.class_table.specs.Keys.{numbers}
-use Rattle.class_table.proofs.Blames.{under, under-is}
+use Rattle.class_table.proofs.AsKept.{subclasses-kept}
+use Rattle.class_table.proofs.Listed.{listed, joined}
 use Rattle.class_table.proofs.renew.subclasses_under.Goals as goal
 
 pub returns : goal.returns
@@ -11,8 +12,8 @@ returns c =
     let class = c.args.change.class.0 in
     let bs = numbers c.args.change.bases.now in
     let n = c.args.number.0 in
-    let found = numbers c.loop-at.found.items in
-    sym (append-nil found)
-    ∙ ap (λ ks. found ++ subclasses (under class bs ks) n) (sym (drop_of_length-le kept c.loop-at-test.false))
-    ∙ c.loop-at.invariant
-    ∙ ap (λ t. subclasses t n) (under-is kept c.requires class bs)
+    let subs = numbers c.subclasses-subclasses.result.now in
+    let mid = cond (has bs n) (class ∷ []) [] in
+    joined (filter (λ x. nat_lt x class) subs) mid (filter (λ x. nat_lt class x) subs) (numbers c.push_below.new.found.items) (numbers c.push_if.new.found.items) (numbers c.push_above.new.found.items) (c.in_ok-push_below.ensures ∙ ap (λ ys. numbers ys ++ filter (λ x. nat_lt x class) subs) c.new-found.ensures.items) (c.in_ok-push_if.ensures ∙ ap (λ b. numbers c.push_below.new.found.items ++ cond b (class ∷ []) []) c.has.ensures) c.in_ok-push_above.ensures
+    ∙ ap (λ (ys : List ℕ). filter (λ x. nat_lt x class) ys ++ (mid ++ filter (λ x. nat_lt class x) ys)) (c.subclasses-subclasses.ensures ∙ subclasses-kept kept c.requires.coherent n c.stored_at.result.now c.stored_at.ensures.here)
+    ∙ sym (listed class bs n kept c.requires.coherent.sound.ascending c.requires.own)

@@ -1,4 +1,4 @@
-use Rattle.std.proofs.Common.{◌≡◌, false, List, Option, Some, None, refl, sym, ap, ◌∙◌}
+use Rattle.std.proofs.Common.{◌≡◌, false, List, length, arith, Option, Some, None, refl, sym, ap, ◌∙◌}
 use Rattle.std.specs.Prelude.{option_map}
 use Rattle.std.specs.Global.{Vec}
 use Rattle.py_node.specs.declared.refs.PyTypeRef.{PyTypeRef}
@@ -7,6 +7,7 @@ use Rattle.mro_merge.specs.Lists.{numbers, rows}
 use Rattle.mro_merge.specs.Merge.{heads, with_heads, IsLeastMerge, IsConflict}
 use Rattle.mro_merge.specs.Steps.{merged}
 use Rattle.mro_merge.proofs.Linearised.{least-merge, none-merge}
+use Rattle.mro_merge.proofs.Alone.{alone-of}
 use Rattle.mro_merge.proofs.Classes.{rows-heads}
 use Rattle.mro_merge.proofs.laws.linearise_mro.Goals as goal
 
@@ -35,3 +36,14 @@ pub returns-in-None-clause-conflict : goal.returns-in-None-clause-conflict
 returns-in-None-clause-conflict c =
     let put = rows-heads c.args.lists.items c.push.new.self.items c.deref-2.result.now c.in_ok-last.last c.in_ok-push.ensures.items c.in_ok-last.ensures c.deref-2.ensures.value in
     (λ e. conflict-of c.args.lists.items c.push.new.self.items c.deref.result.now c.in_ok-line.field-0 put c.in-None.is c.in_ok-line.ensures (sym c.breaks_precedence.ensures ∙ c.if-breaks_precedence.false) c.deref.ensures.value, λ k. refl)
+
+pub returns-then-len-eq1-clause-merge : goal.returns-then-len-eq1-clause-merge
+returns-then-len-eq1-clause-merge c =
+    let one : length c.args.lists.items ≡ 1 = omega (arith, c.if-len-eq1.true, c.len.ensures, c.args.lists.ok.0) in
+    alone-of c.args.lists.items c.remove.result one c.requires.lines c.remove.ensures.value
+
+pub returns-then-len-eq1-clause-conflict : goal.returns-then-len-eq1-clause-conflict
+returns-then-len-eq1-clause-conflict c =
+    let one : length c.args.lists.items ≡ 1 = omega (arith, c.if-len-eq1.true, c.len.ensures, c.args.lists.ok.0) in
+    let least = alone-of c.args.lists.items c.remove.result one c.requires.lines c.remove.ensures.value in
+    (λ e. cc, λ k. absurd (k.none (numbers c.remove.result.items) least.merge))

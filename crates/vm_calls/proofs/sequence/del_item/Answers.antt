@@ -3,12 +3,13 @@ use Rattle.std.proofs.lemmas.Int.{to_z-of_z}
 use Rattle.py_node.specs.declared.protocol.ProtocolTask.TheVariants.{DelItem}
 use Rattle.py_node.specs.declared.task.Task.TheVariants as task
 use Rattle.plain_machine.specs.Plain.{ToProtocol, DoDelItem}
+use Rattle.vm_calls.specs.Answers.{IsDone}
 use Rattle.vm_calls.specs.Told.{of_nothing}
 use Rattle.vm_calls.proofs.Composed.{by-number}
 use Rattle.vm_calls.proofs.sequence.del_item.Goals as goal
 
 pub returns : goal.returns
 returns c = record {
-  there = λ h. by-number c.args.i (λ a. tt) of_nothing (λ k. ToProtocol (DoDelItem c.args.view.now.obj k)) c.args.budget c.args.vm.now c.new_number.new.vm c.ask.new.vm c.in_ok-place.place (simp (to_z-of_z, c.ranges.i) at c.in_ok-place.ensures) (task.Protocol (DelItem c.args.view.now.obj c.in_ok-place.place)) (λ t. refl) c.ask.result c.ask.ensures;
+  there = λ h. by-number c.args.i IsDone of_nothing (λ k. ToProtocol (DoDelItem c.args.view.now.obj k)) c.args.budget c.args.vm.now c.new_number.new.vm c.ask.new.vm c.in_ok-place.place (simp (to_z-of_z, c.ranges.i) at c.in_ok-place.ensures) (task.Protocol (DelItem c.args.view.now.obj c.in_ok-place.place)) (λ t. refl) c.ask.result c.ask.ensures;
   absent = search rules;
 }

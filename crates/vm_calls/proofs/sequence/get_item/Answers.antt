@@ -4,12 +4,12 @@ use Rattle.py_node.specs.declared.protocol.ProtocolTask.TheVariants.{GetItem}
 use Rattle.py_node.specs.declared.task.Task.TheVariants as task
 use Rattle.plain_machine.specs.Plain.{ToProtocol, DoGetItem}
 use Rattle.class_world.specs.Sound.{of_node_ref}
-use Rattle.vm_calls.specs.Readings.{object_in}
+use Rattle.vm_calls.specs.Answers.{IsObject}
 use Rattle.vm_calls.proofs.Composed.{by-number}
 use Rattle.vm_calls.proofs.sequence.get_item.Goals as goal
 
 pub returns : goal.returns
 returns c = record {
-  there = λ h. by-number c.args.i object_in of_node_ref (λ k. ToProtocol (DoGetItem c.args.view.now.obj k)) c.args.budget c.args.vm.now c.new_number.new.vm c.ask.new.vm c.in_ok-place.place (simp (to_z-of_z, c.ranges.i) at c.in_ok-place.ensures) (task.Protocol (GetItem c.args.view.now.obj c.in_ok-place.place)) (λ t. refl) c.ask.result c.ask.ensures;
+  there = λ h. by-number c.args.i IsObject of_node_ref (λ k. ToProtocol (DoGetItem c.args.view.now.obj k)) c.args.budget c.args.vm.now c.new_number.new.vm c.ask.new.vm c.in_ok-place.place (simp (to_z-of_z, c.ranges.i) at c.in_ok-place.ensures) (task.Protocol (GetItem c.args.view.now.obj c.in_ok-place.place)) (λ t. refl) c.ask.result c.ask.ensures;
   absent = search rules;
 }

@@ -1,9 +1,12 @@
-use Rattle.std.proofs.Common.{sym, ◌∙◌, refl}
+use Rattle.std.proofs.Common.{◌≡◌, ◌++◌, ◌∷◌, [], true, Ok, sym, subst, ◌∙◌, refl}
+use Rattle.class_log.specs.Change.{DelOwn}
+use Rattle.class_log.proofs.Logged.{keeps-taken}
+use Rattle.class_world.specs.Held.{Held}
 use Rattle.class_world.specs.contracts.world.World.{the_view}
 use Rattle.class_world.specs.Sound.{Holds, IsClass}
 use Rattle.class_world.proofs.Claims.{opened-one}
 use Rattle.class_world.proofs.Growth.{grows-seen}
-use Rattle.class_world.proofs.ClassChanges.{classes-grow}
+use Rattle.class_world.proofs.ClassChanges.{classes-grow, unchanged}
 use Rattle.class_world.proofs.ChangedClass.{without, change-like, change-sound, without-holds, without-read, own-told}
 use Rattle.class_world.proofs.OfClasses.{refused-seen}
 use Rattle.class_world.proofs.world.World.del_attr_direct.Goals as goal
@@ -15,11 +18,11 @@ del_attr_direct-requires c = opened-one (the_view c.self.inside) c.args.self.now
 pub invariant_of-self : goal.invariant_of-self
 invariant_of-self c =
     let w = the_view c.self.inside in
-    change-sound (without c.args.name) (λ k. refl) (λ k. refl) (λ k. refl) (λ k. refl) w c.args.class.0 c.del_attr_direct.new.self c.del_attr_direct.result c.del_attr_direct.ensures.taken c.del_attr_direct.ensures.err (without-holds w c.args.name) c.self.invariant
+    change-sound (without c.args.name) (λ k. refl) (λ k. refl) (λ k. refl) (λ k. refl) w c.args.class.0 c.del_attr_direct.new.classes c.del_attr_direct.new.self (keeps-taken w.log c.del_attr_direct.new.self _ c.del_attr_direct.result c.del_attr_direct.ensures.noted c.del_attr_direct.ensures.unneeded c.del_attr_direct.ensures.unnoted) (c.del_attr_direct.ensures.law c.self.invariant.logged) c.del_attr_direct.result c.del_attr_direct.ensures.taken c.del_attr_direct.ensures.err (without-holds w c.args.name) c.self.invariant
 
 pub returns-clause-taken : goal.returns-clause-taken
 returns-clause-taken c =
-    without-read (the_view c.self.inside) c.args.self.now c.args.class.0 c.args.name c.del_attr_direct.new.self c.del_attr_direct.result c.del_attr_direct.ensures.taken c.self.view_is
+    without-read (the_view c.self.inside) c.args.self.now c.args.class.0 c.args.name c.del_attr_direct.new.classes c.del_attr_direct.new.self c.del_attr_direct.result c.del_attr_direct.ensures.taken c.self.view_is
 
 pub returns-clause-there : goal.returns-clause-there
 returns-clause-there c = own-told (the_view c.self.inside) c.args.self.now c.self.view_is c.args.class.0 c.args.name c.del_attr_direct.result c.del_attr_direct.ensures.there
@@ -27,7 +30,21 @@ returns-clause-there c = own-told (the_view c.self.inside) c.args.self.now c.sel
 pub returns-clause-grows : goal.returns-clause-grows
 returns-clause-grows c =
     let w = the_view c.self.inside in
-    grows-seen w _ _ c.self.view_is (classes-grow w c.del_attr_direct.new.self (change-like (without c.args.name) (λ k. refl) (λ k. refl) (λ k. refl) (λ k. refl) w c.args.class.0 c.del_attr_direct.new.self c.del_attr_direct.result c.del_attr_direct.ensures.taken c.del_attr_direct.ensures.err))
+    grows-seen w _ _ c.self.view_is (classes-grow w c.del_attr_direct.new.classes c.del_attr_direct.new.self (keeps-taken w.log c.del_attr_direct.new.self _ c.del_attr_direct.result c.del_attr_direct.ensures.noted c.del_attr_direct.ensures.unneeded c.del_attr_direct.ensures.unnoted) (change-like (without c.args.name) (λ k. refl) (λ k. refl) (λ k. refl) (λ k. refl) w c.args.class.0 c.del_attr_direct.new.classes c.del_attr_direct.result c.del_attr_direct.ensures.taken c.del_attr_direct.ensures.err))
 
 pub returns-clause-refused : goal.returns-clause-refused
 returns-clause-refused c = λ t. c.del_attr_direct.ensures.immutable ∙ sym (refused-seen (the_view c.self.inside) c.args.self.now c.self.view_is t c.args.class.0)
+
+pub returns-clause-logged : goal.returns-clause-logged
+returns-clause-logged c =
+    subst (λ (w : Held). c.del_attr_direct.result ≡ Ok true → c.del_attr_direct.new.self ≡ w.log ++ DelOwn c.args.class.0 c.args.name ∷ []) c.self.view_is c.del_attr_direct.ensures.noted
+
+pub returns-clause-absent : goal.returns-clause-absent
+returns-clause-absent c = λ e.
+    let w = the_view c.self.inside in
+    let ks = c.del_attr_direct.ensures.absent e in
+    let log = c.del_attr_direct.ensures.unneeded e in
+    (λ i. record w { classes = ks i; log = log i }) ∙ c.self.view_is
+
+pub returns-clause-err : goal.returns-clause-err
+returns-clause-err c = unchanged (the_view c.self.inside) c.args.self.now c.self.view_is c.del_attr_direct.new.classes c.del_attr_direct.new.self c.del_attr_direct.result c.del_attr_direct.ensures.err c.del_attr_direct.ensures.unnoted

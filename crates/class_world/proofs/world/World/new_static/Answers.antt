@@ -2,7 +2,7 @@ use Rattle.std.proofs.Common.{◌≡◌, false, refl, sym, ap, ◌∙◌, subst}
 use Rattle.class_table.specs.OneBase.{says_so}
 use Rattle.class_table.proofs.Dicts.{static-says}
 use Rattle.class_world.specs.Sound.{is_marked_heap}
-use Rattle.class_world.proofs.OneBase.{single-seen, static-unmarked}
+use Rattle.class_world.proofs.OneBase.{single-seen, static-unmarked, static-given}
 use Rattle.class_world.proofs.world.World.new_static.Goals as goal
 
 pub add_single-requires-clause-dict : goal.add_single-requires-clause-dict
@@ -17,3 +17,11 @@ add_single-requires-clause-unmarked c =
 
 pub returns-clause-refused : goal.returns-clause-refused
 returns-clause-refused c = λ t. c.add_single.ensures.refused ∙ sym (single-seen c.args.self.now c.args.self.now refl t c.args.base.0)
+
+pub add_single-requires-clause-given : goal.add_single-requires-clause-given
+add_single-requires-clause-given c =
+    let brings = c.has_feature-brings.ensures in
+    let dict = c.has_dict.ensures.given in
+    let given = c.flags_of_static-given.ensures in
+    let flags = c.flags_of_static-flags.ensures in
+    rw (brings, dict, given, flags) (static-given c.args.flags.0 c.has_dict.result)

@@ -1,15 +1,17 @@
-use Rattle.std.proofs.Common.{◌+◌, ◌*◌, ◌≤◌, length, subst}
+use Rattle.std.proofs.Common.{◌≡◌, ◌++◌, ◌∷◌, [], OnOk, ◌+◌, ◌*◌, ◌≤◌, length, subst}
 use Rattle.class_model.specs.Change.{with_bases}
+use Rattle.class_log.specs.Change.{SetBases}
 use Rattle.class_table.specs.Descendants.{descendants}
 use Rattle.class_table.specs.Keys.{numbers}
 use Rattle.class_table.specs.Settle.{line_places}
+use Rattle.class_log.proofs.Logged.{keeps-more}
 use Rattle.class_world.specs.Held.{Held}
 use Rattle.class_world.specs.contracts.world.World.{the_view}
 use Rattle.class_world.specs.Reading.{Reads}
 use Rattle.class_world.specs.Sound.{IsClass, of_class_ref, of_each}
 use Rattle.class_world.proofs.Claims.{opened, opened-one}
 use Rattle.class_world.proofs.Growth.{grows-seen}
-use Rattle.class_world.proofs.ClassChanges.{classes-grow, bases-there}
+use Rattle.class_world.proofs.ClassChanges.{classes-grow, bases-there, unchanged}
 use Rattle.class_world.proofs.NewBases.{first-seen, early-seen, told-seen, bases-like, bases-sound, bases-set}
 use Rattle.class_world.proofs.OneBase.{class-there}
 use Rattle.class_world.proofs.world.World.set_bases.Goals as goal
@@ -27,7 +29,7 @@ invariant_of-self g c =
     let w = the_view c.self.inside in
     let here = class-there w c.args.class.0 (opened-one w c.args.self.now (IsClass c.args.class.0) c.self.view_is c.requires.class) in
     let there = bases-there w c.args.bases.items (opened w c.args.self.now (of_each of_class_ref c.args.bases.items) c.self.view_is c.requires.bases) in
-    bases-sound w c.args.class.0 (numbers c.args.bases.items) c.sound.ensures.sound here there c.set_bases.new.self c.set_bases.result c.set_bases.ensures.set c.set_bases.ensures.err c.set_bases.ensures.refused c.self.invariant
+    bases-sound w c.args.class.0 (numbers c.args.bases.items) c.sound.ensures.sound here there c.set_bases.new.classes c.set_bases.new.self (keeps-more w.log c.set_bases.new.self _ c.set_bases.result c.set_bases.ensures.noted c.set_bases.ensures.unnoted) (c.set_bases.ensures.law c.self.invariant.logged) c.set_bases.result c.set_bases.ensures.set c.set_bases.ensures.err c.set_bases.ensures.refused c.self.invariant
 
 pub returns-clause-early : goal.returns-clause-early
 returns-clause-early g c =
@@ -43,7 +45,7 @@ returns-clause-uncounted g c =
 
 pub returns-clause-set : goal.returns-clause-set
 returns-clause-set g c =
-    bases-set (the_view c.self.inside) c.args.self.now c.args.class.0 (numbers c.args.bases.items) c.set_bases.new.self c.set_bases.result c.set_bases.ensures.set c.self.view_is
+    bases-set (the_view c.self.inside) c.args.self.now c.args.class.0 (numbers c.args.bases.items) c.set_bases.new.classes c.set_bases.new.self c.set_bases.result c.set_bases.ensures.set c.self.view_is
 
 pub returns-clause-reads : goal.returns-clause-reads
 returns-clause-reads g c = λ t r. subst (Reads t) c.self.view_is (record { names = r.names; trees = r.trees })
@@ -53,11 +55,18 @@ returns-clause-grows g c =
     let w = the_view c.self.inside in
     let here = class-there w c.args.class.0 (opened-one w c.args.self.now (IsClass c.args.class.0) c.self.view_is c.requires.class) in
     let there = bases-there w c.args.bases.items (opened w c.args.self.now (of_each of_class_ref c.args.bases.items) c.self.view_is c.requires.bases) in
-    grows-seen w _ _ c.self.view_is (classes-grow w c.set_bases.new.self (bases-like w c.args.class.0 (numbers c.args.bases.items) c.sound.ensures.sound here there c.set_bases.new.self c.set_bases.result c.set_bases.ensures.set c.set_bases.ensures.err c.set_bases.ensures.refused))
+    grows-seen w _ _ c.self.view_is (classes-grow w c.set_bases.new.classes c.set_bases.new.self (keeps-more w.log c.set_bases.new.self _ c.set_bases.result c.set_bases.ensures.noted c.set_bases.ensures.unnoted) (bases-like w c.args.class.0 (numbers c.args.bases.items) c.sound.ensures.sound here there c.set_bases.new.classes c.set_bases.result c.set_bases.ensures.set c.set_bases.ensures.err c.set_bases.ensures.refused))
 
 pub returns-clause-few_merges : goal.returns-clause-few_merges
 returns-clause-few_merges g c =
     subst (λ (n : Held). c.set_bases.new.steps.merges ≤ c.args.steps.now.merges + length (descendants n.classes c.args.class.0)) c.self.view_is c.set_bases.ensures.few_merges
+
+pub returns-clause-logged : goal.returns-clause-logged
+returns-clause-logged g c =
+    subst (λ (w : Held). OnOk c.set_bases.result (c.set_bases.new.self ≡ w.log ++ SetBases c.args.class.0 (numbers c.args.bases.items) ∷ [])) c.self.view_is c.set_bases.ensures.noted
+
+pub returns-clause-err : goal.returns-clause-err
+returns-clause-err g c = unchanged (the_view c.self.inside) c.args.self.now c.self.view_is c.set_bases.new.classes c.set_bases.new.self c.set_bases.result c.set_bases.ensures.err c.set_bases.ensures.unnoted
 
 pub returns-clause-few_probes : goal.returns-clause-few_probes
 returns-clause-few_probes g c =

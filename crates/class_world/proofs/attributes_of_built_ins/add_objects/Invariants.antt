@@ -1,0 +1,6 @@
+use Rattle.std.proofs.Common.{◌≡◌, take, fold}
+use Rattle.class_world.specs.StartNodes.{with_own_node}
+use Rattle.class_world.proofs.attributes_of_built_ins.add_objects.Given as goal
+
+abbrev pub invariant-loop-attr : goal.invariant-loop-attr
+invariant-loop-attr l = l.nodes.items ≡ fold (with_own_node l.fn.class) l.initial.nodes.items (take l.attr-index l.attr-items)
