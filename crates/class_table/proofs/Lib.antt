@@ -11,6 +11,7 @@ pub mod Rebases
 pub mod Trials
 pub mod Descended
 pub mod Probed
+pub mod Sought
 pub mod Settles
 pub mod Blames
 pub mod Listed

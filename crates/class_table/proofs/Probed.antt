@@ -1,9 +1,9 @@
 -- What the special names find along a linearisation is what stands in the slots.
 use denote.Enum.Bare.{same_true}
 use Rattle.py_node.specs.contracts.entry.SlotId.{the_type}
-use Rattle.std.proofs.Common.{◌≡◌, ℕ, zero, suc, ◌+◌, ◌<◌, ◌≤◌, Bool, true, false, cond, ◌&&◌, ◌||◌, not, eqb, ltb, map, List, [], ◌∷◌, length, get_or, set, drop, Option, Some, None, inl, inr, refl, sym, ap, ◌∙◌, add-zero, arith}
-use Rattle.std.specs.Prelude.{slice_get, slice_index_or, option_and_then}
-use Rattle.std.proofs.lemmas.Bool.{cases_eq, eqb-true, eq-eqb, ltb-true, false≢true}
+use Rattle.std.proofs.Common.{◌≡◌, ℕ, zero, suc, ◌+◌, ◌<◌, ◌≤◌, Bool, true, false, cond, ◌&&◌, ◌||◌, not, eqb, ltb, map, List, [], ◌∷◌, length, get_or, drop, Option, Some, None, refl, sym, ap, ◌∙◌, add-zero, arith}
+use Rattle.std.specs.Prelude.{slice_index_or, option_and_then}
+use Rattle.std.proofs.lemmas.Bool.{eqb-true, eq-eqb, ltb-true, false≢true}
 use Rattle.std.proofs.lemmas.List.{drop_more}
 use Rattle.std.proofs.lemmas.Option.{slice_get-get_or}
 use Rattle.std.proofs.Math.ListN.{drop_of_length-le}
@@ -26,7 +26,6 @@ use Rattle.class_table.specs.Stored.{StoredClass, classes_of}
 use Rattle.class_table.specs.Coherent.{HasLines}
 use Rattle.class_table.specs.Probe.{is_called, value_found, value_at, slot_by, AreFound}
 use Rattle.class_table.proofs.Along.{value_of-first, value_of-found, value_of-only, value_of-no, wrapped-alike}
-use Rattle.class_table.proofs.Places.{get-set_at, get-set_away}
 use Rattle.class_table.proofs.Slots.{below_all, names-below, names-hash}
 
 -- a key that is one of some names
@@ -215,12 +214,10 @@ module _ (values : List (Option PyObjectRef)) (s : SlotId) (ks : List Known) (i 
   pub slot-by_end : length ks ≤ i → slot_by values s (drop i ks) ≡ None
   slot-by_end l = ap (slot_by values s) (drop_of_length-le ks l)
 
--- one value more
-pub found-more : (t : Classes PyStrInterned) (c : ℕ) (line : List ℕ) (values new : List (Option PyObjectRef)) (n : ℕ) (v : Option PyObjectRef) → n < length values → new ≡ set values n v → v ≡ value_found t c line n → ((i : ℕ) → i < n → slice_get values i ≡ Some (value_found t c line i)) → (i : ℕ) → i < n + 1 → slice_get new i ≡ Some (value_found t c line i)
-found-more t c line values new n v l is value before i less = ap (λ ys. slice_get ys i) is ∙ elim (cases_eq i n) [
-  | inl q ↦ ap (slice_get (set values n v)) q ∙ get-set_at values n v l ∙ ap Some value ∙ ap (λ m. Some (value_found t c line m)) (sym q)
-  | inr q ↦ get-set_away values n v i q ∙ before i (omega (arith, less, q))
-]
+-- the number of `__new__`
+pub new-number : number_of known.New ≡ 68
+unfolding number_of
+new-number = refl
 
 -- a linearisation has a place
 pub line-some : (kept : List StoredClass) → HasLines kept → (at : ℕ) (d : StoredClass) → at < length kept → 1 ≤ length (get_or kept at d).mro

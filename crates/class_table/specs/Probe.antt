@@ -32,6 +32,11 @@ pub record AreFound (t : Classes PyStrInterned) (c : ℕ) (line : List ℕ) (val
 abbrev pub value_at : List (Option PyObjectRef) → ℕ → Option PyObjectRef
 value_at values n = option_and_then (λ v. v) (slice_get values n)
 
+-- what a special name found, or else what is here: `__new__` is left open
+pub record AreAdded (own : ℕ → Option PyObjectRef) (old new : List (Option PyObjectRef)) : Type 0 where
+  pub count : length new ≡ special_count
+  pub at : (n : ℕ) → n < special_count → (n ≡ number_of known.New → ⊥) → slice_get new n ≡ Some (or_else (value_at old n) (own n))
+
 -- what they give in a slot: the first of the slot's names for which something was found
 abbrev pub slot_by : List (Option PyObjectRef) → SlotId → List Known → Option SlotEntry
 slot_by values s [] = None

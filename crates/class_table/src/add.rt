@@ -21,7 +21,7 @@ use crate::count::count_along;
 use crate::fault::ClassFault;
 use crate::inherit::{inherited, likely_places, rest_of_line};
 use crate::place::place;
-use crate::refresh::settle;
+use crate::settle::settle;
 use crate::stored::{NewClass, SLOTS, Stored};
 use py_node::built_in::BUILT_IN_COUNT;
 use py_node::{OutOfMemory, PyAttributes, PyStrInterned, PyTypeRef, SlotEntry};

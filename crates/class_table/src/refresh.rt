@@ -58,8 +58,8 @@ fn patch(classes: &mut [Stored], at: usize, name: PyStrInterned)
     }
 }
 
-// Finds every slot of a class.
-pub(crate) fn settle(classes: &mut [Stored], at: usize)
+// Finds every slot of a class, each by itself.
+pub(crate) fn settle_each(classes: &mut [Stored], at: usize)
     requires lines { HasLines classes.old }
     requires inside { at < length classes.old }
     requires full { (d : StoredClass) → length (slice_index_or classes.old at d).slots ≡ slot_count }

@@ -1,6 +1,6 @@
 //! Slots that are found anew after the bases of a class were changed.
 
-ghost use Rattle.std.specs.Prelude.{◌≡◌, ◌<◌, ◌*◌, ℕ, true, false, length, Some, slice_get, slice_set, slice_index_or};
+ghost use Rattle.std.specs.Prelude.{◌≡◌, ◌<◌, ◌≤◌, ◌*◌, ℕ, true, false, length, Some, slice_get, slice_set, slice_index_or};
 ghost use Rattle.py_node.specs.Slots.{place_of, slot_count};
 ghost use Rattle.class_model.specs.Class.{first_along, is_heap};
 ghost use Rattle.class_model.specs.Slot.{given_entry, entry, entries};
@@ -18,10 +18,12 @@ use crate::entries::is_inherited;
 use crate::natives::built_in_entry;
 use crate::place::{find_near, likely};
 use crate::probe::{slot_by, values_for};
+use crate::refresh::settle_each;
 use crate::steps::Steps;
 use crate::stored::{SLOTS, Stored};
 use py_node::{PyTypeRef, SlotEntry, SlotId};
-use std::sync::ledger::Ledger;
+use std::marker::Brand;
+use std::sync::ledger::{Blank, Ledger};
 
 // Puts what stands in a slot of the class at a place.
 fn put_slot(classes: &mut [Stored], at: usize, slot: SlotId, entry: Option<SlotEntry>)
@@ -50,6 +52,22 @@ fn settle_heap<L: Ledger>(classes: &mut [Stored], at: usize, steps: &mut Steps<L
         let entry = slot_by(&values, slot);
         put_slot(classes, at, slot, entry);
     }
+}
+
+// The same. Its probes are counted for nobody.
+fn settle_uncounted<L: Ledger>(classes: &mut [Stored], at: usize, blank: Blank)
+    requires lines { HasLines classes.old }
+    requires inside { at < length classes.old }
+    requires full { (d : StoredClass) → length (slice_index_or classes.old at d).slots ≡ slot_count }
+    requires heap { (d : StoredClass) → is_heap (class_of (slice_index_or classes.old at d)) ≡ true }
+    requires name { blank.name ≡ L.name }
+    requires parts { blank.parts ≡ L.parts }
+    requires both { 2 ≤ L.parts }
+    ensures { (d : StoredClass) → classes.new ≡
+        slice_set classes.old at (settled (classes_of classes.old) (slice_index_or classes.old at d)) }
+{
+    let mut steps = Steps::<L>::new(blank);
+    settle_heap(classes, at, &mut steps);
 }
 
 // What a class has in a slot by its attributes or as a native: for a class that a script made it is what is kept.
@@ -123,6 +141,21 @@ fn is_heap_at(classes: &[Stored], at: usize) -> bool
     ensures { (k : StoredClass) → slice_get classes.now at ≡ Some k → result ≡ is_heap (class_of k) }
 {
     classes[at].is_heap()
+}
+
+// Finds every slot of the class at a place.
+pub(crate) fn settle(classes: &mut [Stored], at: usize)
+    requires lines { HasLines classes.old }
+    requires inside { at < length classes.old }
+    requires full { (d : StoredClass) → length (slice_index_or classes.old at d).slots ≡ slot_count }
+    ensures { (d : StoredClass) → classes.new ≡
+        slice_set classes.old at (settled (classes_of classes.old) (slice_index_or classes.old at d)) }
+{
+    if is_heap_at(classes, at) {
+        settle_uncounted::<Brand>(classes, at, Blank::new(2));
+    } else {
+        settle_each(classes, at);
+    }
 }
 
 // Finds every slot of those classes at some places that a script made. It counts at most one probe for each special name

@@ -1,42 +1,33 @@
-use Rattle.std.proofs.Common.{◌≡◌, ◌+◌, ◌*◌, ◌<◌, ℕ, length, get_or, refl, sym, ap, subst, ◌∙◌, add-one, arith}
-use Rattle.std.proofs.lemmas.List.{length-set}
-use Rattle.std.proofs.Math.Nat.{suc-mul}
-use Rattle.class_table.specs.Stored.{classes_of}
-use Rattle.class_table.specs.Steps.{RiseBy}
-use Rattle.class_table.proofs.Counted.{rise-none, rise-then, rise-within}
-use Rattle.class_table.proofs.Probed.{found-more}
+use Rattle.std.proofs.Common.{◌≡◌, ◌*◌, ◌+◌, ℕ, None, List, length, get_or, set, replicate, refl, sym, ap, subst, ◌∙◌, arith}
+use Rattle.std.proofs.lemmas.List.{get_or_default, length-map}
+use Rattle.py_node.specs.declared.refs.PyTypeRef.{PyTypeRef}
+use Rattle.py_node.specs.declared.refs.PyStrInterned.{PyStrInterned}
+use Rattle.py_node.specs.Attributes.{is_same_name}
+use Rattle.class_model.specs.Class.{class_at, own_of, along}
+use Rattle.class_table.specs.Stored.{StoredClass, classes_of}
+use Rattle.class_table.specs.Probe.{is_called, AreAdded, AreFound}
+use Rattle.class_table.proofs.Counted.{rise-then, rise-within}
+use Rattle.class_table.proofs.Probed.{line-some}
+use Rattle.class_table.proofs.Sought.{nothing, found-all}
 use Rattle.class_table.proofs.probe.values_for.Goals as goal
 
-pub loop-number-init : goal.loop-number-init
-loop-number-init g c = record {
-  count = refl;
-  found = λ d n l. absurd (omega (arith, l));
-  steps = λ d. rise-within 0 0 0 _ c.args.steps.now c.args.steps.now (rise-none c.args.steps.now) (omega arith) (omega arith);
-}
-
-pub loop-number-preserved : goal.loop-number-preserved
-loop-number-preserved g c =
-    let kept = c.args.classes.now in
-    let at = c.args.at in
-    let n = c.loop-number.number in
-    let count = c.loop-number.invariant.count in
-    let test = c.loop-number-test.true in
-    let inside : n < length c.loop-number.values = omega (arith, count, test) in
-    record {
-      count = length-set c.loop-number.values n c.value_for.result ∙ c.loop-number.invariant.count;
-      found = λ d. found-more (classes_of kept) (get_or kept at d).number (get_or kept at d).mro c.loop-number.values _ n _ inside refl (c.value_for.ensures.value d) (c.loop-number.invariant.found d);
-      steps = λ d.
-          let m = length (get_or kept at d).mro in
-          let more : (n + 1) * m ≡ n * m + m = ap (λ z. z * m) (add-one n) ∙ suc-mul n m in
-          let P : ℕ → Type 0 = λ b. RiseBy 0 b c.args.steps.now c.value_for.new.steps in
-          subst P (sym more) (rise-then 0 (n * m) 0 m c.args.steps.now c.loop-number.steps c.value_for.new.steps (c.loop-number.invariant.steps d) (c.value_for.ensures.steps d));
-    }
+pub returns-clause-found : goal.returns-clause-found
+returns-clause-found g c = λ d.
+    let t = classes_of c.args.classes.now in
+    let r = c.index-classes-at.result in
+    let q : r ≡ get_or c.args.classes.now c.args.at d = c.index-classes-at.is ∙ get_or_default c.args.classes.now c.args.at r d c.requires.inside in
+    let A : List ℕ → Type 0 = λ line. AreAdded (λ n. along (is_called n) t line) (replicate 70 None) c.add_along.new.values in
+    let own = c.own_value.ensures.value
+    ∙ ap (λ m. own_of (λ k. is_same_name k c.interned-name.result) (class_at t m)) c.number.ensures
+    ∙ ap (λ (x : PyStrInterned). own_of (λ k. is_same_name k x) (class_at t r.number)) c.interned-name.ensures in
+    let P : StoredClass → Type 0 = λ k. AreFound t k.number k.mro (set c.add_along.new.values 68 c.own_value.result) in
+    subst P q (found-all t r.number r.mro (replicate 70 None) c.add_along.new.values _ c.own_value.result (λ n l. nothing 70 n) (subst A c.mro.ensures c.add_along.ensures.added) refl own)
 
 pub returns-clause-steps : goal.returns-clause-steps
 returns-clause-steps g c = λ d.
-    let low = c.loop-number-test.false in
-    let high = c.loop-number.auto.number-end in
-    let m = length (get_or c.args.classes.now c.args.at d).mro in
-    let P : ℕ → Type 0 = λ n. RiseBy 0 (n * m) c.args.steps.now c.loop-number.steps in
-    let same : c.loop-number.number ≡ 70 = omega (arith, low, high) in
-    subst P same (c.loop-number.invariant.steps d)
+    let r = c.index-classes-at.result in
+    let q : r ≡ get_or c.args.classes.now c.args.at d = c.index-classes-at.is ∙ get_or_default c.args.classes.now c.args.at r d c.requires.inside in
+    let some = line-some c.args.classes.now c.requires.lines c.args.at d c.requires.inside in
+    let line = length c.mro.result.now in
+    let long : line ≡ length (get_or c.args.classes.now c.args.at d).mro = sym (length-map c.mro.result.now (λ (x : PyTypeRef). x.0)) ∙ ap length c.mro.ensures ∙ ap (λ (k : StoredClass). length k.mro) q in
+    rise-within 0 (69 * line + 1) 0 (70 * length (get_or c.args.classes.now c.args.at d).mro) c.args.steps.now c.own_value.new.steps (rise-then 0 (69 * line) 0 1 c.args.steps.now c.add_along.new.steps c.own_value.new.steps c.add_along.ensures.steps c.own_value.ensures.steps) (omega arith) (omega (arith, long, some))

@@ -2,7 +2,7 @@ use Rattle.std.proofs.Common.{◌≡◌, get_or, set}
 use Rattle.class_table.specs.Stored.{StoredClass, classes_of}
 use Rattle.class_table.specs.Coherent.{HasLines}
 use Rattle.class_table.proofs.Refreshed.{part}
-use Rattle.class_table.proofs.refresh.settle.Given as goal
+use Rattle.class_table.proofs.refresh.settle_each.Given as goal
 
 abbrev pub invariant-loop-place : goal.invariant-loop-place
 invariant-loop-place l = record {

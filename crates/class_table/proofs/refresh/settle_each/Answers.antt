@@ -4,7 +4,7 @@ use Rattle.class_table.specs.Stored.{StoredClass, classes_of}
 use Rattle.class_table.specs.Coherent.{HasLines}
 use Rattle.class_table.proofs.Found.{element}
 use Rattle.class_table.proofs.Refreshed.{part, part-start, part-end, part-lines, part-then}
-use Rattle.class_table.proofs.refresh.settle.Goals as goal
+use Rattle.class_table.proofs.refresh.settle_each.Goals as goal
 
 pub loop-place-init : goal.loop-place-init
 loop-place-init c = record {
