@@ -109,9 +109,9 @@ module _ (w now : Held) (r : PyObjectRef) (n : StoredNode) (v : w ≡ now) where
         below = here;
         home = kind;
         reads = λ t.
-          ap (option_map (λ (x : Node). x.datum)) (node-read w now r n v at t)
-          ∙ ap (λ p. Some (datum t p)) l.is
-          ∙ ap (λ p. Some (AList (items_of p))) (sym l.is);
+            ap (option_map (λ (x : Node). x.datum)) (node-read w now r n v at t)
+            ∙ ap (λ p. Some (datum t p)) l.is
+            ∙ ap (λ p. Some (AList (items_of p))) (sym l.is);
         holds = list-holds w n.payload l (all-rest w (of_option of_dict_ref n.dict) _ all.1.1.1.1);
       }
 
@@ -189,9 +189,9 @@ module _ (w now : Held) (r : PyObjectRef) (n new : StoredNode) (v : w ≡ now) (
         sound = subst (λ m. Sound (record w { nodes = slice_set w.nodes r.0 m })) same (payload-sound w now r n p e lasting (record { below = there.below; home = home }) holds s);
         grows = subst (λ m. Grows now (record w { nodes = slice_set w.nodes r.0 m })) same (grows-seen w _ _ v (payload-grows w now r n p e lasting home));
         reads = λ t.
-          ap (λ m. plain t (record w { nodes = slice_set w.nodes r.0 m })) (sym same)
-          ∙ payload-read w now r n p v there.below e t
-          ∙ ap (with_datum (plain t now) r) (ap (datum t) l.is ∙ held);
+            ap (λ m. plain t (record w { nodes = slice_set w.nodes r.0 m })) (sym same)
+            ∙ payload-read w now r n p v there.below e t
+            ∙ ap (with_datum (plain t now) r) (ap (datum t) l.is ∙ held);
       }
 
   has-same : Has (items_of n.payload) → (t : Reading) → plain t changed ≡ plain t now

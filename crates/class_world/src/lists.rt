@@ -17,11 +17,7 @@ use py_node::{Node, OutOfMemory, Payload, PyObjectRef};
 #[tactic(auto, unfolding(crate::specs::Reading::plain))]
 impl World {
     /// Puts objects last into a list, in their order. Where memory runs out, the list stays as it was.
-    pub fn push_items(
-        &mut self,
-        list: PyObjectRef,
-        more: &[PyObjectRef],
-    ) -> Result<(), OutOfMemory>
+    pub fn push_items(&mut self, list: PyObjectRef, more: &[PyObjectRef]) -> Result<(), OutOfMemory>
         requires list { Holds self.old (IsNode list) }
         requires holding { Holds self.old (Holding list List) }
         requires more { Holds self.old (AreNodes more.now) }
@@ -122,12 +118,7 @@ fn take_item(node: &mut Node, place: usize)
 }
 
 // Others in the place of the objects between two places.
-fn splice_items(
-    node: &mut Node,
-    start: usize,
-    stop: usize,
-    others: Args,
-) -> Result<(), OutOfMemory>
+fn splice_items(node: &mut Node, start: usize, stop: usize, others: Args) -> Result<(), OutOfMemory>
     requires list { home_of node.old.payload ≡ List }
     requires order { start ≤ stop }
     requires within { stop ≤ length (items_of node.old.payload) }
