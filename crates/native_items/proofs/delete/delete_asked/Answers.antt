@@ -22,7 +22,7 @@ pub returns-in_ok-ended-in-Some-clause-goes : goal.returns-in_ok-ended-in-Some-c
 returns-in_ok-ended-in-Some-clause-goes c =
     let a = c.args in
     let s = c.in-Some.slice in
-    ends-does (OfList DelItem) (a.list ∷ a.key ∷ []) (λ t u. del_item u a.list a.key []) (λ t u. list_changed u a.list (put_part u s (items_at u a.list) c.new-none.result.items)) a.world.now c.replace_part-ended.new.world c.in_ok-ended-in-Some.ended (λ t.
+    ends-does (OfList DelItem) (a.list ∷ a.key ∷ []) (λ t u. del_item u a.list a.key []) (λ t u. list_changed u a.list (put_part u s (items_at u a.list) c.new-none.result.items)) a.world.now c.replace_part.new.world c.in_ok-ended-in-Some.ended (λ t.
     let u = plain t a.world.now in
     ap (λ x. del_asked u x a.list a.key) (c.in-Some.ensures.reads t)
     ∙ ap (λ ys. list_changed u a.list (put_part u s (items_at u a.list) ys)) (sym c.new-none.ensures.items)) c.in_ok-ended-in-Some.ensures.ends

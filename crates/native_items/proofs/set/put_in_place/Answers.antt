@@ -1,44 +1,18 @@
-use Rattle.std.proofs.Common.{◌≡◌, ◌<◌, length, Err, sym, ap, ◌∙◌, subst}
+use Rattle.std.proofs.Common.{length, sym, ◌∙◌}
 use Rattle.std.proofs.lemmas.List.{length-set}
 use Rattle.std.specs.Prelude.{slice_set}
-use Rattle.plain_machine.specs.Plain.{Ends}
 use Rattle.plain_machine.specs.Row.{none, value}
 use Rattle.class_world.specs.Reading.{plain}
 use Rattle.native_containers.specs.Say.{list_changed}
 use Rattle.native_containers.specs.Take.{items_at}
-use Rattle.native_containers.proofs.Ends.{fault-ends}
-use Rattle.native_containers.proofs.InPlace.{items-changed, too-many}
+use Rattle.native_containers.proofs.InPlace.{items-changed}
 use Rattle.native_items.specs.Items.{placed}
 use Rattle.native_items.specs.Places.{place_at}
-use Rattle.native_items.proofs.InPlace.{leads-nowhere, leads-to}
+use Rattle.native_items.proofs.InPlace.{leads-to}
 use Rattle.native_items.proofs.set.put_in_place.Goals as goal
 
-pub set_item-requires-clause-place : goal.set_item-requires-clause-place
-set_item-requires-clause-place c = λ t.
-    let within : c.in-Some.place < length c.items.result.now = subst (λ n. c.in-Some.place < n) c.len-count.ensures c.in-Some.ensures.within in
-    subst (λ rs. c.in-Some.place < length rs) (sym (c.items.ensures.same t)) within
-
-pub returns-in-None-clause-ends : goal.returns-in-None-clause-ends
-returns-in-None-clause-ends c =
-    let a = c.args in
-    let w = a.world.now in
-    fault-ends (λ t u. placed u (place_at u (length (items_at u a.list)) a.index) (λ i. list_changed u a.list (slice_set (items_at u a.list) i a.value))) w w c.new.result (λ t.
-    leads-nowhere (plain t w) a.list a.index c.items.result.now (c.items.ensures.same t) c.len-count.result c.len-count.ensures (λ rs i. slice_set rs i a.value) (c.in-None.ensures.reads t)
-    ∙ ap (λ x. Ends (plain t w) (Err x)) (sym c.new.ensures)) (λ t q. q)
-
-pub returns-then-not-is_within_limit-clause-ends : goal.returns-then-not-is_within_limit-clause-ends
-returns-then-not-is_within_limit-clause-ends c =
-    let a = c.args in
-    let w = a.world.now in
-    let rs = c.items.result.now in
-    let i = c.in-Some.place in
-    let n = c.len-count.result in
-    too-many (λ t u. placed u (place_at u (length (items_at u a.list)) a.index) (λ i. list_changed u a.list (slice_set (items_at u a.list) i a.value))) w a.list rs c.items.ensures.same (λ rs. slice_set rs i a.value) (value none)
-    (λ t. leads-to (plain t w) a.list a.index rs (c.items.ensures.same t) n c.len-count.ensures (λ rs i. slice_set rs i a.value) i (c.in-Some.ensures.reads t))
-    n (length-set rs i a.value ∙ sym c.len-count.ensures) c.new.result c.new.ensures (sym c.is_within_limit.ensures ∙ c.if-not-is_within_limit.true)
-
-pub returns-in-Some-clause-ends : goal.returns-in-Some-clause-ends
-returns-in-Some-clause-ends c =
+pub returns-else-not-is_within_limit-clause-ends : goal.returns-else-not-is_within_limit-clause-ends
+returns-else-not-is_within_limit-clause-ends c =
     let a = c.args in
     let w = a.world.now in
     let rs = c.items.result.now in
