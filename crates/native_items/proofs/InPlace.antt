@@ -1,5 +1,5 @@
 -- What is said of an item of a list, and how many items there are without it.
-use Rattle.std.proofs.Common.{◌≡◌, ℕ, zero, suc, ◌-◌, ◌<◌, List, [], ◌∷◌, length, Some, sym, ap, ◌∙◌, arith}
+use Rattle.std.proofs.Common.{◌≡◌, ℕ, zero, suc, ◌-◌, ◌<◌, List, [], ◌∷◌, length, Some, ap, ◌∙◌, arith}
 use Rattle.std.specs.List.{remove}
 use Rattle.py_node.specs.declared.refs.PyObjectRef.{PyObjectRef}
 use Rattle.plain_machine.specs.Plain.{PlainWorld}
@@ -12,10 +12,10 @@ abbrev Items : Type 0
 Items = List PyObjectRef
 
 -- where an object leads among the items of a list
-module _ (u : PlainWorld) (list index : PyObjectRef) (rs : Items) (same : items_at u list ≡ rs) (n : ℕ) (count : n ≡ length rs) (change : Items → ℕ → Items) where
-  pub leads-to : (i : ℕ) → place_at u n index ≡ Some i → placed u (place_at u (length (items_at u list)) index) (λ i. list_changed u list (change (items_at u list) i)) ≡ list_changed u list (change (items_at u list) i)
+module _ (u : PlainWorld) (list index : PyObjectRef) (rs : Items) (same : items_at u list ≡ rs) (change : Items → ℕ → Items) where
+  pub leads-to : (i : ℕ) → place_at u (length rs) index ≡ Some i → placed u (place_at u (length (items_at u list)) index) (λ i. list_changed u list (change (items_at u list) i)) ≡ list_changed u list (change (items_at u list) i)
   leads-to i at =
-      let here : place_at u (length (items_at u list)) index ≡ Some i = ap (λ (xs : Items). place_at u (length xs) index) same ∙ ap (λ n. place_at u n index) (sym count) ∙ at in
+      let here : place_at u (length (items_at u list)) index ≡ Some i = ap (λ (xs : Items). place_at u (length xs) index) same ∙ at in
       ap (λ o. placed u o (λ i. list_changed u list (change (items_at u list) i))) here
 
 -- how many there are without one

@@ -1,4 +1,4 @@
-use Rattle.std.proofs.Common.{◌<◌, ◌-◌, length, sym, ap, ◌∙◌, subst}
+use Rattle.std.proofs.Common.{◌-◌, length, sym, ◌∙◌}
 use Rattle.std.specs.List.{remove}
 use Rattle.plain_machine.specs.Row.{none, value}
 use Rattle.class_world.specs.Reading.{plain}
@@ -14,10 +14,8 @@ pub returns-else-not-is_within_limit-clause-ends : goal.returns-else-not-is_with
 returns-else-not-is_within_limit-clause-ends c =
     let a = c.args in
     let w = a.world.now in
-    let rs = c.items.result.now in
+    let rs = c.items-count.result.now in
     let i = c.in-Some.place in
-    let n = c.len-count.result in
-    let within : i < length rs = subst (λ n. i < n) c.len-count.ensures c.in-Some.ensures.within in
-    items-changed (λ t u. placed u (place_at u (length (items_at u a.list)) a.index) (λ i. list_changed u a.list (remove (items_at u a.list) i))) w a.list rs c.items.ensures.same (λ rs. remove rs i) (value none)
-    (λ t. leads-to (plain t w) a.list a.index rs (c.items.ensures.same t) n c.len-count.ensures (λ rs i. remove rs i) i (c.in-Some.ensures.reads t))
-    (n - 1) (fewer-by-one rs i within ∙ ap (λ n. n - 1) (sym c.len-count.ensures)) c.take_item.new.self c.ends_none.result (sym c.is_within_limit.ensures ∙ c.if-not-is_within_limit.false) c.take_item.ensures.taken c.take_item.ensures.reads c.ends_none.ensures.ends
+    items-changed (λ t u. placed u (place_at u (length (items_at u a.list)) a.index) (λ i. list_changed u a.list (remove (items_at u a.list) i))) w a.list rs c.items-count.ensures.same (λ rs. remove rs i) (value none)
+    (λ t. leads-to (plain t w) a.list a.index rs (c.items-count.ensures.same t) (λ rs i. remove rs i) i (c.in-Some.ensures.reads t))
+    (length rs - 1) (fewer-by-one rs i c.in-Some.ensures.within) c.take_item.new.self c.ends_none.result (sym c.is_within_limit.ensures ∙ c.if-not-is_within_limit.false) c.take_item.ensures.taken c.take_item.ensures.reads c.ends_none.ensures.ends

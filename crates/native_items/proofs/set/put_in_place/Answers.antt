@@ -15,9 +15,8 @@ pub returns-else-not-is_within_limit-clause-ends : goal.returns-else-not-is_with
 returns-else-not-is_within_limit-clause-ends c =
     let a = c.args in
     let w = a.world.now in
-    let rs = c.items.result.now in
+    let rs = c.items-count.result.now in
     let i = c.in-Some.place in
-    let n = c.len-count.result in
-    items-changed (λ t u. placed u (place_at u (length (items_at u a.list)) a.index) (λ i. list_changed u a.list (slice_set (items_at u a.list) i a.value))) w a.list rs c.items.ensures.same (λ rs. slice_set rs i a.value) (value none)
-    (λ t. leads-to (plain t w) a.list a.index rs (c.items.ensures.same t) n c.len-count.ensures (λ rs i. slice_set rs i a.value) i (c.in-Some.ensures.reads t))
-    n (length-set rs i a.value ∙ sym c.len-count.ensures) c.set_item.new.self c.ends_none.result (sym c.is_within_limit.ensures ∙ c.if-not-is_within_limit.false) c.set_item.ensures.set c.set_item.ensures.reads c.ends_none.ensures.ends
+    items-changed (λ t u. placed u (place_at u (length (items_at u a.list)) a.index) (λ i. list_changed u a.list (slice_set (items_at u a.list) i a.value))) w a.list rs c.items-count.ensures.same (λ rs. slice_set rs i a.value) (value none)
+    (λ t. leads-to (plain t w) a.list a.index rs (c.items-count.ensures.same t) (λ rs i. slice_set rs i a.value) i (c.in-Some.ensures.reads t))
+    (length rs) (length-set rs i a.value) c.set_item.new.self c.ends_none.result (sym c.is_within_limit.ensures ∙ c.if-not-is_within_limit.false) c.set_item.ensures.set c.set_item.ensures.reads c.ends_none.ensures.ends
