@@ -26,6 +26,7 @@ pub mod Opening
 pub mod DictEntries
 pub mod DictChanges
 pub mod PayloadChanges
+pub mod ListChanges
 pub mod DictReads
 pub mod KeyEntries
 pub mod Items

@@ -12,6 +12,7 @@ mod expressions;
 mod heap;
 pub mod keys;
 pub mod limits;
+pub mod lists;
 pub mod members;
 mod names;
 pub mod natives;

@@ -3,4 +3,5 @@ pub mod Loops
 pub mod Ends
 pub mod Under
 pub mod Changed
+pub mod InPlace
 pub mod Filled

@@ -82,8 +82,8 @@ pub(crate) fn joined(
     }
 }
 
-/// Items with others after them.
-pub fn in_one(
+// Items with others after them.
+fn in_one(
     alloc: Global,
     items: &[PyObjectRef],
     more: &[PyObjectRef],

@@ -1,7 +1,7 @@
 use Rattle.std.proofs.Common.{sym, subst}
 use Rattle.class_world.specs.Sound.{AreNodes, Holds}
 use Rattle.native_items.proofs.Ranges.{without-nodes}
-use Rattle.native_items.proofs.delete.take_out.Goals as goal
+use Rattle.native_items.proofs.delete.take_among.Goals as goal
 
 pub change_list-requires-clause-items : goal.change_list-requires-clause-items
 change_list-requires-clause-items c =
