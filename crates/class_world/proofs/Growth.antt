@@ -179,7 +179,7 @@ layout-still old new l c k e = go (layout old c) refl e
     go None q e = cc
     go (Some xs) q e = l.layouts c xs q ∙ sym q
 
-count-still : (old new : List (Class PyStrInterned)) → Like old new → (c k : ℕ) → place_count old c ≡ Some k → place_count new c ≡ Some k
+pub count-still : (old new : List (Class PyStrInterned)) → Like old new → (c k : ℕ) → place_count old c ≡ Some k → place_count new c ≡ Some k
 count-still old new l c k e =
     place_count-alike new old c c (layout-still old new l c k e) (λ x h. l.counts x (along-there old c x h)) ∙ e
 
