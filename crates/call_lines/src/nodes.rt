@@ -1,9 +1,9 @@
 //! Names, attributes and members, and copies of what scripts and replies consist of.
 
 use py_node::{
-    BodyCall, Cause, Command, Constant, Expr, Kind, Names, OutOfMemory, PyAttributes,
-    PyMembers, PyNumberBinaryOp, PyObjectRef, PyStrInterned, PyTypeFlags, PyTypeRef, Raised, Reply,
-    ReplyAnswer, SlotId, Word,
+    BodyCall, Cause, Command, Constant, Expr, Kind, Names, OutOfMemory, PyAttributes, PyMembers,
+    PyNumberBinaryOp, PyObjectRef, PyStrInterned, PyTypeFlags, Raised, Reply, ReplyAnswer, SlotId,
+    Word,
 };
 use std::alloc::{AllocError, Global};
 use table_lines::Table;

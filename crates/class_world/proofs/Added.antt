@@ -114,7 +114,7 @@ module _ (w : Held) (c : PyTypeRef) (ms : List (Option PyObjectRef)) (p : Payloa
 
   -- nothing stands in its places
   stored-read : (t : Reading) (d : Option PyObjectRef) → AreEmpty w.classes c.0 ms → node_of t w.classes (stored d) ≡ record { class = c.0; dict = d; members = no_members; datum = datum t p }
-  stored-read t d empty = ap (λ ms. record { class = c.0; dict = d; members = ms; datum = datum t p }) (none-read w.classes c.0 ms empty.1)
+  stored-read t d empty = let none = none-read w.classes c.0 ms empty.1 in λ i. record { class = c.0; dict = d; members = none i; datum = datum t p }
 
   -- the dict is one
   dict-holding : (d : Node) → HasNoEntries d.payload → home_at (w.nodes ++ d ∷ []) (length w.nodes) ≡ Some Dict

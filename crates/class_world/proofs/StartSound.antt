@@ -301,7 +301,7 @@ started-sound = record {
 
 module _ (t : Reading) where
   bare-read : (ks : List (Class PyStrInterned)) (c : PyTypeRef) (p : Payload) → node_of t ks (plain_node c p) ≡ record { class = c.0; dict = None; members = no_members; datum = datum t p }
-  bare-read ks c p = ap (λ ms. record { class = c.0; dict = None; members = ms; datum = datum t p }) (none-read ks c.0 [] (λ n. refl))
+  bare-read ks c p = let none = none-read ks c.0 [] (λ n. refl) in λ i. record { class = c.0; dict = None; members = none i; datum = datum t p }
 
   nodes-read : (ks : List (Class PyStrInterned)) (bs : List BuiltIn) → map (node_of t ks) (map class_node bs ++ fixed_nodes) ≡ map plain_class_node bs ++ plain_fixed_nodes
   nodes-read ks [] =

@@ -34,12 +34,7 @@ impl World {
 
     // What stands in a place of an object. It stands at the offset that the place has in the objects of some class, since
     // it has the same one in those of each class that gives them the place.
-    fn member(
-        &self,
-        object: PyObjectRef,
-        place: MemberPlace,
-        offset: usize,
-    ) -> Option<PyObjectRef>
+    fn member(&self, object: PyObjectRef, place: MemberPlace, offset: usize) -> Option<PyObjectRef>
         requires object { Holds self.now (IsNode object) }
         requires place { (c : ℕ) × (place_at self.now.classes c offset ≡ Some (place.class.0, place.index)) }
         ensures value { (t : Reading) →
