@@ -163,7 +163,8 @@ module _ (w : Held) (c : PyTypeRef) (ms : List (Option PyObjectRef)) (p : Payloa
       let b = map-push (node_of t ks) w.nodes d in
       let k = dict-read t ks d e in
       let l = stored-read t (Some (ref (length w.nodes))) empty in
-      let both : map (node_of t ks) ((w.nodes ++ d ∷ []) ++ new ∷ []) ≡ (map (node_of t ks) w.nodes ++ record { class = the_dict; dict = None; members = no_members; datum = ADict [] } ∷ []) ++ record { class = c.0; dict = Some (ref (length w.nodes)); members = no_members; datum = datum t p } ∷ [] = cc (a, b, k, l) in
+      let dict : map (node_of t ks) (w.nodes ++ d ∷ []) ≡ map (node_of t ks) w.nodes ++ record { class = the_dict; dict = None; members = no_members; datum = ADict [] } ∷ [] = b ∙ (λ i. map (node_of t ks) w.nodes ++ k i ∷ []) in
+      let both = a ∙ (λ i. dict i ++ l i ∷ []) in
       ap (λ (ns : List PlainNode). record (plain t w) { nodes = ns }) both
       ∙ ap (λ n. push_node (push_node (plain t w) the_dict None (ADict [])) c.0 (Some (ref n)) (datum t p)) (sym (length-map w.nodes (node_of t w.classes)))
       ∙ sym (ap (λ b. cond b (push_node (push_node (plain t w) the_dict None (ADict [])) c.0 (Some (ref (length (plain t w).nodes))) (datum t p)) (push_node (plain t w) c.0 None (datum t p))) h)
