@@ -2,6 +2,7 @@ pub mod Claims
 pub mod MemberPlaces
 pub mod Homes
 pub mod Growth
+pub mod SamePlaces
 pub mod Leaves
 pub mod Readable
 pub mod Changes

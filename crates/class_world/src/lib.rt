@@ -21,6 +21,7 @@ mod numbers;
 pub mod objects;
 mod of_classes;
 mod one_base;
+mod places;
 mod reclass;
 mod running;
 pub mod scope;
