@@ -1,5 +1,5 @@
 -- What look-ups found, through each change of the rows.
-use Rattle.std.proofs.Common.{◌≡◌, ℕ, ◌+◌, ◌<◌, ◌≤◌, List, [], ◌∷◌, ◌++◌, Option, Some, None, length, get_or, set, inl, inr, sym, ap, subst, refl, ◌∙◌, arith}
+use Rattle.std.proofs.Common.{◌≡◌, ℕ, ◌+◌, ◌<◌, ◌≤◌, List, [], ◌∷◌, ◌++◌, Option, Some, None, Result, Ok, Err, OnOk, OnErr, length, get_or, set, inl, inr, sym, ap, subst, refl, ◌∙◌, arith}
 use Rattle.std.specs.List.{All}
 use Rattle.std.proofs.lemmas.Bool.{cases_eq}
 use Rattle.std.proofs.lemmas.List.{get_or-set_same, get_or-set_other}
@@ -8,6 +8,8 @@ use Rattle.py_node.specs.declared.refs.PyStrInterned.{PyStrInterned}
 use Rattle.class_model.specs.Class.{Classes}
 use Rattle.class_table.specs.declared.cache.Cache.{Cache}
 use Rattle.class_table.specs.declared.cache.Row.{Row}
+use Rattle.class_table.specs.Stored.{StoredClass}
+use Rattle.class_table.specs.Coherent.{IsCoherent}
 use Rattle.class_table.specs.Cache.{Tells, TellsIfAny, IsCached, AreEmpty}
 
 none-tells : (t : Classes PyStrInterned) (version : ℕ) (r : Option Row) → r ≡ None → TellsIfAny t version r
@@ -67,3 +69,8 @@ empty-next n rows h l = record {
 
 pub empty-end : (n : ℕ) (rows : List (Option Row)) → EmptyTo n rows → length rows ≤ n → AreEmpty rows
 empty-end n rows h l = record { each = λ k d m. h.each k d (omega (arith, l, m)) }
+
+-- classes that are changed or stay as they were
+pub coherent-then : {X Y : Type 0} (old new : List StoredClass) (answer : Result X Y) → OnOk answer (IsCoherent new) → OnErr answer (new ≡ old) → IsCoherent old → IsCoherent new
+coherent-then old new (Ok x) ok err h = ok
+coherent-then old new (Err e) ok err h = subst IsCoherent (sym err) h

@@ -42,14 +42,12 @@ impl ClassTable {
         ensures found { result ≡ found is_same_name self.old class.0 name }
         ensures same { self.new ≡ self.old }
     {
-        match self.cache.get(class, name) {
-            Some(answer) => answer,
-            None => {
-                let answer = search(&self.classes, class, name);
-                self.cache.put(class, name, answer);
-                answer
-            }
+        if let Some(answer) = self.cache.get(class, name) {
+            return answer;
         }
+        let answer = search(&self.classes, class, name);
+        self.cache.put(class, name, answer);
+        answer
     }
 
     /// A class's own value of a name.
