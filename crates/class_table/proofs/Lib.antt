@@ -39,3 +39,4 @@ pub mod Heaps
 pub mod StartParts
 pub mod Dicts
 pub mod LastParts
+pub mod Cached

@@ -1,6 +1,7 @@
 pub mod Keys
 pub mod Stored
 pub mod Coherent
+pub mod Cache
 pub mod Patch
 pub mod New
 pub mod Made

@@ -28,14 +28,10 @@ use py_node::{OutOfMemory, PyAttributes, PyStrInterned, PyTypeRef, SlotEntry};
 use std::alloc::Global;
 
 // Empty slots.
-fn empty_slots(alloc: Global) -> Result<Vec<Option<SlotEntry>>, OutOfMemory>
-    ensures { IfOk result (λ v. length v.items ≡ slot_count) }
+fn empty_slots() -> [Option<SlotEntry>; SLOTS]
+    ensures { length result ≡ slot_count }
 {
-    let mut slots = Vec::new(alloc);
-    for _place in 0..SLOTS {
-        slots.push(None)?;
-    }
-    Ok(slots)
+    [None; SLOTS]
 }
 
 // The class, and then what follows it.
@@ -90,7 +86,7 @@ fn with_line(
     ensures { IfOk result (λ k. IsFresh classes.now (class_of_new new) k) }
 {
     are_distinct(&new.attrs);
-    let slots = empty_slots(alloc)?;
+    let slots = empty_slots();
     let mro = line(alloc, new.number, rest)?;
     let near = likely_places(classes, alloc, rest)?;
     let solid = solid_of(new.number, &new.members, inherited(classes, best));

@@ -36,12 +36,13 @@ fn table_of(alloc: Global, rows: &[(Known, &str)]) -> Result<Names, OutOfMemory>
 
 impl ClassTable {
     /// A table of the classes with which a world begins: the built-in ones with their own attributes. Each attribute has
-    /// the number of its name and that of the object that it holds there.
+    /// the number of its name and that of the object that it holds there. Room for what look-ups find is reserved.
     pub fn new(alloc: Global) -> Result<ClassTable, OutOfMemory>
         ensures { IfOk result (λ t. t ≡ start_classes) }
     {
         let mut table = ClassTable::bare(alloc)?;
         add_own_attrs(&mut table)?;
+        table.reserve_cache()?;
         Ok(table)
     }
 

@@ -21,6 +21,9 @@ use std::mem::swap;
 /// How many slots a class has.
 pub(crate) const SLOTS: usize = 73;
 
+// What stands in a slot is small.
+const _: () = prove!(size_of::<Option<SlotEntry>>() <= 8);
+
 // A class that is to be made.
 #[derive(Drop)]
 pub(crate) struct NewClass {
@@ -48,7 +51,8 @@ pub(crate) struct Stored {
     pub(crate) mro: Vec<PyTypeRef>,
     // Where each class of the linearisation is likely kept. Any number will do: each is tested.
     pub(crate) near: Vec<usize>,
-    pub(crate) slots: Vec<Option<SlotEntry>>,
+    // In the slots' order.
+    pub(crate) slots: [Option<SlotEntry>; SLOTS],
     pub(crate) base: Option<PyTypeRef>,
     pub(crate) solid: Option<PyTypeRef>,
     pub(crate) subclasses: Vec<PyTypeRef>,
@@ -72,7 +76,7 @@ impl Model for Stored {
       flags = a.flags.0;
       brings = a.brings;
       mro = numbers a.mro.items;
-      slots = a.slots.items;
+      slots = a.slots;
       base = number_of a.base;
       solid = number_of a.solid;
       subclasses = numbers a.subclasses.items;

@@ -11,4 +11,4 @@ add_own_attrs-requires c = subst HasBuiltIns (sym c.in_ok-table.ensures) built-t
 
 pub returns : goal.returns
 unfolding start_classes
-returns c = c.in_ok-add_own_attrs.ensures ∙ ap (λ (t : Classes PyStrInterned). (with_each_own (t, fixed_node_count)).0) c.in_ok-table.ensures
+returns c = c.in_ok-reserve_cache.ensures ∙ c.in_ok-add_own_attrs.ensures ∙ ap (λ (t : Classes PyStrInterned). (with_each_own (t, fixed_node_count)).0) c.in_ok-table.ensures

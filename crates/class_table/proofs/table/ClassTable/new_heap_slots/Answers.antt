@@ -3,6 +3,7 @@ use Rattle.class_table.specs.Keys.{numbers}
 use Rattle.class_table.specs.Stored.{classes_of}
 use Rattle.class_table.specs.Causes.{AreTold}
 use Rattle.class_table.proofs.InWords.{told}
+use Rattle.class_table.proofs.Cached.{coherent-then}
 use Rattle.class_table.proofs.table.ClassTable.new_heap_slots.Goals as goal
 
 pub returns-clause-empty : goal.returns-clause-empty
@@ -34,3 +35,6 @@ pub returns-clause-conflict : goal.returns-clause-conflict
 returns-clause-conflict c =
     let bs = numbers c.args.bases.items in
     (subst (λ u. AreTold u bs c.add_heap.result) c.self.view_is (told (classes_of c.self.inside.classes.items) bs c.add_heap.result c.add_heap.ensures.early c.add_heap.ensures.refused)).conflict
+
+pub invariant_of-self : goal.invariant_of-self
+invariant_of-self c = (coherent-then _ _ c.add_heap.result c.add_heap.ensures.coherent c.add_heap.ensures.err c.self.invariant.0, c.raise.ensures _ _ c.self.invariant.1)
