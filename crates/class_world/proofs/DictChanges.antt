@@ -7,6 +7,8 @@ use Rattle.py_node.specs.declared.built_in.BuiltIn.TheVariants.{Dict}
 use Rattle.py_node.specs.declared.payload.Node.{Node as StoredNode}
 use Rattle.py_node.specs.declared.payload.Payload.{Payload}
 use Rattle.py_node.specs.declared.payload.Payload.TheVariants as payload
+use Rattle.py_node.specs.declared.refs.PyStrInterned.{PyStrInterned}
+use Rattle.class_model.specs.Class.{Classes}
 use Rattle.plain_machine.specs.Plain.{ADict, Node}
 use Rattle.plain_machine.specs.Objects.{with_datum_in}
 use Rattle.plain_machine.specs.Dicts.{Entries, with_entries}

@@ -59,11 +59,11 @@ unfolding places_of
 places-set t c ms d i n v h l = λ x e j. at e j x
   where
     other : (e j : ℕ) → (offset_of t c e j ≡ Some n → ⊥) → option_and_then (value_at (slice_set ms n v)) (offset_of t c e j) ≡ option_and_then (value_at ms) (offset_of t c e j)
-    other e j no = each (offset_of t c e j) refl
+    other e j apart = each (offset_of t c e j) refl
       where
         each : (o : Option ℕ) → offset_of t c e j ≡ o → option_and_then (value_at (slice_set ms n v)) o ≡ option_and_then (value_at ms) o
         each None q = refl
-        each (Some k) q = value-other ms n k v (λ s. no (q ∙ ap Some s))
+        each (Some k) q = value-other ms n k v (λ s. apart (q ∙ ap Some s))
 
     at : (e j : ℕ) → option_and_then (value_at (slice_set ms n v)) (offset_of t c e j) ≡ cond (eqb e d && eqb j i) v (option_and_then (value_at ms) (offset_of t c e j))
     at e j = go (eqb e d) refl (eqb j i) refl

@@ -307,9 +307,9 @@ module _ (t : Reading) where
   nodes-read ks [] =
       let none = bare-read ks (record { 0 = the_none_type }) Object in
       let not_implemented = bare-read ks (record { 0 = the_not_implemented_type }) Object in
-      let no = bare-read ks (record { 0 = the_bool }) (Number (pos 0)) in
-      let yes = bare-read ks (record { 0 = the_bool }) (Number (pos 1)) in
-      λ i. none i ∷ not_implemented i ∷ no i ∷ yes i ∷ []
+      let falsehood = bare-read ks (record { 0 = the_bool }) (Number (pos 0)) in
+      let truth = bare-read ks (record { 0 = the_bool }) (Number (pos 1)) in
+      λ i. none i ∷ not_implemented i ∷ falsehood i ∷ truth i ∷ []
   nodes-read ks (b ∷ bs) =
       let here = bare-read ks type_ref (ClassPayload (record { 0 = place_of b })) in
       let rest = nodes-read ks bs in

@@ -8,9 +8,9 @@ use Rattle.class_world.proofs.Claims.{each-get, got, opened-one}
 use Rattle.class_world.proofs.NodeMembers.{member-read, member-none, member-there}
 use Rattle.class_world.proofs.world.World.member.Goals as goal
 
-pub index-requires : goal.index-requires
+pub index-node-requires : goal.index-node-requires
 unfolding Holds
-index-requires c = rw c.self.inside.nodes.ok.0 (opened-one (the_view c.self.inside) c.args.self.now (IsNode c.args.object) c.self.view_is c.requires.object)
+index-node-requires c = rw c.self.inside.nodes.ok.0 (opened-one (the_view c.self.inside) c.args.self.now (IsNode c.args.object) c.self.view_is c.requires.object)
 
 pub fast_issubclass-requires : goal.fast_issubclass-requires
 unfolding Holds

@@ -21,6 +21,6 @@ pub returns-in-Some-clause-value : goal.returns-in-Some-clause-value
 returns-in-Some-clause-value c = λ t.
     ap (value_at_place (plain t c.args.self.now) c.args.object) (place-seen (the_view c.self.inside) c.args.self.now c.self.view_is t c.args.class.0 c.args.offset ∙ sym c.place_at.ensures ∙ ap place-told c.in-Some.is) ∙ c.member.ensures.value t
 
-pub member-requires-in-Some-clause-place : goal.member-requires-in-Some-clause-place
-member-requires-in-Some-clause-place c =
+pub member-requires-clause-place : goal.member-requires-clause-place
+member-requires-clause-place c =
     (c.args.class.0, subst (λ (u : Held). place_at u.classes c.args.class.0 c.args.offset ≡ Some (c.in-Some.place.class.0, c.in-Some.place.index)) c.self.view_is (sym c.place_at.ensures ∙ ap place-told c.in-Some.is))
