@@ -1,11 +1,9 @@
--- How natives end that change the items of a list, by how many there are then.
-use Rattle.std.proofs.Common.{◌≡◌, ℕ, Bool, true, false, List, length, Err, sym, ap, ◌∙◌}
+-- How natives end that change the items of a list, where these are not too many then.
+use Rattle.std.proofs.Common.{◌≡◌, ℕ, true, List, length, sym, ap, ◌∙◌}
 use Rattle.std.specs.Prelude.{nat_le, Result}
-use Rattle.py_node.specs.declared.raised.Cause.TheVariants.{TooLong}
 use Rattle.py_node.specs.declared.raised.Raised.{Raised as Fault}
 use Rattle.py_node.specs.declared.refs.PyObjectRef.{PyObjectRef}
 use Rattle.py_node.specs.declared.task.Answer.{Answer}
-use Rattle.py_node.specs.Faults.{raised}
 use Rattle.plain_machine.specs.Objects.{with_datum}
 use Rattle.plain_machine.specs.Plain.{AList, PlainWorld, Ended, Said, Ends}
 use Rattle.plain_machine.specs.Row.{most_items}
@@ -14,8 +12,8 @@ use Rattle.class_world.specs.Reading.{Reading, Reads, plain}
 use Rattle.class_world.specs.Rows.{EndsAs}
 use Rattle.native_containers.specs.Say.{unless_long}
 use Rattle.native_containers.specs.Take.{items_at}
-use Rattle.native_containers.proofs.Changed.{short, long}
-use Rattle.native_containers.proofs.Ends.{fault-ends, then-ends}
+use Rattle.native_containers.proofs.Changed.{short}
+use Rattle.native_containers.proofs.Ends.{then-ends}
 
 abbrev Items : Type 0
 Items = List PyObjectRef
@@ -23,19 +21,13 @@ Items = List PyObjectRef
 -- a list that has these items is to have what a change makes of them, so many, and something is answered
 module _ (said : Reading → PlainWorld → Said) (w : World) (list : PyObjectRef) (rs : Items) (same : (t : Reading) → items_at (plain t w) list ≡ rs) (change : Items → Items) (answer : Ended)
     (says : (t : Reading) → said t (plain t w) ≡ unless_long (plain t w) (change (items_at (plain t w) list)) (Ends (with_datum (plain t w) list (AList (change (items_at (plain t w) list)))) answer)) (n : ℕ) (count : length (change rs) ≡ n) where
-  counted : (b : Bool) → nat_le n most_items ≡ b → (t : Reading) → nat_le (length (change (items_at (plain t w) list))) most_items ≡ b
-  counted b h t =
+  counted : nat_le n most_items ≡ true → (t : Reading) → nat_le (length (change (items_at (plain t w) list))) most_items ≡ true
+  counted h t =
       ap (λ (rs : Items). nat_le (length (change rs)) most_items) (same t)
       ∙ ap (λ n. nat_le n most_items) count
       ∙ h
 
-  -- there would be too many
-  pub too-many : (x : Fault) → x ≡ raised TooLong → nat_le n most_items ≡ false → EndsAs said w w (Err x)
-  too-many x is h =
-      fault-ends said w w x (λ t. says t ∙ long (plain t w) (change (items_at (plain t w) list)) _ (counted false h t) ∙ ap (λ x. Ends (plain t w) (Err x)) (sym is)) (λ t q. q)
-
-  -- it has them
   pub items-changed : (new : World) (r : Result Answer Fault) → nat_le n most_items ≡ true → ((t : Reading) → plain t new ≡ with_datum (plain t w) list (AList (change (items_at (plain t w) list)))) → ((t : Reading) → Reads t new → Reads t w) → EndsAs (λ t u. Ends u answer) new new r → EndsAs said w new r
   items-changed new r h made reads ends =
       then-ends said (λ t u. Ends u answer) w new new r
-      (λ t. says t ∙ short (plain t w) (change (items_at (plain t w) list)) _ (counted true h t) ∙ ap (λ u. Ends u answer) (sym (made t))) reads ends
+      (λ t. says t ∙ short (plain t w) (change (items_at (plain t w) list)) _ (counted h t) ∙ ap (λ u. Ends u answer) (sym (made t))) reads ends
