@@ -3,5 +3,4 @@ pub mod Loops
 pub mod Ends
 pub mod Under
 pub mod Changed
-pub mod InPlace
 pub mod Filled

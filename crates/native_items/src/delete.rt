@@ -113,11 +113,7 @@ fn take_out(
 }
 
 // It is taken out of the items that the list has.
-fn take_in_place(
-    world: &mut World,
-    list: PyObjectRef,
-    index: PyObjectRef,
-) -> Result<Answer, Raised>
+fn take_in_place(world: &mut World, list: PyObjectRef, index: PyObjectRef) -> Result<Answer, Raised>
     requires list { Holds world.old (IsNode list) }
     requires holding { Holds world.old (Holding list List) }
     requires index { Holds world.old (IsNode index) }

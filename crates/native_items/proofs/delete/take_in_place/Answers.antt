@@ -4,10 +4,9 @@ use Rattle.plain_machine.specs.Row.{none, value}
 use Rattle.class_world.specs.Reading.{plain}
 use Rattle.native_containers.specs.Say.{list_changed}
 use Rattle.native_containers.specs.Take.{items_at}
-use Rattle.native_containers.proofs.InPlace.{items-changed}
 use Rattle.native_items.specs.Items.{placed}
 use Rattle.native_items.specs.Places.{place_at}
-use Rattle.native_items.proofs.InPlace.{fewer-by-one, leads-to}
+use Rattle.native_items.proofs.InPlace.{fewer-by-one, items-changed, leads-to}
 use Rattle.native_items.proofs.delete.take_in_place.Goals as goal
 
 pub returns-else-not-is_within_limit-clause-ends : goal.returns-else-not-is_within_limit-clause-ends
