@@ -23,8 +23,8 @@ fn search(classes: &[Stored], class: PyTypeRef, name: PyStrInterned) -> Option<P
 }
 
 impl ClassTable {
-    /// The value of a name, in the first class along the linearisation that has it. Where a class was looked up since the
-    /// last change it is told from then, but what is found now is not kept.
+    /// The value of a name, in the first class along the linearisation that has it. What `find_attr` found since the last
+    /// change of a class is told at once; what is found here is not kept.
     pub fn get_attr(&self, class: PyTypeRef, name: PyStrInterned) -> Option<PyObjectRef>
         requires { is_class self.now class.0 ≡ true }
         ensures { result ≡ found is_same_name self.now class.0 name }

@@ -40,9 +40,17 @@ impl ClassTable {
     pub fn new(alloc: Global) -> Result<ClassTable, OutOfMemory>
         ensures { IfOk result (λ t. t ≡ start_classes) }
     {
+        let mut table = ClassTable::without_rows(alloc)?;
+        table.reserve_rows()?;
+        Ok(table)
+    }
+
+    /// The same for those who only read it: what look-ups find is not kept, and no room is reserved for it.
+    pub fn without_rows(alloc: Global) -> Result<ClassTable, OutOfMemory>
+        ensures { IfOk result (λ t. t ≡ start_classes) }
+    {
         let mut table = ClassTable::bare(alloc)?;
         add_own_attrs(&mut table)?;
-        table.reserve_cache()?;
         Ok(table)
     }
 

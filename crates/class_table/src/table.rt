@@ -90,7 +90,7 @@ impl ClassTable {
     }
 
     // Makes room for what look-ups find. It is never given back, and no more is taken.
-    pub(crate) fn reserve_cache(&mut self) -> Result<(), OutOfMemory>
+    pub(crate) fn reserve_rows(&mut self) -> Result<(), OutOfMemory>
         ensures { self.new ≡ self.old }
     {
         self.cache = Cache::with_rows(self.alloc)?;

@@ -11,7 +11,7 @@ use py_node::{AttributeTask, OutOfMemory, Step};
 
 // Finds what a task on an attribute reads of a class, and keeps it until a class changes. Nothing else changes, so that
 // the task does what it would have done.
-fn look_ahead(world: &mut World, task: &AttributeTask)
+fn find_first(world: &mut World, task: &AttributeTask)
     requires { AllHold world.old (of_attribute_task task.now) }
     ensures { world.new ≡ world.old }
 {
@@ -35,6 +35,6 @@ pub(crate) fn begin(
     ensures goes { IfOk result (λ step. Begins task world.old world.new step) }
     ensures safe { Leaves of_attribute_kept world.old world.new result }
 {
-    look_ahead(world, &task);
+    find_first(world, &task);
     proto_attr::begin(world, task)
 }
