@@ -40,3 +40,4 @@ pub mod StartParts
 pub mod Dicts
 pub mod LastParts
 pub mod Cached
+pub mod Lined

@@ -1,5 +1,6 @@
 pub mod Keys
 pub mod Stored
+pub mod Lines
 pub mod Coherent
 pub mod Cache
 pub mod Patch

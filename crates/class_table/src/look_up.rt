@@ -8,12 +8,12 @@ ghost use Rattle.class_table.specs.Stored.{classes_of};
 
 use crate::place::stored_at;
 use crate::read::{value_along, value_past};
-use crate::stored::Stored;
+use crate::stored_classes::StoredClasses;
 use crate::table::ClassTable;
 use py_node::{PyObjectRef, PyStrInterned, PyTypeRef};
 
 // The value of a name, in the first class along the linearisation that has it: by a search.
-fn search(classes: &[Stored], class: PyTypeRef, name: PyStrInterned) -> Option<PyObjectRef>
+fn search(classes: &StoredClasses, class: PyTypeRef, name: PyStrInterned) -> Option<PyObjectRef>
     requires coherent { IsCoherent classes.now }
     requires there { is_class (classes_of classes.now) class.0 ≡ true }
     ensures { result ≡ found is_same_name (classes_of classes.now) class.0 name }

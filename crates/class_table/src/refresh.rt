@@ -10,7 +10,8 @@ ghost use Rattle.class_table.specs.Coherent.{HasLines};
 ghost use Rattle.class_table.specs.Patch.{IsNear, AreNear, IsRefreshed, settled};
 
 use crate::entries::entry;
-use crate::stored::{SLOTS, Stored};
+use crate::stored::SLOTS;
+use crate::stored_classes::StoredClasses;
 use py_node::{PyStrInterned, PyTypeRef, SlotId};
 
 // How many special names there are: they are the first names.
@@ -29,7 +30,7 @@ fn is_name_of(slot: SlotId, name: PyStrInterned) -> bool
 }
 
 // Finds one slot of a class anew.
-fn patch_slot(classes: &mut [Stored], place: usize, slot: SlotId)
+fn patch_slot(classes: &mut StoredClasses, place: usize, slot: SlotId)
     requires lines { HasLines classes.old }
     requires inside { place < length classes.old }
     ensures { (d : StoredClass) → classes.new ≡
@@ -39,11 +40,11 @@ fn patch_slot(classes: &mut [Stored], place: usize, slot: SlotId)
         }) }
 {
     let found = entry(classes, place, slot);
-    classes[place].set_slot(slot, found);
+    classes.set_slot(place, slot, found);
 }
 
 // Finds the slots of a name anew, where every other slot is as it should be.
-fn patch(classes: &mut [Stored], at: usize, name: PyStrInterned)
+fn patch(classes: &mut StoredClasses, at: usize, name: PyStrInterned)
     requires lines { HasLines classes.old }
     requires inside { at < length classes.old }
     requires near { (d : StoredClass) → IsNear (classes_of classes.old) name (slice_index_or classes.old at d) }
@@ -59,7 +60,7 @@ fn patch(classes: &mut [Stored], at: usize, name: PyStrInterned)
 }
 
 // Finds every slot of a class, each by itself.
-pub(crate) fn settle_each(classes: &mut [Stored], at: usize)
+pub(crate) fn settle_each(classes: &mut StoredClasses, at: usize)
     requires lines { HasLines classes.old }
     requires inside { at < length classes.old }
     requires full { (d : StoredClass) → length (slice_index_or classes.old at d).slots ≡ slot_count }
@@ -72,20 +73,20 @@ pub(crate) fn settle_each(classes: &mut [Stored], at: usize)
 }
 
 // Finds the slots of a name anew in each class that has a class along its linearisation.
-fn patch_all(classes: &mut [Stored], class: PyTypeRef, name: PyStrInterned)
+fn patch_all(classes: &mut StoredClasses, class: PyTypeRef, name: PyStrInterned)
     requires lines { HasLines classes.old }
     requires near { AreNear name class.0 classes.old }
     ensures { IsRefreshed class.0 classes.old classes.new }
 {
     for place in 0..classes.len() {
-        if classes[place].derives(class) {
+        if classes.at(place).derives(class) {
             patch(classes, place, name);
         }
     }
 }
 
 // The same. A name that is no special name changes no slot.
-pub(crate) fn refresh(classes: &mut [Stored], class: PyTypeRef, name: PyStrInterned)
+pub(crate) fn refresh(classes: &mut StoredClasses, class: PyTypeRef, name: PyStrInterned)
     requires lines { HasLines classes.old }
     requires near { AreNear name class.0 classes.old }
     ensures { IsRefreshed class.0 classes.old classes.new }

@@ -38,7 +38,8 @@ use crate::read::{own_entry, read};
 use crate::rebase::rebase;
 use crate::rename::rename_in;
 use crate::steps::Steps;
-use crate::stored::{NewClass, Stored};
+use crate::stored::NewClass;
+use crate::stored_classes::StoredClasses;
 use py_node::{
     Cause, OutOfMemory, PyAttributes, PyObjectRef, PyStrInterned, PyTypeFlags, PyTypeRef,
     SlotEntry, SlotId,
@@ -51,7 +52,7 @@ use std::sync::ledger::Ledger;
 /// known, by which slots are read, have the numbers of `known_names`.
 #[derive(Drop)]
 pub struct ClassTable {
-    pub(crate) classes: Vec<Stored>,
+    pub(crate) classes: StoredClasses,
     // What look-ups found since the last change. Contracts don't see it.
     pub(crate) cache: Cache,
     alloc: Global,
@@ -67,9 +68,9 @@ impl Model for ClassTable {
     ghost use Rattle.class_table.specs.Coherent.{IsCoherent};
     ghost use Rattle.class_table.specs.Cache.{IsCached};
 
-    ghost view = { λ a. classes_of a.classes.items };
+    ghost view = { λ a. classes_of a.classes };
 
-    ghost invariant = { λ a. IsCoherent a.classes.items × IsCached (classes_of a.classes.items) a.cache };
+    ghost invariant = { λ a. IsCoherent a.classes × IsCached (classes_of a.classes) a.cache };
 }
 
 impl ClassTable {
@@ -83,7 +84,7 @@ impl ClassTable {
         ensures { result ≡ [] }
     {
         ClassTable {
-            classes: Vec::new(alloc),
+            classes: StoredClasses::new(alloc),
             cache: Cache::without_rows(alloc),
             alloc,
         }

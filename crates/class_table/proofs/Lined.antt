@@ -1,0 +1,80 @@
+-- Linearisations in one array, and classes with their linearisations.
+use Rattle.std.proofs.Common.{◌≡◌, ℕ, zero, suc, ◌+◌, ◌-◌, ◌<◌, ◌≤◌, List, [], ◌∷◌, ◌++◌, Some, map, length, get_or, set, take, drop, refl, sym, ap, subst, ◌∙◌, arith}
+use Rattle.std.specs.Prelude.{slice_get}
+use Rattle.std.specs.List.{All}
+use Rattle.std.proofs.lemmas.List.{drop-append-le, take-append-le, drop_at, take_all, length-drop, length-append}
+use Rattle.std.proofs.lemmas.List.Elements.{All-head, All-tail, All-weaker, All-push}
+use Rattle.py_node.specs.declared.refs.PyTypeRef.{PyTypeRef}
+use Rattle.class_table.specs.Keys.{numbers}
+use Rattle.class_table.specs.Stored.{StoredClass}
+use Rattle.class_table.specs.Lines.{part_of, IsWithin, with_line, with_lines}
+use Rattle.class_table.specs.declared.lines.Part.{Part}
+
+-- a part of an array is that of a longer one
+part-stays : (xs ys : List PyTypeRef) (p : Part) → IsWithin xs p → part_of (xs ++ ys) p ≡ part_of xs p
+part-stays xs ys p h =
+    let within = h.within in
+    let long = length-drop p.start xs in
+    ap numbers (ap (take p.length) (drop-append-le p.start xs ys (omega (arith, within))) ∙ take-append-le p.length (drop p.start xs) ys (omega (arith, within, long)))
+
+pub parts-stay : (xs ys : List PyTypeRef) (ps : List Part) → All (IsWithin xs) ps → map (part_of (xs ++ ys)) ps ≡ map (part_of xs) ps
+parts-stay xs ys [] h = refl
+parts-stay xs ys (p ∷ ps) h =
+    let here = part-stays xs ys p (All-head (IsWithin xs) p ps h) in
+    let rest = parts-stay xs ys ps (All-tail (IsWithin xs) p ps h) in
+    cc (here, rest)
+
+-- and what was added at the end is a part
+pub part-added : (xs ys : List PyTypeRef) (p : Part) → p.start ≡ length xs → p.length ≡ length ys → part_of (xs ++ ys) p ≡ numbers ys
+part-added xs ys p s l = ap numbers (ap (take p.length) (drop_at xs ys p.start (sym s)) ∙ take_all p.length ys (omega (arith, l)))
+
+pub within-longer : (xs ys : List PyTypeRef) (ps : List Part) → All (IsWithin xs) ps → All (IsWithin (xs ++ ys)) ps
+within-longer xs ys ps h =
+    let long = length-append xs ys in
+    All-weaker (IsWithin xs) (IsWithin (xs ++ ys)) (λ p w. let within = w.within in record { within = omega (arith, within, long) }) ps h
+
+-- a class that is read with its linearisation
+pub with-lines-at : (ks : List StoredClass) (ls : List (List ℕ)) (i : ℕ) (d : StoredClass) (e : List ℕ) → i < length ks → length ls ≡ length ks → get_or (with_lines ks ls) i d ≡ with_line (get_or ks i d) (get_or ls i e)
+with-lines-at [] ls i d e l n = absurd (omega (arith, l))
+with-lines-at (k ∷ ks) [] i d e l n = absurd (omega (arith, n))
+with-lines-at (k ∷ ks) (line ∷ ls) zero d e l n = refl
+with-lines-at (k ∷ ks) (line ∷ ls) (suc i) d e l n = with-lines-at ks ls i d e (omega (arith, l)) (omega (arith, n))
+
+pub with-lines-length : (ks : List StoredClass) (ls : List (List ℕ)) → length ls ≡ length ks → length (with_lines ks ls) ≡ length ks
+with-lines-length [] ls n = refl
+with-lines-length (k ∷ ks) [] n = absurd (omega (arith, n))
+with-lines-length (k ∷ ks) (line ∷ ls) n = ap suc (with-lines-length ks ls (omega (arith, n)))
+
+-- a class that is changed keeps its linearisation
+pub with-lines-set : (ks : List StoredClass) (ls : List (List ℕ)) (i : ℕ) (x : StoredClass) (e : List ℕ) → length ls ≡ length ks → with_lines (set ks i x) ls ≡ set (with_lines ks ls) i (with_line x (get_or ls i e))
+with-lines-set [] ls i x e n = refl
+with-lines-set (k ∷ ks) [] i x e n = absurd (omega (arith, n))
+with-lines-set (k ∷ ks) (line ∷ ls) zero x e n = refl
+with-lines-set (k ∷ ks) (line ∷ ls) (suc i) x e n = ap (λ t. with_line k line ∷ t) (with-lines-set ks ls i x e (omega (arith, n)))
+
+-- so a change of one class but for its linearisation is the same change of it as it is kept
+pub edited : (f : StoredClass → StoredClass) → ((k : StoredClass) (line : List ℕ) → with_line (f k) line ≡ f (with_line k line)) → (ks new : List StoredClass) (ls : List (List ℕ)) (i : ℕ) (d : StoredClass) → i < length ks → length ls ≡ length ks → new ≡ set ks i (f (get_or ks i d)) → with_lines new ls ≡ set (with_lines ks ls) i (f (get_or (with_lines ks ls) i d))
+edited f keeps ks new ls i d l n e =
+    ap (λ xs. with_lines xs ls) e
+    ∙ with-lines-set ks ls i (f (get_or ks i d)) [] n
+    ∙ ap (set (with_lines ks ls) i) (keeps (get_or ks i d) (get_or ls i []) ∙ ap f (sym (with-lines-at ks ls i d [] l n)))
+
+-- one class more
+pub with-lines-push : (ks : List StoredClass) (ls : List (List ℕ)) (k : StoredClass) (line : List ℕ) → length ls ≡ length ks → with_lines (ks ++ k ∷ []) (ls ++ line ∷ []) ≡ with_lines ks ls ++ with_line k line ∷ []
+with-lines-push [] [] k line n = refl
+with-lines-push [] (other ∷ ls) k line n = absurd (omega (arith, n))
+with-lines-push (j ∷ ks) [] k line n = absurd (omega (arith, n))
+with-lines-push (j ∷ ks) (other ∷ ls) k line n = ap (λ t. with_line j other ∷ t) (with-lines-push ks ls k line (omega (arith, n)))
+
+-- other linearisations for all
+pub with-lines-again : (ks : List StoredClass) (old new : List (List ℕ)) → length old ≡ length ks → length new ≡ length ks → with_lines ks new ≡ with_lines (with_lines ks old) new
+with-lines-again [] old new n m = refl
+with-lines-again (k ∷ ks) [] new n m = absurd (omega (arith, n))
+with-lines-again (k ∷ ks) (a ∷ old) [] n m = absurd (omega (arith, m))
+with-lines-again (k ∷ ks) (a ∷ old) (b ∷ new) n m = ap (λ t. with_line k b ∷ t) (with-lines-again ks old new (omega (arith, n)) (omega (arith, m)))
+
+pub with-lines-get : (ks : List StoredClass) (ls : List (List ℕ)) (i : ℕ) (k : StoredClass) (line : List ℕ) → slice_get ks i ≡ Some k → slice_get ls i ≡ Some line → slice_get (with_lines ks ls) i ≡ Some (with_line k line)
+with-lines-get [] ls i k line e f = cc
+with-lines-get (j ∷ ks) [] i k line e f = cc
+with-lines-get (j ∷ ks) (other ∷ ls) zero k line e f = cc
+with-lines-get (j ∷ ks) (other ∷ ls) (suc i) k line e f = with-lines-get ks ls i k line e f
