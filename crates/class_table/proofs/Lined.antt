@@ -1,14 +1,20 @@
 -- Linearisations in one array, and classes with their linearisations.
-use Rattle.std.proofs.Common.{◌≡◌, ℕ, zero, suc, ◌+◌, ◌-◌, ◌<◌, ◌≤◌, List, [], ◌∷◌, ◌++◌, Some, map, length, get_or, set, take, drop, refl, sym, ap, subst, ◌∙◌, arith}
+use Rattle.std.proofs.Common.{◌≡◌, ℕ, zero, suc, ◌+◌, ◌-◌, ◌<◌, ◌≤◌, List, [], ◌∷◌, ◌++◌, Some, None, Option, inl, inr, map, length, get_or, set, take, drop, refl, sym, ap, subst, ◌∙◌, arith}
 use Rattle.std.specs.Prelude.{slice_get}
 use Rattle.std.specs.List.{All}
-use Rattle.std.proofs.lemmas.List.{drop-append-le, take-append-le, drop_at, take_all, length-drop, length-append}
+use Rattle.std.proofs.lemmas.List.{drop-append-le, take-append-le, drop_at, take_all, length-drop, length-append, length-set}
 use Rattle.std.proofs.lemmas.List.Elements.{All-head, All-tail, All-weaker, All-push}
 use Rattle.py_node.specs.declared.refs.PyTypeRef.{PyTypeRef}
 use Rattle.class_table.specs.Keys.{numbers}
 use Rattle.class_table.specs.Stored.{StoredClass}
-use Rattle.class_table.specs.Lines.{part_of, IsWithin, with_line, with_lines}
+use Rattle.class_model.specs.Order.{Includes}
+use Rattle.class_table.specs.Renewed.{with_renewed, AreSwapped}
+use Rattle.class_table.specs.Lines.{part_of, IsWithin, with_line, with_lines, AreLinesOf}
 use Rattle.class_table.specs.declared.lines.Part.{Part}
+use Rattle.class_table.specs.declared.renew.Renewed.{Renewed}
+use Rattle.class_table.proofs.Places.{get-set_cases}
+use Rattle.class_table.proofs.Trials.{read-at}
+use Rattle.class_table.proofs.Descended.{Includes-at}
 
 -- a part of an array is that of a longer one
 part-stays : (xs ys : List PyTypeRef) (p : Part) → IsWithin xs p → part_of (xs ++ ys) p ≡ part_of xs p
@@ -78,3 +84,35 @@ with-lines-get [] ls i k line e f = cc
 with-lines-get (j ∷ ks) [] i k line e f = cc
 with-lines-get (j ∷ ks) (other ∷ ls) zero k line e f = cc
 with-lines-get (j ∷ ks) (other ∷ ls) (suc i) k line e f = with-lines-get ks ls i k line e f
+
+-- a change of one class but for its linearisation leaves what the linearisations are to be
+pub lines-of-edited : (f : StoredClass → StoredClass) → ((k : StoredClass) → (f k).mro ≡ k.mro) → (kept : List StoredClass) (at : ℕ) (k : StoredClass) → k ≡ get_or kept at k → at < length kept → (places : List ℕ) (renewed : List Renewed) (lines : List (List ℕ)) → AreLinesOf kept places renewed lines → AreLinesOf (set kept at (f k)) places renewed lines
+lines-of-edited f same kept at k held within places renewed lines are = record {
+  count = are.count ∙ sym (length-set kept at (f k));
+  at = are.at;
+  away = λ i x h e. elim (get-set_cases kept at (f k) i x e) [
+    | inl a ↦
+        let here : slice_get kept i ≡ Some k = ap (slice_get kept) a.0 ∙ read-at kept at k within held in
+        are.away i k h here ∙ ap Some (sym (same k) ∙ ap (λ (z : StoredClass). z.mro) a.1)
+    | inr b ↦ are.away i x h b.1
+  ];
+}
+
+-- the class at a place after all got their linearisations
+pub lined-get : (kept : List StoredClass) (lines : List (List ℕ)) (i : ℕ) (x : StoredClass) → slice_get (with_lines kept lines) i ≡ Some x → (k : StoredClass) × (line : List ℕ) × (slice_get kept i ≡ Some k) × (slice_get lines i ≡ Some line) × (x ≡ with_line k line)
+lined-get [] lines i x e = cc
+lined-get (j ∷ kept) [] i x e = cc
+lined-get (j ∷ kept) (line ∷ lines) zero x e = (j, line, refl, refl, cc)
+lined-get (j ∷ kept) (line ∷ lines) (suc i) x e = lined-get kept lines i x e
+
+-- so what is put in place but for the linearisations is put in place whole
+pub swapped-lined : (kept : List StoredClass) (lines : List (List ℕ)) (places : List ℕ) (renewed : List Renewed) (new : List StoredClass) → AreLinesOf kept places renewed lines → AreSwapped places renewed (with_lines kept lines) new → AreSwapped places renewed kept new
+swapped-lined kept lines places renewed new are s = record {
+  count = s.count ∙ with-lines-length kept lines are.count;
+  at = λ j i k r p e f.
+      let line = are.at j i r p f in
+      s.at j i (with_line k (numbers r.mro.items)) r p (with-lines-get kept lines i k (numbers r.mro.items) e line) f;
+  away = λ i k h e.
+      let line = are.away i k h e in
+      s.away i k h (with-lines-get kept lines i k k.mro e line);
+}

@@ -136,7 +136,11 @@ fn build(
 }
 
 // Notes a class as the last direct subclass of one that is there.
-fn note_in(classes: &mut StoredClasses, base: PyTypeRef, number: PyTypeRef) -> Result<(), OutOfMemory>
+fn note_in(
+    classes: &mut StoredClasses,
+    base: PyTypeRef,
+    number: PyTypeRef,
+) -> Result<(), OutOfMemory>
     requires ascending { is_ascending (classes_of classes.old) ≡ true }
     requires there { is_class (classes_of classes.old) base.0 ≡ true }
     ensures ok { OnOk result (classes.new ≡ noted (base.0 ∷ []) number.0 classes.old) }
@@ -153,14 +157,19 @@ fn note_in(classes: &mut StoredClasses, base: PyTypeRef, number: PyTypeRef) -> R
 fn forget_in(classes: &mut StoredClasses, base: PyTypeRef)
     requires ascending { is_ascending (classes_of classes.old) ≡ true }
     requires there { is_class (classes_of classes.old) base.0 ≡ true }
-    ensures { (n : ℕ) (kept : List StoredClass) → classes.old ≡ noted (base.0 ∷ []) n kept → classes.new ≡ kept }
+    ensures back { (n : ℕ) (kept : List StoredClass) → classes.old ≡ noted (base.0 ∷ []) n kept → classes.new ≡ kept }
+    ensures plain { classes_of classes.new ≡ classes_of classes.old }
 {
     let at = place(classes, base);
     classes.forget_subclass(at);
 }
 
 // Notes a class as the last direct subclass of each of its bases.
-fn note(classes: &mut StoredClasses, bases: &[PyTypeRef], number: PyTypeRef) -> Result<(), OutOfMemory>
+fn note(
+    classes: &mut StoredClasses,
+    bases: &[PyTypeRef],
+    number: PyTypeRef,
+) -> Result<(), OutOfMemory>
     requires ascending { is_ascending (classes_of classes.old) ≡ true }
     requires there { AreThere (classes_of classes.old) (numbers bases.now) }
     requires distinct { Distinct (numbers bases.now) }
@@ -187,7 +196,9 @@ fn forget(classes: &mut StoredClasses, bases: &[PyTypeRef])
     requires ascending { is_ascending (classes_of classes.old) ≡ true }
     requires there { AreThere (classes_of classes.old) (numbers bases.now) }
     requires distinct { Distinct (numbers bases.now) }
-    ensures { (n : ℕ) (kept : List StoredClass) → classes.old ≡ noted (numbers bases.now) n kept → classes.new ≡ kept }
+    ensures back { (n : ℕ) (kept : List StoredClass) → classes.old ≡ noted (numbers bases.now) n kept →
+        classes.new ≡ kept }
+    ensures plain { classes_of classes.new ≡ classes_of classes.old }
 {
     match bases {
         [] => {}

@@ -76,7 +76,11 @@ fn length_at(classes: &StoredClasses, at: usize) -> usize
 }
 
 // How long the linearisations of the classes at some places are.
-fn measured(classes: &StoredClasses, alloc: Global, places: &[usize]) -> Result<Vec<Ranked>, OutOfMemory>
+fn measured(
+    classes: &StoredClasses,
+    alloc: Global,
+    places: &[usize],
+) -> Result<Vec<Ranked>, OutOfMemory>
     requires { (i : ℕ) → Includes places.now i → i < length classes.now }
     ensures { IfOk result (λ v. AreMeasured classes.now places.now v.items) }
 {

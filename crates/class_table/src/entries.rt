@@ -48,7 +48,12 @@ fn own_wrapper(attrs: &PyAttributes, slot: SlotId) -> Option<SlotEntry>
 }
 
 // The same of a class by its number, where there is such a class.
-fn wrapper_at(classes: &StoredClasses, near: usize, class: PyTypeRef, slot: SlotId) -> Option<SlotEntry>
+fn wrapper_at(
+    classes: &StoredClasses,
+    near: usize,
+    class: PyTypeRef,
+    slot: SlotId,
+) -> Option<SlotEntry>
     requires { is_ascending (classes_of classes.now) ≡ true }
     ensures { result ≡ wrapped slot (own_of (is_name_of table_keys slot) (class_at (classes_of classes.now) class.0)) }
 {
@@ -96,7 +101,12 @@ fn heap_entry(
 }
 
 // What a class has in a slot by its attributes or as a native.
-fn given_entry(classes: &StoredClasses, near: usize, class: PyTypeRef, slot: SlotId) -> Option<SlotEntry>
+fn given_entry(
+    classes: &StoredClasses,
+    near: usize,
+    class: PyTypeRef,
+    slot: SlotId,
+) -> Option<SlotEntry>
     requires { HasLines classes.now }
     ensures { result ≡ given_entry table_keys natives_of (classes_of classes.now) slot class.0 }
 {

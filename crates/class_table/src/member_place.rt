@@ -26,7 +26,11 @@ impl ClassTable {
 }
 
 // The place that so many others come before in the objects of a class.
-pub(crate) fn place_at(classes: &StoredClasses, class: PyTypeRef, offset: usize) -> Option<MemberPlace>
+pub(crate) fn place_at(
+    classes: &StoredClasses,
+    class: PyTypeRef,
+    offset: usize,
+) -> Option<MemberPlace>
     requires coherent { IsCoherent classes.now }
     requires there { is_class (classes_of classes.now) class.0 ≡ true }
     ensures { option_map (λ p. (p.class.0, p.index)) result ≡ place_at (classes_of classes.now) class.0 offset }

@@ -40,7 +40,11 @@ pub(crate) fn likely(near: &[usize], index: usize) -> usize {
 }
 
 // The same, where the class is likely kept at a place.
-pub(crate) fn find_near(classes: &StoredClasses, near: usize, class: PyTypeRef) -> Option<StoredRef<'_>>
+pub(crate) fn find_near(
+    classes: &StoredClasses,
+    near: usize,
+    class: PyTypeRef,
+) -> Option<StoredRef<'_>>
     requires { is_ascending (classes_of classes.now) ≡ true }
     ensures here { IfSome result (λ k. IsHere classes.now class.0 k) }
     ensures class { option_map class_of result ≡ class_at (classes_of classes.now) class.0 }

@@ -169,7 +169,11 @@ fn add_along<L: Ledger>(
 }
 
 // What each special name finds for the class at a place: `__new__` in the class alone, another one along its linearisation.
-pub(crate) fn values_for<L: Ledger>(classes: &StoredClasses, at: usize, steps: &mut Steps<L>) -> Values
+pub(crate) fn values_for<L: Ledger>(
+    classes: &StoredClasses,
+    at: usize,
+    steps: &mut Steps<L>,
+) -> Values
     requires lines { HasLines classes.now }
     requires inside { at < length classes.now }
     ensures found { (d : StoredClass) → AreFound (classes_of classes.now)

@@ -76,7 +76,11 @@ pub(crate) fn value_past(
 }
 
 // What a class itself has in a slot, as it is kept.
-pub(crate) fn own_entry(classes: &StoredClasses, class: PyTypeRef, slot: SlotId) -> Option<SlotEntry>
+pub(crate) fn own_entry(
+    classes: &StoredClasses,
+    class: PyTypeRef,
+    slot: SlotId,
+) -> Option<SlotEntry>
     requires coherent { IsCoherent classes.now }
     requires there { is_class (classes_of classes.now) class.0 ≡ true }
     ensures { result ≡ entry table_keys natives_of (classes_of classes.now) class.0 slot }

@@ -26,9 +26,9 @@ use crate::dict::keeps_dict;
 use crate::fault::ClassFault;
 use crate::heap::is_heap;
 use crate::inherit::{best_base, inherited};
+use crate::lines::Lines;
 use crate::place::{place, stored_at};
 use crate::place_set::PlaceSet;
-use crate::lines::Lines;
 use crate::renew::{Renewed, lines_under, renew_all, swap_in};
 use crate::settle::settle_all;
 use crate::steps::Steps;
@@ -104,7 +104,11 @@ fn test_change(
 }
 
 // The same of a class that a script made, with bases none of which derives from it.
-fn test_shape(classes: &StoredClasses, class: PyTypeRef, bases: &[PyTypeRef]) -> Result<PyTypeRef, Cause>
+fn test_shape(
+    classes: &StoredClasses,
+    class: PyTypeRef,
+    bases: &[PyTypeRef],
+) -> Result<PyTypeRef, Cause>
     requires coherent { IsCoherent classes.now }
     requires own { is_class (classes_of classes.now) class.0 ≡ true }
     requires there { AreThere (classes_of classes.now) (numbers bases.now) }

@@ -72,7 +72,12 @@ fn settle_uncounted<L: Ledger>(classes: &mut StoredClasses, at: usize, blank: Bl
 }
 
 // What a class has in a slot by its attributes or as a native: for a class that a script made it is what is kept.
-fn kept_entry(classes: &StoredClasses, near: usize, class: PyTypeRef, slot: SlotId) -> Option<SlotEntry>
+fn kept_entry(
+    classes: &StoredClasses,
+    near: usize,
+    class: PyTypeRef,
+    slot: SlotId,
+) -> Option<SlotEntry>
     requires lines { HasLines classes.now }
     requires heaps { AreHeapsSettled classes.now }
     ensures { result ≡ given_entry table_keys natives_of (classes_of classes.now) slot class.0 }
@@ -192,7 +197,11 @@ fn settle_statics(classes: &mut StoredClasses, ranked: &[Ranked])
 
 // Finds every slot of the classes at some places: first of those that a script made, from which the others take what
 // they lack.
-pub(crate) fn settle_all<L: Ledger>(classes: &mut StoredClasses, ranked: &[Ranked], steps: &mut Steps<L>)
+pub(crate) fn settle_all<L: Ledger>(
+    classes: &mut StoredClasses,
+    ranked: &[Ranked],
+    steps: &mut Steps<L>,
+)
     requires lines { HasLines classes.old }
     requires full { (i : ℕ) (k : StoredClass) → slice_get classes.old i ≡ Some k → length k.slots ≡ slot_count }
     requires inside { (j : ℕ) (r : Ranked) → slice_get ranked.now j ≡ Some r → r.place < length classes.old }

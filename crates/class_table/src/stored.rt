@@ -4,6 +4,7 @@ ghost use Rattle.std.specs.Prelude.{◌≡◌, ℕ, List, ◌++◌, ◌∷◌, [
 ghost use Rattle.py_node.specs.Attributes.{value_of, with_value, without_key, is_same_name};
 ghost use Rattle.py_node.specs.Slots.{place_of};
 ghost use Rattle.class_model.specs.Order.{has};
+ghost use Rattle.class_table.specs.Stored.{class_of};
 ghost use Rattle.class_table.specs.Keys.{numbers};
 ghost use Rattle.class_table.specs.Renewed.{renewed_but_line};
 
@@ -97,7 +98,8 @@ impl Stored {
 
     // Takes the last direct subclass off.
     pub(crate) fn forget_subclass(&mut self)
-        ensures { (class : ℕ) (subclasses : List ℕ) → self.old.subclasses ≡ subclasses ++ class ∷ [] → self.new ≡
+        ensures plain { class_of self.new ≡ class_of self.old }
+        ensures back { (class : ℕ) (subclasses : List ℕ) → self.old.subclasses ≡ subclasses ++ class ∷ [] → self.new ≡
             record self.old { subclasses = subclasses } }
     {
         self.subclasses.pop();

@@ -172,7 +172,8 @@ impl StoredClasses {
     // Takes the last direct subclass of the class at a place off.
     pub(crate) fn forget_subclass(&mut self, at: usize)
         requires { at < length self.old }
-        ensures { (d : StoredClass) (class : ℕ) (subclasses : List ℕ) →
+        ensures plain { classes_of self.new ≡ classes_of self.old }
+        ensures back { (d : StoredClass) (class : ℕ) (subclasses : List ℕ) →
             (slice_index_or self.old at d).subclasses ≡ subclasses ++ class ∷ [] → self.new ≡
             slice_set self.old at (record (slice_index_or self.old at d) { subclasses = subclasses }) }
     {

@@ -8,6 +8,6 @@ use Rattle.class_table.proofs.place.find_near.Goals as goal
 
 pub returns-then-number-class-clause-class : goal.returns-then-number-class-clause-class
 returns-then-number-class-clause-class c =
-    let k = c.index-classes-near.result in
-    let there : slice_get c.args.classes.now c.args.near ≡ Some k = slice_get-get_or c.args.classes.now c.args.near k c.if-near-classes.true ∙ ap Some (sym c.index-classes-near.is) in
+    let k = c.at-stored.result in
+    let there : slice_get c.args.classes.now c.args.near ≡ Some k = slice_get-get_or c.args.classes.now c.args.near k c.if-near-classes.true ∙ ap Some (sym c.at-stored.ensures) in
     sym (ap (class_at (classes_of c.args.classes.now)) (sym (sym c.number.ensures ∙ c.if-number-class.true)) ∙ place-class c.args.classes.now c.requires c.args.near k there)

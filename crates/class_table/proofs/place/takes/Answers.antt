@@ -8,4 +8,4 @@ pub returns-else-is_empty : goal.returns-else-is_empty
 returns-else-is_empty c =
     let some : length c.args.classes.now ≡ 0 → ⊥ = eqb-false (length c.args.classes.now) 0 (sym c.is_empty.ensures ∙ c.if-is_empty.false) in
     let size : length c.args.classes.now ≡ suc (length c.args.classes.now - 1) = omega arith in
-    ap (λ n. nat_lt n c.args.number.0) c.number.ensures ∙ limit-place c.args.classes.now c.requires (length c.args.classes.now - 1) c.args.number.0 c.index-classes-classes.result size c.index-classes-classes.is
+    ap (λ n. nat_lt n c.args.number.0) c.number.ensures ∙ limit-place c.args.classes.now c.requires (length c.args.classes.now - 1) c.args.number.0 c.at.result size c.at.ensures

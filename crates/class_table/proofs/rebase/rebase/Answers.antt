@@ -1,4 +1,4 @@
-use Rattle.std.proofs.Common.{◌≡◌, ℕ, List, Some, None, sym, ap, ◌∙◌}
+use Rattle.std.proofs.Common.{refl, ◌≡◌, ℕ, List, Some, None, sym, ap, ◌∙◌}
 use Rattle.std.specs.Prelude.{is_some, IsSome, option_map}
 use Rattle.py_node.specs.declared.refs.PyStrInterned.{PyStrInterned}
 use Rattle.class_model.specs.Class.{Classes}
@@ -19,4 +19,4 @@ not-early t u c bs ds p q none some =
 
 pub returns-clause-uncounted : goal.returns-clause-uncounted
 returns-clause-uncounted g c = λ some.
-    absurd (not-early _ _ c.args.class.0 _ _ (ap classes_of c.deref.ensures.value) (ap numbers c.deref-2.ensures.value) c.in-Ok.ensures.refused some)
+    absurd (not-early _ _ c.args.class.0 _ _ refl (ap numbers c.deref.ensures.value) c.in-Ok.ensures.refused some)

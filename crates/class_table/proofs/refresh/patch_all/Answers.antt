@@ -18,8 +18,8 @@ loop-place-preserved c =
     let orig = c.args.classes.now in
     let cur = c.loop-place.classes in
     let n = c.loop-place.place in
-    let x = c.index-classes-place.result in
-    let held = c.index-classes-place.is in
+    let x = c.at.result in
+    let held = c.at.ensures in
     let inside : n < length cur = omega arith in
     elim c.if-derives.branch [
       | then-derives w ↦
@@ -43,8 +43,8 @@ pub patch-requires : goal.patch-requires
 patch-requires c =
     let cur = c.loop-place.classes in
     let n = c.loop-place.place in
-    let x = c.index-classes-place.result in
-    let held = c.index-classes-place.is in
+    let x = c.at.result in
+    let held = c.at.ensures in
     let inside : n < length cur = omega arith in
     record {
       lines = c.loop-place.invariant.lines;

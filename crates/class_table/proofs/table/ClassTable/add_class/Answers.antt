@@ -23,14 +23,14 @@ pub unreachable-requires : goal.unreachable-requires
 unreachable-requires c =
     let bases = c.args.new.bases.items in
     let h = rw c.in-Err-Refused.field-0-is at c.in-Err-Refused.ensures.refused in
-    let none = one-allowed (classes_of c.self.inside.classes.items) c.self.invariant.0.sound c.args.new.number.0 bases c.requires.one (subst (λ u. IsBelow u c.args.new.number.0 (numbers bases)) (sym c.self.view_is) c.requires.below) in
+    let none = one-allowed (classes_of c.self.inside.classes) c.self.invariant.0.sound c.args.new.number.0 bases c.requires.one (subst (λ u. IsBelow u c.args.new.number.0 (numbers bases)) (sym c.self.view_is) c.requires.below) in
     cc (h, none)
 
 pub unreachable-requires-in-Err-RefusedAt : goal.unreachable-requires-in-Err-RefusedAt
 unreachable-requires-in-Err-RefusedAt c =
     let bases = c.args.new.bases.items in
     let h = rw c.in-Err-RefusedAt.field-0-is at c.in-Err-RefusedAt.ensures.refused in
-    let none = one-allowed (classes_of c.self.inside.classes.items) c.self.invariant.0.sound c.args.new.number.0 bases c.requires.one (subst (λ u. IsBelow u c.args.new.number.0 (numbers bases)) (sym c.self.view_is) c.requires.below) in
+    let none = one-allowed (classes_of c.self.inside.classes) c.self.invariant.0.sound c.args.new.number.0 bases c.requires.one (subst (λ u. IsBelow u c.args.new.number.0 (numbers bases)) (sym c.self.view_is) c.requires.below) in
     cc (h, none)
 
 pub invariant_of-self : goal.invariant_of-self
