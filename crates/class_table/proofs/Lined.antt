@@ -12,6 +12,7 @@ use Rattle.class_table.specs.Renewed.{with_renewed, AreSwapped}
 use Rattle.class_table.specs.Lines.{part_of, IsWithin, with_line, with_lines, AreLinesOf}
 use Rattle.class_table.specs.declared.lines.Part.{Part}
 use Rattle.class_table.specs.declared.renew.Renewed.{Renewed}
+use Rattle.class_table.proofs.Found.{element}
 use Rattle.class_table.proofs.Places.{get-set_cases}
 use Rattle.class_table.proofs.Trials.{read-at}
 use Rattle.class_table.proofs.Descended.{Includes-at}
@@ -116,3 +117,19 @@ swapped-lined kept lines places renewed new are s = record {
       let line = are.away i k h e in
       s.away i k h (with-lines-get kept lines i k k.mro e line);
 }
+
+-- a change of one class, as the classes are seen
+pub inside-of : (ks kept : List StoredClass) (ls : List (List ℕ)) (at : ℕ) → with_lines ks ls ≡ kept → length ls ≡ length ks → at < length kept → at < length ks
+inside-of ks kept ls at view count l =
+    let n : length kept ≡ length ks = ap length (sym view) ∙ with-lines-length ks ls count in
+    omega (arith, l, n)
+
+pub edited-seen : (f : StoredClass → StoredClass) → ((k : StoredClass) (line : List ℕ) → with_line (f k) line ≡ f (with_line k line)) → (ks kept : List StoredClass) (ls : List (List ℕ)) (at : ℕ) → with_lines ks ls ≡ kept → length ls ≡ length ks → at < length kept → (new : List StoredClass) → ((d : StoredClass) → new ≡ set ks at (f (get_or ks at d))) → (d : StoredClass) → with_lines new ls ≡ set kept at (f (get_or kept at d))
+edited-seen f keeps ks kept ls at view count l new is d =
+    let P : List StoredClass → Type 0 = λ ys. with_lines new ls ≡ set ys at (f (get_or ys at d)) in
+    subst P view (edited f keeps ks new ls at d (inside-of ks kept ls at view count l) count (is d))
+
+pub edited-count : (f : StoredClass → StoredClass) (ks kept : List StoredClass) (ls : List (List ℕ)) (at : ℕ) → with_lines ks ls ≡ kept → length ls ≡ length ks → at < length kept → (new : List StoredClass) → ((d : StoredClass) → new ≡ set ks at (f (get_or ks at d))) → length ls ≡ length new
+edited-count f ks kept ls at view count l new is =
+    let d = element kept at l in
+    count ∙ sym (ap length (is d) ∙ length-set ks at (f (get_or ks at d)))

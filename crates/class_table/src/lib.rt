@@ -12,6 +12,7 @@ pub mod collect;
 pub mod count;
 pub mod descendants;
 pub mod dict;
+pub mod edit;
 pub mod entries;
 pub mod fault;
 pub mod heap;

@@ -5,10 +5,12 @@ ghost use Rattle.py_node.specs.Attributes.{value_of, with_value, without_key, is
 ghost use Rattle.py_node.specs.Slots.{place_of};
 ghost use Rattle.class_model.specs.Class.{class_at};
 ghost use Rattle.class_model.specs.Numbers.{is_ascending};
-ghost use Rattle.class_table.specs.Keys.{numbers, number_of};
+ghost use Rattle.class_table.specs.Keys.{numbers};
 ghost use Rattle.class_table.specs.Lines.{with_lines};
+ghost use Rattle.class_table.specs.Renewed.{renewed_but_line};
 ghost use Rattle.class_table.specs.Stored.{StoredClass, number_at, classes_of};
 
+use crate::edit;
 use crate::lines::Lines;
 use crate::renew::Renewed;
 use crate::stored::Stored;
@@ -154,7 +156,7 @@ impl StoredClasses {
           slots = slice_set (slice_index_or self.old at d).slots (place_of slot) entry;
         }) }
     {
-        self.classes[at].set_slot(slot, entry);
+        edit::set_slot(&mut self.classes, at, slot, entry);
     }
 
     // Notes a direct subclass of the class at a place.
@@ -166,7 +168,7 @@ impl StoredClasses {
             })) }
         ensures err { OnErr result (self.new ≡ self.old) }
     {
-        self.classes[at].add_subclass(class)
+        edit::add_subclass(&mut self.classes, at, class)
     }
 
     // Takes the last direct subclass of the class at a place off.
@@ -177,7 +179,7 @@ impl StoredClasses {
             (slice_index_or self.old at d).subclasses ≡ subclasses ++ class ∷ [] → self.new ≡
             slice_set self.old at (record (slice_index_or self.old at d) { subclasses = subclasses }) }
     {
-        self.classes[at].forget_subclass();
+        edit::forget_subclass(&mut self.classes, at);
     }
 
     // Gives the class at a place other bases, and leaves what follows from them.
@@ -186,19 +188,16 @@ impl StoredClasses {
         ensures { (d : StoredClass) → self.new ≡
             slice_set self.old at (record (slice_index_or self.old at d) { bases = numbers bases.items }) }
     {
-        self.classes[at].set_bases(bases);
+        edit::set_bases(&mut self.classes, at, bases);
     }
 
     // Gives the class at a place what follows from other bases, but for its linearisation and its slots.
     pub(crate) fn renew(&mut self, at: usize, renewed: &mut Renewed)
         requires { at < length self.old }
-        ensures { (d : StoredClass) → self.new ≡ slice_set self.old at (record (slice_index_or self.old at d) {
-          base = number_of renewed.old.base;
-          subclasses = numbers renewed.old.subclasses.items;
-          places = renewed.old.places;
-        }) }
+        ensures { (d : StoredClass) → self.new ≡
+            slice_set self.old at (renewed_but_line renewed.old (slice_index_or self.old at d)) }
     {
-        self.classes[at].renew(renewed);
+        edit::renew(&mut self.classes, at, renewed);
     }
 
     // Gives the class at a place another name.
@@ -207,7 +206,7 @@ impl StoredClasses {
         ensures { (d : StoredClass) → self.new ≡
             slice_set self.old at (record (slice_index_or self.old at d) { name = string_bytes name }) }
     {
-        self.classes[at].set_name(name);
+        edit::set_name(&mut self.classes, at, name);
     }
 
     // Gives an own attribute of the class at a place a value.
@@ -224,7 +223,7 @@ impl StoredClasses {
             })) }
         ensures err { OnErr result (self.new ≡ self.old) }
     {
-        self.classes[at].set_attr(name, value)
+        edit::set_attr(&mut self.classes, at, name, value)
     }
 
     // Takes an own attribute of the class at a place out, if it is there.
@@ -236,6 +235,6 @@ impl StoredClasses {
           attrs = without_key is_same_name (slice_index_or self.old at d).attrs name;
         }) }
     {
-        self.classes[at].remove_attr(name)
+        edit::remove_attr(&mut self.classes, at, name)
     }
 }
