@@ -1,12 +1,12 @@
 -- Linearisations in one array, and classes with their linearisations.
-use Rattle.std.proofs.Common.{◌≡◌, ℕ, zero, suc, ◌+◌, ◌-◌, ◌<◌, ◌≤◌, List, [], ◌∷◌, ◌++◌, Some, None, Option, inl, inr, map, length, get_or, set, take, drop, refl, sym, ap, subst, ◌∙◌, arith}
+use Rattle.std.proofs.Common.{◌≡◌, ℕ, zero, suc, ◌+◌, ◌-◌, ◌<◌, ◌≤◌, List, [], ◌∷◌, ◌++◌, Some, None, Option, Result, Ok, Err, OnOk, OnErr, inl, inr, map, length, get_or, set, take, drop, refl, sym, ap, subst, ◌∙◌, arith}
 use Rattle.std.specs.Prelude.{slice_get}
 use Rattle.std.specs.List.{All}
-use Rattle.std.proofs.lemmas.List.{drop-append-le, take-append-le, drop_at, take_all, length-drop, length-append, length-set}
+use Rattle.std.proofs.lemmas.List.{drop-append-le, take-append-le, drop_at, take_all, length-drop, length-append, length-set, length-map, map_push}
 use Rattle.std.proofs.lemmas.List.Elements.{All-head, All-tail, All-weaker, All-push}
 use Rattle.py_node.specs.declared.refs.PyTypeRef.{PyTypeRef}
 use Rattle.class_table.specs.Keys.{numbers}
-use Rattle.class_table.specs.Stored.{StoredClass}
+use Rattle.class_table.specs.Stored.{StoredClass, class_of, classes_of}
 use Rattle.class_model.specs.Order.{Includes}
 use Rattle.class_table.specs.Renewed.{with_renewed, AreSwapped}
 use Rattle.class_table.specs.Lines.{part_of, IsWithin, with_line, with_lines, AreLinesOf}
@@ -133,3 +133,46 @@ pub edited-count : (f : StoredClass → StoredClass) (ks kept : List StoredClass
 edited-count f ks kept ls at view count l new is =
     let d = element kept at l in
     count ∙ sym (ap length (is d) ∙ length-set ks at (f (get_or ks at d)))
+
+-- the same of a change that may fail
+pub edited-ok : {X Y : Type 0} (f : StoredClass → StoredClass) → ((k : StoredClass) (line : List ℕ) → with_line (f k) line ≡ f (with_line k line)) → (ks kept : List StoredClass) (ls : List (List ℕ)) (at : ℕ) → with_lines ks ls ≡ kept → length ls ≡ length ks → at < length kept → (new : List StoredClass) (answer : Result X Y) → OnOk answer ((d : StoredClass) → new ≡ set ks at (f (get_or ks at d))) → OnOk answer ((d : StoredClass) → with_lines new ls ≡ set kept at (f (get_or kept at d)))
+edited-ok f keeps ks kept ls at view count l new (Ok x) is = edited-seen f keeps ks kept ls at view count l new is
+edited-ok f keeps ks kept ls at view count l new (Err e) is = tt
+
+pub edited-err : {X Y : Type 0} (ks kept new : List StoredClass) (ls : List (List ℕ)) → with_lines ks ls ≡ kept → (answer : Result X Y) → OnErr answer (new ≡ ks) → OnErr answer (with_lines new ls ≡ kept)
+edited-err ks kept new ls view (Ok x) same = tt
+edited-err ks kept new ls view (Err e) same = ap (λ ys. with_lines ys ls) same ∙ view
+
+pub edited-either : {X Y : Type 0} (f : StoredClass → StoredClass) (ks kept : List StoredClass) (ls : List (List ℕ)) (at : ℕ) → with_lines ks ls ≡ kept → length ls ≡ length ks → at < length kept → (new : List StoredClass) (answer : Result X Y) → OnOk answer ((d : StoredClass) → new ≡ set ks at (f (get_or ks at d))) → OnErr answer (new ≡ ks) → length ls ≡ length new
+edited-either f ks kept ls at view count l new (Ok x) is same = edited-count f ks kept ls at view count l new is
+edited-either f ks kept ls at view count l new (Err e) is same = count ∙ ap length (sym same)
+
+-- what is kept of classes but for their linearisations tells which classes they are
+pub plain-lines : (ks new : List StoredClass) (ls : List (List ℕ)) → classes_of new ≡ classes_of ks → length ls ≡ length ks → classes_of (with_lines new ls) ≡ classes_of (with_lines ks ls)
+plain-lines ks new ls same count =
+    let n : length new ≡ length ks = sym (length-map new class_of) ∙ ap length same ∙ length-map ks class_of in
+    plain-of new ls (count ∙ sym n) ∙ same ∙ sym (plain-of ks ls count)
+  where
+    plain-of : (ys : List StoredClass) (ms : List (List ℕ)) → length ms ≡ length ys → classes_of (with_lines ys ms) ≡ classes_of ys
+    plain-of [] ms n = refl
+    plain-of (y ∷ ys) [] n = absurd (omega (arith, n))
+    plain-of (y ∷ ys) (m ∷ ms) n = ap (λ t. class_of y ∷ t) (plain-of ys ms (omega (arith, n)))
+
+-- the linearisation of a class that got its own
+pub lined-line : (kept : List StoredClass) (lines : List (List ℕ)) (places : List ℕ) (renewed : List Renewed) → AreLinesOf kept places renewed lines → (j i : ℕ) (r : Renewed) → slice_get places j ≡ Some i → slice_get renewed j ≡ Some r → (x : StoredClass) → slice_get (with_lines kept lines) i ≡ Some x → x.mro ≡ numbers r.mro.items
+lined-line kept lines places renewed are j i r p f x e =
+    let g = lined-get kept lines i x e in
+    let line : g.1 ≡ numbers r.mro.items = let a = are.at j i r p f in let b = g.3 in cc in
+    ap (λ (z : StoredClass). z.mro) g.4 ∙ line
+
+-- one linearisation more in the array
+pub lines-added : (array more : List PyTypeRef) (parts : List Part) (p : Part) → All (IsWithin array) parts → p.start ≡ length array → p.length ≡ length more → map (part_of (array ++ more)) (parts ++ p ∷ []) ≡ map (part_of array) parts ++ numbers more ∷ []
+lines-added array more parts p h s l =
+    map_push (part_of (array ++ more)) parts p
+    ∙ ap (λ ls. ls ++ part_of (array ++ more) p ∷ []) (parts-stay array more parts h)
+    ∙ ap (λ line. map (part_of array) parts ++ line ∷ []) (part-added array more p s l)
+
+pub within-added : (array more : List PyTypeRef) (parts : List Part) (p : Part) → All (IsWithin array) parts → p.start ≡ length array → p.length ≡ length more → All (IsWithin (array ++ more)) (parts ++ p ∷ [])
+within-added array more parts p h s l =
+    let long = length-append array more in
+    All-push (IsWithin (array ++ more)) parts p (within-longer array more parts h) (record { within = omega (arith, s, l, long) })
