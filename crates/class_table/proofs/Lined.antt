@@ -7,13 +7,16 @@ use Rattle.std.proofs.lemmas.List.Elements.{All-head, All-tail, All-weaker, All-
 use Rattle.py_node.specs.declared.refs.PyTypeRef.{PyTypeRef}
 use Rattle.class_table.specs.Keys.{numbers}
 use Rattle.class_table.specs.Stored.{StoredClass, class_of, classes_of}
-use Rattle.class_model.specs.Order.{Includes}
+use Rattle.std.proofs.lemmas.Bool.{cases_eq}
+use Rattle.std.proofs.lemmas.Option.{slice_get_within}
+use Rattle.class_model.specs.Order.{Includes, Distinct}
 use Rattle.class_table.specs.Renewed.{with_renewed, AreSwapped}
 use Rattle.class_table.specs.Lines.{part_of, IsWithin, with_line, with_lines, AreLinesOf}
 use Rattle.class_table.specs.declared.lines.Part.{Part}
 use Rattle.class_table.specs.declared.renew.Renewed.{Renewed}
 use Rattle.class_table.proofs.Found.{element}
 use Rattle.class_table.proofs.Places.{get-set_cases}
+use Rattle.class_table.proofs.Swapped.{distinct-at}
 use Rattle.class_table.proofs.Trials.{read-at}
 use Rattle.class_table.proofs.Descended.{Includes-at}
 
@@ -176,3 +179,73 @@ pub within-added : (array more : List PyTypeRef) (parts : List Part) (p : Part) 
 within-added array more parts p h s l =
     let long = length-append array more in
     All-push (IsWithin (array ++ more)) parts p (within-longer array more parts h) (record { within = omega (arith, s, l, long) })
+
+get-push_old : {A : Type 0} (xs : List A) (y : A) (i : ℕ) (z : A) → slice_get xs i ≡ Some z → slice_get (xs ++ y ∷ []) i ≡ Some z
+get-push_old [] y i z e = cc
+get-push_old (x ∷ xs) y zero z e = e
+get-push_old (x ∷ xs) y (suc i) z e = get-push_old xs y i z e
+
+get-push_new : {A : Type 0} (xs : List A) (y : A) (i : ℕ) → i ≡ length xs → slice_get (xs ++ y ∷ []) i ≡ Some y
+get-push_new [] y zero e = refl
+get-push_new [] y (suc i) e = absurd (omega (arith, e))
+get-push_new (x ∷ xs) y zero e = absurd (omega (arith, e))
+get-push_new (x ∷ xs) y (suc i) e = get-push_new xs y i (omega (arith, e))
+
+-- the linearisations of the first classes
+pub record LinesTo (kept : List StoredClass) (places : List ℕ) (renewed : List Renewed) (n : ℕ) (lines : List (List ℕ)) : Type 0 where
+  pub count : length lines ≡ n
+  pub at : (j i : ℕ) (r : Renewed) → i < n → slice_get places j ≡ Some i → slice_get renewed j ≡ Some r → slice_get lines i ≡ Some (numbers r.mro.items)
+  pub away : (i : ℕ) (k : StoredClass) → i < n → (Includes places i → ⊥) → slice_get kept i ≡ Some k → slice_get lines i ≡ Some k.mro
+
+pub lines-start : (kept : List StoredClass) (places : List ℕ) (renewed : List Renewed) (lines : List (List ℕ)) → lines ≡ [] → LinesTo kept places renewed 0 lines
+lines-start kept places renewed lines e = record { count = ap length e; at = λ j i r l p f. absurd (omega (arith, l)); away = λ i k l h f. absurd (omega (arith, l)) }
+
+module _ (kept : List StoredClass) (places : List ℕ) (renewed : List Renewed) (n : ℕ) (lines new : List (List ℕ)) (line : List ℕ) (so : LinesTo kept places renewed n lines) (is : new ≡ lines ++ line ∷ []) where
+  count-next : length new ≡ n + 1
+  count-next = let a = length-append lines (line ∷ []) in let b = so.count in ap length is ∙ omega (arith, a, b)
+
+  before : (i : ℕ) (l : List ℕ) → slice_get lines i ≡ Some l → slice_get new i ≡ Some l
+  before i l e = ap (λ ys. slice_get ys i) is ∙ get-push_old lines line i l e
+
+  last : slice_get new n ≡ Some line
+  last = ap (λ ys. slice_get ys n) is ∙ get-push_new lines line n (sym so.count)
+
+  -- one that is made anew
+  pub lines-made : Distinct places → (index : ℕ) (r : Renewed) → slice_get places index ≡ Some n → slice_get renewed index ≡ Some r → line ≡ numbers r.mro.items → LinesTo kept places renewed (n + 1) new
+  lines-made d index r p f e = record {
+    count = count-next;
+    at = λ j i q l a b. elim (cases_eq i n) [
+      | inl w ↦
+          let same : j ≡ index = distinct-at places d j index n (a ∙ ap Some w) p in
+          let one : r ≡ q = let u = ap (slice_get renewed) same in cc in
+          ap (slice_get new) w ∙ last ∙ ap Some (e ∙ ap (λ (z : Renewed). numbers z.mro.items) one)
+      | inr w ↦ before i _ (so.at j i q (omega (arith, l, w)) a b)
+    ];
+    away = λ i k l h a. elim (cases_eq i n) [
+      | inl w ↦ absurd (h (Includes-at places index i (p ∙ ap Some (sym w))))
+      | inr w ↦ before i k.mro (so.away i k (omega (arith, l, w)) h a)
+    ];
+  }
+
+  -- one of now
+  pub lines-kept : (Includes places n → ⊥) → (k : StoredClass) → slice_get kept n ≡ Some k → line ≡ k.mro → LinesTo kept places renewed (n + 1) new
+  lines-kept out k here e = record {
+    count = count-next;
+    at = λ j i q l a b. elim (cases_eq i n) [
+      | inl w ↦ absurd (out (Includes-at places j n (a ∙ ap Some w)))
+      | inr w ↦ before i _ (so.at j i q (omega (arith, l, w)) a b)
+    ];
+    away = λ i x l h a. elim (cases_eq i n) [
+      | inl w ↦
+          let same : k ≡ x = let u = ap (slice_get kept) w in cc in
+          ap (slice_get new) w ∙ last ∙ ap Some (e ∙ ap (λ (z : StoredClass). z.mro) same)
+      | inr w ↦ before i x.mro (so.away i x (omega (arith, l, w)) h a)
+    ];
+  }
+
+pub lines-end : (kept : List StoredClass) (places : List ℕ) (renewed : List Renewed) (n : ℕ) (lines : List (List ℕ)) → LinesTo kept places renewed n lines → length kept ≤ n → n ≤ length kept → ((i : ℕ) → Includes places i → i < length kept) → AreLinesOf kept places renewed lines
+lines-end kept places renewed n lines so low high inside = record {
+  count = let c = so.count in omega (arith, c, low, high);
+  at = λ j i r p f. let l = inside i (Includes-at places j i p) in so.at j i r (omega (arith, l, low)) p f;
+  away = λ i k h e. let l = slice_get_within kept i k e in so.away i k (omega (arith, l, low)) h e;
+}

@@ -15,7 +15,7 @@ use Rattle.class_table.proofs.Trials.{read-is}
 use Rattle.class_table.proofs.Descended.{Includes-at}
 
 -- in a list without repeats an element has one place
-distinct-at : (ps : List ℕ) → Distinct ps → (i j p : ℕ) → slice_get ps i ≡ Some p → slice_get ps j ≡ Some p → i ≡ j
+pub distinct-at : (ps : List ℕ) → Distinct ps → (i j p : ℕ) → slice_get ps i ≡ Some p → slice_get ps j ≡ Some p → i ≡ j
 distinct-at [] d i j p e f = cc
 distinct-at (x ∷ ps) d zero zero p e f = refl
 distinct-at (x ∷ ps) d zero (suc j) p e f = let q : p ≡ x = cc in absurd (d.0 (Includes-equal ps p x q (Includes-at ps j p f)))

@@ -54,7 +54,10 @@ impl PlaceSet {
     pub(crate) fn index_of(&self, place: usize) -> Option<usize>
         ensures there { IfSome result (λ j. slice_get self.now j ≡ Some place) }
         ensures none { IfNone result (Includes self.now place → ⊥) }
+        ensures distinct { Distinct self.now }
     {
+        // (that the keys differ is told by a call of the set)
+        let _count = self.places.len();
         self.places.get_index_of(place)
     }
 

@@ -231,7 +231,8 @@ pub(crate) fn lines_under(
     places: &PlaceSet,
     renewed: &[Renewed],
 ) -> Result<Lines, OutOfMemory>
-    requires { length renewed.now ≡ length places.now }
+    requires count { length renewed.now ≡ length places.now }
+    requires inside { (i : ℕ) → Includes places.now i → i < length classes.now }
     ensures { IfOk result (λ lines. AreLinesOf classes.now places.now renewed.now lines) }
 {
     let mut lines = Lines::new(alloc);
