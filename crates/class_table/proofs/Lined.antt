@@ -11,7 +11,7 @@ use Rattle.std.proofs.lemmas.Bool.{cases_eq}
 use Rattle.std.proofs.lemmas.Option.{slice_get_within}
 use Rattle.class_model.specs.Order.{Includes, Distinct}
 use Rattle.class_table.specs.Renewed.{with_renewed, AreSwapped}
-use Rattle.class_table.specs.Lines.{part_of, IsWithin, with_line, with_lines, AreLinesOf}
+use Rattle.class_table.specs.Lines.{part_of, IsWithin, with_line, with_lines, AreLinesOf, AreLinesTo}
 use Rattle.class_table.specs.declared.lines.Part.{Part}
 use Rattle.class_table.specs.declared.renew.Renewed.{Renewed}
 use Rattle.class_table.proofs.Found.{element}
@@ -191,16 +191,10 @@ get-push_new [] y (suc i) e = absurd (omega (arith, e))
 get-push_new (x ∷ xs) y zero e = absurd (omega (arith, e))
 get-push_new (x ∷ xs) y (suc i) e = get-push_new xs y i (omega (arith, e))
 
--- the linearisations of the first classes
-pub record LinesTo (kept : List StoredClass) (places : List ℕ) (renewed : List Renewed) (n : ℕ) (lines : List (List ℕ)) : Type 0 where
-  pub count : length lines ≡ n
-  pub at : (j i : ℕ) (r : Renewed) → i < n → slice_get places j ≡ Some i → slice_get renewed j ≡ Some r → slice_get lines i ≡ Some (numbers r.mro.items)
-  pub away : (i : ℕ) (k : StoredClass) → i < n → (Includes places i → ⊥) → slice_get kept i ≡ Some k → slice_get lines i ≡ Some k.mro
-
-pub lines-start : (kept : List StoredClass) (places : List ℕ) (renewed : List Renewed) (lines : List (List ℕ)) → lines ≡ [] → LinesTo kept places renewed 0 lines
+pub lines-start : (kept : List StoredClass) (places : List ℕ) (renewed : List Renewed) (lines : List (List ℕ)) → lines ≡ [] → AreLinesTo kept places renewed 0 lines
 lines-start kept places renewed lines e = record { count = ap length e; at = λ j i r l p f. absurd (omega (arith, l)); away = λ i k l h f. absurd (omega (arith, l)) }
 
-module _ (kept : List StoredClass) (places : List ℕ) (renewed : List Renewed) (n : ℕ) (lines new : List (List ℕ)) (line : List ℕ) (so : LinesTo kept places renewed n lines) (is : new ≡ lines ++ line ∷ []) where
+module _ (kept : List StoredClass) (places : List ℕ) (renewed : List Renewed) (n : ℕ) (lines new : List (List ℕ)) (line : List ℕ) (so : AreLinesTo kept places renewed n lines) (is : new ≡ lines ++ line ∷ []) where
   count-next : length new ≡ n + 1
   count-next = let a = length-append lines (line ∷ []) in let b = so.count in ap length is ∙ omega (arith, a, b)
 
@@ -211,7 +205,7 @@ module _ (kept : List StoredClass) (places : List ℕ) (renewed : List Renewed) 
   last = ap (λ ys. slice_get ys n) is ∙ get-push_new lines line n (sym so.count)
 
   -- one that is made anew
-  pub lines-made : Distinct places → (index : ℕ) (r : Renewed) → slice_get places index ≡ Some n → slice_get renewed index ≡ Some r → line ≡ numbers r.mro.items → LinesTo kept places renewed (n + 1) new
+  pub lines-made : Distinct places → (index : ℕ) (r : Renewed) → slice_get places index ≡ Some n → slice_get renewed index ≡ Some r → line ≡ numbers r.mro.items → AreLinesTo kept places renewed (n + 1) new
   lines-made d index r p f e = record {
     count = count-next;
     at = λ j i q l a b. elim (cases_eq i n) [
@@ -228,7 +222,7 @@ module _ (kept : List StoredClass) (places : List ℕ) (renewed : List Renewed) 
   }
 
   -- one of now
-  pub lines-kept : (Includes places n → ⊥) → (k : StoredClass) → slice_get kept n ≡ Some k → line ≡ k.mro → LinesTo kept places renewed (n + 1) new
+  pub lines-kept : (Includes places n → ⊥) → (k : StoredClass) → slice_get kept n ≡ Some k → line ≡ k.mro → AreLinesTo kept places renewed (n + 1) new
   lines-kept out k here e = record {
     count = count-next;
     at = λ j i q l a b. elim (cases_eq i n) [
@@ -243,7 +237,7 @@ module _ (kept : List StoredClass) (places : List ℕ) (renewed : List Renewed) 
     ];
   }
 
-pub lines-end : (kept : List StoredClass) (places : List ℕ) (renewed : List Renewed) (n : ℕ) (lines : List (List ℕ)) → LinesTo kept places renewed n lines → length kept ≤ n → n ≤ length kept → ((i : ℕ) → Includes places i → i < length kept) → AreLinesOf kept places renewed lines
+pub lines-end : (kept : List StoredClass) (places : List ℕ) (renewed : List Renewed) (n : ℕ) (lines : List (List ℕ)) → AreLinesTo kept places renewed n lines → length kept ≤ n → n ≤ length kept → ((i : ℕ) → Includes places i → i < length kept) → AreLinesOf kept places renewed lines
 lines-end kept places renewed n lines so low high inside = record {
   count = let c = so.count in omega (arith, c, low, high);
   at = λ j i r p f. let l = inside i (Includes-at places j i p) in so.at j i r (omega (arith, l, low)) p f;

@@ -1,5 +1,5 @@
 -- The linearisations of all classes, in one array, and the rest of what is kept of each.
-use Rattle.std.specs.Prelude.{◌≡◌, ℕ, ◌+◌, ◌≤◌, List, [], ◌∷◌, length, take, drop, slice_get, Some}
+use Rattle.std.specs.Prelude.{◌≡◌, ℕ, ◌+◌, ◌<◌, ◌≤◌, List, [], ◌∷◌, length, take, drop, slice_get, Some}
 use Rattle.py_node.specs.declared.refs.PyTypeRef.{PyTypeRef}
 use Rattle.class_model.specs.Order.{Includes}
 use Rattle.class_table.specs.Keys.{numbers}
@@ -29,3 +29,9 @@ pub record AreLinesOf (kept : List StoredClass) (places : List ℕ) (renewed : L
   pub count : length lines ≡ length kept
   pub at : (j i : ℕ) (r : Renewed) → slice_get places j ≡ Some i → slice_get renewed j ≡ Some r → slice_get lines i ≡ Some (numbers r.mro.items)
   pub away : (i : ℕ) (k : StoredClass) → (Includes places i → ⊥) → slice_get kept i ≡ Some k → slice_get lines i ≡ Some k.mro
+
+-- those of the first classes
+pub record AreLinesTo (kept : List StoredClass) (places : List ℕ) (renewed : List Renewed) (n : ℕ) (lines : List (List ℕ)) : Type 0 where
+  pub count : length lines ≡ n
+  pub at : (j i : ℕ) (r : Renewed) → i < n → slice_get places j ≡ Some i → slice_get renewed j ≡ Some r → slice_get lines i ≡ Some (numbers r.mro.items)
+  pub away : (i : ℕ) (k : StoredClass) → i < n → (Includes places i → ⊥) → slice_get kept i ≡ Some k → slice_get lines i ≡ Some k.mro

@@ -1,7 +1,7 @@
 //! What other bases of a class make of what is kept of the classes that they touch: made before anything is changed, then
 //! put in place.
 
-ghost use Rattle.std.specs.Prelude.{◌≡◌, ◌<◌, ◌++◌, ◌∷◌, [], ℕ, cond, true, nat_lt, filter, length, None, Some, IfOk, OnOk, slice_get, slice_set, slice_index_or};
+ghost use Rattle.std.specs.Prelude.{◌≡◌, ◌+◌, ◌<◌, ◌++◌, ◌∷◌, [], ℕ, cond, true, nat_lt, filter, length, None, Some, IfOk, OnOk, slice_get, slice_set, slice_index_or};
 ghost use Rattle.class_model.specs.Order.{Includes, Distinct};
 ghost use Rattle.class_model.specs.Class.{is_class, lin, subclasses};
 ghost use Rattle.class_model.specs.Layout.{best_of, base};
@@ -13,7 +13,7 @@ ghost use Rattle.class_table.specs.Refused.{AreThere};
 ghost use Rattle.class_table.specs.Rebase.{refused_rebase};
 ghost use Rattle.class_table.specs.Trial.{changed, AreKnown};
 ghost use Rattle.class_table.specs.Renewed.{IsRenewed, AreRenewed, renewed_but_line, AreSwapped};
-ghost use Rattle.class_table.specs.Lines.{AreLinesOf};
+ghost use Rattle.class_table.specs.Lines.{AreLinesOf, AreLinesTo};
 ghost use Rattle.class_table.specs.declared.renew.Renewed.{Renewed as Made};
 
 use crate::count::count_along;
@@ -224,7 +224,29 @@ pub(crate) fn renew_all(
     Ok(all)
 }
 
-// The linearisations of all classes under the change: at some places those that are made anew, at the others those of now.
+// Adds the linearisation that the class at a place has under the change: that which was made anew, or else that of now.
+fn add_line(
+    classes: &StoredClasses,
+    places: &PlaceSet,
+    renewed: &[Renewed],
+    at: usize,
+    lines: &mut Lines,
+) -> Result<(), OutOfMemory>
+    requires count { length renewed.now ≡ length places.now }
+    requires inside { at < length classes.now }
+    ensures { OnOk result (AreLinesTo classes.now places.now renewed.now at lines.old →
+        AreLinesTo classes.now places.now renewed.now (at + 1) lines.new) }
+{
+    match places.index_of(at) {
+        Some(index) => lines.add(&renewed[index].mro, &renewed[index].near),
+        None => {
+            let stored = classes.at(at);
+            lines.add(stored.mro(), stored.near())
+        }
+    }
+}
+
+// The linearisations of all classes under the change.
 pub(crate) fn lines_under(
     classes: &StoredClasses,
     alloc: Global,
@@ -237,13 +259,7 @@ pub(crate) fn lines_under(
 {
     let mut lines = Lines::new(alloc);
     for at in 0..classes.len() {
-        match places.index_of(at) {
-            Some(index) => lines.add(&renewed[index].mro, &renewed[index].near)?,
-            None => {
-                let stored = classes.at(at);
-                lines.add(stored.mro(), stored.near())?;
-            }
-        }
+        add_line(classes, places, renewed, at, &mut lines)?;
     }
     Ok(lines)
 }
