@@ -7,3 +7,4 @@ pub mod SlotTables
 pub mod Operators
 pub mod Faults
 pub mod BuiltInTable
+pub mod Dicts
