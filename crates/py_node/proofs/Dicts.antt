@@ -23,7 +23,7 @@ module _ {K : Type 0} (test : K → Bool) where
       pick more false h q = ap (λ b. b || list_any test ks) h ∙ more q
 
   none-passes : (ks : List K) → position test ks ≡ None → list_any test ks ≡ false
-  none-passes ks q = none-from 0 ks (position_from-zero test ks ∙ q)
+  none-passes ks q = none-from 0 ks (sym (position_from-zero test ks) ∙ q)
 
 -- a key that is not there goes last
 pub key-added : {K : Type 0} (same : K → K → Bool) (ks : List K) (k : K) → position (same k) ks ≡ None → insert_key same ks k ≡ ks ++ k ∷ []
