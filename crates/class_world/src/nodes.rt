@@ -11,7 +11,7 @@ ghost use Rattle.class_world.specs.Added.{IsEmptyDict, with_object, number_of_ob
 ghost use Rattle.plain_machine.specs.Objects.{with_datum};
 
 use crate::world::World;
-use py_node::{BuiltIn, Node, OutOfMemory, Payload, PyMembers, PyObjectRef, PyTypeRef};
+use py_node::{BuiltIn, Node, OutOfMemory, Payload, PyDict, PyMembers, PyObjectRef, PyTypeRef};
 use std::alloc::Global;
 
 #[tactic(auto, unfolding(crate::specs::Reading::plain))]
@@ -98,7 +98,7 @@ impl World {
                 class: self.class_of_dicts(),
                 dict: None,
                 members: PyMembers::new(alloc),
-                payload: Payload::Dict(Vec::new(alloc)),
+                payload: Payload::Dict(PyDict::new(alloc)),
             })
         } else {
             None

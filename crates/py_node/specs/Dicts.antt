@@ -1,5 +1,6 @@
 -- Dicts: their keys, and beside each its object and its value, in the order in which the keys came.
 use Rattle.std.specs.Prelude.{ℕ, Bool, false, eqb, List, [], ◌∷◌, ◌++◌, take, drop}
+use Rattle.std.specs.List.{remove}
 use Rattle.std.specs.Ordering.{int_eq}
 use Rattle.py_node.specs.declared.refs.PyObjectRef.{PyObjectRef}
 use Rattle.py_node.specs.declared.dict.PyDictKey.{PyDictKey}
@@ -25,3 +26,13 @@ put_first (e ∷ es) v = (e.0, v) ∷ es
 -- the key at a place has another value
 abbrev pub put_at : List (PyObjectRef × PyObjectRef) → ℕ → PyObjectRef → List (PyObjectRef × PyObjectRef)
 put_at es n v = take n es ++ put_first (drop n es) v
+
+-- a dict with another value for the key at a place, with one more key, and without the key at a place
+abbrev pub dict_put : PlainDict → ℕ → PyObjectRef → PlainDict
+dict_put d n v = record { keys = d.keys; items = put_at d.items n v }
+
+abbrev pub dict_pushed : PlainDict → PyDictKey → PyObjectRef → PyObjectRef → PlainDict
+dict_pushed d k o v = record { keys = d.keys ++ k ∷ []; items = d.items ++ (o, v) ∷ [] }
+
+abbrev pub dict_removed : PlainDict → ℕ → PlainDict
+dict_removed d n = record { keys = remove d.keys n; items = remove d.items n }

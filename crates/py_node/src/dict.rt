@@ -1,8 +1,7 @@
 //! Dicts: keys with their values, in the order in which the keys came. A key is found by hash.
 
-ghost use Rattle.std.specs.Prelude.{◌≡◌, ◌<◌, [], ◌∷◌, ◌++◌, length, position, None, IfOk, IfSome, OnOk, OnErr};
-ghost use Rattle.std.specs.List.{remove};
-ghost use Rattle.py_node.specs.Dicts.{empty_dict, is_same_key, put_at};
+ghost use Rattle.std.specs.Prelude.{◌≡◌, ◌<◌, length, position, None, IfOk, IfSome, OnOk, OnErr};
+ghost use Rattle.py_node.specs.Dicts.{dict_pushed, dict_put, dict_removed, empty_dict, is_same_key};
 
 use crate::key_index::KeyIndex;
 use crate::memory::OutOfMemory;
@@ -73,8 +72,7 @@ impl PyDict {
     /// Another value for the key at a place.
     pub fn put(&mut self, place: usize, value: PyObjectRef)
         requires { place < length self.old.items }
-        ensures keys { self.new.keys ≡ self.old.keys }
-        ensures items { self.new.items ≡ put_at self.old.items place value }
+        ensures { self.new ≡ dict_put self.old place value }
     {
         self.entries[place] = (self.entries[place].0, value);
     }
@@ -88,8 +86,7 @@ impl PyDict {
         value: PyObjectRef,
     ) -> Result<(), OutOfMemory>
         requires { position (is_same_key key) self.old.keys ≡ None }
-        ensures keys { OnOk result (self.new.keys ≡ self.old.keys ++ key ∷ []) }
-        ensures items { OnOk result (self.new.items ≡ self.old.items ++ (object, value) ∷ []) }
+        ensures ok { OnOk result (self.new ≡ dict_pushed self.old key object value) }
         ensures err { OnErr result (self.new ≡ self.old) }
     {
         self.entries.reserve(1)?;
@@ -101,8 +98,7 @@ impl PyDict {
     /// Takes out the key at a place, with its value. The keys after it keep their order.
     pub fn remove(&mut self, place: usize)
         requires { place < length self.old.items }
-        ensures keys { self.new.keys ≡ remove self.old.keys place }
-        ensures items { self.new.items ≡ remove self.old.items place }
+        ensures { self.new ≡ dict_removed self.old place }
     {
         self.index.remove(place);
         self.entries.remove(place);
