@@ -1,22 +1,27 @@
 -- Entries with a value under a key.
 use Rattle.std.proofs.Common.{◌≡◌, ℕ, zero, suc, ◌+◌, ◌<◌, ◌≤◌, get_or, take, take_all, Bool, true, [], ◌∷◌, ◌++◌, map, length, Option, Some, None, refl, sym, ap, ◌∙◌, subst, arith, true≢false}
-use Rattle.std.specs.Prelude.{slice_get, slice_set, position, is_some, option_map, option_and_then}
+use Rattle.std.specs.Prelude.{slice_get, position, is_some, option_map, option_and_then}
 use Rattle.std.specs.List.{All}
 use Rattle.std.proofs.lemmas.List.Sums.{fold_more}
 use Rattle.std.proofs.lemmas.Bool.Decides.{Decides-int_eq}
 use Rattle.std.proofs.lemmas.Slice.Eq.{bytes_eq-Decides}
+use Rattle.py_node.specs.declared.dict.PyDictKey.{PyDictKey}
+use Rattle.py_node.specs.declared.dict.PyDictKey.TheVariants.{Text as StoredText}
 use Rattle.py_node.specs.declared.refs.PyObjectRef.{PyObjectRef}
+use Rattle.py_node.specs.declared.refs.PyStrInterned.{PyStrInterned}
 use Rattle.py_node.specs.declared.payload.Node.{Node as StoredNode}
 use Rattle.py_node.specs.Attributes.{value_of}
+use Rattle.py_node.specs.Dicts.{PlainDict, is_same_key, put_at}
+use Rattle.py_node.specs.Texts.{AreDistinct}
 use Rattle.plain_machine.specs.Dicts.{Entries, is_one_key, is_like, put_under, with_entry, entries_from}
 use Rattle.plain_machine.specs.Plain.{PlainWorld}
-use Rattle.plain_machine.specs.Sound.{Key, NumberKey, TextKey}
+use Rattle.plain_machine.specs.Sound.{Key, NumberKey, TextKey, AreKeys}
 use Rattle.class_world.specs.Held.{Held}
-use Rattle.class_world.specs.Keyed.{of_entries, of_pairs, put_at}
+use Rattle.class_world.specs.Keyed.{held_text, is_held_key, of_entries, of_keyed, of_pairs}
 use Rattle.class_world.specs.Reading.{Reading, plain}
-use Rattle.class_world.specs.Sound.{IsNode, CanBeKeys, KeysDiffer, key_in, held_key, Holds, AllHold}
-use Rattle.class_world.proofs.DictChanges.{put-hold, pushed-hold}
-use Rattle.class_world.proofs.DictEntries.{IsFirstFrom, NonePasses, first-key, no-key, get-below, put-is, keys-pushed, map-end}
+use Rattle.class_world.specs.Sound.{IsName, IsNode, CanBeKeys, KeysDiffer, KeysRead, NamesKey, key_in, held_key, Holds, AllHold}
+use Rattle.class_world.proofs.DictEntries.{IsFirstFrom, NonePasses, first-key, no-key, get-below, keys-pushed, map-end}
+use Rattle.class_world.proofs.KeysRead.{absent, key-place, text-place, text-there, unnamed-place}
 use Rattle.class_world.proofs.SoundWorld.{key_at-read}
 
 -- a key is one with itself
@@ -59,32 +64,45 @@ module _ (w : Held) (es : Entries) (k v : PyObjectRef) where
       sym (ap (put_under likes (k, v) es) f.value)
       ∙ sym (ap (λ test. put_under test (k, v) es (value_of test es)) (likes-read t w k))
 
-  pub push-holds : NonePasses likes es → AllHold w (of_entries es) → Holds w (IsNode k) → Holds w (CanBeKeys (k ∷ [])) → Holds w (IsNode v) → AllHold w (of_entries (es ++ (k, v) ∷ []))
+  -- and is unlike the others
+  push-unlike : NonePasses likes es → AllHold w (of_entries es) → Holds w (CanBeKeys (k ∷ [])) → Holds w (KeysDiffer (map (λ e. e.0) (es ++ (k, v) ∷ [])))
   unfolding Holds
-  push-holds f h a c b =
+  push-unlike f h c =
       let key : is_some (held_key w.nodes k) ≡ true = c 0 k (omega arith) in
       let unlike : (i : ℕ) (s : PyObjectRef) → slice_get (map (λ e. e.0) es) i ≡ Some s → held_key w.nodes k ≡ held_key w.nodes s → ⊥ =
       λ i s e q. true≢false (sym (one-key (held_key w.nodes k) key) ∙ ap (λ o. is_one_key o (held_key w.nodes k)) q ∙ f.fails i s e) in
-      let differ = keys-pushed (held_key w.nodes) (map (λ e. e.0) es) k h.1.1.0 key unlike in
-      pushed-hold w es k v h a b (subst (λ rs. Holds w (KeysDiffer rs)) (sym (map-end (λ e. e.0) es (k, v))) differ)
+      subst (AreKeys (held_key w.nodes)) (sym (map-end (λ e. e.0) es (k, v))) (keys-pushed (held_key w.nodes) (map (λ e. e.0) es) k h.1.1.0 key unlike)
 
   -- the entries with another value at the first place that is like the key
-  pub put-entry : (n : ℕ) → Some n ≡ position (λ e. likes e.0) es → (e : PyObjectRef × PyObjectRef) → e ≡ get_or es n e → (t : Reading) → slice_set es n (e.0, v) ≡ with_entry (plain t w) es (k, v)
-  put-entry n q e h t =
-      let f = first-key likes n es q in
-      put-is es n e v (omega (arith, f.is, f.below)) h ∙ put-read n f t
-
-  pub put-entry-holds : (n : ℕ) → Some n ≡ position (λ e. likes e.0) es → (e : PyObjectRef × PyObjectRef) → e ≡ get_or es n e → AllHold w (of_entries es) → Holds w (IsNode v) → AllHold w (of_entries (slice_set es n (e.0, v)))
-  put-entry-holds n q e h a b =
-      let f = first-key likes n es q in
-      subst (λ es. AllHold w (of_entries es)) (sym (put-is es n e v (omega (arith, f.is, f.below)) h)) (put-hold w es n v a b)
+  pub put-entry : (n : ℕ) → Some n ≡ position (λ e. likes e.0) es → (t : Reading) → put_at es n v ≡ with_entry (plain t w) es (k, v)
+  put-entry n q t = put-read n (first-key likes n es q) t
 
   -- the entries with the key at the end, where there is none like it
   pub push-entry : None ≡ position (λ e. likes e.0) es → (t : Reading) → es ++ (k, v) ∷ [] ≡ with_entry (plain t w) es (k, v)
   push-entry q t = push-read (no-key likes es q) t
 
-  pub push-entry-holds : None ≡ position (λ e. likes e.0) es → AllHold w (of_entries es) → Holds w (IsNode k) → Holds w (CanBeKeys (k ∷ [])) → Holds w (IsNode v) → AllHold w (of_entries (es ++ (k, v) ∷ []))
-  push-entry-holds q h a c b = push-holds (no-key likes es q) h a c b
+  pub push-differs : None ≡ position (λ e. likes e.0) es → AllHold w (of_entries es) → Holds w (CanBeKeys (k ∷ [])) → Holds w (KeysDiffer (map (λ e. e.0) (es ++ (k, v) ∷ [])))
+  push-differs q h c = push-unlike (no-key likes es q) h c
+
+-- a stored key stands where the first key stands that is like its object
+pub stored-place : (w : Held) (d : PlainDict) (stored : PyDictKey) (k v : PyObjectRef) → AreDistinct w.names → AllHold w (of_keyed d) → Holds w (KeysRead (stored ∷ []) (k ∷ [])) → position (is_same_key stored) d.keys ≡ position (λ e. likes w d.items k v e.0) d.items
+unfolding Holds
+stored-place w d stored k v a h r = key-place w.names w.nodes a stored k r.0 d.keys d.items h.0
+
+-- a name stands where the first key stands that is its text
+pub named-place : (w : Held) (d : PlainDict) (name : PyStrInterned) → AreDistinct w.names → Holds w (IsName name) → AllHold w (of_keyed d) → position (is_same_key (StoredText name)) d.keys ≡ position (λ e. is_held_key w.nodes (held_text w name) e.0) d.items
+unfolding Holds
+named-place w d name a n h = text-place w.names w.nodes a name (held_text w name) (text-there w.names name.0 n) d.keys d.items h.0
+
+-- a stored key whose object is unlike the others is not there
+pub stored-absent : (w : Held) (d : PlainDict) (stored : PyDictKey) (k v : PyObjectRef) → AllHold w (of_keyed d) → Holds w (KeysRead (stored ∷ []) (k ∷ [])) → Holds w (KeysDiffer (map (λ e. e.0) (d.items ++ (k, v) ∷ []))) → position (is_same_key stored) d.keys ≡ None
+unfolding Holds
+stored-absent w d stored k v h r q = absent w.names w.nodes stored k r.0 d.keys (map (λ e. e.0) d.items) h.0 (subst (AreKeys (held_key w.nodes)) (map-end (λ e. e.0) d.items (k, v)) q)
+
+-- an object that no stored key names is like none
+pub unnamed-absent : (w : Held) (d : PlainDict) (k v : PyObjectRef) → ((j : PyDictKey) → NamesKey w.names j (held_key w.nodes k) → ⊥) → AllHold w (of_keyed d) → position (λ e. likes w d.items k v e.0) d.items ≡ None
+unfolding Holds
+unnamed-absent w d k v none h = unnamed-place w.names w.nodes k none d.keys d.items h.0
 
 -- a pair at a place
 pub pair-holds : (w : Held) (ps : Entries) (i : ℕ) (d : PyObjectRef × PyObjectRef) → i < length ps → AllHold w (of_pairs ps) → Holds w (IsNode (get_or ps i d).0) × Holds w (IsNode (get_or ps i d).1) × Holds w (CanBeKeys ((get_or ps i d).0 ∷ []))

@@ -1,5 +1,5 @@
 -- Stored keys and the objects that they name: one is found where the other stands.
-use Rattle.std.proofs.Common.{◌≡◌, ℕ, zero, suc, ◌+◌, Bool, true, false, cond, List, [], ◌∷◌, ◌++◌, length, map, Option, Some, None, refl, sym, ap, ◌∙◌, subst, arith, true≢false}
+use Rattle.std.proofs.Common.{◌≡◌, ℕ, zero, suc, ◌+◌, ◌<◌, Bool, true, false, cond, List, [], ◌∷◌, ◌++◌, length, map, Option, Some, None, refl, sym, ap, ◌∙◌, subst, arith, true≢false}
 use Rattle.std.specs.Prelude.{eqb, slice_get, position, is_some, option_map, option_and_then, string_bytes}
 use Rattle.std.specs.Ordering.{int_eq}
 use Rattle.std.specs.List.{remove, position_from}
@@ -18,6 +18,7 @@ use Rattle.py_node.specs.Dicts.{is_same_key}
 use Rattle.py_node.specs.Texts.{AreDistinct}
 use Rattle.py_node.specs.Tree.{Text}
 use Rattle.plain_machine.specs.Dicts.{Entries, is_one_key}
+use Rattle.plain_machine.specs.World.{or_empty}
 use Rattle.plain_machine.specs.Sound.{Key, NumberKey, TextKey, AreKeys}
 use Rattle.class_world.specs.Keyed.{is_text_of, is_text_at, is_held_key}
 use Rattle.class_world.specs.Sound.{key_in, held_key, read_key, IsRead, AreRead}
@@ -43,6 +44,12 @@ one-same (NumberKey n) (NumberKey m) e = ap NumberKey ((Decides-int_eq n m).0 e)
 one-same (NumberKey n) (TextKey y) e = cc
 one-same (TextKey x) (NumberKey m) e = cc
 one-same (TextKey x) (TextKey y) e = ap TextKey ((bytes_eq-Decides x y).0 e)
+
+-- the text of a name that is there
+pub text-there : (xs : List Text) (n : ℕ) → n < length xs → slice_get xs n ≡ Some (or_empty (slice_get xs n))
+text-there [] n l = absurd (omega arith)
+text-there (x ∷ xs) zero l = refl
+text-there (x ∷ xs) (suc n) l = text-there xs n (omega arith)
 
 module _ (names : List (List ℕ)) (ns : List Node) where
   -- in a table in which no text stands twice, stored keys that name one key are the same
