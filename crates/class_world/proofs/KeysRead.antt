@@ -39,7 +39,7 @@ one-key : (c : Key) → is_one_key (Some c) (Some c) ≡ true
 one-key (NumberKey n) = (Decides-int_eq n n).1 refl
 one-key (TextKey x) = (bytes_eq-Decides x x).1 refl
 
-one-same : (c d : Key) → is_one_key (Some c) (Some d) ≡ true → c ≡ d
+pub one-same : (c d : Key) → is_one_key (Some c) (Some d) ≡ true → c ≡ d
 one-same (NumberKey n) (NumberKey m) e = ap NumberKey ((Decides-int_eq n m).0 e)
 one-same (NumberKey n) (TextKey y) e = cc
 one-same (TextKey x) (NumberKey m) e = cc

@@ -47,10 +47,15 @@ impl World {
         let alloc = self.alloc();
         let mut dict = dict;
         match dict.place_of(stored) {
-            Some(place) => dict.put(place, value),
-            None => dict.push(alloc, stored, key, value)?,
+            Some(place) => {
+                dict.put(place, value);
+                Ok(dict)
+            }
+            None => {
+                dict.push(alloc, stored, key, value)?;
+                Ok(dict)
+            }
         }
-        Ok(dict)
     }
 
     /// Keys with their values, one after another, as a dict.

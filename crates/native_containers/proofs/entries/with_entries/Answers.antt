@@ -1,7 +1,7 @@
 use Rattle.std.proofs.Common.{sym}
 use Rattle.class_world.specs.Reading.{plain}
-use Rattle.class_world.proofs.KeyEntries.{pair-holds}
-use Rattle.native_containers.proofs.Payloads.{keys-can, entry-more, entries-all}
+use Rattle.class_world.proofs.KeyEntries.{pair-holds, keys-can}
+use Rattle.native_containers.proofs.Payloads.{entry-more, entries-all}
 use Rattle.native_containers.proofs.entries.with_entries.Goals as goal
 
 pub loop-entry-init : goal.loop-entry-init
