@@ -64,8 +64,8 @@ unfolding Holds
 nodes-append w rs ss h k = All-append (λ (r : PyObjectRef). r.0 < length w.nodes) rs ss h k
 
 -- one entry more, where there were some already
-pub entry-more : (w : PlainWorld) (first es new ps : Entries) (i : ℕ) (d : PyObjectRef × PyObjectRef) → i < length ps → fold (with_entry w) first (take i ps) ≡ es → new ≡ with_entry w es ((get_or ps i d).0, (get_or ps i d).1) → fold (with_entry w) first (take (i + 1) ps) ≡ new
-entry-more w first es new ps i d l h k = fold_more (with_entry w) first ps i d l ∙ ap (λ es. with_entry w es (get_or ps i d)) h ∙ sym k
+pub entry-more : (w now : PlainWorld) (first es new ps : Entries) (i : ℕ) (d : PyObjectRef × PyObjectRef) → now ≡ w → i < length ps → fold (with_entry w) first (take i ps) ≡ es → new ≡ with_entry now es ((get_or ps i d).0, (get_or ps i d).1) → fold (with_entry w) first (take (i + 1) ps) ≡ new
+entry-more w now first es new ps i d e l h k = fold_more (with_entry w) first ps i d l ∙ (λ j. with_entry (sym e j) (h j) (get_or ps i d)) ∙ sym k
 
 pub entries-all : (w : PlainWorld) (first es ps : Entries) (i : ℕ) → length ps ≤ i → fold (with_entry w) first (take i ps) ≡ es → es ≡ fold (with_entry w) first ps
 entries-all w first es ps i l h = sym h ∙ ap (fold (with_entry w) first) (take_all i ps l)

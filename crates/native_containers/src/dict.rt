@@ -160,11 +160,10 @@ fn take_key(world: &mut World, dict: PyObjectRef, key: PyObjectRef) -> Result<An
     ensures grows { Grows world.old world.new }
     ensures holds { AllHold world.new (of_ended result) }
 {
-    if world.take_value_under(dict, key) {
-        ends_none(world)
-    } else {
-        Err(Raised::new(Cause::MissingKey))
+    if !world.take_value_under(dict, key) {
+        return Err(Raised::new(Cause::MissingKey));
     }
+    ends_none(world)
 }
 
 // Whether a key is there.
