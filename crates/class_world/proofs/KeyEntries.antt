@@ -129,38 +129,38 @@ all-pairs w es ps i l h = h ∙ ap (entries_from w) (take_all i ps l)
 
 -- what a dict has under an object, by the places of its keys
 module _ (t : Reading) (w : Held) (d k : PyObjectRef) where
-  abbrev es : Entries
-  es = (held_dict w.nodes d).items
+  abbrev held : Entries
+  held = (held_dict w.nodes d).items
 
   abbrev like : PyObjectRef → Bool
   like j = is_one_key (held_key w.nodes j) (held_key w.nodes k)
 
-  under-read : value_of (is_like (plain t w) k) (entries_in (datum_at (plain t w) d)) ≡ value_of like es
+  under-read : value_of (is_like (plain t w) k) (entries_in (datum_at (plain t w) d)) ≡ value_of like held
   under-read = λ i. value_of (likes-read t w k i) (entries-read t w d i)
 
-  pub under-none : None ≡ position (λ e. like e.0) es → value_of (is_like (plain t w) k) (entries_in (datum_at (plain t w) d)) ≡ None
-  under-none q = let f = no-key like es q in under-read ∙ f.value
+  pub under-none : None ≡ position (λ e. like e.0) held → value_of (is_like (plain t w) k) (entries_in (datum_at (plain t w) d)) ≡ None
+  under-none q = let f = no-key like held q in under-read ∙ f.value
 
-  pub under-some : (n : ℕ) → Some n ≡ position (λ e. like e.0) es → value_of (is_like (plain t w) k) (entries_in (datum_at (plain t w) d)) ≡ option_map (λ e. e.1) (slice_get es n)
+  pub under-some : (n : ℕ) → Some n ≡ position (λ e. like e.0) held → value_of (is_like (plain t w) k) (entries_in (datum_at (plain t w) d)) ≡ option_map (λ e. e.1) (slice_get held n)
   under-some n q =
-      let f = first-key like n es q in
+      let f = first-key like n held q in
       let same : f.place ≡ n = omega (arith, f.is) in
-      under-read ∙ f.value ∙ ap (λ i. option_map (λ (e : PyObjectRef × PyObjectRef). e.1) (slice_get es i)) same
+      under-read ∙ f.value ∙ ap (λ i. option_map (λ (e : PyObjectRef × PyObjectRef). e.1) (slice_get held i)) same
 
-  pub under-there : (n : ℕ) → Some n ≡ position (λ e. like e.0) es → is_some (value_of (is_like (plain t w) k) (entries_in (datum_at (plain t w) d))) ≡ true
+  pub under-there : (n : ℕ) → Some n ≡ position (λ e. like e.0) held → is_some (value_of (is_like (plain t w) k) (entries_in (datum_at (plain t w) d))) ≡ true
   under-there n q =
-      let f = first-key like n es q in
-      ap is_some (under-read ∙ f.value ∙ ap (option_map (λ (e : PyObjectRef × PyObjectRef). e.1)) (get-below es f.place (k, k) f.below))
+      let f = first-key like n held q in
+      ap is_some (under-read ∙ f.value ∙ ap (option_map (λ (e : PyObjectRef × PyObjectRef). e.1)) (get-below held f.place (k, k) f.below))
 
   -- the dict without the key
-  pub under-taken : (n : ℕ) → Some n ≡ position (λ e. like e.0) es → with_entries (plain t w) d (remove es n) ≡ with_entries (plain t w) d (without_value_for (is_like (plain t w) k) (entries_in (datum_at (plain t w) d)))
+  pub under-taken : (n : ℕ) → Some n ≡ position (λ e. like e.0) held → with_entries (plain t w) d (remove held n) ≡ with_entries (plain t w) d (without_value_for (is_like (plain t w) k) (entries_in (datum_at (plain t w) d)))
   under-taken n q =
-      let f = first-key like n es q in
+      let f = first-key like n held q in
       let same : f.place ≡ n = omega (arith, f.is) in
-      ap (with_entries (plain t w) d) (ap (remove es) (sym same) ∙ sym f.taken ∙ sym (λ i. without_value_for (likes-read t w k i) (entries-read t w d i)))
+      ap (with_entries (plain t w) d) (ap (remove held) (sym same) ∙ sym f.taken ∙ sym (λ i. without_value_for (likes-read t w k i) (entries-read t w d i)))
 
   -- the dict with a value under the key, seen from a world that says the same
-  pub under-set : (v : PyObjectRef) (new : Entries) (u : PlainWorld) → plain t w ≡ u → new ≡ with_entry (plain t w) es (k, v) → with_entries (plain t w) d new ≡ with_entries u d (with_entry u (entries_in (datum_at u d)) (k, v))
+  pub under-set : (v : PyObjectRef) (new : Entries) (u : PlainWorld) → plain t w ≡ u → new ≡ with_entry (plain t w) held (k, v) → with_entries (plain t w) d new ≡ with_entries u d (with_entry u (entries_in (datum_at u d)) (k, v))
   under-set v new u e h =
       ap (with_entries (plain t w) d) (h ∙ ap (λ xs. with_entry (plain t w) xs (k, v)) (sym (entries-read t w d)))
       ∙ ap (λ u. with_entries u d (with_entry u (entries_in (datum_at u d)) (k, v))) e
