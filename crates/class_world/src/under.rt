@@ -1,7 +1,7 @@
 //! What dicts have under keys, which are objects.
 #![tactic(auto, unfolding(crate::specs::Reading::plain))]
 
-ghost use Rattle.std.specs.Prelude.{◌≡◌, ◌<◌, [], ◌∷◌, length, position, true, is_some, IfSome, OnOk};
+ghost use Rattle.std.specs.Prelude.{◌≡◌, ◌<◌, [], ◌∷◌, length, position, true, false, is_some, IfSome, OnOk};
 ghost use Rattle.py_node.specs.declared.built_in.BuiltIn.TheVariants.{Dict};
 ghost use Rattle.py_node.specs.Attributes.{value_of};
 ghost use Rattle.plain_machine.specs.Dicts.{entries_in, is_like, is_one_key, with_entries, with_entry, without_value_for};
