@@ -16,9 +16,7 @@ ghost use Rattle.class_world.specs.Sound.{IsNode, IsClass, IsOf, IsName, Holding
 
 use crate::entries::{push_entry, put_value, take_entry};
 use crate::world::World;
-use py_node::{
-    BuiltIn, OutOfMemory, Payload, PyDictKey, PyObjectRef, PyStrInterned, PyTypeRef,
-};
+use py_node::{BuiltIn, OutOfMemory, Payload, PyDictKey, PyObjectRef, PyStrInterned, PyTypeRef};
 
 impl World {
     /// The dict of an object, if it has one.
@@ -211,13 +209,7 @@ impl World {
         ensures grows { Grows self.old self.new }
     {
         let alloc = self.alloc;
-        push_entry(
-            &mut self.nodes[dict.0 as usize],
-            alloc,
-            stored,
-            key,
-            value,
-        )
+        push_entry(&mut self.nodes[dict.0 as usize], alloc, stored, key, value)
     }
 
     // The key at a place is taken out.

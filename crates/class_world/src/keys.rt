@@ -59,7 +59,10 @@ impl World {
     }
 
     /// Keys with their values, one after another, as a dict.
-    pub fn entries_from(&mut self, pairs: &[(PyObjectRef, PyObjectRef)]) -> Result<PyDict, OutOfMemory>
+    pub fn entries_from(
+        &mut self,
+        pairs: &[(PyObjectRef, PyObjectRef)],
+    ) -> Result<PyDict, OutOfMemory>
         requires { AllHold self.old (of_pairs pairs.now) }
         ensures entries { IfOk result (λ d. (t : Reading) → d.items ≡ entries_from (plain t self.old) pairs.now) }
         ensures holds { IfOk result (λ d. AllHold self.new (of_keyed d)) }

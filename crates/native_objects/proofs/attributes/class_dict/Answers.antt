@@ -35,8 +35,7 @@ returns-clause-ends c =
     let u = plain t w in
     let before = c.in_ok-dict.ensures.reads t r in
     let attrs = attrs-there (class_numbered u.classes k) _ (c.attributes.ensures.attrs t) ∙ ap (bindings t) (sym c.in_ok-attrs.ensures) in
-    let items = c.in_ok-dict.ensures.entries t ∙ ap (entries_from (plain t mid)) c.deref.ensures.value ∙ entries-themselves t mid entries.items c.in_ok-entries.ensures.holds in
-    (
+    let items = c.in_ok-dict.ensures.entries t ∙ ap (entries_from (plain t mid)) c.deref.ensures.value ∙ entries-themselves t mid entries.items c.in_ok-entries.ensures.holds in (
       c.key_all.ensures.reads t before,
       ap (λ bs. dict_made (keyed u [] bs)) attrs
           ∙ ap dict_made (c.in_ok-entries.ensures.keyed t before)
