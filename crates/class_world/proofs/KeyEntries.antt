@@ -188,10 +188,7 @@ no-key-in (payload.Super s) h k = refl
 no-key-in (payload.Iterator i) h k = refl
 no-key-in (payload.Slice s) h k = refl
 
--- a name names its text, and no stored key names what is no key, or a text that is no name's
-pub text-named : (names : List Text) (name : PyStrInterned) (x : Text) (o : Option Key) → slice_get names name.0 ≡ Some x → o ≡ Some (TextKey x) → NamesKey names (StoredText name) o
-text-named names name x o e h = (TextKey x, ap (option_map TextKey) e, h)
-
+-- no stored key names what is no key, or a text that is no name's
 pub nothing-named : (names : List Text) (o : Option Key) → o ≡ None → (k : PyDictKey) → NamesKey names k o → ⊥
 nothing-named names o e k h = go h.0 (sym e ∙ h.2)
   where
