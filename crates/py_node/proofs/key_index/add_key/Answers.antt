@@ -1,4 +1,4 @@
-use Rattle.std.proofs.Common.{◌≡◌, Bool, refl, ap, ◌∙◌, None}
+use Rattle.std.proofs.Common.{◌≡◌, refl, ◌∙◌, None}
 use Rattle.std.specs.Prelude.{position}
 use Rattle.py_node.specs.declared.dict.PyDictKey.{PyDictKey}
 use Rattle.py_node.specs.declared.dict.PyDictKey.TheVariants.{Number, Text}
