@@ -61,7 +61,7 @@ fn set_first(world: &mut World, object: PyObjectRef, class: PyTypeRef) -> Result
         return Err(NoValue);
     }
     let none = world.fixed(Fixed::None);
-    world.set_member_value(object, class, 0, PySetterValue::Assign(none))?;
+    world.set_member_value(object, class, 0, PySetterValue::Assign(none));
     match world.member_value(object, class, 0) {
         None => Err(NoValue),
         Some(value) => Ok(show(world, value)?),

@@ -1,9 +1,9 @@
 //! Names, attributes and members, and copies of what scripts and replies consist of.
 
 use py_node::{
-    BodyCall, Cause, Command, Constant, Expr, Kind, MemberPlace, Names, OutOfMemory, PyAttributes,
-    PyMembers, PyNumberBinaryOp, PyObjectRef, PyStrInterned, PyTypeFlags, PyTypeRef, Raised, Reply,
-    ReplyAnswer, SlotId, Word,
+    BodyCall, Cause, Command, Constant, Expr, Kind, Names, OutOfMemory, PyAttributes, PyMembers,
+    PyNumberBinaryOp, PyObjectRef, PyStrInterned, PyTypeFlags, Raised, Reply, ReplyAnswer, SlotId,
+    Word,
 };
 use std::alloc::{AllocError, Global};
 use table_lines::Table;
@@ -92,13 +92,9 @@ fn copied_attributes(alloc: Global) -> Result<Option<PyObjectRef>, OutOfMemory> 
 }
 
 fn set_member(alloc: Global) -> Result<Option<PyObjectRef>, OutOfMemory> {
-    let place = MemberPlace {
-        class: PyTypeRef(30),
-        index: 0,
-    };
-    let mut members = PyMembers::new(alloc);
-    members.set(place, Some(VALUE))?;
-    Ok(members.get(place))
+    let mut members = PyMembers::with_places(alloc, 1)?;
+    members.set(0, Some(VALUE));
+    Ok(members.get(0))
 }
 
 fn copied_constant(alloc: Global) -> Result<Constant, OutOfMemory> {

@@ -43,7 +43,7 @@ impl Replica {
     {
         Ok(Replica {
             changes: Vec::new(alloc),
-            classes: ClassTable::new(alloc)?,
+            classes: ClassTable::without_rows(alloc)?,
             alloc,
         })
     }

@@ -22,7 +22,7 @@ use Rattle.plain_machine.specs.World.{datum_at, with_new_class}
 use Rattle.plain_machine.specs.Objects.{with_definer}
 use Rattle.plain_machine.proofs.Offsets.{members-append}
 use Rattle.plain_machine.proofs.Pushed.{holder}
-use Rattle.class_world.proofs.Placed.{in-layout}
+use Rattle.class_model.proofs.PlaceOffsets.{in-layout}
 use Rattle.class_make.specs.Say.{defined, functions_of, or_zero, places_from, with_functions}
 
 module _ {K : Type 0} (t : Classes K) where

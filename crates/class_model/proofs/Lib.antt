@@ -23,5 +23,6 @@ pub mod Best
 pub mod Lines
 pub mod Layouts
 pub mod Offsets
+pub mod PlaceOffsets
 pub mod Failing
 mod Checks

@@ -3,6 +3,7 @@ pub mod Class
 pub mod Name
 pub mod Numbers
 pub mod Layout
+pub mod Offset
 pub mod Slot
 pub mod Dict
 pub mod Change

@@ -38,7 +38,7 @@ with_place ps p = cond (has ps p) ps (ps ++ p ∷ [])
 turned : (a b : ℕ) → eqb a b ≡ eqb b a
 turned a b = elim (cases_eq a b) [ inl e ↦ eq-eqb a b e ∙ sym (eq-eqb b a (sym e)) | inr n ↦ ne_eqb a b n ∙ sym (ne_eqb b a (λ e. n (sym e))) ]
 
-any-has : (ks : List ℕ) (k : ℕ) → list_any (eqb k) ks ≡ has ks k
+pub any-has : (ks : List ℕ) (k : ℕ) → list_any (eqb k) ks ≡ has ks k
 any-has [] k = refl
 any-has (x ∷ ks) k = ap (λ b. b || list_any (eqb k) ks) (turned k x) ∙ ap (λ b. eqb x k || b) (any-has ks k)
 

@@ -39,3 +39,6 @@ pub mod Heaps
 pub mod StartParts
 pub mod Dicts
 pub mod LastParts
+pub mod Cached
+pub mod Lined
+pub mod Written

@@ -104,8 +104,8 @@ was bs n kept i x e = go (slice_get kept i) refl (sym (slice_get-map (noting bs 
     go (Some k) h e = (k, h, cc)
 
 -- a class that was noted in one base is taken off it
-pub forgotten : (b : ℕ) (classes : List StoredClass) → is_ascending (classes_of classes) ≡ true → (at : ℕ) → number_at classes at ≡ Some b → (d new : StoredClass) → ((m : ℕ) (ys : List ℕ) → (get_or classes at d).subclasses ≡ ys ++ m ∷ [] → new ≡ record (get_or classes at d) { subclasses = ys }) → (n : ℕ) (kept : List StoredClass) → classes ≡ noted (b ∷ []) n kept → set classes at new ≡ kept
-forgotten b classes up at of d new says n kept e =
+pub forgotten : (b : ℕ) (classes : List StoredClass) → is_ascending (classes_of classes) ≡ true → (at : ℕ) → number_at classes at ≡ Some b → (d : StoredClass) (cur : List StoredClass) → ((m : ℕ) (ys : List ℕ) → (get_or classes at d).subclasses ≡ ys ++ m ∷ [] → cur ≡ set classes at (record (get_or classes at d) { subclasses = ys })) → (n : ℕ) (kept : List StoredClass) → classes ≡ noted (b ∷ []) n kept → cur ≡ kept
+forgotten b classes up at of d cur says n kept e =
     let r = number-get classes at b of in
     let is : get_or classes at d ≡ r.0 = get_or_from_slice_get classes at r.0 d r.1 in
     let w = was (b ∷ []) n kept at r.0 (ap (λ ys. slice_get ys at) (sym e) ∙ r.1) in
@@ -113,8 +113,10 @@ forgotten b classes up at of d new says n kept e =
     let kept-up : is_ascending (classes_of kept) ≡ true = ap is_ascending (sym (plain-noted (b ∷ []) n kept)) ∙ ap (λ ys. is_ascending (classes_of ys)) (sym e) ∙ up in
     let kept-at : number_at kept at ≡ Some b = ap (option_map (λ (z : StoredClass). z.number)) w.1 ∙ ap Some num in
     let subs : r.0.subclasses ≡ w.0.subclasses ++ n ∷ [] = ap (λ (z : StoredClass). z.subclasses) (sym w.2) ∙ ap (λ v. w.0.subclasses ++ cond (v || false) (n ∷ []) []) (eq-eqb b w.0.number (sym num)) in
-    let back : new ≡ w.0 = says n w.0.subclasses (ap (λ (z : StoredClass). z.subclasses) is ∙ subs) ∙ ap (λ (z : StoredClass). record z { subclasses = w.0.subclasses }) (is ∙ sym w.2) in
-    ap (λ ys. set ys at new) (e ∙ sym (noted-at b n kept kept-up at kept-at w.0 w.1 num))
+    let new : StoredClass = record (get_or classes at d) { subclasses = w.0.subclasses } in
+    let back : new ≡ w.0 = ap (λ (z : StoredClass). record z { subclasses = w.0.subclasses }) (is ∙ sym w.2) in
+    says n w.0.subclasses (ap (λ (z : StoredClass). z.subclasses) is ∙ subs)
+    ∙ ap (λ ys. set ys at new) (e ∙ sym (noted-at b n kept kept-up at kept-at w.0 w.1 num))
     ∙ ap (set (set kept at (record w.0 { subclasses = w.0.subclasses ++ n ∷ [] })) at) back
     ∙ taken-back kept at (record w.0 { subclasses = w.0.subclasses ++ n ∷ [] }) w.0 w.1
 
@@ -125,3 +127,7 @@ noted-all b n bs kept mid new d e f =
 
 pub plain-mid : (b n : ℕ) (kept mid : List StoredClass) → mid ≡ noted (b ∷ []) n kept → classes_of mid ≡ classes_of kept
 plain-mid b n kept mid e = ap classes_of e ∙ plain-noted (b ∷ []) n kept
+
+-- a class that was noted in each of some bases is taken off all but the first of them
+pub noted-first : (b n : ℕ) (bs : List ℕ) (kept : List StoredClass) → Distinct (b ∷ bs) → noted (b ∷ bs) n kept ≡ noted bs n (noted (b ∷ []) n kept)
+noted-first b n bs kept d = sym (noted-both b bs n kept (false_from_ne_true (has bs b) (λ q. d.0 ((Decides-has bs b).0 q))))

@@ -19,7 +19,7 @@ use Rattle.class_model.proofs.Rule.{lin-from, lin-held, lin-member, lin-inside, 
 use Rattle.class_model.proofs.Lines.{all_some-some}
 use Rattle.class_model.proofs.Dict.{alike-same, dicts-rebased}
 use Rattle.class_model.proofs.Layouts.{top, best-along, solid-rule}
-use Rattle.class_model.proofs.Solid.{bound, first_best-held, solid-held, solid-solid}
+use Rattle.class_model.proofs.Solid.{first_best-held, solid-held, solid-solid}
 use Rattle.class_table.proofs.Rebased.{base-apart, bases-away, bases-here, classes-kept, line-base, order-rebased, not-root}
 
 maps-same : (f g : ℕ → Option ℕ) (ws : List ℕ) → ((b : ℕ) → Includes ws b → f b ≡ g b) → map f ws ≡ map g ws

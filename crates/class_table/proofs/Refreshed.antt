@@ -1,5 +1,5 @@
 -- Slots found anew, one after another, and one class after another.
-use Rattle.std.proofs.Common.{◌≡◌, ℕ, ◌+◌, ◌<◌, ◌≤◌, List, [], ◌∷◌, ◌++◌, length, get_or, set, take, drop, map, Option, Some, Bool, true, false, cond, ltb, eqb, inl, inr, refl, sym, ap, subst, ◌∙◌, arith, append_assoc, append-nil}
+use Rattle.std.proofs.Common.{◌≡◌, ℕ, zero, suc, ◌+◌, ◌<◌, ◌≤◌, List, [], ◌∷◌, ◌++◌, length, get_or, set, take, drop, map, Option, Some, Bool, true, false, cond, ltb, eqb, inl, inr, refl, sym, ap, subst, ◌∙◌, arith, append_assoc, append-nil}
 use Rattle.std.specs.Prelude.{slice_get, option_map}
 use Rattle.std.proofs.lemmas.List.{drop_more, take_more, set_at, set-set, set-get_or, get_or-set_same, length-take-le, length-map, get_or-map, map-set, take_all}
 use Rattle.std.proofs.Math.ListN.{drop_of_length-le}
@@ -17,7 +17,7 @@ use Rattle.class_model.specs.BuiltIn.{natives_of}
 use Rattle.class_table.specs.Keys.{table_keys}
 use Rattle.class_table.specs.Stored.{StoredClass, class_of, classes_of}
 use Rattle.class_table.specs.Coherent.{HasLines}
-use Rattle.class_table.specs.Patch.{IsNear, AreNear, IsRefreshed, settled, refreshed_one}
+use Rattle.class_table.specs.Patch.{NoneNamed, IsNear, AreNear, IsRefreshed, settled, refreshed_one}
 use Rattle.class_table.proofs.Slots.{place-at, length-all, no_special}
 use Rattle.py_node.specs.declared.entry.SlotId.TheVariants.{Add}
 use Rattle.class_table.proofs.Places.{get-set_cases, get-set_at, get-set_away, below-apart, same-maps, same-lists}
@@ -115,6 +115,20 @@ module _ (kept : List StoredClass) (c : ℕ) (k : StoredClass) (within : c < len
   part-else i s name is near test =
       let E = entries table_keys natives_of (classes_of kept) k.number in
       ap (λ (ys : List (Option SlotEntry)). set kept c (record k { slots = ys })) (left E k.slots i (entry table_keys natives_of (classes_of kept) k.number s) (ap (slice_get k.slots) (sym (place-at i s is)) ∙ near.others s test) (entries-at (classes_of kept) k.number i s is))
+
+  -- slots of which the name is none are as they should be already
+  pub part-skip : (name : PyStrInterned) (d i : ℕ) → d + i ≤ 73 → IsNear (classes_of kept) name k → NoneNamed name i (d + i) → set kept c (part (classes_of kept) i k) ≡ set kept c (part (classes_of kept) (d + i) k)
+  part-skip name zero i l near h =
+      let j : i ≡ zero + i = omega arith in
+      ap (λ (m : ℕ). set kept c (part (classes_of kept) m k)) j
+  part-skip name (suc d) i l near h =
+      let n = length-all in
+      let s : SlotId = get_or all_slots (d + i) Add in
+      let is : slice_get all_slots (d + i) ≡ Some s = slice_get-get_or all_slots (d + i) Add (omega (arith, l, n)) in
+      let j : (d + i) + 1 ≡ suc d + i = omega arith in
+      part-skip name d i (omega (arith, l)) near (λ m r a b e. h m r a (omega (arith, b)) e)
+      ∙ part-else (d + i) s name is near (h (d + i) s (omega arith) (omega arith) is)
+      ∙ ap (λ (m : ℕ). set kept c (part (classes_of kept) m k)) j
 
 -- one more class of the table has been looked at
 module _ (class n : ℕ) (orig cur new : List StoredClass) (same : classes_of cur ≡ classes_of orig) (at : (i : ℕ) (k : StoredClass) → slice_get orig i ≡ Some k → slice_get cur i ≡ Some (cond (ltb i n) (refreshed_one (classes_of orig) class k) k)) where

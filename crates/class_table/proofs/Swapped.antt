@@ -6,15 +6,16 @@ use Rattle.std.proofs.lemmas.List.{length-set}
 use Rattle.std.proofs.lemmas.Option.{slice_get_within}
 use Rattle.class_model.specs.Order.{Distinct}
 use Rattle.class_model.proofs.Held.{Includes-equal}
+use Rattle.class_table.specs.Keys.{numbers, number_of}
 use Rattle.class_table.specs.Stored.{StoredClass}
 use Rattle.class_table.specs.declared.renew.Renewed.{Renewed}
-use Rattle.class_table.specs.Renewed.{with_renewed, AreSwapped}
+use Rattle.class_table.specs.Renewed.{with_renewed, renewed_but_line, AreSwapped}
 use Rattle.class_table.proofs.Places.{get-set_at, get-set_away}
 use Rattle.class_table.proofs.Trials.{read-is}
 use Rattle.class_table.proofs.Descended.{Includes-at}
 
 -- in a list without repeats an element has one place
-distinct-at : (ps : List ℕ) → Distinct ps → (i j p : ℕ) → slice_get ps i ≡ Some p → slice_get ps j ≡ Some p → i ≡ j
+pub distinct-at : (ps : List ℕ) → Distinct ps → (i j p : ℕ) → slice_get ps i ≡ Some p → slice_get ps j ≡ Some p → i ≡ j
 distinct-at [] d i j p e f = cc
 distinct-at (x ∷ ps) d zero zero p e f = refl
 distinct-at (x ∷ ps) d zero (suc j) p e f = let q : p ≡ x = cc in absurd (d.0 (Includes-equal ps p x q (Includes-at ps j p f)))
@@ -54,6 +55,13 @@ module _ (orig : List Renewed) (old : List StoredClass) (places : List ℕ) (n :
         get-set_away cur p z i (λ v. h n (omega arith) (here ∙ ap Some (sym v))) ∙ s.after i k (λ j m q. h j (omega (arith, m)) q) e;
   }
 
+  -- the class at the next place has its linearisation already, where each had it before
+  pub swapping-line : Distinct places → (p : ℕ) → slice_get places n ≡ Some p → (k : StoredClass) → slice_get old p ≡ Some k → (r : Renewed) → slice_get orig n ≡ Some r → k.mro ≡ numbers r.mro.items → (x : StoredClass) (y : Renewed) → x ≡ get_or cur p x → y ≡ get_or renewed n y → x.mro ≡ numbers y.mro.items
+  swapping-line d p here k at-k r at-r line x y hx hy =
+      let old-k = s.after p k (λ j m q. let t = distinct-at places d j n p q here in omega (arith, m, t)) at-k in
+      let old-r = s.rest n r (omega arith) at-r in
+      ap (λ (z : StoredClass). z.mro) (read-is cur p x k hx old-k) ∙ line ∙ ap (λ (z : Renewed). numbers z.mro.items) (sym (read-is renewed n y r hy old-r))
+
   -- all
   pub swapping-end : length places ≤ n → AreSwapped places orig old cur
   swapping-end l = record {
@@ -61,3 +69,7 @@ module _ (orig : List Renewed) (old : List StoredClass) (places : List ℕ) (n :
     at = λ j i k r q e f. s.before j i k r (let m = slice_get_within places j i q in omega (arith, l, m)) q e f;
     away = λ i k h e. s.after i k (λ j m q. h (Includes-at places j i q)) e;
   }
+
+-- a class that has its linearisation already
+pub but-line : (r : Renewed) (k : StoredClass) → k.mro ≡ numbers r.mro.items → renewed_but_line r k ≡ with_renewed r k
+but-line r k e = ap (λ (line : List ℕ). record k { mro = line; base = number_of r.base; subclasses = numbers r.subclasses.items; places = r.places }) e

@@ -1,6 +1,8 @@
 pub mod Keys
 pub mod Stored
+pub mod Lines
 pub mod Coherent
+pub mod Cache
 pub mod Patch
 pub mod New
 pub mod Made

@@ -1,14 +1,18 @@
 -- Slots that are found anew.
-use Rattle.std.specs.Prelude.{◌≡◌, ℕ, true, false, cond, List, Some, length, slice_get}
+use Rattle.std.specs.Prelude.{◌≡◌, ◌≤◌, ◌<◌, ℕ, true, false, cond, List, Some, length, slice_get}
 use Rattle.py_node.specs.declared.refs.PyStrInterned.{PyStrInterned}
 use Rattle.py_node.specs.declared.entry.SlotId.{SlotId}
-use Rattle.py_node.specs.Slots.{place_of, slot_count}
+use Rattle.py_node.specs.Slots.{all_slots, place_of, slot_count}
 use Rattle.class_model.specs.Order.{has}
 use Rattle.class_model.specs.Class.{Classes}
 use Rattle.class_model.specs.Slot.{is_name_of, entry, entries}
 use Rattle.class_model.specs.BuiltIn.{natives_of}
 use Rattle.class_table.specs.Keys.{table_keys}
 use Rattle.class_table.specs.Stored.{StoredClass, classes_of}
+
+-- a name is no slot's from one place on and before another
+abbrev pub NoneNamed : PyStrInterned → ℕ → ℕ → Type 0
+NoneNamed name first past = (i : ℕ) (s : SlotId) → first ≤ i → i < past → slice_get all_slots i ≡ Some s → is_name_of table_keys s name ≡ false
 
 -- every slot but those of a name holds what its definition says
 pub record IsNear (t : Classes PyStrInterned) (name : PyStrInterned) (k : StoredClass) : Type 0 where

@@ -25,6 +25,10 @@ pub record AreRenewed (kept : List StoredClass) (c : ℕ) (bs places : List ℕ)
 abbrev pub with_renewed : Renewed → StoredClass → StoredClass
 with_renewed r k = record k { mro = numbers r.mro.items; base = number_of r.base; subclasses = numbers r.subclasses.items; places = r.places }
 
+-- the same but for the linearisation
+abbrev pub renewed_but_line : Renewed → StoredClass → StoredClass
+renewed_but_line r k = record k { base = number_of r.base; subclasses = numbers r.subclasses.items; places = r.places }
+
 -- the class at each place got its own, and all others stay
 pub record AreSwapped (places : List ℕ) (renewed : List Renewed) (old new : List StoredClass) : Type 0 where
   pub count : length new ≡ length old

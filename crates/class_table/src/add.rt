@@ -1,6 +1,6 @@
 //! A class that is made.
 
-ghost use Rattle.std.specs.Prelude.{◌≡◌, ◌<◌, ◌≤◌, ◌||◌, ◌++◌, ◌∷◌, [], ℕ, List, cond, not, nat_lt, length, Some, OnOk, OnErr, IfOk, true, vec_len, vec_capacity};
+ghost use Rattle.std.specs.Prelude.{◌≡◌, ◌≤◌, ◌||◌, ◌++◌, ◌∷◌, [], ℕ, List, cond, not, nat_lt, length, Some, OnOk, OnErr, IfOk, true};
 ghost use Rattle.py_node.specs.Attributes.{AreNamesDistinct};
 ghost use Rattle.py_node.specs.Slots.{slot_count};
 ghost use Rattle.class_model.specs.Order.{Distinct};
@@ -23,19 +23,16 @@ use crate::inherit::{inherited, likely_places, rest_of_line};
 use crate::place::place;
 use crate::settle::settle;
 use crate::stored::{NewClass, SLOTS, Stored};
+use crate::stored_classes::{StoredClasses, Unplaced};
 use py_node::built_in::BUILT_IN_COUNT;
 use py_node::{OutOfMemory, PyAttributes, PyStrInterned, PyTypeRef, SlotEntry};
 use std::alloc::Global;
 
 // Empty slots.
-fn empty_slots(alloc: Global) -> Result<Vec<Option<SlotEntry>>, OutOfMemory>
-    ensures { IfOk result (λ v. length v.items ≡ slot_count) }
+fn empty_slots() -> [Option<SlotEntry>; SLOTS]
+    ensures { length result ≡ slot_count }
 {
-    let mut slots = Vec::new(alloc);
-    for _place in 0..SLOTS {
-        slots.push(None)?;
-    }
-    Ok(slots)
+    [None; SLOTS]
 }
 
 // The class, and then what follows it.
@@ -76,12 +73,12 @@ fn are_distinct(attrs: &PyAttributes)
 
 // A class with what follows from its bases but for its order, before its slots are found.
 fn with_line(
-    classes: &[Stored],
+    classes: &StoredClasses,
     alloc: Global,
     new: NewClass,
     best: Option<PyTypeRef>,
     rest: &[PyTypeRef],
-) -> Result<Stored, OutOfMemory>
+) -> Result<Unplaced, OutOfMemory>
     requires coherent { IsCoherent classes.now }
     requires below { IsBelow (classes_of classes.now) new.number.0 (numbers new.bases.items) }
     requires fresh { limit (classes_of classes.now) ≤ new.number.0 }
@@ -90,12 +87,12 @@ fn with_line(
     ensures { IfOk result (λ k. IsFresh classes.now (class_of_new new) k) }
 {
     are_distinct(&new.attrs);
-    let slots = empty_slots(alloc)?;
-    let mro = line(alloc, new.number, rest)?;
+    let slots = empty_slots();
+    let line = line(alloc, new.number, rest)?;
     let near = likely_places(classes, alloc, rest)?;
     let solid = solid_of(new.number, &new.members, inherited(classes, best));
     let places = count_along(classes, new.members.len(), rest)?;
-    Ok(Stored {
+    let stored = Stored {
         name: new.name,
         number: new.number,
         bases: new.bases,
@@ -103,23 +100,22 @@ fn with_line(
         members: new.members,
         flags: new.flags,
         brings: new.brings,
-        mro,
-        near,
         slots,
         base: best,
         solid,
         subclasses: Vec::new(alloc),
         places,
-    })
+    };
+    Ok(Unplaced { stored, line, near })
 }
 
 // A class as it is made, before its slots are found, or why its bases have no order.
 fn build(
-    classes: &[Stored],
+    classes: &StoredClasses,
     alloc: Global,
     new: NewClass,
     best: Option<PyTypeRef>,
-) -> Result<Stored, ClassFault>
+) -> Result<Unplaced, ClassFault>
     requires coherent { IsCoherent classes.now }
     requires below { IsBelow (classes_of classes.now) new.number.0 (numbers new.bases.items) }
     requires fresh { limit (classes_of classes.now) ≤ new.number.0 }
@@ -140,31 +136,40 @@ fn build(
 }
 
 // Notes a class as the last direct subclass of one that is there.
-fn note_in(classes: &mut [Stored], base: PyTypeRef, number: PyTypeRef) -> Result<(), OutOfMemory>
+fn note_in(
+    classes: &mut StoredClasses,
+    base: PyTypeRef,
+    number: PyTypeRef,
+) -> Result<(), OutOfMemory>
     requires ascending { is_ascending (classes_of classes.old) ≡ true }
     requires there { is_class (classes_of classes.old) base.0 ≡ true }
     ensures ok { OnOk result (classes.new ≡ noted (base.0 ∷ []) number.0 classes.old) }
     ensures err { OnErr result (classes.new ≡ classes.old) }
 {
     let at = place(classes, base);
-    match classes[at].add_subclass(number) {
+    match classes.add_subclass(at, number) {
         Ok(()) => Ok(()),
         Err(error) => Err(error),
     }
 }
 
 // Takes the last direct subclass off one that is there.
-fn forget_in(classes: &mut [Stored], base: PyTypeRef)
+fn forget_in(classes: &mut StoredClasses, base: PyTypeRef)
     requires ascending { is_ascending (classes_of classes.old) ≡ true }
     requires there { is_class (classes_of classes.old) base.0 ≡ true }
-    ensures { (n : ℕ) (kept : List StoredClass) → classes.old ≡ noted (base.0 ∷ []) n kept → classes.new ≡ kept }
+    ensures back { (n : ℕ) (kept : List StoredClass) → classes.old ≡ noted (base.0 ∷ []) n kept → classes.new ≡ kept }
+    ensures plain { classes_of classes.new ≡ classes_of classes.old }
 {
     let at = place(classes, base);
-    classes[at].forget_subclass();
+    classes.forget_subclass(at);
 }
 
 // Notes a class as the last direct subclass of each of its bases.
-fn note(classes: &mut [Stored], bases: &[PyTypeRef], number: PyTypeRef) -> Result<(), OutOfMemory>
+fn note(
+    classes: &mut StoredClasses,
+    bases: &[PyTypeRef],
+    number: PyTypeRef,
+) -> Result<(), OutOfMemory>
     requires ascending { is_ascending (classes_of classes.old) ≡ true }
     requires there { AreThere (classes_of classes.old) (numbers bases.now) }
     requires distinct { Distinct (numbers bases.now) }
@@ -186,53 +191,62 @@ fn note(classes: &mut [Stored], bases: &[PyTypeRef], number: PyTypeRef) -> Resul
     }
 }
 
-// Makes room for a class at the end, and notes it in its bases.
-fn make_room(classes: &mut Vec<Stored>, stored: &Stored) -> Result<(), OutOfMemory>
-    requires ascending { is_ascending (classes_of classes.old.items) ≡ true }
-    requires there { AreThere (classes_of classes.old.items) stored.now.bases }
-    requires distinct { Distinct stored.now.bases }
-    ensures room { OnOk result (vec_len classes.new < vec_capacity classes.new) }
-    ensures ok { OnOk result (classes.new.items ≡ noted stored.now.bases stored.now.number classes.old.items) }
-    ensures err { OnErr result (classes.new.items ≡ classes.old.items) }
+// Takes the last direct subclass off each of some that are there.
+fn forget(classes: &mut StoredClasses, bases: &[PyTypeRef])
+    requires ascending { is_ascending (classes_of classes.old) ≡ true }
+    requires there { AreThere (classes_of classes.old) (numbers bases.now) }
+    requires distinct { Distinct (numbers bases.now) }
+    ensures back { (n : ℕ) (kept : List StoredClass) → classes.old ≡ noted (numbers bases.now) n kept →
+        classes.new ≡ kept }
+    ensures plain { classes_of classes.new ≡ classes_of classes.old }
 {
-    classes.reserve(1)?;
-    note(classes, stored.bases(), stored.number())?;
-    Ok(())
+    match bases {
+        [] => {}
+        [base, rest @ ..] => {
+            forget(classes, rest);
+            forget_in(classes, *base);
+        }
+    }
 }
 
 // Puts a class at the end, and notes it in its bases.
-fn attach(classes: &mut Vec<Stored>, stored: Stored) -> Result<(), OutOfMemory>
-    requires ascending { is_ascending (classes_of classes.old.items) ≡ true }
-    requires there { AreThere (classes_of classes.old.items) stored.bases }
-    requires distinct { Distinct stored.bases }
-    ensures ok { OnOk result (classes.new.items ≡ noted stored.bases stored.number classes.old.items ++ stored ∷ []) }
-    ensures err { OnErr result (classes.new.items ≡ classes.old.items) }
+fn attach(classes: &mut StoredClasses, new: Unplaced) -> Result<(), OutOfMemory>
+    requires ascending { is_ascending (classes_of classes.old) ≡ true }
+    requires there { AreThere (classes_of classes.old) new.bases }
+    requires distinct { Distinct new.bases }
+    ensures ok { OnOk result (classes.new ≡ noted new.bases new.number classes.old ++ new ∷ []) }
+    ensures err { OnErr result (classes.new ≡ classes.old) }
 {
-    make_room(classes, &stored)?;
-    classes.push(stored)?;
-    Ok(())
+    note(classes, new.bases(), new.number())?;
+    match classes.push(new) {
+        Ok(()) => Ok(()),
+        Err(back) => {
+            forget(classes, back.bases());
+            Err(OutOfMemory)
+        }
+    }
 }
 
 // Adds a class, and finds its slots.
 pub(crate) fn add(
-    classes: &mut Vec<Stored>,
+    classes: &mut StoredClasses,
     alloc: Global,
     new: NewClass,
     best: Option<PyTypeRef>,
 ) -> Result<PyTypeRef, ClassFault>
-    requires coherent { IsCoherent classes.old.items }
-    requires below { IsBelow (classes_of classes.old.items) new.number.0 (numbers new.bases.items) }
-    requires fresh { limit (classes_of classes.old.items) ≤ new.number.0 }
-    requires best { IsBest (classes_of classes.old.items) (numbers new.bases.items) best }
+    requires coherent { IsCoherent classes.old }
+    requires below { IsBelow (classes_of classes.old) new.number.0 (numbers new.bases.items) }
+    requires fresh { limit (classes_of classes.old) ≤ new.number.0 }
+    requires best { IsBest (classes_of classes.old) (numbers new.bases.items) best }
     requires dict { says_dict (Some (class_of_new new)) ≡
-        has_its_dict (classes_of classes.old.items) (Some (class_of_new new)) }
+        has_its_dict (classes_of classes.old) (Some (class_of_new new)) }
     ensures number { IfOk result (λ c. c ≡ new.number) }
-    ensures coherent { OnOk result (IsCoherent classes.new.items) }
-    ensures added { OnOk result (classes_of classes.new.items ≡
-        with_class (classes_of classes.old.items) (class_of_new new)) }
+    ensures coherent { OnOk result (IsCoherent classes.new) }
+    ensures added { OnOk result (classes_of classes.new ≡
+        with_class (classes_of classes.old) (class_of_new new)) }
     ensures refused { WithMemory result (refusal result ≡
-        refused_order (classes_of classes.old.items) (numbers new.bases.items)) }
-    ensures err { OnErr result (classes.new.items ≡ classes.old.items) }
+        refused_order (classes_of classes.old) (numbers new.bases.items)) }
+    ensures err { OnErr result (classes.new ≡ classes.old) }
     ensures names { NamesNoClass result }
 {
     let at = classes.len();

@@ -10,14 +10,14 @@ ghost use Rattle.class_table.specs.Keys.{number_of};
 ghost use Rattle.class_table.specs.Coherent.{IsCoherent};
 
 use crate::place::stored_at;
-use crate::stored::Stored;
+use crate::stored_classes::StoredClasses;
 use py_node::PyTypeRef;
 use std::marker::Model;
 
 /// A class, its best base, the best base of that one, and so on, up to the class that has none.
 #[derive(Drop)]
 pub struct BaseChain<'a> {
-    classes: &'a [Stored],
+    classes: &'a StoredClasses,
     next: Option<PyTypeRef>,
 }
 
@@ -52,7 +52,7 @@ impl<'a> Iterator for BaseChain<'a> {
 }
 
 // The chain from a class on.
-pub(crate) fn chain(classes: &[Stored], class: PyTypeRef) -> BaseChain<'_>
+pub(crate) fn chain(classes: &StoredClasses, class: PyTypeRef) -> BaseChain<'_>
     requires coherent { IsCoherent classes.now }
     requires there { is_class (classes_of classes.now) class.0 ≡ true }
     ensures chain { result ≡ base_chain (classes_of classes.now) class.0 }
@@ -65,7 +65,7 @@ pub(crate) fn chain(classes: &[Stored], class: PyTypeRef) -> BaseChain<'_>
 }
 
 // The best base of a class, from which its chain goes on.
-pub(crate) fn base_of(classes: &[Stored], class: PyTypeRef) -> Option<PyTypeRef>
+pub(crate) fn base_of(classes: &StoredClasses, class: PyTypeRef) -> Option<PyTypeRef>
     requires coherent { IsCoherent classes.now }
     requires there { is_class (classes_of classes.now) class.0 ≡ true }
     ensures base { number_of result ≡ base (classes_of classes.now) class.0 }

@@ -9,13 +9,13 @@ ghost use Rattle.class_table.specs.Keys.{numbers};
 ghost use Rattle.class_table.specs.Given.{AreGiven};
 
 use crate::place::find;
-use crate::stored::Stored;
+use crate::stored_classes::StoredClasses;
 use py_node::{OutOfMemory, PyAttributes, PyTypeRef};
 use std::alloc::Global;
 
 // The attributes of the classes along a line, from its end up.
 pub(crate) fn attributes_along(
-    classes: &[Stored],
+    classes: &StoredClasses,
     alloc: Global,
     line: &[PyTypeRef],
 ) -> Result<PyAttributes, OutOfMemory>

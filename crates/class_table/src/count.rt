@@ -9,12 +9,12 @@ ghost use Rattle.class_table.specs.Stored.{classes_of};
 ghost use Rattle.class_table.specs.Coherent.{IsCoherent};
 
 use crate::place::{find, stored_at};
-use crate::stored::Stored;
+use crate::stored_classes::StoredClasses;
 use py_node::{OutOfMemory, PyTypeRef};
 
 // The members of some classes, added to a count. More than fit into memory are as many as can't be had.
 pub(crate) fn count_along(
-    classes: &[Stored],
+    classes: &StoredClasses,
     own: usize,
     line: &[PyTypeRef],
 ) -> Result<usize, OutOfMemory>
@@ -32,7 +32,7 @@ pub(crate) fn count_along(
 }
 
 // How many members a class itself has, where there is such a class.
-pub(crate) fn members_at(classes: &[Stored], class: PyTypeRef) -> usize
+pub(crate) fn members_at(classes: &StoredClasses, class: PyTypeRef) -> usize
     requires { is_ascending (classes_of classes.now) ≡ true }
     ensures { result ≡ member_count (class_at (classes_of classes.now) class.0) }
 {
@@ -43,7 +43,7 @@ pub(crate) fn members_at(classes: &[Stored], class: PyTypeRef) -> usize
 }
 
 // How many places the objects of a class have.
-pub(crate) fn count_at(classes: &[Stored], class: PyTypeRef) -> usize
+pub(crate) fn count_at(classes: &StoredClasses, class: PyTypeRef) -> usize
     requires coherent { IsCoherent classes.now }
     requires there { is_class (classes_of classes.now) class.0 ≡ true }
     ensures { place_count (classes_of classes.now) class.0 ≡ Some result }

@@ -10,7 +10,7 @@ ghost use Rattle.class_table.specs.Descendants.{descendants, AreDescendants, Are
 
 use crate::place::place;
 use crate::place_set::PlaceSet;
-use crate::stored::Stored;
+use crate::stored_classes::StoredClasses;
 use py_node::{OutOfMemory, PyTypeRef};
 use std::alloc::Global;
 
@@ -23,7 +23,7 @@ pub(crate) struct Ranked {
 
 // Adds the places of some classes.
 pub(crate) fn add_places(
-    classes: &[Stored],
+    classes: &StoredClasses,
     found: &mut PlaceSet,
     some: &[PyTypeRef],
 ) -> Result<(), OutOfMemory>
@@ -38,16 +38,16 @@ pub(crate) fn add_places(
 }
 
 // The direct subclasses of the class at a place.
-fn subclasses_at(classes: &[Stored], at: usize) -> &[PyTypeRef]
+fn subclasses_at(classes: &StoredClasses, at: usize) -> &[PyTypeRef]
     requires { at < length classes.now }
     ensures { (k : StoredClass) → slice_get classes.now at ≡ Some k → numbers result.now ≡ k.subclasses }
 {
-    classes[at].subclasses()
+    classes.at(at).subclasses()
 }
 
 // The places of the class and of all that derive from it: those of the direct subclasses of each that was found.
 pub(crate) fn descendants(
-    classes: &[Stored],
+    classes: &StoredClasses,
     alloc: Global,
     class: PyTypeRef,
 ) -> Result<PlaceSet, OutOfMemory>
@@ -68,15 +68,19 @@ pub(crate) fn descendants(
 }
 
 // How long the linearisation of the class at a place is.
-fn length_at(classes: &[Stored], at: usize) -> usize
+fn length_at(classes: &StoredClasses, at: usize) -> usize
     requires { at < length classes.now }
     ensures { (k : StoredClass) → slice_get classes.now at ≡ Some k → result ≡ length k.mro }
 {
-    classes[at].line_length()
+    classes.at(at).line_length()
 }
 
 // How long the linearisations of the classes at some places are.
-fn measured(classes: &[Stored], alloc: Global, places: &[usize]) -> Result<Vec<Ranked>, OutOfMemory>
+fn measured(
+    classes: &StoredClasses,
+    alloc: Global,
+    places: &[usize],
+) -> Result<Vec<Ranked>, OutOfMemory>
     requires { (i : ℕ) → Includes places.now i → i < length classes.now }
     ensures { IfOk result (λ v. AreMeasured classes.now places.now v.items) }
 {
@@ -93,7 +97,7 @@ fn measured(classes: &[Stored], alloc: Global, places: &[usize]) -> Result<Vec<R
 // The class and all that derive from it, those with shorter linearisations first: so each comes after those of its bases
 // that are among them. The numbers don't give this order once a class got a younger base.
 pub(crate) fn in_order(
-    classes: &[Stored],
+    classes: &StoredClasses,
     alloc: Global,
     class: PyTypeRef,
 ) -> Result<Vec<Ranked>, OutOfMemory>

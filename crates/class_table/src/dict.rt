@@ -9,13 +9,13 @@ ghost use Rattle.class_table.specs.Keys.{numbers, table_keys, slot_names};
 ghost use Rattle.class_table.specs.Stored.{classes_of};
 
 use crate::place::{find, stored_at};
-use crate::stored::Stored;
+use crate::stored_classes::StoredClasses;
 use crate::table::ClassTable;
 use py_node::{Known, PyStrInterned, PyTypeRef};
 use std::alloc::Global;
 
 // Whether a class gives its objects a dict.
-fn has_dict(classes: &[Stored], class: PyTypeRef) -> bool
+fn has_dict(classes: &StoredClasses, class: PyTypeRef) -> bool
     requires { is_ascending (classes_of classes.now) ≡ true }
     ensures { result ≡ has_dict (classes_of classes.now) class.0 }
 {
@@ -26,7 +26,7 @@ fn has_dict(classes: &[Stored], class: PyTypeRef) -> bool
 }
 
 // Whether one of some classes gives its objects a dict.
-pub(crate) fn any_has_dict(classes: &[Stored], bases: &[PyTypeRef]) -> bool
+pub(crate) fn any_has_dict(classes: &StoredClasses, bases: &[PyTypeRef]) -> bool
     requires { is_ascending (classes_of classes.now) ≡ true }
     ensures { result ≡ any_has_dict (classes_of classes.now) (numbers bases.now) }
 {
@@ -39,7 +39,7 @@ pub(crate) fn any_has_dict(classes: &[Stored], bases: &[PyTypeRef]) -> bool
 }
 
 // Whether a class gives its objects a dict under other bases exactly where it does now.
-pub(crate) fn keeps_dict(classes: &[Stored], class: PyTypeRef, bases: &[PyTypeRef]) -> bool
+pub(crate) fn keeps_dict(classes: &StoredClasses, class: PyTypeRef, bases: &[PyTypeRef]) -> bool
     requires ascending { is_ascending (classes_of classes.now) ≡ true }
     requires there { is_class (classes_of classes.now) class.0 ≡ true }
     ensures { result ≡ keeps_dict (classes_of classes.now) class.0 (numbers bases.now) }
@@ -50,7 +50,7 @@ pub(crate) fn keeps_dict(classes: &[Stored], class: PyTypeRef, bases: &[PyTypeRe
 }
 
 // Whether two classes give both their objects a dict, or neither of them does.
-pub(crate) fn agree(classes: &[Stored], class: PyTypeRef, other: PyTypeRef) -> bool
+pub(crate) fn agree(classes: &StoredClasses, class: PyTypeRef, other: PyTypeRef) -> bool
     requires { is_ascending (classes_of classes.now) ≡ true }
     ensures { result ≡ alike (has_dict (classes_of classes.now) class.0) (has_dict (classes_of classes.now) other.0) }
 {

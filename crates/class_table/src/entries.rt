@@ -13,7 +13,8 @@ ghost use Rattle.class_table.specs.Coherent.{HasLines};
 
 use crate::natives::built_in_entry;
 use crate::place::{find_near, likely};
-use crate::stored::Stored;
+use crate::stored_classes::StoredClasses;
+use crate::stored_ref::StoredRef;
 use py_node::{PyAttributes, PyObjectRef, PyTypeRef, SlotEntry, SlotId, Sort};
 
 // Whether an object is None.
@@ -47,7 +48,12 @@ fn own_wrapper(attrs: &PyAttributes, slot: SlotId) -> Option<SlotEntry>
 }
 
 // The same of a class by its number, where there is such a class.
-fn wrapper_at(classes: &[Stored], near: usize, class: PyTypeRef, slot: SlotId) -> Option<SlotEntry>
+fn wrapper_at(
+    classes: &StoredClasses,
+    near: usize,
+    class: PyTypeRef,
+    slot: SlotId,
+) -> Option<SlotEntry>
     requires { is_ascending (classes_of classes.now) ≡ true }
     ensures { result ≡ wrapped slot (own_of (is_name_of table_keys slot) (class_at (classes_of classes.now) class.0)) }
 {
@@ -60,7 +66,7 @@ fn wrapper_at(classes: &[Stored], near: usize, class: PyTypeRef, slot: SlotId) -
 // What a slot holds by the attributes of some classes.
 #[tactic(auto, using(crate::proofs::Along::wrapped_or_else))]
 fn wrapper_along(
-    classes: &[Stored],
+    classes: &StoredClasses,
     near: &[usize],
     line: &[PyTypeRef],
     slot: SlotId,
@@ -78,7 +84,7 @@ fn wrapper_along(
 
 // What a heap class has in a slot.
 fn heap_entry(
-    classes: &[Stored],
+    classes: &StoredClasses,
     near: &[usize],
     class: PyTypeRef,
     line: &[PyTypeRef],
@@ -95,7 +101,12 @@ fn heap_entry(
 }
 
 // What a class has in a slot by its attributes or as a native.
-fn given_entry(classes: &[Stored], near: usize, class: PyTypeRef, slot: SlotId) -> Option<SlotEntry>
+fn given_entry(
+    classes: &StoredClasses,
+    near: usize,
+    class: PyTypeRef,
+    slot: SlotId,
+) -> Option<SlotEntry>
     requires { HasLines classes.now }
     ensures { result ≡ given_entry table_keys natives_of (classes_of classes.now) slot class.0 }
 {
@@ -113,7 +124,7 @@ fn given_entry(classes: &[Stored], near: usize, class: PyTypeRef, slot: SlotId) 
 
 // The first such among some classes.
 fn given_along(
-    classes: &[Stored],
+    classes: &StoredClasses,
     near: &[usize],
     line: &[PyTypeRef],
     slot: SlotId,
@@ -131,7 +142,7 @@ fn given_along(
 }
 
 // Whether a class lacks the slot for good, so that the nearest class along its linearisation gives it.
-pub(crate) fn is_inherited(stored: &Stored, slot: SlotId) -> bool
+pub(crate) fn is_inherited(stored: &StoredRef<'_>, slot: SlotId) -> bool
     ensures { result ≡ (not (is_heap (class_of stored.now)) && is_by_itself (sort_of slot)) }
 {
     !stored.is_heap() && is_own(slot)
@@ -144,14 +155,14 @@ fn is_own(slot: SlotId) -> bool
 }
 
 // What the class at a place itself has in a slot.
-pub(crate) fn entry(classes: &[Stored], place: usize, slot: SlotId) -> Option<SlotEntry>
+pub(crate) fn entry(classes: &StoredClasses, place: usize, slot: SlotId) -> Option<SlotEntry>
     requires lines { HasLines classes.now }
     requires inside { place < length classes.now }
     ensures { (d : StoredClass) → result ≡
         entry table_keys natives_of (classes_of classes.now) (slice_index_or classes.now place d).number slot }
 {
-    let stored = &classes[place];
-    if is_inherited(stored, slot) {
+    let stored = classes.at(place);
+    if is_inherited(&stored, slot) {
         given_along(classes, stored.near(), stored.mro(), slot)
     } else {
         given_entry(classes, place, stored.number(), slot)

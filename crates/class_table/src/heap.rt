@@ -19,7 +19,8 @@ use crate::fault::ClassFault;
 use crate::inherit::best_base;
 use crate::place::find;
 use crate::put::put_in;
-use crate::stored::{NewClass, Stored};
+use crate::stored::NewClass;
+use crate::stored_classes::StoredClasses;
 use crate::take::take_from;
 use py_node::{
     Cause, OutOfMemory, PyAttributes, PyObjectRef, PyStrInterned, PyTypeFlags, PyTypeRef,
@@ -27,7 +28,7 @@ use py_node::{
 use std::alloc::Global;
 
 // Whether a class was made by a script.
-pub(crate) fn is_heap(classes: &[Stored], class: PyTypeRef) -> bool
+pub(crate) fn is_heap(classes: &StoredClasses, class: PyTypeRef) -> bool
     requires { is_ascending (classes_of classes.now) ≡ true }
     ensures { result ≡ is_heap_at (class_at (classes_of classes.now) class.0) }
 {
@@ -39,7 +40,7 @@ pub(crate) fn is_heap(classes: &[Stored], class: PyTypeRef) -> bool
 
 // A class that a script makes, named by a text.
 fn heap_parts(
-    classes: &[Stored],
+    classes: &StoredClasses,
     alloc: Global,
     number: PyTypeRef,
     name: &str,
@@ -67,7 +68,7 @@ fn heap_parts(
 
 // Adds a class that a script makes.
 pub(crate) fn add_heap(
-    classes: &mut Vec<Stored>,
+    classes: &mut StoredClasses,
     alloc: Global,
     number: PyTypeRef,
     name: &str,
@@ -75,19 +76,19 @@ pub(crate) fn add_heap(
     attrs: PyAttributes,
     slots: Option<Vec<PyStrInterned>>,
 ) -> Result<PyTypeRef, ClassFault>
-    requires coherent { IsCoherent classes.old.items }
-    requires bases { AreThere (classes_of classes.old.items) (numbers bases.items) }
-    requires fresh { limit (classes_of classes.old.items) ≤ number.0 }
+    requires coherent { IsCoherent classes.old }
+    requires bases { AreThere (classes_of classes.old) (numbers bases.items) }
+    requires fresh { limit (classes_of classes.old) ≤ number.0 }
     ensures number { IfOk result (λ c. c ≡ number) }
-    ensures coherent { OnOk result (IsCoherent classes.new.items) }
-    ensures added { OnOk result (classes_of classes.new.items ≡
-        with_class (classes_of classes.old.items)
-        (heap_class table_keys (classes_of classes.old.items) name.now number.0 (numbers bases.items) attrs
+    ensures coherent { OnOk result (IsCoherent classes.new) }
+    ensures added { OnOk result (classes_of classes.new ≡
+        with_class (classes_of classes.old)
+        (heap_class table_keys (classes_of classes.old) name.now number.0 (numbers bases.items) attrs
         (slot_names slots))) }
-    ensures early { IsEarly (classes_of classes.old.items) (numbers bases.items) (refusal result) }
+    ensures early { IsEarly (classes_of classes.old) (numbers bases.items) (refusal result) }
     ensures refused { WithMemory result (refusal result ≡
-        refused_bases (classes_of classes.old.items) (numbers bases.items)) }
-    ensures err { OnErr result (classes.new.items ≡ classes.old.items) }
+        refused_bases (classes_of classes.old) (numbers bases.items)) }
+    ensures err { OnErr result (classes.new ≡ classes.old) }
     ensures names { NamesNoClass result }
 {
     let best = match best_base(classes, &bases) {
@@ -103,18 +104,18 @@ pub(crate) fn add_heap(
 
 // Sets an attribute of a class that a script made.
 pub(crate) fn set_heap(
-    classes: &mut Vec<Stored>,
+    classes: &mut StoredClasses,
     class: PyTypeRef,
     name: PyStrInterned,
     value: PyObjectRef,
 ) -> Result<(), ClassFault>
-    requires coherent { IsCoherent classes.old.items }
-    requires there { is_class (classes_of classes.old.items) class.0 ≡ true }
-    ensures coherent { OnOk result (IsCoherent classes.new.items) }
-    ensures immutable { refusal result ≡ refused_attr (classes_of classes.old.items) class.0 }
-    ensures set { OnOk result (classes_of classes.new.items ≡
-        with_class_attr is_same_name (classes_of classes.old.items) class.0 name value) }
-    ensures err { OnErr result (classes.new.items ≡ classes.old.items) }
+    requires coherent { IsCoherent classes.old }
+    requires there { is_class (classes_of classes.old) class.0 ≡ true }
+    ensures coherent { OnOk result (IsCoherent classes.new) }
+    ensures immutable { refusal result ≡ refused_attr (classes_of classes.old) class.0 }
+    ensures set { OnOk result (classes_of classes.new ≡
+        with_class_attr is_same_name (classes_of classes.old) class.0 name value) }
+    ensures err { OnErr result (classes.new ≡ classes.old) }
     ensures names { NamesNoClass result }
 {
     if !is_heap(classes, class) {
@@ -128,21 +129,21 @@ pub(crate) fn set_heap(
 
 // Takes an attribute out of a class that a script made.
 pub(crate) fn take_heap(
-    classes: &mut Vec<Stored>,
+    classes: &mut StoredClasses,
     class: PyTypeRef,
     name: PyStrInterned,
 ) -> Result<bool, ClassFault>
-    requires coherent { IsCoherent classes.old.items }
-    requires there { is_class (classes_of classes.old.items) class.0 ≡ true }
-    ensures coherent { IsCoherent classes.new.items }
-    ensures immutable { refusal result ≡ refused_attr (classes_of classes.old.items) class.0 }
+    requires coherent { IsCoherent classes.old }
+    requires there { is_class (classes_of classes.old) class.0 ≡ true }
+    ensures coherent { IsCoherent classes.new }
+    ensures immutable { refusal result ≡ refused_attr (classes_of classes.old) class.0 }
     ensures memory { NeedsNoMemory result }
     ensures there { IfOk result (λ b. b ≡
-        is_some (own_of (λ k. is_same_name k name) (class_at (classes_of classes.old.items) class.0))) }
-    ensures taken { OnOk result (classes_of classes.new.items ≡
-        without_class_attr is_same_name (classes_of classes.old.items) class.0 name) }
-    ensures absent { result ≡ Ok false → classes.new.items ≡ classes.old.items }
-    ensures err { OnErr result (classes.new.items ≡ classes.old.items) }
+        is_some (own_of (λ k. is_same_name k name) (class_at (classes_of classes.old) class.0))) }
+    ensures taken { OnOk result (classes_of classes.new ≡
+        without_class_attr is_same_name (classes_of classes.old) class.0 name) }
+    ensures absent { result ≡ Ok false → classes.new ≡ classes.old }
+    ensures err { OnErr result (classes.new ≡ classes.old) }
     ensures names { NamesNoClass result }
 {
     if !is_heap(classes, class) {

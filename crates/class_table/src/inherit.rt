@@ -14,13 +14,13 @@ ghost use Rattle.class_table.specs.Inherit.{is_under, better_of, next_best, best
 
 use crate::fault::{ClassFault, merge_fault};
 use crate::place::{find, find_place, stored_at};
-use crate::stored::Stored;
+use crate::stored_classes::StoredClasses;
 use mro_merge::laws::resolve_mro;
 use py_node::{Cause, OutOfMemory, PyTypeFlags, PyTypeRef};
 use std::alloc::Global;
 
 // Whether a class may have subclasses.
-fn is_base(classes: &[Stored], class: PyTypeRef) -> bool
+fn is_base(classes: &StoredClasses, class: PyTypeRef) -> bool
     requires { is_ascending (classes_of classes.now) ≡ true }
     ensures { result ≡ is_base_at (class_at (classes_of classes.now) class.0) }
 {
@@ -31,7 +31,7 @@ fn is_base(classes: &[Stored], class: PyTypeRef) -> bool
 }
 
 // The solid class of a class that is there.
-fn solid_of(classes: &[Stored], class: PyTypeRef) -> Option<PyTypeRef>
+fn solid_of(classes: &StoredClasses, class: PyTypeRef) -> Option<PyTypeRef>
     requires coherent { IsCoherent classes.now }
     requires there { is_class (classes_of classes.now) class.0 ≡ true }
     ensures { number_of result ≡ solid (classes_of classes.now) class.0 }
@@ -40,7 +40,7 @@ fn solid_of(classes: &[Stored], class: PyTypeRef) -> Option<PyTypeRef>
 }
 
 // The same: each class has one.
-pub(crate) fn solid_class(classes: &[Stored], class: PyTypeRef) -> PyTypeRef
+pub(crate) fn solid_class(classes: &StoredClasses, class: PyTypeRef) -> PyTypeRef
     requires coherent { IsCoherent classes.now }
     requires there { is_class (classes_of classes.now) class.0 ≡ true }
     ensures { solid (classes_of classes.now) class.0 ≡ Some result.0 }
@@ -52,7 +52,7 @@ pub(crate) fn solid_class(classes: &[Stored], class: PyTypeRef) -> PyTypeRef
 }
 
 // The solid class of the best base, where there is one.
-pub(crate) fn inherited(classes: &[Stored], best: Option<PyTypeRef>) -> Option<PyTypeRef>
+pub(crate) fn inherited(classes: &StoredClasses, best: Option<PyTypeRef>) -> Option<PyTypeRef>
     requires coherent { IsCoherent classes.now }
     requires there { IfSome best (λ b. is_class (classes_of classes.now) b.0 ≡ true) }
     ensures { number_of result ≡ option_and_then (solid (classes_of classes.now)) (number_of best) }
@@ -64,7 +64,7 @@ pub(crate) fn inherited(classes: &[Stored], best: Option<PyTypeRef>) -> Option<P
 }
 
 // Whether one solid class derives from another.
-fn is_under(classes: &[Stored], class: Option<PyTypeRef>, other: Option<PyTypeRef>) -> bool
+fn is_under(classes: &StoredClasses, class: Option<PyTypeRef>, other: Option<PyTypeRef>) -> bool
     requires { IsCoherent classes.now }
     ensures { result ≡ is_under (classes_of classes.now) (number_of class) (number_of other) }
 {
@@ -78,7 +78,7 @@ fn is_under(classes: &[Stored], class: Option<PyTypeRef>, other: Option<PyTypeRe
 }
 
 // Whether a class is there and derives from another.
-fn derives(classes: &[Stored], class: PyTypeRef, other: PyTypeRef) -> bool
+fn derives(classes: &StoredClasses, class: PyTypeRef, other: PyTypeRef) -> bool
     requires { IsCoherent classes.now }
     ensures { result ≡ is_under (classes_of classes.now) (Some class.0) (Some other.0) }
 {
@@ -89,7 +89,7 @@ fn derives(classes: &[Stored], class: PyTypeRef, other: PyTypeRef) -> bool
 }
 
 // The better of two bases: the one whose solid class derives from the other's.
-fn better_of(classes: &[Stored], best: PyTypeRef, base: PyTypeRef) -> Result<PyTypeRef, Cause>
+fn better_of(classes: &StoredClasses, best: PyTypeRef, base: PyTypeRef) -> Result<PyTypeRef, Cause>
     requires coherent { IsCoherent classes.now }
     requires best { is_class (classes_of classes.now) best.0 ≡ true }
     requires base { is_class (classes_of classes.now) base.0 ≡ true }
@@ -108,7 +108,7 @@ fn better_of(classes: &[Stored], best: PyTypeRef, base: PyTypeRef) -> Result<PyT
 
 // The better of the best base so far and a further one.
 fn next_best(
-    classes: &[Stored],
+    classes: &StoredClasses,
     best: Option<PyTypeRef>,
     base: PyTypeRef,
 ) -> Result<PyTypeRef, Cause>
@@ -128,7 +128,7 @@ fn next_best(
 }
 
 // The best of some bases, if there are any.
-fn best_along(classes: &[Stored], bases: &[PyTypeRef]) -> Result<Option<PyTypeRef>, Cause>
+fn best_along(classes: &StoredClasses, bases: &[PyTypeRef]) -> Result<Option<PyTypeRef>, Cause>
     requires coherent { IsCoherent classes.now }
     requires there { AreThere (classes_of classes.now) (numbers bases.now) }
     ensures { number_best result ≡ best_along (classes_of classes.now) None (numbers bases.now) }
@@ -144,7 +144,7 @@ fn best_along(classes: &[Stored], bases: &[PyTypeRef]) -> Result<Option<PyTypeRe
 }
 
 // The best base of a class that a script makes, or why it may not have these bases.
-pub(crate) fn best_base(classes: &[Stored], bases: &[PyTypeRef]) -> Result<PyTypeRef, Cause>
+pub(crate) fn best_base(classes: &StoredClasses, bases: &[PyTypeRef]) -> Result<PyTypeRef, Cause>
     requires coherent { IsCoherent classes.now }
     requires there { AreThere (classes_of classes.now) (numbers bases.now) }
     ensures best { IfOk result (λ b. best_of (classes_of classes.now) (numbers bases.now) ≡ Some b.0) }
@@ -158,7 +158,7 @@ pub(crate) fn best_base(classes: &[Stored], bases: &[PyTypeRef]) -> Result<PyTyp
 }
 
 // The best of at most one base.
-pub(crate) fn only(classes: &[Stored], bases: &[PyTypeRef]) -> Option<PyTypeRef>
+pub(crate) fn only(classes: &StoredClasses, bases: &[PyTypeRef]) -> Option<PyTypeRef>
     requires coherent { IsCoherent classes.now }
     requires there { AreThere (classes_of classes.now) (numbers bases.now) }
     requires one { length bases.now ≤ 1 }
@@ -172,7 +172,7 @@ pub(crate) fn only(classes: &[Stored], bases: &[PyTypeRef]) -> Option<PyTypeRef>
 
 // The linearisations of some classes.
 fn lines(
-    classes: &[Stored],
+    classes: &StoredClasses,
     alloc: Global,
     bases: &[PyTypeRef],
 ) -> Result<Vec<Vec<PyTypeRef>>, OutOfMemory>
@@ -190,7 +190,7 @@ fn lines(
 
 // What follows a new class with these bases in its linearisation: the merge of theirs.
 pub(crate) fn rest_of_line(
-    classes: &[Stored],
+    classes: &StoredClasses,
     alloc: Global,
     bases: &[PyTypeRef],
 ) -> Result<Vec<PyTypeRef>, ClassFault>
@@ -212,7 +212,7 @@ pub(crate) fn rest_of_line(
 
 // Whether a script may make a class with these bases.
 pub(crate) fn may_derive(
-    classes: &[Stored],
+    classes: &StoredClasses,
     alloc: Global,
     bases: &[PyTypeRef],
 ) -> Result<(), ClassFault>
@@ -234,7 +234,7 @@ pub(crate) fn may_derive(
 
 // Where the classes of a linearisation are kept, after the class at the end itself. Each is a guess.
 pub(crate) fn likely_places(
-    classes: &[Stored],
+    classes: &StoredClasses,
     alloc: Global,
     rest: &[PyTypeRef],
 ) -> Result<Vec<usize>, OutOfMemory>

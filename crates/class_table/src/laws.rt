@@ -1,13 +1,14 @@
 //! What is so of every table of classes, and is the result of no call.
 
-ghost use Rattle.std.specs.Prelude.{◌≡◌, ◌<◌, ◌↔◌, ℕ, List, true, Some, None};
+ghost use Rattle.std.specs.Prelude.{◌≡◌, ◌<◌, ◌↔◌, ℕ, List, true, Some, None, is_some};
 ghost use Rattle.class_model.specs.Order.{Distinct, Includes, Subsequence};
 ghost use Rattle.py_node.specs.declared.refs.PyObjectRef.{PyObjectRef};
 ghost use Rattle.py_node.specs.declared.refs.PyStrInterned.{PyStrInterned};
 ghost use Rattle.py_node.specs.Attributes.{is_same_name};
 ghost use Rattle.class_model.specs.Class.{class_at, is_class, own_of, bases_of, lin, is_sub};
 ghost use Rattle.class_model.specs.Change.{with_class_attr, without_class_attr, with_bases};
-ghost use Rattle.class_model.specs.Layout.{layout, place_at, place_count};
+ghost use Rattle.class_model.specs.Layout.{is_place, layout, place_at, place_count};
+ghost use Rattle.class_model.specs.Offset.{offset_of};
 ghost use Rattle.class_model.specs.Sound.{AreSound};
 ghost use Rattle.class_model.specs.Failing.{FailsAsSaid, PassesAsSaid};
 ghost use Rattle.class_table.specs.Refused.{AreThere};
@@ -80,6 +81,22 @@ pub fn bases_that_pass_keep_layouts(classes: &ClassTable)
 pub fn places_keep_their_offsets(classes: &ClassTable)
     ensures { (c d n k : ℕ) → is_sub classes.now c d ≡ true → place_count classes.now d ≡ Some k → n < k →
         place_at classes.now c n ≡ place_at classes.now d n }
+{
+    classes.sound();
+}
+
+/// Each place of a class's objects has an offset: the number of the members of the classes that come before the place's own
+/// class in the layout, added up, and its index. It is below the count of the places, no two places of a class have the same
+/// one, it is that by which the place is named, and the place has the same one in the objects of each class that derives
+/// from the class.
+pub fn places_have_offsets_of_their_own(classes: &ClassTable)
+    ensures there { (c d i : ℕ) → is_place classes.now c d i ≡ true → is_some (offset_of classes.now c d i) ≡ true }
+    ensures below { (c d i n k : ℕ) → offset_of classes.now c d i ≡ Some n → place_count classes.now c ≡ Some k → n < k }
+    ensures apart { (c d i e j n : ℕ) → offset_of classes.now c d i ≡ Some n → offset_of classes.now c e j ≡ Some n →
+        (d ≡ e) × (i ≡ j) }
+    ensures named { (c d i n : ℕ) → (place_at classes.now c n ≡ Some (d, i)) ↔ (offset_of classes.now c d i ≡ Some n) }
+    ensures inherited { (c b d i n : ℕ) → is_sub classes.now c b ≡ true → offset_of classes.now b d i ≡ Some n →
+        offset_of classes.now c d i ≡ Some n }
 {
     classes.sound();
 }

@@ -10,7 +10,7 @@ ghost use Rattle.class_table.specs.Coherent.{IsCoherent};
 
 use crate::count::members_at;
 use crate::place::stored_at;
-use crate::stored::Stored;
+use crate::stored_classes::StoredClasses;
 use crate::table::ClassTable;
 use py_node::{MemberPlace, PyTypeRef};
 
@@ -26,7 +26,11 @@ impl ClassTable {
 }
 
 // The place that so many others come before in the objects of a class.
-pub(crate) fn place_at(classes: &[Stored], class: PyTypeRef, offset: usize) -> Option<MemberPlace>
+pub(crate) fn place_at(
+    classes: &StoredClasses,
+    class: PyTypeRef,
+    offset: usize,
+) -> Option<MemberPlace>
     requires coherent { IsCoherent classes.now }
     requires there { is_class (classes_of classes.now) class.0 ≡ true }
     ensures { option_map (λ p. (p.class.0, p.index)) result ≡ place_at (classes_of classes.now) class.0 offset }
@@ -37,7 +41,7 @@ pub(crate) fn place_at(classes: &[Stored], class: PyTypeRef, offset: usize) -> O
 
 // The same along a linearisation, whose classes have so many places. Those of its end come first.
 fn place_along(
-    classes: &[Stored],
+    classes: &StoredClasses,
     line: &[PyTypeRef],
     count: usize,
     offset: usize,

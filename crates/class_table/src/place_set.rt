@@ -1,7 +1,7 @@
 //! Places, each once.
 
-ghost use Rattle.std.specs.Prelude.{◌≡◌, ℕ, List, [], ◌∷◌, ◌++◌, cond, OnOk, slice_get};
-ghost use Rattle.class_model.specs.Order.{has, Distinct};
+ghost use Rattle.std.specs.Prelude.{◌≡◌, ℕ, List, [], ◌∷◌, ◌++◌, cond, IfNone, IfSome, OnOk, Some, slice_get};
+ghost use Rattle.class_model.specs.Order.{has, Distinct, Includes};
 
 use indexmap::IndexSet;
 use py_node::OutOfMemory;
@@ -48,6 +48,17 @@ impl PlaceSet {
         // (that the keys differ is told by a call of the set)
         let _count = self.places.len();
         self.places.get_index(index).copied()
+    }
+
+    // The index of a place, if it is there.
+    pub(crate) fn index_of(&self, place: usize) -> Option<usize>
+        ensures there { IfSome result (λ j. slice_get self.now j ≡ Some place) }
+        ensures none { IfNone result (Includes self.now place → ⊥) }
+        ensures distinct { Distinct self.now }
+    {
+        // (that the keys differ is told by a call of the set)
+        let _count = self.places.len();
+        self.places.get_index_of(&place)
     }
 
     // All places.

@@ -14,7 +14,7 @@ ghost use Rattle.class_table.specs.Steps.{RiseBy};
 use crate::entries::wrapper;
 use crate::place::{find_near, likely};
 use crate::steps::Steps;
-use crate::stored::Stored;
+use crate::stored_classes::StoredClasses;
 use py_node::{Known, PyAttributes, PyObjectRef, PyStrInterned, PyTypeRef, SlotEntry, SlotId};
 use std::sync::ledger::Ledger;
 
@@ -29,7 +29,7 @@ pub(crate) type Values = [Option<PyObjectRef>; SPECIAL_NAMES];
 
 // The class's own value of a name, where there is such a class. This alone counts a probe.
 fn own_value<L: Ledger>(
-    classes: &[Stored],
+    classes: &StoredClasses,
     near: usize,
     class: PyTypeRef,
     name: PyStrInterned,
@@ -132,7 +132,7 @@ fn add_own<L: Ledger>(
 // The same of a class, where there is such a class.
 fn add_of<L: Ledger>(
     values: &mut [Option<PyObjectRef>],
-    classes: &[Stored],
+    classes: &StoredClasses,
     near: usize,
     class: PyTypeRef,
     steps: &mut Steps<L>,
@@ -152,7 +152,7 @@ fn add_of<L: Ledger>(
 // The same of some classes: of each name what the first has that has it.
 fn add_along<L: Ledger>(
     values: &mut [Option<PyObjectRef>],
-    classes: &[Stored],
+    classes: &StoredClasses,
     near: &[usize],
     line: &[PyTypeRef],
     steps: &mut Steps<L>,
@@ -169,7 +169,11 @@ fn add_along<L: Ledger>(
 }
 
 // What each special name finds for the class at a place: `__new__` in the class alone, another one along its linearisation.
-pub(crate) fn values_for<L: Ledger>(classes: &[Stored], at: usize, steps: &mut Steps<L>) -> Values
+pub(crate) fn values_for<L: Ledger>(
+    classes: &StoredClasses,
+    at: usize,
+    steps: &mut Steps<L>,
+) -> Values
     requires lines { HasLines classes.now }
     requires inside { at < length classes.now }
     ensures found { (d : StoredClass) → AreFound (classes_of classes.now)
@@ -177,7 +181,7 @@ pub(crate) fn values_for<L: Ledger>(classes: &[Stored], at: usize, steps: &mut S
     ensures steps { (d : StoredClass) →
         RiseBy 0 (special_count * length (slice_index_or classes.now at d).mro) steps.old steps.new }
 {
-    let stored = &classes[at];
+    let stored = classes.at(at);
     let mut values = [None; SPECIAL_NAMES];
     add_along(&mut values, classes, stored.near(), stored.mro(), steps);
     let name = Known::New.interned();

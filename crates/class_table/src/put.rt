@@ -9,12 +9,12 @@ ghost use Rattle.class_table.specs.Coherent.{IsCoherent};
 
 use crate::place::place;
 use crate::refresh::refresh;
-use crate::stored::Stored;
+use crate::stored_classes::StoredClasses;
 use py_node::{OutOfMemory, PyObjectRef, PyStrInterned, PyTypeRef};
 
 // Sets an attribute, and finds the slots anew that change with it.
 pub(crate) fn put(
-    classes: &mut [Stored],
+    classes: &mut StoredClasses,
     class: PyTypeRef,
     name: PyStrInterned,
     value: PyObjectRef,
@@ -27,24 +27,24 @@ pub(crate) fn put(
     ensures err { OnErr result (classes.new ≡ classes.old) }
 {
     let at = place(classes, class);
-    classes[at].set_attr(name, value)?;
+    classes.set_attr(at, name, value)?;
     refresh(classes, class, name);
     Ok(())
 }
 
 // The same, of the classes of a table.
 pub(crate) fn put_in(
-    classes: &mut Vec<Stored>,
+    classes: &mut StoredClasses,
     class: PyTypeRef,
     name: PyStrInterned,
     value: PyObjectRef,
 ) -> Result<(), OutOfMemory>
-    requires coherent { IsCoherent classes.old.items }
-    requires there { is_class (classes_of classes.old.items) class.0 ≡ true }
-    ensures coherent { OnOk result (IsCoherent classes.new.items) }
-    ensures ok { OnOk result (classes_of classes.new.items ≡
-        with_class_attr is_same_name (classes_of classes.old.items) class.0 name value) }
-    ensures err { OnErr result (classes.new.items ≡ classes.old.items) }
+    requires coherent { IsCoherent classes.old }
+    requires there { is_class (classes_of classes.old) class.0 ≡ true }
+    ensures coherent { OnOk result (IsCoherent classes.new) }
+    ensures ok { OnOk result (classes_of classes.new ≡
+        with_class_attr is_same_name (classes_of classes.old) class.0 name value) }
+    ensures err { OnErr result (classes.new ≡ classes.old) }
 {
     put(classes, class, name, value)
 }

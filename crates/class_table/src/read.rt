@@ -16,12 +16,12 @@ ghost use Rattle.class_table.specs.Coherent.{IsCoherent};
 ghost use Rattle.class_table.specs.Table.{table_sort, any_filled};
 
 use crate::place::{find_near, likely, stored_at};
-use crate::stored::Stored;
+use crate::stored_classes::StoredClasses;
 use py_node::{PyObjectRef, PyStrInterned, PyTypeRef, SlotEntry, SlotId, Sort};
 
 // A class's own value, where there is such a class.
 pub(crate) fn own_at(
-    classes: &[Stored],
+    classes: &StoredClasses,
     near: usize,
     class: PyTypeRef,
     name: PyStrInterned,
@@ -37,7 +37,7 @@ pub(crate) fn own_at(
 
 // The first value along some classes.
 pub(crate) fn value_along(
-    classes: &[Stored],
+    classes: &StoredClasses,
     near: &[usize],
     line: &[PyTypeRef],
     name: PyStrInterned,
@@ -55,7 +55,7 @@ pub(crate) fn value_along(
 
 // The first value along some classes past the first.
 pub(crate) fn value_past(
-    classes: &[Stored],
+    classes: &StoredClasses,
     near: &[usize],
     line: &[PyTypeRef],
     name: PyStrInterned,
@@ -76,7 +76,11 @@ pub(crate) fn value_past(
 }
 
 // What a class itself has in a slot, as it is kept.
-pub(crate) fn own_entry(classes: &[Stored], class: PyTypeRef, slot: SlotId) -> Option<SlotEntry>
+pub(crate) fn own_entry(
+    classes: &StoredClasses,
+    class: PyTypeRef,
+    slot: SlotId,
+) -> Option<SlotEntry>
     requires coherent { IsCoherent classes.now }
     requires there { is_class (classes_of classes.now) class.0 ≡ true }
     ensures { result ≡ entry table_keys natives_of (classes_of classes.now) class.0 slot }
@@ -85,7 +89,7 @@ pub(crate) fn own_entry(classes: &[Stored], class: PyTypeRef, slot: SlotId) -> O
 }
 
 // The first own entry along some classes.
-fn nearest(classes: &[Stored], line: &[PyTypeRef], slot: SlotId) -> Option<SlotEntry>
+fn nearest(classes: &StoredClasses, line: &[PyTypeRef], slot: SlotId) -> Option<SlotEntry>
     requires coherent { IsCoherent classes.now }
     requires inside { (x : ℕ) → Includes (numbers line.now) x → is_class (classes_of classes.now) x ≡ true }
     ensures { result ≡
@@ -125,7 +129,7 @@ fn slots_in(mapping: bool) -> &'static [SlotId]
 }
 
 // Whether a class fills any of some slots.
-fn fills_any(classes: &[Stored], class: PyTypeRef, slots: &[SlotId]) -> bool
+fn fills_any(classes: &StoredClasses, class: PyTypeRef, slots: &[SlotId]) -> bool
     requires coherent { IsCoherent classes.now }
     requires there { is_class (classes_of classes.now) class.0 ≡ true }
     ensures { result ≡ any_filled (entry table_keys natives_of (classes_of classes.now) class.0) slots.now }
@@ -139,7 +143,7 @@ fn fills_any(classes: &[Stored], class: PyTypeRef, slots: &[SlotId]) -> bool
 }
 
 // Whether a class has the table of sequences, or of mappings.
-fn has_table(classes: &[Stored], class: PyTypeRef, mapping: bool) -> bool
+fn has_table(classes: &StoredClasses, class: PyTypeRef, mapping: bool) -> bool
     requires coherent { IsCoherent classes.now }
     requires there { is_class (classes_of classes.now) class.0 ≡ true }
     ensures { result ≡ has_table (entry table_keys natives_of (classes_of classes.now) class.0) (table_sort mapping)
@@ -150,7 +154,7 @@ fn has_table(classes: &[Stored], class: PyTypeRef, mapping: bool) -> bool
 
 // The entry of the first class along some that has the table.
 fn of_table(
-    classes: &[Stored],
+    classes: &StoredClasses,
     line: &[PyTypeRef],
     mapping: bool,
     slot: SlotId,
@@ -170,7 +174,7 @@ fn of_table(
 
 // A slot as it is read along a linearisation.
 fn read_along(
-    classes: &[Stored],
+    classes: &StoredClasses,
     class: PyTypeRef,
     line: &[PyTypeRef],
     slot: SlotId,
@@ -190,7 +194,7 @@ fn read_along(
 }
 
 // A slot as it is read for a class.
-pub(crate) fn read(classes: &[Stored], class: PyTypeRef, slot: SlotId) -> Option<SlotEntry>
+pub(crate) fn read(classes: &StoredClasses, class: PyTypeRef, slot: SlotId) -> Option<SlotEntry>
     requires coherent { IsCoherent classes.now }
     requires there { is_class (classes_of classes.now) class.0 ≡ true }
     ensures { result ≡ slot_read table_keys natives_of (classes_of classes.now) class.0 slot }

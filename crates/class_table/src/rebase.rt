@@ -16,6 +16,7 @@ ghost use Rattle.class_table.specs.Probe.{special_count};
 ghost use Rattle.class_table.specs.Settle.{line_places};
 ghost use Rattle.class_table.specs.Affected.{AreAffected};
 ghost use Rattle.class_table.specs.Renewed.{AreRenewed};
+ghost use Rattle.class_table.specs.Lines.{AreLinesOf};
 
 use crate::affected::affected;
 use crate::blame::blamed;
@@ -25,12 +26,14 @@ use crate::dict::keeps_dict;
 use crate::fault::ClassFault;
 use crate::heap::is_heap;
 use crate::inherit::{best_base, inherited};
+use crate::lines::Lines;
 use crate::place::{place, stored_at};
 use crate::place_set::PlaceSet;
-use crate::renew::{Renewed, renew_all, swap_in};
+use crate::renew::{Renewed, lines_under, renew_all, swap_in};
 use crate::settle::settle_all;
 use crate::steps::Steps;
-use crate::stored::{Stored, has};
+use crate::stored::has;
+use crate::stored_classes::StoredClasses;
 use crate::table::ClassTable;
 use crate::trial::{Change, trials};
 use py_node::{Cause, PyTypeRef};
@@ -38,7 +41,7 @@ use std::alloc::Global;
 use std::sync::ledger::Ledger;
 
 // Whether one of some classes is a class or derives from it.
-fn any_derives(classes: &[Stored], bases: &[PyTypeRef], class: PyTypeRef) -> bool
+fn any_derives(classes: &StoredClasses, bases: &[PyTypeRef], class: PyTypeRef) -> bool
     requires coherent { IsCoherent classes.now }
     requires there { AreThere (classes_of classes.now) (numbers bases.now) }
     ensures { result ≡ any_derives (classes_of classes.now) (numbers bases.now) class.0 }
@@ -78,7 +81,7 @@ fn is_same(class: Option<PyTypeRef>, other: Option<PyTypeRef>) -> bool
 
 // The best of some bases, where they pass the tests that need no order, or the first test that fails.
 fn test_change(
-    classes: &[Stored],
+    classes: &StoredClasses,
     class: PyTypeRef,
     bases: &[PyTypeRef],
 ) -> Result<PyTypeRef, Cause>
@@ -101,7 +104,11 @@ fn test_change(
 }
 
 // The same of a class that a script made, with bases none of which derives from it.
-fn test_shape(classes: &[Stored], class: PyTypeRef, bases: &[PyTypeRef]) -> Result<PyTypeRef, Cause>
+fn test_shape(
+    classes: &StoredClasses,
+    class: PyTypeRef,
+    bases: &[PyTypeRef],
+) -> Result<PyTypeRef, Cause>
     requires coherent { IsCoherent classes.now }
     requires own { is_class (classes_of classes.now) class.0 ≡ true }
     requires there { AreThere (classes_of classes.now) (numbers bases.now) }
@@ -131,6 +138,7 @@ fn test_shape(classes: &[Stored], class: PyTypeRef, bases: &[PyTypeRef]) -> Resu
 struct Planned {
     places: PlaceSet,
     renewed: Vec<Renewed>,
+    lines: Lines,
     ranked: Vec<Ranked>,
 }
 
@@ -150,6 +158,7 @@ fn plan<L: Ledger>(
         AreAffected change.entry.classes.now change.entry.class.0 (numbers change.entry.bases.now) v.places) }
     ensures renewed { IfOk result (λ v. AreRenewed change.entry.classes.now change.entry.class.0
         (numbers change.entry.bases.now) v.places v.renewed.items) }
+    ensures lines { IfOk result (λ v. AreLinesOf change.entry.classes.now v.places v.renewed.items v.lines) }
     ensures ranked { IfOk result (λ v. AreRanked change.entry.classes.now change.entry.class.0 v.ranked.items) }
     ensures refused { WithMemory result (told result ≡
         refused_rebase (classes_of change.entry.classes.now) change.entry.class.0 (numbers change.entry.bases.now)) }
@@ -176,16 +185,21 @@ fn plan<L: Ledger>(
         Ok(renewed) => renewed,
         Err(_) => return Err(ClassFault::OutOfMemory),
     };
+    let lines = match lines_under(change.classes, alloc, &places, &renewed) {
+        Ok(lines) => lines,
+        Err(_) => return Err(ClassFault::OutOfMemory),
+    };
     Ok(Planned {
         places,
         renewed,
+        lines,
         ranked,
     })
 }
 
 // Changes the bases of a class, where they pass every test, and what follows in each class. It takes no memory.
 fn change_bases<L: Ledger>(
-    classes: &mut [Stored],
+    classes: &mut StoredClasses,
     class: PyTypeRef,
     bases: Vec<PyTypeRef>,
     plan: Planned,
@@ -197,6 +211,7 @@ fn change_bases<L: Ledger>(
     requires passed { refused_rebase (classes_of classes.old) class.0 (numbers bases.items) ≡ None }
     requires affected { AreAffected classes.old class.0 (numbers bases.items) plan.places }
     requires renewed { AreRenewed classes.old class.0 (numbers bases.items) plan.places plan.renewed.items }
+    requires lines { AreLinesOf classes.old plan.places plan.renewed.items plan.lines }
     requires ranked { AreRanked classes.old class.0 plan.ranked.items }
     ensures coherent { IsCoherent classes.new }
     ensures set { classes_of classes.new ≡ with_bases (classes_of classes.old) class.0 (numbers bases.items) }
@@ -205,20 +220,21 @@ fn change_bases<L: Ledger>(
         steps.old steps.new }
 {
     let at = place(classes, class);
-    classes[at].set_bases(bases);
+    classes.set_bases(at, bases);
     let Planned {
         places,
         renewed,
+        lines,
         ranked,
     } = plan;
-    swap_in(classes, places.all(), renewed);
+    swap_in(classes, places.all(), renewed, lines);
     settle_all(classes, &ranked, steps);
 }
 
 // What other bases of a class make of each class, or why the class may not have them: first the tests that need no order,
 // which count nothing, and then all that takes memory.
 fn prepare<L: Ledger>(
-    classes: &[Stored],
+    classes: &StoredClasses,
     alloc: Global,
     class: PyTypeRef,
     bases: &[PyTypeRef],
@@ -229,6 +245,7 @@ fn prepare<L: Ledger>(
     requires there { AreThere (classes_of classes.now) (numbers bases.now) }
     ensures affected { IfOk result (λ v. AreAffected classes.now class.0 (numbers bases.now) v.places) }
     ensures renewed { IfOk result (λ v. AreRenewed classes.now class.0 (numbers bases.now) v.places v.renewed.items) }
+    ensures lines { IfOk result (λ v. AreLinesOf classes.now v.places v.renewed.items v.lines) }
     ensures ranked { IfOk result (λ v. AreRanked classes.now class.0 v.ranked.items) }
     ensures early { IsToldFirst (classes_of classes.now) class.0 (numbers bases.now) (told result) }
     ensures refused { WithMemory result (told result ≡
@@ -255,26 +272,26 @@ fn prepare<L: Ledger>(
 
 // Gives a class other bases: first the tests, then all that takes memory, then the change.
 pub(crate) fn rebase<L: Ledger>(
-    classes: &mut Vec<Stored>,
+    classes: &mut StoredClasses,
     alloc: Global,
     class: PyTypeRef,
     bases: Vec<PyTypeRef>,
     steps: &mut Steps<L>,
 ) -> Result<(), ClassFault>
-    requires coherent { IsCoherent classes.old.items }
-    requires own { is_class (classes_of classes.old.items) class.0 ≡ true }
-    requires there { AreThere (classes_of classes.old.items) (numbers bases.items) }
-    ensures coherent { OnOk result (IsCoherent classes.new.items) }
-    ensures early { IsToldFirst (classes_of classes.old.items) class.0 (numbers bases.items) (told result) }
+    requires coherent { IsCoherent classes.old }
+    requires own { is_class (classes_of classes.old) class.0 ≡ true }
+    requires there { AreThere (classes_of classes.old) (numbers bases.items) }
+    ensures coherent { OnOk result (IsCoherent classes.new) }
+    ensures early { IsToldFirst (classes_of classes.old) class.0 (numbers bases.items) (told result) }
     ensures refused { WithMemory result (told result ≡
-        refused_rebase (classes_of classes.old.items) class.0 (numbers bases.items)) }
-    ensures set { OnOk result (classes_of classes.new.items ≡
-        with_bases (classes_of classes.old.items) class.0 (numbers bases.items)) }
-    ensures err { OnErr result (classes.new.items ≡ classes.old.items) }
-    ensures steps { RiseBy (length (descendants (classes_of classes.old.items) class.0)) (special_count * line_places
-        (with_bases (classes_of classes.old.items) class.0 (numbers bases.items))
-        (descendants (classes_of classes.old.items) class.0)) steps.old steps.new }
-    ensures uncounted { IsSome (refused_change (classes_of classes.old.items) class.0 (numbers bases.items)) →
+        refused_rebase (classes_of classes.old) class.0 (numbers bases.items)) }
+    ensures set { OnOk result (classes_of classes.new ≡
+        with_bases (classes_of classes.old) class.0 (numbers bases.items)) }
+    ensures err { OnErr result (classes.new ≡ classes.old) }
+    ensures steps { RiseBy (length (descendants (classes_of classes.old) class.0)) (special_count * line_places
+        (with_bases (classes_of classes.old) class.0 (numbers bases.items))
+        (descendants (classes_of classes.old) class.0)) steps.old steps.new }
+    ensures uncounted { IsSome (refused_change (classes_of classes.old) class.0 (numbers bases.items)) →
         steps.new ≡ steps.old }
 {
     let plan = match prepare(classes, alloc, class, &bases, steps) {

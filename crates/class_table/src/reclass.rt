@@ -10,7 +10,7 @@ ghost use Rattle.class_table.specs.Stored.{classes_of};
 use crate::dict::agree;
 use crate::heap::is_heap;
 use crate::inherit::solid_class;
-use crate::stored::Stored;
+use crate::stored_classes::StoredClasses;
 use crate::table::ClassTable;
 use py_node::{Cause, PyTypeRef};
 
@@ -28,7 +28,7 @@ impl ClassTable {
 
 // Why the objects of a class may not become those of another one, if they may not.
 pub(crate) fn may_become(
-    classes: &[Stored],
+    classes: &StoredClasses,
     class: PyTypeRef,
     other: PyTypeRef,
 ) -> Result<(), Cause>

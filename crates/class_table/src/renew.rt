@@ -1,7 +1,7 @@
 //! What other bases of a class make of what is kept of the classes that they touch: made before anything is changed, then
 //! put in place.
 
-ghost use Rattle.std.specs.Prelude.{◌≡◌, ◌<◌, ◌++◌, ◌∷◌, [], ℕ, cond, true, nat_lt, filter, length, None, Some, IfOk, OnOk, slice_get, slice_set, slice_index_or};
+ghost use Rattle.std.specs.Prelude.{◌≡◌, ◌+◌, ◌<◌, ◌++◌, ◌∷◌, [], ℕ, cond, true, nat_lt, filter, length, None, Some, IfOk, OnOk, slice_get, slice_set, slice_index_or};
 ghost use Rattle.class_model.specs.Order.{Includes, Distinct};
 ghost use Rattle.class_model.specs.Class.{is_class, lin, subclasses};
 ghost use Rattle.class_model.specs.Layout.{best_of, base};
@@ -12,11 +12,16 @@ ghost use Rattle.class_table.specs.Coherent.{IsCoherent};
 ghost use Rattle.class_table.specs.Refused.{AreThere};
 ghost use Rattle.class_table.specs.Rebase.{refused_rebase};
 ghost use Rattle.class_table.specs.Trial.{changed, AreKnown};
-ghost use Rattle.class_table.specs.Renewed.{IsRenewed, AreRenewed, with_renewed, AreSwapped};
+ghost use Rattle.class_table.specs.Renewed.{IsRenewed, AreRenewed, renewed_but_line, AreSwapped};
+ghost use Rattle.class_table.specs.Lines.{AreLinesOf, AreLinesTo};
+ghost use Rattle.class_table.specs.declared.renew.Renewed.{Renewed as Made};
 
 use crate::count::count_along;
+use crate::lines::Lines;
 use crate::place::{find_place, stored_at};
-use crate::stored::{Stored, has};
+use crate::place_set::PlaceSet;
+use crate::stored::has;
+use crate::stored_classes::StoredClasses;
 use crate::trial::{Change, line_of};
 use crate::trial_map::Trials;
 use py_node::{OutOfMemory, PyTypeRef};
@@ -97,7 +102,7 @@ fn subclasses_under(
 
 // Where each class of a linearisation is likely kept. Each is a guess.
 fn places_along(
-    classes: &[Stored],
+    classes: &StoredClasses,
     alloc: Global,
     line: &[PyTypeRef],
 ) -> Result<Vec<usize>, OutOfMemory>
@@ -145,7 +150,7 @@ fn base_under(change: Change<'_>, best: PyTypeRef, at: usize) -> Option<PyTypeRe
     ensures { (k : StoredClass) → slice_get change.entry.classes.now at ≡ Some k →
         base (changed change.entry) k.number ≡ number_of result }
 {
-    let stored = &change.classes[at];
+    let stored = change.classes.at(at);
     if stored.number().0 == change.class.0 {
         Some(best)
     } else {
@@ -187,7 +192,7 @@ fn renew_at(
     ensures { IfOk result (λ r. (k : StoredClass) → slice_get change.entry.classes.now at ≡ Some k →
         IsRenewed (changed change.entry) k.number r) }
 {
-    let number = change.classes[at].number();
+    let number = change.classes.at(at).number();
     let line = line_under(change, trials, number);
     let base = base_under(change, best, at);
     renew(change, alloc, number, line, base)
@@ -219,23 +224,85 @@ pub(crate) fn renew_all(
     Ok(all)
 }
 
-// Puts what the change makes of the class at a place there, and takes back what it had.
-fn swap_at(classes: &mut [Stored], at: usize, renewed: &mut Renewed)
-    requires { at < length classes.old }
-    ensures { (d : StoredClass) → classes.new ≡
-        slice_set classes.old at (with_renewed renewed.old (slice_index_or classes.old at d)) }
+// Adds the linearisation that the class at a place has under the change: that which was made anew, or else that of now.
+fn add_line(
+    classes: &StoredClasses,
+    places: &PlaceSet,
+    renewed: &[Renewed],
+    at: usize,
+    lines: &mut Lines,
+) -> Result<(), OutOfMemory>
+    requires count { length renewed.now ≡ length places.now }
+    requires inside { at < length classes.now }
+    ensures { OnOk result (AreLinesTo classes.now places.now renewed.now at lines.old →
+        AreLinesTo classes.now places.now renewed.now (at + 1) lines.new) }
 {
-    classes[at].renew(renewed);
+    match places.index_of(at) {
+        Some(index) => {
+            let made = &renewed[index];
+            lines.add(&made.mro, &made.near)
+        }
+        None => {
+            let stored = classes.at(at);
+            lines.add(stored.mro(), stored.near())
+        }
+    }
 }
 
-// The same of the classes at some places. It takes no memory.
-pub(crate) fn swap_in(classes: &mut [Stored], places: &[usize], mut renewed: Vec<Renewed>)
+// The linearisations of all classes under the change.
+pub(crate) fn lines_under(
+    classes: &StoredClasses,
+    alloc: Global,
+    places: &PlaceSet,
+    renewed: &[Renewed],
+) -> Result<Lines, OutOfMemory>
+    requires count { length renewed.now ≡ length places.now }
+    requires inside { (i : ℕ) → Includes places.now i → i < length classes.now }
+    ensures { IfOk result (λ lines. AreLinesOf classes.now places.now renewed.now lines) }
+{
+    let mut lines = Lines::new(alloc);
+    for at in 0..classes.len() {
+        add_line(classes, places, renewed, at, &mut lines)?;
+    }
+    Ok(lines)
+}
+
+// Puts what the change makes of the class at a place there, and takes back what it had.
+fn swap_at(classes: &mut StoredClasses, at: usize, renewed: &mut Renewed)
+    requires { at < length classes.old }
+    ensures { (d : StoredClass) → classes.new ≡
+        slice_set classes.old at (renewed_but_line renewed.old (slice_index_or classes.old at d)) }
+{
+    classes.renew(at, renewed);
+}
+
+// The same of the classes at some places, of all of which the linearisations are there. It takes no memory.
+fn swap_all(classes: &mut StoredClasses, places: &[usize], mut renewed: Vec<Renewed>)
     requires count { length renewed.items ≡ length places.now }
     requires distinct { Distinct places.now }
     requires inside { (i : ℕ) → Includes places.now i → i < length classes.old }
+    requires lines { (j i : ℕ) (k : StoredClass) (r : Made) → slice_get places.now j ≡ Some i →
+        slice_get classes.old i ≡ Some k → slice_get renewed.items j ≡ Some r → k.mro ≡ numbers r.mro.items }
     ensures { AreSwapped places.now renewed.items classes.old classes.new }
 {
     for index in 0..places.len() {
         swap_at(classes, places[index], &mut renewed[index]);
     }
+}
+
+// Puts what the change makes of the classes at some places there, and the linearisations of all. It takes no memory.
+pub(crate) fn swap_in(
+    classes: &mut StoredClasses,
+    places: &[usize],
+    renewed: Vec<Renewed>,
+    lines: Lines,
+)
+    requires count { length renewed.items ≡ length places.now }
+    requires distinct { Distinct places.now }
+    requires inside { (i : ℕ) → Includes places.now i → i < length classes.old }
+    requires lines { AreLinesOf classes.old places.now renewed.items lines }
+    ensures { AreSwapped places.now renewed.items classes.old classes.new }
+{
+    classes.reline(lines);
+    swap_all(classes, places, renewed);
 }

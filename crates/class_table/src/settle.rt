@@ -20,23 +20,24 @@ use crate::place::{find_near, likely};
 use crate::probe::{slot_by, values_for};
 use crate::refresh::settle_each;
 use crate::steps::Steps;
-use crate::stored::{SLOTS, Stored};
+use crate::stored::SLOTS;
+use crate::stored_classes::StoredClasses;
 use py_node::{PyTypeRef, SlotEntry, SlotId};
 use std::marker::Brand;
 use std::sync::ledger::{Blank, Ledger};
 
 // Puts what stands in a slot of the class at a place.
-fn put_slot(classes: &mut [Stored], at: usize, slot: SlotId, entry: Option<SlotEntry>)
+fn put_slot(classes: &mut StoredClasses, at: usize, slot: SlotId, entry: Option<SlotEntry>)
     requires { at < length classes.old }
     ensures { (d : StoredClass) → classes.new ≡ slice_set classes.old at (record (slice_index_or classes.old at d) {
       slots = slice_set (slice_index_or classes.old at d).slots (place_of slot) entry;
     }) }
 {
-    classes[at].set_slot(slot, entry);
+    classes.set_slot(at, slot, entry);
 }
 
 // Finds every slot of a class that a script made, by its special names along its linearisation.
-fn settle_heap<L: Ledger>(classes: &mut [Stored], at: usize, steps: &mut Steps<L>)
+fn settle_heap<L: Ledger>(classes: &mut StoredClasses, at: usize, steps: &mut Steps<L>)
     requires lines { HasLines classes.old }
     requires inside { at < length classes.old }
     requires full { (d : StoredClass) → length (slice_index_or classes.old at d).slots ≡ slot_count }
@@ -55,7 +56,7 @@ fn settle_heap<L: Ledger>(classes: &mut [Stored], at: usize, steps: &mut Steps<L
 }
 
 // The same. Its probes are counted for nobody.
-fn settle_uncounted<L: Ledger>(classes: &mut [Stored], at: usize, blank: Blank)
+fn settle_uncounted<L: Ledger>(classes: &mut StoredClasses, at: usize, blank: Blank)
     requires lines { HasLines classes.old }
     requires inside { at < length classes.old }
     requires full { (d : StoredClass) → length (slice_index_or classes.old at d).slots ≡ slot_count }
@@ -71,7 +72,12 @@ fn settle_uncounted<L: Ledger>(classes: &mut [Stored], at: usize, blank: Blank)
 }
 
 // What a class has in a slot by its attributes or as a native: for a class that a script made it is what is kept.
-fn kept_entry(classes: &[Stored], near: usize, class: PyTypeRef, slot: SlotId) -> Option<SlotEntry>
+fn kept_entry(
+    classes: &StoredClasses,
+    near: usize,
+    class: PyTypeRef,
+    slot: SlotId,
+) -> Option<SlotEntry>
     requires lines { HasLines classes.now }
     requires heaps { AreHeapsSettled classes.now }
     ensures { result ≡ given_entry table_keys natives_of (classes_of classes.now) slot class.0 }
@@ -84,7 +90,7 @@ fn kept_entry(classes: &[Stored], near: usize, class: PyTypeRef, slot: SlotId) -
 
 // The first such among some classes.
 fn kept_along(
-    classes: &[Stored],
+    classes: &StoredClasses,
     near: &[usize],
     line: &[PyTypeRef],
     slot: SlotId,
@@ -103,15 +109,15 @@ fn kept_along(
 }
 
 // What a class that no script made has in a slot: what it lacks for good is that of the nearest class that has it.
-fn static_entry(classes: &[Stored], at: usize, slot: SlotId) -> Option<SlotEntry>
+fn static_entry(classes: &StoredClasses, at: usize, slot: SlotId) -> Option<SlotEntry>
     requires lines { HasLines classes.now }
     requires heaps { AreHeapsSettled classes.now }
     requires inside { at < length classes.now }
     ensures { (d : StoredClass) → result ≡
         entry table_keys natives_of (classes_of classes.now) (slice_index_or classes.now at d).number slot }
 {
-    let stored = &classes[at];
-    if is_inherited(stored, slot) {
+    let stored = classes.at(at);
+    if is_inherited(&stored, slot) {
         kept_along(classes, stored.near(), stored.mro(), slot)
     } else {
         kept_entry(classes, at, stored.number(), slot)
@@ -119,7 +125,7 @@ fn static_entry(classes: &[Stored], at: usize, slot: SlotId) -> Option<SlotEntry
 }
 
 // Finds every slot of a class that no script made.
-fn settle_static(classes: &mut [Stored], at: usize)
+fn settle_static(classes: &mut StoredClasses, at: usize)
     requires lines { HasLines classes.old }
     requires heaps { AreHeapsSettled classes.old }
     requires inside { at < length classes.old }
@@ -136,15 +142,15 @@ fn settle_static(classes: &mut [Stored], at: usize)
 }
 
 // Whether a script made the class at a place.
-fn is_heap_at(classes: &[Stored], at: usize) -> bool
+fn is_heap_at(classes: &StoredClasses, at: usize) -> bool
     requires { at < length classes.now }
     ensures { (k : StoredClass) → slice_get classes.now at ≡ Some k → result ≡ is_heap (class_of k) }
 {
-    classes[at].is_heap()
+    classes.at(at).is_heap()
 }
 
 // Finds every slot of the class at a place.
-pub(crate) fn settle(classes: &mut [Stored], at: usize)
+pub(crate) fn settle(classes: &mut StoredClasses, at: usize)
     requires lines { HasLines classes.old }
     requires inside { at < length classes.old }
     requires full { (d : StoredClass) → length (slice_index_or classes.old at d).slots ≡ slot_count }
@@ -160,7 +166,7 @@ pub(crate) fn settle(classes: &mut [Stored], at: usize)
 
 // Finds every slot of those classes at some places that a script made. It counts at most one probe for each special name
 // and each place of their linearisations.
-fn settle_heaps<L: Ledger>(classes: &mut [Stored], ranked: &[Ranked], steps: &mut Steps<L>)
+fn settle_heaps<L: Ledger>(classes: &mut StoredClasses, ranked: &[Ranked], steps: &mut Steps<L>)
     requires lines { HasLines classes.old }
     requires full { (i : ℕ) (k : StoredClass) → slice_get classes.old i ≡ Some k → length k.slots ≡ slot_count }
     requires inside { (j : ℕ) (r : Ranked) → slice_get ranked.now j ≡ Some r → r.place < length classes.old }
@@ -175,7 +181,7 @@ fn settle_heaps<L: Ledger>(classes: &mut [Stored], ranked: &[Ranked], steps: &mu
 }
 
 // Finds every slot of those that no script made, where each class that a script made has its own.
-fn settle_statics(classes: &mut [Stored], ranked: &[Ranked])
+fn settle_statics(classes: &mut StoredClasses, ranked: &[Ranked])
     requires lines { HasLines classes.old }
     requires heaps { AreHeapsSettled classes.old }
     requires full { (i : ℕ) (k : StoredClass) → slice_get classes.old i ≡ Some k → length k.slots ≡ slot_count }
@@ -191,7 +197,11 @@ fn settle_statics(classes: &mut [Stored], ranked: &[Ranked])
 
 // Finds every slot of the classes at some places: first of those that a script made, from which the others take what
 // they lack.
-pub(crate) fn settle_all<L: Ledger>(classes: &mut [Stored], ranked: &[Ranked], steps: &mut Steps<L>)
+pub(crate) fn settle_all<L: Ledger>(
+    classes: &mut StoredClasses,
+    ranked: &[Ranked],
+    steps: &mut Steps<L>,
+)
     requires lines { HasLines classes.old }
     requires full { (i : ℕ) (k : StoredClass) → slice_get classes.old i ≡ Some k → length k.slots ≡ slot_count }
     requires inside { (j : ℕ) (r : Ranked) → slice_get ranked.now j ≡ Some r → r.place < length classes.old }

@@ -36,8 +36,17 @@ fn table_of(alloc: Global, rows: &[(Known, &str)]) -> Result<Names, OutOfMemory>
 
 impl ClassTable {
     /// A table of the classes with which a world begins: the built-in ones with their own attributes. Each attribute has
-    /// the number of its name and that of the object that it holds there.
+    /// the number of its name and that of the object that it holds there. Room for what look-ups find is reserved.
     pub fn new(alloc: Global) -> Result<ClassTable, OutOfMemory>
+        ensures { IfOk result (λ t. t ≡ start_classes) }
+    {
+        let mut table = ClassTable::without_rows(alloc)?;
+        table.reserve_rows()?;
+        Ok(table)
+    }
+
+    /// The same for those who only read it: what look-ups find is not kept, and no room is reserved for it.
+    pub fn without_rows(alloc: Global) -> Result<ClassTable, OutOfMemory>
         ensures { IfOk result (λ t. t ≡ start_classes) }
     {
         let mut table = ClassTable::bare(alloc)?;

@@ -4,7 +4,7 @@ ghost use Rattle.std.specs.Prelude.{◌≡◌, ◌+◌, ◌*◌, ◌<◌, ◌≤
 ghost use Rattle.std.specs.List.{All};
 ghost use Rattle.py_node.specs.declared.raised.Cause.TheVariants.{EmptyBases, NotBaseType, LayoutConflict, DuplicateBase, LocalPrecedence, MroConflict};
 ghost use Rattle.py_node.specs.Attributes.{is_same_name, AreNamesDistinct};
-ghost use Rattle.class_model.specs.Class.{class_at, is_class, bases_of, lin, IsLeastLine, is_sub, is_heap, found, found_past, own_of, subclasses};
+ghost use Rattle.class_model.specs.Class.{class_at, is_class, bases_of, lin, IsLeastLine, is_sub, is_heap, own_of, subclasses};
 ghost use Rattle.class_model.specs.Numbers.{limit, numbers_of};
 ghost use Rattle.class_model.specs.Layout.{base, best_of, solid, built_ins, place_count};
 ghost use Rattle.class_model.specs.Chain.{base_chain, IsChain};
@@ -25,6 +25,7 @@ ghost use Rattle.class_table.specs.Causes.{LacksBase, HasLayoutConflict, HasDupl
 ghost use Rattle.class_table.specs.Given.{AreGiven};
 
 use crate::add::add;
+use crate::cache::Cache;
 use crate::chain::{BaseChain, base_of, chain};
 use crate::collect::{attributes_along, map_along};
 use crate::count::count_at;
@@ -33,11 +34,12 @@ use crate::heap::{add_heap, set_heap, take_heap};
 use crate::inherit::{best_base, may_derive, only, solid_class};
 use crate::place::{find, number_in, stored_at, takes};
 use crate::put::put_in;
-use crate::read::{own_entry, read, value_along, value_past};
+use crate::read::{own_entry, read};
 use crate::rebase::rebase;
 use crate::rename::rename_in;
 use crate::steps::Steps;
-use crate::stored::{NewClass, Stored};
+use crate::stored::NewClass;
+use crate::stored_classes::StoredClasses;
 use py_node::{
     Cause, OutOfMemory, PyAttributes, PyObjectRef, PyStrInterned, PyTypeFlags, PyTypeRef,
     SlotEntry, SlotId,
@@ -50,7 +52,9 @@ use std::sync::ledger::Ledger;
 /// known, by which slots are read, have the numbers of `known_names`.
 #[derive(Drop)]
 pub struct ClassTable {
-    pub(crate) classes: Vec<Stored>,
+    pub(crate) classes: StoredClasses,
+    // What look-ups found since the last change. Contracts don't see it.
+    pub(crate) cache: Cache,
     alloc: Global,
 }
 
@@ -62,10 +66,11 @@ impl Model for ClassTable {
 
     ghost use Rattle.class_table.specs.Stored.{classes_of};
     ghost use Rattle.class_table.specs.Coherent.{IsCoherent};
+    ghost use Rattle.class_table.specs.Cache.{IsCached};
 
-    ghost view = { λ a. classes_of a.classes.items };
+    ghost view = { λ a. classes_of a.classes };
 
-    ghost invariant = { λ a. IsCoherent a.classes.items };
+    ghost invariant = { λ a. IsCoherent a.classes × IsCached (classes_of a.classes) a.cache };
 }
 
 impl ClassTable {
@@ -74,14 +79,23 @@ impl ClassTable {
         self.alloc
     }
 
-    // A table with no classes.
+    // A table with no classes, which keeps nothing of what look-ups find.
     pub(crate) fn empty(alloc: Global) -> ClassTable
         ensures { result ≡ [] }
     {
         ClassTable {
-            classes: Vec::new(alloc),
+            classes: StoredClasses::new(alloc),
+            cache: Cache::without_rows(alloc),
             alloc,
         }
+    }
+
+    // Makes room for what look-ups find. It is never given back, and no more is taken.
+    pub(crate) fn reserve_rows(&mut self) -> Result<(), OutOfMemory>
+        ensures { self.new ≡ self.old }
+    {
+        self.cache = Cache::with_rows(self.alloc)?;
+        Ok(())
     }
 
     /// The classes are sound: only the first has no base, none derives from a class that derives
@@ -135,6 +149,7 @@ impl ClassTable {
     {
         let alloc = self.alloc;
         let best = only(&self.classes, &new.bases);
+        self.cache.raise();
         match add(&mut self.classes, alloc, new, best) {
             Ok(number) => Ok(number),
             Err(ClassFault::OutOfMemory) => Err(OutOfMemory),
@@ -200,6 +215,7 @@ impl ClassTable {
         ensures names { NamesNoClass result }
     {
         let alloc = self.alloc;
+        self.cache.raise();
         add_heap(&mut self.classes, alloc, number, name, bases, attrs, slots)
     }
 
@@ -217,6 +233,7 @@ impl ClassTable {
         ensures err { OnErr result (self.new ≡ self.old) }
         ensures names { NamesNoClass result }
     {
+        self.cache.raise();
         set_heap(&mut self.classes, class, name, value)
     }
 
@@ -237,6 +254,7 @@ impl ClassTable {
         ensures err { OnErr result (self.new ≡ self.old) }
         ensures names { NamesNoClass result }
     {
+        self.cache.raise();
         take_heap(&mut self.classes, class, name)
     }
 
@@ -248,6 +266,7 @@ impl ClassTable {
         ensures err { OnErr result (self.new ≡ self.old) }
     {
         let alloc = self.alloc;
+        self.cache.raise();
         rename_in(&mut self.classes, alloc, class, name)
     }
 
@@ -279,6 +298,7 @@ impl ClassTable {
         ensures uncounted { IsSome (refused_change self.old class.0 (numbers bases.items)) → steps.new ≡ steps.old }
     {
         let alloc = self.alloc;
+        self.cache.raise();
         rebase(&mut self.classes, alloc, class, bases, steps)
     }
 
@@ -295,41 +315,8 @@ impl ClassTable {
         ensures set { OnOk result (self.new ≡ with_class_attr is_same_name self.old class.0 name value) }
         ensures err { OnErr result (self.new ≡ self.old) }
     {
+        self.cache.raise();
         put_in(&mut self.classes, class, name, value)
-    }
-
-    /// The value of a name, in the first class along the linearisation that has it.
-    pub fn get_attr(&self, class: PyTypeRef, name: PyStrInterned) -> Option<PyObjectRef>
-        requires { is_class self.now class.0 ≡ true }
-        ensures { result ≡ found is_same_name self.now class.0 name }
-    {
-        let stored = stored_at(&self.classes, class);
-        value_along(&self.classes, stored.near(), stored.mro(), name)
-    }
-
-    /// A class's own value of a name.
-    pub fn get_direct_attr(&self, class: PyTypeRef, name: PyStrInterned) -> Option<PyObjectRef>
-        requires { is_class self.now class.0 ≡ true }
-        ensures { result ≡ own_of (λ k. is_same_name k name) (class_at self.now class.0) }
-    {
-        stored_at(&self.classes, class).own(name)
-    }
-
-    /// The value of a name in the first class along the linearisation, past the class itself, that has it.
-    pub fn get_super_attr(&self, class: PyTypeRef, name: PyStrInterned) -> Option<PyObjectRef>
-        requires { is_class self.now class.0 ≡ true }
-        ensures { result ≡ found_past is_same_name self.now class.0 name }
-    {
-        let stored = stored_at(&self.classes, class);
-        value_past(&self.classes, stored.near(), stored.mro(), name)
-    }
-
-    /// Whether a class or one along its linearisation has a name.
-    pub fn has_attr(&self, class: PyTypeRef, name: PyStrInterned) -> bool
-        requires { is_class self.now class.0 ≡ true }
-        ensures { result ≡ is_some (found is_same_name self.now class.0 name) }
-    {
-        self.get_attr(class, name).is_some()
     }
 
     /// Whether a class is another one or has it along its linearisation.

@@ -17,7 +17,8 @@ use crate::add::line;
 use crate::descendants::Ranked;
 use crate::place::place;
 use crate::steps::Steps;
-use crate::stored::Stored;
+use crate::stored_classes::StoredClasses;
+use crate::stored_ref::StoredRef;
 use crate::trial_map::Trials;
 use mro_merge::MroFault;
 use mro_merge::laws::resolve_mro;
@@ -39,13 +40,13 @@ pub(crate) enum Trial {
 /// Other bases for a class, to be tried.
 #[derive(Clone, Copy)]
 pub(crate) struct Change<'a> {
-    pub(crate) classes: &'a [Stored],
+    pub(crate) classes: &'a StoredClasses,
     pub(crate) class: PyTypeRef,
     pub(crate) bases: &'a [PyTypeRef],
 }
 
 // The direct bases that a class has under the trial.
-pub(crate) fn bases_under<'a>(change: Change<'a>, stored: &'a Stored) -> &'a [PyTypeRef]
+pub(crate) fn bases_under<'a>(change: Change<'a>, stored: &StoredRef<'a>) -> &'a [PyTypeRef]
     ensures { numbers result.now ≡ bases_under change.entry.class.0 (numbers change.entry.bases.now) stored.now }
 {
     if stored.number().0 == change.class.0 {
@@ -75,7 +76,7 @@ fn line_at<'a>(change: Change<'a>, trials: &'a Trials, at: usize) -> Option<&'a 
     ensures { (k : StoredClass) → slice_get change.entry.classes.now at ≡ Some k → line_lent result ≡
         lin (changed change.entry) k.number }
 {
-    let stored = &change.classes[at];
+    let stored = change.classes.at(at);
     if !stored.derives(change.class) {
         return Some(stored.mro());
     }
@@ -168,8 +169,8 @@ fn attempt<L: Ledger>(
         IsTrial (changed change.entry) k.number r) }
     ensures steps { RiseBy 1 0 steps.old steps.new }
 {
-    let stored = &change.classes[at];
-    let bases = bases_under(change, stored);
+    let stored = change.classes.at(at);
+    let bases = bases_under(change, &stored);
     match lines_of(change, alloc, trials, bases)? {
         None => Ok(Trial::Without),
         Some(lines) => {

@@ -10,15 +10,18 @@ use Rattle.py_node.specs.declared.payload.Payload.{Payload}
 use Rattle.py_node.specs.declared.payload.Payload.TheVariants as payload
 use Rattle.plain_machine.specs.Known.{the_dict}
 use Rattle.plain_machine.specs.Plain.{ADict, no_members, Node as PlainNode}
+use Rattle.py_node.specs.declared.refs.PyStrInterned.{PyStrInterned}
+use Rattle.class_model.specs.Class.{Classes}
 use Rattle.class_model.specs.Dict.{has_dict}
 use Rattle.plain_machine.specs.World.{ref, has_dict as plain_has_dict, push_node, with_node, next_node}
 use Rattle.class_world.specs.Held.{Held}
-use Rattle.class_world.specs.Added.{with_object, number_of_object, HasNoEntries, IsEmptyDict}
-use Rattle.class_world.specs.Reading.{Reading, places_of, datum, node_of, plain}
-use Rattle.class_world.specs.Sound.{IsNode, IsClass, IsOf, Holding, GetsDict, Holds, AllHold, Grows, SoundWith, Sound, home_of, home_at, class_in, of_node, of_option, of_payload}
+use Rattle.class_world.specs.Added.{AreEmpty, with_object, number_of_object, HasNoEntries, IsEmptyDict}
+use Rattle.class_world.specs.Reading.{Reading, datum, node_of, plain}
+use Rattle.class_world.specs.Sound.{IsNode, IsClass, IsOf, AreMembers, Holding, GetsDict, Holds, AllHold, Grows, SoundWith, Sound, home_of, home_at, class_in, of_node, of_option, of_payload}
 use Rattle.class_world.proofs.Claims.{all-grow, get-end}
 use Rattle.class_world.proofs.Growth.{grows-itself, grows-on, node-grows}
 use Rattle.class_world.proofs.Changes.{node-sound}
+use Rattle.class_world.proofs.SamePlaces.{none-read, empty-hold}
 use Rattle.class_world.proofs.Stored.{map-push}
 
 dict-home : (p : Payload) → HasNoEntries p → home_of p ≡ Dict
@@ -87,22 +90,31 @@ dict-datum t (payload.Super s) h = absurd h
 dict-datum t (payload.Iterator i) h = absurd h
 dict-datum t (payload.Slice s) h = absurd h
 
-dict-read : (t : Reading) (d : Node) → IsEmptyDict d → node_of t d ≡ record { class = the_dict; dict = None; members = no_members; datum = ADict [] }
-dict-read t d e = let class = e.0 in let dict = e.1 in let members = e.2 in let datum = dict-datum t d.payload e.3 in λ i. record { class = class i; dict = dict i; members = places_of (members i); datum = datum i }
+dict-read : (t : Reading) (ks : Classes PyStrInterned) (d : Node) → IsEmptyDict ks d → node_of t ks d ≡ record { class = the_dict; dict = None; members = no_members; datum = ADict [] }
+dict-read t ks d e =
+    let class = e.0 in
+    let dict = e.1 in
+    let members = none-read ks d.class.0 d.members e.2.1 in
+    let datum = dict-datum t d.payload e.3 in
+    λ i. record { class = class i; dict = dict i; members = members i; datum = datum i }
 
-module _ (w : Held) (c : PyTypeRef) (p : Payload) where
+module _ (w : Held) (c : PyTypeRef) (ms : List (Option PyObjectRef)) (p : Payload) where
   abbrev stored : Option PyObjectRef → Node
-  stored d = record { class = c; dict = d; members = []; payload = p }
+  stored d = record { class = c; dict = d; members = ms; payload = p }
 
   abbrev after : Node → Held
   after d = record w { nodes = w.nodes ++ d ∷ [] }
 
   abbrev made : Option Node → Held
-  made o = record w { nodes = with_object w.nodes o c p }
+  made o = record w { nodes = with_object w.nodes o c ms p }
 
   object-grows : (o : Option Node) → Grows w (made o)
   object-grows None = node-grows w (stored None)
   object-grows (Some d) = grows-on w (after d) (made (Some d)) (node-grows w d) (node-grows (after d) (stored (Some (ref (length w.nodes)))))
+
+  -- nothing stands in its places
+  stored-read : (t : Reading) (d : Option PyObjectRef) → AreEmpty w.classes c.0 ms → node_of t w.classes (stored d) ≡ record { class = c.0; dict = d; members = no_members; datum = datum t p }
+  stored-read t d empty = let none = none-read w.classes c.0 ms empty.1 in λ i. record { class = c.0; dict = d; members = none i; datum = datum t p }
 
   -- the dict is one
   dict-holding : (d : Node) → HasNoEntries d.payload → home_at (w.nodes ++ d ∷ []) (length w.nodes) ≡ Some Dict
@@ -112,14 +124,14 @@ module _ (w : Held) (c : PyTypeRef) (p : Payload) where
   unfolding Holds
   gets o g class q = (class, sym (ap (λ k. is_none k && has_dict w.classes c.0) q ∙ g))
 
-  pub object-sound : {Log : Type 0} (o : Option Node) → has_dict w.classes c.0 ≡ is_some o → IfSome o IsEmptyDict → AllHold w (of_option of_node o) → Holds w (IsClass c.0) → Holds w (IsOf c.0 (home_of p)) → class_in p ≡ None → AllHold w (of_payload p) → SoundWith Log w → SoundWith Log (made o)
+  pub object-sound : {Log : Type 0} (o : Option Node) → AreEmpty w.classes c.0 ms → has_dict w.classes c.0 ≡ is_some o → IfSome o (IsEmptyDict w.classes) → AllHold w (of_option of_node o) → Holds w (IsClass c.0) → Holds w (IsOf c.0 (home_of p)) → class_in p ≡ None → AllHold w (of_payload p) → SoundWith Log w → SoundWith Log (made o)
   unfolding Holds
-  object-sound None g e h class of q held s = node-sound w s (stored None) q (class, (of, (tt, (gets None g class q, held))))
-  object-sound (Some d) g e h class of q held s =
+  object-sound None empty g e h class of q held s = node-sound w s (stored None) q (class, (of, (empty-hold w w.classes c.0 ms refl empty, (gets None g class q, held))))
+  object-sound (Some d) empty g e h class of q held s =
       let more = node-grows w d in
       let l = length-append w.nodes (d ∷ []) in
       node-sound (after d) (node-sound w s d (dict-other d.payload e.3) h) (stored (Some (ref (length w.nodes)))) q
-      (more.still (IsClass c.0) class, (more.still (IsOf c.0 (home_of p)) of, (tt, (more.still (GetsDict (class_in p) c.0 true) (gets (Some d) g class q), (omega (arith, l), (dict-holding d e.3, all-grow w (after d) more (of_payload p) held))))))
+      (more.still (IsClass c.0) class, (more.still (IsOf c.0 (home_of p)) of, (more.still (AreMembers c.0 ms) (empty-hold w w.classes c.0 ms refl empty), (more.still (GetsDict (class_in p) c.0 true) (gets (Some d) g class q), (omega (arith, l), (dict-holding d e.3, all-grow w (after d) more (of_payload p) held))))))
 
   pub object-there : (o : Option Node) (r : PyObjectRef) → r ≡ number_of_object w.nodes o → Holds (made o) (IsNode r)
   unfolding Holds
@@ -139,30 +151,33 @@ module _ (w : Held) (c : PyTypeRef) (p : Payload) where
       let n : r.0 ≡ length (w.nodes ++ d ∷ []) = let k : r.0 ≡ length w.nodes + 1 = ap (λ (r : PyObjectRef). r.0) e in omega (arith, l, k) in
       ap (home_at ((w.nodes ++ d ∷ []) ++ new ∷ [])) n ∙ ap (option_map (λ (x : Node). home_of x.payload)) (get-end (w.nodes ++ d ∷ []) new)
 
-  pub object-read : (t : Reading) (o : Option Node) → IfSome o IsEmptyDict → plain_has_dict (plain t w) c.0 ≡ is_some o → plain t (made o) ≡ with_node (plain t w) c.0 (datum t p)
+  pub object-read : (t : Reading) (o : Option Node) → AreEmpty w.classes c.0 ms → IfSome o (IsEmptyDict w.classes) → plain_has_dict (plain t w) c.0 ≡ is_some o → plain t (made o) ≡ with_node (plain t w) c.0 (datum t p)
   unfolding plain
-  object-read t None e h =
-      ap (λ (ns : List PlainNode). record (plain t w) { nodes = ns }) (map-push (node_of t) w.nodes (stored None))
+  object-read t None empty e h =
+      ap (λ (ns : List PlainNode). record (plain t w) { nodes = ns }) (map-push (node_of t w.classes) w.nodes (stored None) ∙ ap (λ n. map (node_of t w.classes) w.nodes ++ n ∷ []) (stored-read t None empty))
       ∙ sym (ap (λ b. cond b (push_node (push_node (plain t w) the_dict None (ADict [])) c.0 (Some (ref (length (plain t w).nodes))) (datum t p)) (push_node (plain t w) c.0 None (datum t p))) h)
-  object-read t (Some d) e h =
+  object-read t (Some d) empty e h =
       let new = stored (Some (ref (length w.nodes))) in
-      let a = map-push (node_of t) (w.nodes ++ d ∷ []) new in
-      let b = map-push (node_of t) w.nodes d in
-      let k = dict-read t d e in
-      let both : map (node_of t) ((w.nodes ++ d ∷ []) ++ new ∷ []) ≡ (map (node_of t) w.nodes ++ record { class = the_dict; dict = None; members = no_members; datum = ADict [] } ∷ []) ++ node_of t new ∷ [] = cc (a, b, k) in
+      let ks = w.classes in
+      let a = map-push (node_of t ks) (w.nodes ++ d ∷ []) new in
+      let b = map-push (node_of t ks) w.nodes d in
+      let k = dict-read t ks d e in
+      let l = stored-read t (Some (ref (length w.nodes))) empty in
+      let dict : map (node_of t ks) (w.nodes ++ d ∷ []) ≡ map (node_of t ks) w.nodes ++ record { class = the_dict; dict = None; members = no_members; datum = ADict [] } ∷ [] = b ∙ (λ i. map (node_of t ks) w.nodes ++ k i ∷ []) in
+      let both = a ∙ (λ i. dict i ++ l i ∷ []) in
       ap (λ (ns : List PlainNode). record (plain t w) { nodes = ns }) both
-      ∙ ap (λ n. push_node (push_node (plain t w) the_dict None (ADict [])) c.0 (Some (ref n)) (datum t p)) (sym (length-map w.nodes (node_of t)))
+      ∙ ap (λ n. push_node (push_node (plain t w) the_dict None (ADict [])) c.0 (Some (ref n)) (datum t p)) (sym (length-map w.nodes (node_of t w.classes)))
       ∙ sym (ap (λ b. cond b (push_node (push_node (plain t w) the_dict None (ADict [])) c.0 (Some (ref (length (plain t w).nodes))) (datum t p)) (push_node (plain t w) c.0 None (datum t p))) h)
 
   object-number : (t : Reading) (o : Option Node) (r : PyObjectRef) → plain_has_dict (plain t w) c.0 ≡ is_some o → r ≡ number_of_object w.nodes o → r ≡ next_node (plain t w) c.0
   unfolding plain
   object-number t None r h e =
-      e ∙ ap ref (sym (length-map w.nodes (node_of t))) ∙ sym (ap (λ b. ref (cond b (length (plain t w).nodes + 1) (length (plain t w).nodes))) h)
+      e ∙ ap ref (sym (length-map w.nodes (node_of t w.classes))) ∙ sym (ap (λ b. ref (cond b (length (plain t w).nodes + 1) (length (plain t w).nodes))) h)
   object-number t (Some d) r h e =
-      e ∙ ap (λ n. ref (n + 1)) (sym (length-map w.nodes (node_of t))) ∙ sym (ap (λ b. ref (cond b (length (plain t w).nodes + 1) (length (plain t w).nodes))) h)
+      e ∙ ap (λ n. ref (n + 1)) (sym (length-map w.nodes (node_of t w.classes))) ∙ sym (ap (λ b. ref (cond b (length (plain t w).nodes + 1) (length (plain t w).nodes))) h)
 
   -- it comes last
-  object-last : (o : Option Node) (r : PyObjectRef) → r ≡ number_of_object w.nodes o → length (with_object w.nodes o c p) ≡ suc r.0
+  object-last : (o : Option Node) (r : PyObjectRef) → r ≡ number_of_object w.nodes o → length (with_object w.nodes o c ms p) ≡ suc r.0
   object-last None r e = let l = length-append w.nodes (stored None ∷ []) in let n : r.0 ≡ length w.nodes = ap (λ (r : PyObjectRef). r.0) e in omega (arith, l, n)
   object-last (Some d) r e =
       let l = length-append w.nodes (d ∷ []) in
@@ -172,33 +187,33 @@ module _ (w : Held) (c : PyTypeRef) (p : Payload) where
 
   -- an object is added, or memory ran out and nothing changed
   module _ {E : Type 0} (o : Option Node) (ns : List Node) where
-    pub added-sound : (r : Result PyObjectRef E) → has_dict w.classes c.0 ≡ is_some o → OnOk r (ns ≡ with_object w.nodes o c p) → OnErr r (ns ≡ w.nodes) → IfSome o IsEmptyDict → AllHold w (of_option of_node o) → Holds w (IsClass c.0) → Holds w (IsOf c.0 (home_of p)) → class_in p ≡ None → AllHold w (of_payload p) → Sound w → Sound (record w { nodes = ns })
-    added-sound (Ok a) g q f e h class of k held s = subst (λ ns. Sound (record w { nodes = ns })) (sym q) (object-sound o g e h class of k held s)
-    added-sound (Err a) g q f e h class of k held s = subst (λ ns. Sound (record w { nodes = ns })) (sym f) s
+    pub added-sound : (r : Result PyObjectRef E) → AreEmpty w.classes c.0 ms → has_dict w.classes c.0 ≡ is_some o → OnOk r (ns ≡ with_object w.nodes o c ms p) → OnErr r (ns ≡ w.nodes) → IfSome o (IsEmptyDict w.classes) → AllHold w (of_option of_node o) → Holds w (IsClass c.0) → Holds w (IsOf c.0 (home_of p)) → class_in p ≡ None → AllHold w (of_payload p) → Sound w → Sound (record w { nodes = ns })
+    added-sound (Ok a) empty g q f e h class of k held s = subst (λ ns. Sound (record w { nodes = ns })) (sym q) (object-sound o empty g e h class of k held s)
+    added-sound (Err a) empty g q f e h class of k held s = subst (λ ns. Sound (record w { nodes = ns })) (sym f) s
 
-    pub added-grows : (r : Result PyObjectRef E) → OnOk r (ns ≡ with_object w.nodes o c p) → OnErr r (ns ≡ w.nodes) → Grows w (record w { nodes = ns })
+    pub added-grows : (r : Result PyObjectRef E) → OnOk r (ns ≡ with_object w.nodes o c ms p) → OnErr r (ns ≡ w.nodes) → Grows w (record w { nodes = ns })
     added-grows (Ok a) q f = subst (λ ns. Grows w (record w { nodes = ns })) (sym q) (object-grows o)
     added-grows (Err a) q f = subst (λ ns. Grows w (record w { nodes = ns })) (sym f) (grows-itself w)
 
-    pub added-read : (now : Held) (r : Result PyObjectRef E) → w ≡ now → OnOk r (ns ≡ with_object w.nodes o c p) → IfSome o IsEmptyDict → ((t : Reading) → plain_has_dict (plain t now) c.0 ≡ is_some o) → OnOk r ((t : Reading) → plain t (record w { nodes = ns }) ≡ with_node (plain t now) c.0 (datum t p))
-    added-read now (Ok a) v q e h = λ t.
+    pub added-read : (now : Held) (r : Result PyObjectRef E) → w ≡ now → AreEmpty w.classes c.0 ms → OnOk r (ns ≡ with_object w.nodes o c ms p) → IfSome o (IsEmptyDict w.classes) → ((t : Reading) → plain_has_dict (plain t now) c.0 ≡ is_some o) → OnOk r ((t : Reading) → plain t (record w { nodes = ns }) ≡ with_node (plain t now) c.0 (datum t p))
+    added-read now (Ok a) v empty q e h = λ t.
         ap (λ (ns : List Node). plain t (record w { nodes = ns })) q
-        ∙ object-read t o e (ap (λ u. plain_has_dict (plain t u) c.0) v ∙ h t)
+        ∙ object-read t o empty e (ap (λ u. plain_has_dict (plain t u) c.0) v ∙ h t)
         ∙ ap (λ u. with_node (plain t u) c.0 (datum t p)) v
-    added-read now (Err a) v q e h = tt
+    added-read now (Err a) v empty q e h = tt
 
     pub added-number : (now : Held) (r : Result PyObjectRef E) → w ≡ now → IfOk r (λ n. n ≡ number_of_object w.nodes o) → ((t : Reading) → plain_has_dict (plain t now) c.0 ≡ is_some o) → IfOk r (λ n. (t : Reading) → n ≡ next_node (plain t now) c.0)
     added-number now (Ok n) v q h = λ t. object-number t o n (ap (λ u. plain_has_dict (plain t u) c.0) v ∙ h t) q ∙ ap (λ u. next_node (plain t u) c.0) v
     added-number now (Err a) v q h = tt
 
-    pub added-there : (r : Result PyObjectRef E) → OnOk r (ns ≡ with_object w.nodes o c p) → IfOk r (λ n. n ≡ number_of_object w.nodes o) → IfOk r (λ n. Holds (record w { nodes = ns }) (IsNode n))
+    pub added-there : (r : Result PyObjectRef E) → OnOk r (ns ≡ with_object w.nodes o c ms p) → IfOk r (λ n. n ≡ number_of_object w.nodes o) → IfOk r (λ n. Holds (record w { nodes = ns }) (IsNode n))
     added-there (Ok n) q e = subst (λ ns. Holds (record w { nodes = ns }) (IsNode n)) (sym q) (object-there o n e)
     added-there (Err a) q e = tt
 
-    pub added-holding : (r : Result PyObjectRef E) → OnOk r (ns ≡ with_object w.nodes o c p) → IfOk r (λ n. n ≡ number_of_object w.nodes o) → IfOk r (λ n. Holds (record w { nodes = ns }) (Holding n (home_of p)))
+    pub added-holding : (r : Result PyObjectRef E) → OnOk r (ns ≡ with_object w.nodes o c ms p) → IfOk r (λ n. n ≡ number_of_object w.nodes o) → IfOk r (λ n. Holds (record w { nodes = ns }) (Holding n (home_of p)))
     added-holding (Ok n) q e = subst (λ ns. Holds (record w { nodes = ns }) (Holding n (home_of p))) (sym q) (object-holding o n e)
     added-holding (Err a) q e = tt
 
-    pub added-last : (r : Result PyObjectRef E) → OnOk r (ns ≡ with_object w.nodes o c p) → IfOk r (λ n. n ≡ number_of_object w.nodes o) → IfOk r (λ n. length ns ≡ suc n.0)
+    pub added-last : (r : Result PyObjectRef E) → OnOk r (ns ≡ with_object w.nodes o c ms p) → IfOk r (λ n. n ≡ number_of_object w.nodes o) → IfOk r (λ n. length ns ≡ suc n.0)
     added-last (Ok n) q e = ap (λ (ns : List Node). length ns) q ∙ object-last o n e
     added-last (Err a) q e = tt

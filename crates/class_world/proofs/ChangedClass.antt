@@ -7,7 +7,8 @@ use Rattle.py_node.specs.Tree.{Text}
 use Rattle.class_model.specs.Class.{Class, Classes, class_at, own_of, has_flag, rekeyed, renamed}
 use Rattle.class_model.specs.Change.{with_changed, without_class_attr, with_class_name}
 use Rattle.class_model.proofs.Numbers.{at-changed}
-use Rattle.class_model.proofs.Kept.{is_class-kept, lin-kept, is_place-kept}
+use Rattle.class_model.proofs.Kept.{is_class-kept, lin-kept, member_count-kept}
+use Rattle.class_model.proofs.PlaceOffsets.{layout-same}
 use Rattle.plain_machine.specs.World.{is_text}
 use Rattle.plain_machine.specs.Change.{SetName, apply, without_own_attr}
 use Rattle.plain_machine.proofs.Offsets.{offset-kept}
@@ -15,13 +16,14 @@ use Rattle.class_log.specs.Change.{Change}
 use Rattle.class_log.specs.Following.{Keeps}
 use Rattle.class_world.specs.Held.{Held}
 use Rattle.class_world.specs.Reading.{Reading, Reads, spelled, plain}
-use Rattle.class_world.specs.Sound.{AllHold, SoundWith, Sound, of_binding, of_class, of_dict, of_each}
+use Rattle.class_world.specs.Sound.{AllHold, SoundWith, Sound, of_binding, of_class, of_dict, of_each, of_node}
 use Rattle.class_world.proofs.Claims.{all-append, all-first, all-rest}
 use Rattle.class_world.proofs.Homes.{by_line}
 use Rattle.class_world.proofs.Growth.{Like, like-itself}
 use Rattle.class_world.proofs.Bound.{without_key-read, without_key-holds}
 use Rattle.class_world.proofs.ClassChanges.{AreStanding, SameFlags, classes-sound}
 use Rattle.class_world.proofs.OfClasses.{own-seen}
+use Rattle.class_world.proofs.SamePlaces.{classes-read}
 
 abbrev HeldClass : Type 0
 HeldClass = Class PyStrInterned
@@ -36,12 +38,12 @@ changed-read t f g same (k ∷ ks) c =
     ]
 
 -- and so in the plain world, unless the change was refused
-pub change-read : {A E : Type 0} (f : HeldClass → HeldClass) (g : Reading → Class Text → Class Text) → ((t : Reading) (k : HeldClass) → rekeyed (spelled t) (f k) ≡ g t (rekeyed (spelled t) k)) → (w now : Held) (c : ℕ) (ks : List HeldClass) (log : List Change) (o : Result A E) → OnOk o (ks ≡ with_changed f w.classes c) → w ≡ now → OnOk o ((t : Reading) → plain t (record w { classes = ks; log = log }) ≡ record (plain t now) { classes = with_changed (g t) (plain t now).classes c })
+pub change-read : {A E : Type 0} (f : HeldClass → HeldClass) (g : Reading → Class Text → Class Text) → ((t : Reading) (k : HeldClass) → rekeyed (spelled t) (f k) ≡ g t (rekeyed (spelled t) k)) → (w now : Held) (c : ℕ) (ks : List HeldClass) (log : List Change) (o : Result A E) → OnOk o (ks ≡ with_changed f w.classes c) → Like w.classes ks → AllHold w (of_each of_node w.nodes) → w ≡ now → OnOk o ((t : Reading) → plain t (record w { classes = ks; log = log }) ≡ record (plain t now) { classes = with_changed (g t) (plain t now).classes c })
 unfolding plain
-change-read f g same w now c ks log (Ok a) p v = λ t.
+change-read f g same w now c ks log (Ok a) p l h v = λ t.
     subst (λ n. plain t (record w { classes = ks; log = log }) ≡ record (plain t n) { classes = with_changed (g t) (plain t n).classes c }) v
-    (ap (λ (ks : Classes Text). record (plain t w) { classes = ks }) (ap (renamed (spelled t)) p ∙ changed-read t f (g t) (same t) w.classes c))
-change-read f g same w now c ks log (Err e) p v = tt
+    (classes-read w ks l t log h ∙ ap (λ (ks : Classes Text). record (plain t w) { classes = ks }) (ap (renamed (spelled t)) p ∙ changed-read t f (g t) (same t) w.classes c))
+change-read f g same w now c ks log (Err e) p l h v = tt
 
 pub changed-holds : (w : Held) (f : HeldClass → HeldClass) → ((k : HeldClass) → AllHold w (of_class k) → AllHold w (of_class (f k))) → (ks : List HeldClass) (c : ℕ) → AllHold w (of_each of_class ks) → AllHold w (of_each of_class (with_changed f ks c))
 changed-holds w f keep [] c h = tt
@@ -58,7 +60,8 @@ module _ (f : HeldClass → HeldClass) (number : (k : HeldClass) → (f k).numbe
   changed-like ks c = record {
     held = λ d b h. ap by_line (lin-kept f number ks c bases members d) ∙ h;
     there = λ d h. is_class-kept f number ks c d ∙ h;
-    places = λ d y i h. is_place-kept f number ks c bases members d y i ∙ h;
+    layouts = λ d xs h. layout-same f number ks c bases members d ∙ h;
+    counts = λ d h. member_count-kept f number ks c members d;
     offsets = λ d o h. offset-kept f number ks c bases members d o ∙ h;
     flags = λ d h. at-changed f number (option_map (λ (k : HeldClass). k.flags)) (λ k. ap Some (flags k)) ks c d;
   }
@@ -85,16 +88,17 @@ without-holds w x k h =
     let dict = of_dict (has_flag (2 ^ 40) k) in
     (h.0, (h.1.0, all-append w dict (of_each of_binding (without_key is_same_name k.attrs x)) (all-first w dict _ h.1.1) (without_key-holds w k.attrs x (all-rest w dict _ h.1.1))))
 
-pub without-read : {A E : Type 0} (w now : Held) (c : ℕ) (x : PyStrInterned) (ks : List HeldClass) (log : List Change) (o : Result A E) → OnOk o (ks ≡ without_class_attr is_same_name w.classes c x) → w ≡ now → OnOk o ((t : Reading) → plain t (record w { classes = ks; log = log }) ≡ without_own_attr (plain t now) c (t.text x.0))
-without-read w now c x ks log o p v =
-    change-read (without x) (λ t k. record k { attrs = without_key is_text k.attrs (spelled t x) }) (λ t k. ap (λ bs. record (rekeyed (spelled t) k) { attrs = bs }) (without_key-read t k.attrs x)) w now c ks log o p v
+pub without-read : {A E : Type 0} (w now : Held) (c : ℕ) (x : PyStrInterned) (ks : List HeldClass) (log : List Change) (o : Result A E) → OnOk o (ks ≡ without_class_attr is_same_name w.classes c x) → OnErr o (ks ≡ w.classes) → AllHold w (of_each of_node w.nodes) → w ≡ now → OnOk o ((t : Reading) → plain t (record w { classes = ks; log = log }) ≡ without_own_attr (plain t now) c (t.text x.0))
+without-read w now c x ks log o p q h v =
+    change-read (without x) (λ t k. record k { attrs = without_key is_text k.attrs (spelled t x) }) (λ t k. ap (λ bs. record (rekeyed (spelled t) k) { attrs = bs }) (without_key-read t k.attrs x)) w now c ks log o p (change-like (without x) (λ k. refl) (λ k. refl) (λ k. refl) (λ k. refl) w c ks o p q) h v
 
 -- a class with another name
 abbrev pub called : Text → HeldClass → HeldClass
 called x k = record k { name = x }
 
-pub called-read : {A E : Type 0} (w now : Held) (c : ℕ) (x : Text) (ks : List HeldClass) (log : List Change) (o : Result A E) → OnOk o (ks ≡ with_class_name w.classes c x) → w ≡ now → OnOk o ((t : Reading) → plain t (record w { classes = ks; log = log }) ≡ apply (plain t now) (SetName c x))
-called-read w now c x ks log o p v = change-read (called x) (λ t k. record k { name = x }) (λ t k. refl) w now c ks log o p v
+pub called-read : {A E : Type 0} (w now : Held) (c : ℕ) (x : Text) (ks : List HeldClass) (log : List Change) (o : Result A E) → OnOk o (ks ≡ with_class_name w.classes c x) → OnErr o (ks ≡ w.classes) → AllHold w (of_each of_node w.nodes) → w ≡ now → OnOk o ((t : Reading) → plain t (record w { classes = ks; log = log }) ≡ apply (plain t now) (SetName c x))
+called-read w now c x ks log o p q h v =
+    change-read (called x) (λ t k. record k { name = x }) (λ t k. refl) w now c ks log o p (change-like (called x) (λ k. refl) (λ k. refl) (λ k. refl) (λ k. refl) w c ks o p q) h v
 
 -- whether it was there
 pub own-told : {E : Type 0} (w now : Held) (v : w ≡ now) (c : ℕ) (x : PyStrInterned) (o : Result Bool E) → IfOk o (λ b. b ≡ is_some (own_of (λ k. is_same_name k x) (class_at w.classes c))) → IfOk o (λ b. (t : Reading) → Reads t now → b ≡ is_some (own_of (λ y. is_text y (t.text x.0)) (class_at (plain t now).classes c)))

@@ -15,18 +15,19 @@ use Rattle.class_model.specs.Sound.{AreSound}
 use Rattle.class_table.proofs.Pushed.{each-there}
 use Rattle.class_model.specs.Change.{with_class_attr}
 use Rattle.class_model.proofs.Numbers.{at-before, at-changed, at-last, old-or-last}
-use Rattle.class_model.proofs.Kept.{is_place-kept}
+use Rattle.class_model.proofs.Kept.{member_count-kept}
+use Rattle.class_model.proofs.PlaceOffsets.{layout-same}
 use Rattle.class_table.specs.Refused.{AreThere}
 use Rattle.class_table.specs.Keys.{numbers}
 use Rattle.plain_machine.specs.World.{is_text, with_own_attr, with_new_class}
 use Rattle.class_log.specs.Change.{Change}
 use Rattle.class_log.specs.Following.{Keeps}
 use Rattle.class_log.specs.Logged.{IsLogged}
+use Rattle.class_world.specs.Added.{AreEmpty}
 use Rattle.class_world.specs.Held.{Held}
 use Rattle.class_world.specs.Reading.{Reading, spelled, node_of, plain}
-use Rattle.class_world.specs.Sound.{IsName, IsNode, IsClass, IsOf, GetsDict, Standing, AreNames, class_in, held_class, Holds, AllHold, Grows, SoundWith, Sound, flags_at, is_marked_heap, of_binding, of_class, of_class_ref, of_dict, of_node, of_each}
+use Rattle.class_world.specs.Sound.{IsName, IsNode, IsClass, IsOf, AreMembers, GetsDict, Standing, AreNames, class_in, held_class, Holds, AllHold, Grows, SoundWith, Sound, flags_at, is_marked_heap, of_binding, of_class, of_class_ref, of_dict, of_node, of_each}
 use Rattle.class_world.proofs.Claims.{all-grow, all-append, all-first, all-rest, each-push, get-end}
-use Rattle.class_world.proofs.MemberPlaces.{no-members}
 use Rattle.py_node.specs.declared.built_in.BuiltIn.{BuiltIn}
 use Rattle.py_node.specs.declared.built_in.BuiltIn.TheVariants.{TypeType}
 use Rattle.plain_machine.specs.Known.{the_dict}
@@ -34,6 +35,7 @@ use Rattle.plain_machine.specs.Sound.{held_by}
 use Rattle.plain_machine.proofs.Offsets.{offset-kept}
 use Rattle.class_world.proofs.Homes.{held_by-made, held_by-attr}
 use Rattle.class_world.proofs.Growth.{Like, like-itself, like-push, keep-itself, keep-push, grows, grows-lasts}
+use Rattle.class_world.proofs.SamePlaces.{nodes-same, classes-read, none-read, empty-hold}
 use Rattle.class_world.proofs.Stored.{map-push}
 use Rattle.class_world.proofs.Changes.{fixed-grow, built_in-grow, itself-push}
 use Rattle.class_world.proofs.Bound.{with_value-read, with_value-holds}
@@ -91,7 +93,8 @@ module _ {A E : Type 0} (w : Held) (c : ℕ) (x : PyStrInterned) (r : PyObjectRe
   set-like (Ok a) p f = subst (Like w.classes) (sym p) (record {
     held = λ d b h. held_by-attr is_same_name w.classes c x r d ∙ h;
     there = λ d h. attr-there w.classes c d x r ∙ h;
-    places = λ d y i h. is_place-kept (λ (k : Class PyStrInterned). record k { attrs = with_value is_same_name k.attrs x r }) (λ k. refl) w.classes c (λ k. refl) (λ k. refl) d y i ∙ h;
+    layouts = λ d xs h. layout-same (λ (k : Class PyStrInterned). record k { attrs = with_value is_same_name k.attrs x r }) (λ k. refl) w.classes c (λ k. refl) (λ k. refl) d ∙ h;
+    counts = λ d h. member_count-kept (λ (k : Class PyStrInterned). record k { attrs = with_value is_same_name k.attrs x r }) (λ k. refl) w.classes c (λ k. refl) d;
     offsets = λ d o h. offset-kept (λ (k : Class PyStrInterned). record k { attrs = with_value is_same_name k.attrs x r }) (λ k. refl) w.classes c (λ k. refl) (λ k. refl) d o ∙ h;
     flags = λ d h. at-changed (λ (k : Class PyStrInterned). record k { attrs = with_value is_same_name k.attrs x r }) (λ k. refl) (option_map (λ (k : Class PyStrInterned). k.flags)) (λ k. refl) w.classes c d;
   })
@@ -103,12 +106,14 @@ module _ {A E : Type 0} (w : Held) (c : ℕ) (x : PyStrInterned) (r : PyObjectRe
       (subst (AreStanding w) (sym p) (λ d e. s.standing d (sym (attr-there w.classes c d x r) ∙ e))) s
   set-sound log keeps said (Err e) p f s n k = classes-sound w ks log keeps said (set-like (Err e) p f) (subst (SameFlags w.classes) (sym f) (λ d. refl)) (subst (λ ks. AllHold w (of_each of_class ks)) (sym f) s.classes) (subst (AreStanding w) (sym f) s.standing) s
 
-  pub set-read : (log : List Change) (now : Held) (o : Result A E) → OnOk o (ks ≡ with_class_attr is_same_name w.classes c x r) → w ≡ now → OnOk o ((t : Reading) → plain t (record w { classes = ks; log = log }) ≡ with_own_attr (plain t now) c (t.text x.0) r)
+  pub set-read : (log : List Change) (now : Held) (o : Result A E) → OnOk o (ks ≡ with_class_attr is_same_name w.classes c x r) → w ≡ now → AllHold w (of_each of_node w.nodes) → OnOk o ((t : Reading) → plain t (record w { classes = ks; log = log }) ≡ with_own_attr (plain t now) c (t.text x.0) r)
   unfolding plain
-  set-read log now (Ok a) p v = λ t.
+  set-read log now (Ok a) p v h = λ t.
       subst (λ n. plain t (record w { classes = ks; log = log }) ≡ with_own_attr (plain t n) c (t.text x.0) r) v
-      (ap (λ (ks : HeldClasses). record (plain t w) { classes = renamed (spelled t) ks }) p ∙ ap (λ (ks : Classes Text). record (plain t w) { classes = ks }) (attr-read t w.classes c x r))
-  set-read log now (Err e) p v = tt
+      (classes-read w ks (set-like (Ok a) p tt) t log h
+      ∙ ap (λ (ks : HeldClasses). record (plain t w) { classes = renamed (spelled t) ks }) p
+      ∙ ap (λ (ks : Classes Text). record (plain t w) { classes = ks }) (attr-read t w.classes c x r))
+  set-read log now (Err e) p v h = tt
 
 -- a change that was refused leaves classes and log as they were
 pub unchanged : {A E : Type 0} (w now : Held) → w ≡ now → (ks : HeldClasses) (log : List Change) (o : Result A E) → OnErr o (ks ≡ w.classes) → OnErr o (log ≡ w.log) → OnErr o (record w { classes = ks; log = log } ≡ now)
@@ -144,18 +149,18 @@ flags-there t c n e = go (class_at t c) e
     go (Some k) e = refl
 
 -- a class with its node
-module _ (w : Held) (meta : PyTypeRef) (k : Class PyStrInterned) (log : List Change) (keeps : Keeps w.log log) where
+module _ (w : Held) (meta : PyTypeRef) (k : Class PyStrInterned) (ms : List (Option PyObjectRef)) (log : List Change) (keeps : Keeps w.log log) where
   abbrev pub class_made : PyTypeRef → Held
-  class_made c = record w { nodes = w.nodes ++ record { class = meta; dict = None; members = []; payload = payload.Class c } ∷ []; classes = w.classes ++ k ∷ []; log = log }
+  class_made c = record w { nodes = w.nodes ++ record { class = meta; dict = None; members = ms; payload = payload.Class c } ∷ []; classes = w.classes ++ k ∷ []; log = log }
 
   pub made-grows : (c : PyTypeRef) → Grows w (class_made c)
   made-grows c =
-      let n = length-append w.nodes (record { class = meta; dict = None; members = []; payload = payload.Class c } ∷ []) in
-      grows w (class_made c) keeps refl refl (omega arith) (omega arith) (λ m f h. h) (omega arith) (keep-push w.classes w.nodes (record { class = meta; dict = None; members = []; payload = payload.Class c })) (like-push w.classes k)
+      let n = length-append w.nodes (record { class = meta; dict = None; members = ms; payload = payload.Class c } ∷ []) in
+      grows w (class_made c) keeps refl refl (omega arith) (omega arith) (λ m f h. h) (omega arith) (keep-push w.classes w.nodes (record { class = meta; dict = None; members = ms; payload = payload.Class c })) (like-push w.classes k)
 
   pub node-made : (c : PyTypeRef) (r : PyObjectRef) → r.0 ≡ length w.nodes → Holds (class_made c) (IsNode r)
   unfolding Holds
-  node-made c r e = let l = length-append w.nodes (record { class = meta; dict = None; members = []; payload = payload.Class c } ∷ []) in omega (arith, l, e)
+  node-made c r e = let l = length-append w.nodes (record { class = meta; dict = None; members = ms; payload = payload.Class c } ∷ []) in omega (arith, l, e)
 
   dict-made : (new : Held) (b : Bool) → ((c : ℕ) → c < 23 → is_class new.classes c ≡ true) → AllHold new (of_dict b)
   unfolding Holds
@@ -180,7 +185,7 @@ module _ (w : Held) (meta : PyTypeRef) (k : Class PyStrInterned) (log : List Cha
     class-stands : Holds (class_made c) (Standing k.number (record { 0 = k.number }))
     unfolding Holds
     class-stands =
-        let node : Node = record { class = meta; dict = None; members = []; payload = payload.Class c } in
+        let node : Node = record { class = meta; dict = None; members = ms; payload = payload.Class c } in
         ap (λ n. held_class (w.nodes ++ node ∷ []) (record { 0 = n })) i ∙ ap (option_and_then (λ (x : Node). class_in x.payload)) (get-end w.nodes node) ∙ ap Some (e ∙ sym i)
 
     stands : (d : ℕ) → is_class (w.classes ++ k ∷ []) d ≡ true → Holds (class_made c) (Standing d (record { 0 = d }))
@@ -200,11 +205,11 @@ module _ (w : Held) (meta : PyTypeRef) (k : Class PyStrInterned) (log : List Cha
 
     itself : (n d : ℕ) → held_class (class_made c).nodes (record { 0 = n }) ≡ Some d → n ≡ d
     itself n d q =
-        let at = itself-push 0 w.nodes (record { class = meta; dict = None; members = []; payload = payload.Class c }) (λ d p. let same : c.0 ≡ d = cc in omega arith) (λ m d p. let r = s.itself m d p in omega arith) n d q in
+        let at = itself-push 0 w.nodes (record { class = meta; dict = None; members = ms; payload = payload.Class c }) (λ d p. let same : c.0 ≡ d = cc in omega arith) (λ m d p. let r = s.itself m d p in omega arith) n d q in
         omega arith
 
-    pub made-sound : IsLogged log (w.classes ++ k ∷ []) → is_marked_heap k.flags ≡ false → Holds w (AreNames k.members) → Holds w (IsClass meta.0) → Holds w (IsOf meta.0 TypeType) → AllHold w (of_each of_binding k.attrs) → Sound (class_made c)
-    made-sound said u q m p a =
+    pub made-sound : AreEmpty w.classes meta.0 ms → IsLogged log (w.classes ++ k ∷ []) → is_marked_heap k.flags ≡ false → Holds w (AreNames k.members) → Holds w (IsClass meta.0) → Holds w (IsOf meta.0 TypeType) → AllHold w (of_each of_binding k.attrs) → Sound (class_made c)
+    made-sound empty said u q m p a =
         let new = class_made c in
         let more = made-grows c in
         let go = all-grow w new more in
@@ -215,7 +220,7 @@ module _ (w : Held) (meta : PyTypeRef) (k : Class PyStrInterned) (log : List Cha
         record {
           forms = go _ s.forms;
           below = s.below;
-          nodes = each-push new of_node w.nodes (record { class = meta; dict = None; members = []; payload = payload.Class c }) (go _ s.nodes) (more.still (IsClass meta.0) m, (more.still (IsOf meta.0 TypeType) p, (no-members new meta.0, (no-dict new meta.0 c.0 (more.still (IsClass meta.0) m), (class-made, tt)))));
+          nodes = each-push new of_node w.nodes (record { class = meta; dict = None; members = ms; payload = payload.Class c }) (go _ s.nodes) (more.still (IsClass meta.0) m, (more.still (IsOf meta.0 TypeType) p, (more.still (AreMembers meta.0 ms) (empty-hold w w.classes meta.0 ms refl empty), (no-dict new meta.0 c.0 (more.still (IsClass meta.0) m), (class-made, tt)))));
           classes = each-push new of_class w.classes k (go _ s.classes) (node, (members, rest));
           vars = go _ s.vars;
           scopes = go _ s.scopes;
@@ -233,12 +238,15 @@ module _ (w : Held) (meta : PyTypeRef) (k : Class PyStrInterned) (log : List Cha
           logged = said;
         }
 
-  pub made-read : (now : Held) (c : PyTypeRef) → w ≡ now → k.number ≡ c.0 → (t : Reading) → plain t (class_made c) ≡ with_new_class (plain t now) meta.0 (rekeyed (spelled t) k)
+  pub made-read : (now : Held) (c : PyTypeRef) → w ≡ now → k.number ≡ c.0 → AreEmpty w.classes meta.0 ms → AllHold w (of_each of_node w.nodes) → (t : Reading) → plain t (class_made c) ≡ with_new_class (plain t now) meta.0 (rekeyed (spelled t) k)
   unfolding plain
-  made-read now c v e t = subst (λ n. plain t (class_made c) ≡ with_new_class (plain t n) meta.0 (rekeyed (spelled t) k)) v at
+  made-read now c v e empty h t = subst (λ n. plain t (class_made c) ≡ with_new_class (plain t n) meta.0 (rekeyed (spelled t) k)) v at
     where
       at : plain t (class_made c) ≡ with_new_class (plain t w) meta.0 (rekeyed (spelled t) k)
       at =
-          let a = map-push (node_of t) w.nodes (record { class = meta; dict = None; members = []; payload = payload.Class c }) in
+          let more = w.classes ++ k ∷ [] in
+          let a = map-push (node_of t more) w.nodes (record { class = meta; dict = None; members = ms; payload = payload.Class c }) in
           let b = map-push (rekeyed (spelled t)) w.classes k in
-          cc (a, b, e)
+          let old = nodes-same w more (like-push w.classes k) t w.nodes h in
+          let none = none-read more meta.0 ms empty.1 in
+          cc (a, b, e, old, none)

@@ -111,12 +111,12 @@ payload-read t c (payload.Iterator i) = refl
 payload-read t c (payload.Slice s) = refl
 
 -- the other nodes stay
-nodes-read : (t : Reading) (c : PyTypeRef) (ns : List StoredNode) (i : ℕ) (n : StoredNode) → i < length ns → n ≡ get_or ns i n → map (node_of t) (slice_set ns i (defined_node c n)) ≡ with_datum_in (defined_by c.0) (map (node_of t) ns) i
-nodes-read t c [] i n l e = absurd (omega arith)
-nodes-read t c (m ∷ ns) zero n l e =
-    ap (λ n. node_of t (defined_node c n) ∷ map (node_of t) ns) e
-    ∙ ap (λ d. record (node_of t m) { datum = d } ∷ map (node_of t) ns) (payload-read t c m.payload)
-nodes-read t c (m ∷ ns) (suc i) n l e = ap (λ ms. node_of t m ∷ ms) (nodes-read t c ns i n (omega arith) e)
+nodes-read : (t : Reading) (ks : Classes PyStrInterned) (c : PyTypeRef) (ns : List StoredNode) (i : ℕ) (n : StoredNode) → i < length ns → n ≡ get_or ns i n → map (node_of t ks) (slice_set ns i (defined_node c n)) ≡ with_datum_in (defined_by c.0) (map (node_of t ks) ns) i
+nodes-read t ks c [] i n l e = absurd (omega arith)
+nodes-read t ks c (m ∷ ns) zero n l e =
+    ap (λ n. node_of t ks (defined_node c n) ∷ map (node_of t ks) ns) e
+    ∙ ap (λ d. record (node_of t ks m) { datum = d } ∷ map (node_of t ks) ns) (payload-read t c m.payload)
+nodes-read t ks c (m ∷ ns) (suc i) n l e = ap (λ ms. node_of t ks m ∷ ms) (nodes-read t ks c ns i n (omega arith) e)
 
 -- another node in its place that tells the same
 pub stays-set : (ks : Classes PyStrInterned) (ns : List StoredNode) (i : ℕ) (n new : StoredNode) → n ≡ get_or ns i n → lasting new.payload ≡ lasting n.payload → (is_heap_at (class_at ks n.class.0) ≡ false → new.class ≡ n.class) → (m : ℕ) (x : StoredNode) → slice_get ns m ≡ Some x → (y : StoredNode) × (slice_get (slice_set ns i new) m ≡ Some y) × (lasting y.payload ≡ lasting x.payload) × (is_heap_at (class_at ks x.class.0) ≡ false → y.class ≡ x.class)
@@ -158,4 +158,4 @@ module _ (w : Held) (c : PyTypeRef) (r : PyObjectRef) (n new : StoredNode) where
   unfolding plain
   define-read now v l e k t =
       subst (λ u. plain t defined ≡ with_definer (plain t u) c.0 r) v
-      (ap (λ (m : StoredNode). plain t (record w { nodes = slice_set w.nodes r.0 m })) k ∙ ap (λ (ns : List Node). record (plain t w) { nodes = ns }) (nodes-read t c w.nodes r.0 n l e))
+      (ap (λ (m : StoredNode). plain t (record w { nodes = slice_set w.nodes r.0 m })) k ∙ ap (λ (ns : List Node). record (plain t w) { nodes = ns }) (nodes-read t w.classes c w.nodes r.0 n l e))

@@ -7,6 +7,8 @@ use Rattle.py_node.specs.declared.built_in.BuiltIn.TheVariants.{Dict}
 use Rattle.py_node.specs.declared.payload.Node.{Node as StoredNode}
 use Rattle.py_node.specs.declared.payload.Payload.{Payload}
 use Rattle.py_node.specs.declared.payload.Payload.TheVariants as payload
+use Rattle.py_node.specs.declared.refs.PyStrInterned.{PyStrInterned}
+use Rattle.class_model.specs.Class.{Classes}
 use Rattle.plain_machine.specs.Plain.{ADict, Node}
 use Rattle.plain_machine.specs.Objects.{with_datum_in}
 use Rattle.plain_machine.specs.Dicts.{Entries, with_entries}
@@ -224,26 +226,26 @@ module _ (w : Held) (r : PyObjectRef) (n new : StoredNode) where
       let same : class_in new.payload ≡ class_in n.payload = ap (λ (l : Lasting). l.class) q in
       record { forms = go _ s.forms; below = s.below; nodes = go _ (each-set w of_node w.nodes r.0 new s.nodes there); classes = go _ s.classes; vars = go _ s.vars; scopes = go _ s.scopes; fixed = fixed-grow w changed s.fixed (grows-lasts w changed more); built_in = built_in-grow w changed s.built_in (grows-lasts w changed more); own = λ b. more.still _ (s.own b); flags = λ b. more.still _ (s.flags b); of_none = more.still _ s.of_none; unmarked = s.unmarked; standing = λ c e. more.still _ (s.standing c e); itself = λ m c q. s.itself m c (class-set w.nodes r.0 n new e same m c q); apart = s.apart; scopes_apart = s.scopes_apart; known = s.known; logged = s.logged }
 
-  node-read : (t : Reading) (es : Entries) → HasOther n new es → node_of t new ≡ record (node_of t n) { datum = ADict es }
-  node-read t es o =
+  node-read : (t : Reading) (ks : Classes PyStrInterned) (es : Entries) → HasOther n new es → node_of t ks new ≡ record (node_of t ks n) { datum = ADict es }
+  node-read t ks es o =
       let class = o.0 in
       let dict = o.1 in
       let members = o.2 in
       let datum = has-datum es t new.payload o.3 in
-      λ i. record { class = (class i).0; dict = dict i; members = places_of (members i); datum = datum i }
+      λ i. record { class = (class i).0; dict = dict i; members = places_of ks (class i).0 (members i); datum = datum i }
 
-  nodes-read : (t : Reading) (es : Entries) (ns : List StoredNode) (i : ℕ) → i < length ns → n ≡ get_or ns i n → HasOther n new es → map (node_of t) (slice_set ns i new) ≡ with_datum_in (λ m. ADict es) (map (node_of t) ns) i
-  nodes-read t es [] i l e o = absurd (omega arith)
-  nodes-read t es (m ∷ ns) zero l e o =
-      ap (λ x. x ∷ map (node_of t) ns) (node-read t es o)
-      ∙ ap (λ (n : StoredNode). record (node_of t n) { datum = ADict es } ∷ map (node_of t) ns) e
-  nodes-read t es (m ∷ ns) (suc i) l e o = ap (λ ms. node_of t m ∷ ms) (nodes-read t es ns i (omega arith) e o)
+  nodes-read : (t : Reading) (ks : Classes PyStrInterned) (es : Entries) (ns : List StoredNode) (i : ℕ) → i < length ns → n ≡ get_or ns i n → HasOther n new es → map (node_of t ks) (slice_set ns i new) ≡ with_datum_in (λ m. ADict es) (map (node_of t ks) ns) i
+  nodes-read t ks es [] i l e o = absurd (omega arith)
+  nodes-read t ks es (m ∷ ns) zero l e o =
+      ap (λ x. x ∷ map (node_of t ks) ns) (node-read t ks es o)
+      ∙ ap (λ (n : StoredNode). record (node_of t ks n) { datum = ADict es } ∷ map (node_of t ks) ns) e
+  nodes-read t ks es (m ∷ ns) (suc i) l e o = ap (λ ms. node_of t ks m ∷ ms) (nodes-read t ks es ns i (omega arith) e o)
 
   pub other-read : (es : Entries) (now : Held) → w ≡ now → r.0 < length w.nodes → n ≡ get_or w.nodes r.0 n → HasOther n new es → (t : Reading) → plain t changed ≡ with_entries (plain t now) r es
   unfolding plain
   other-read es now v l e o t =
       subst (λ u. plain t changed ≡ with_entries (plain t u) r es) v
-      (ap (λ (ns : List Node). record (plain t w) { nodes = ns }) (nodes-read t es w.nodes r.0 l e o))
+      (ap (λ (ns : List Node). record (plain t w) { nodes = ns }) (nodes-read t w.classes es w.nodes r.0 l e o))
 
   -- the entries are others, or where memory ran out the same
   pub either-other : {A E : Type 0} (P : Type 0) (res : Result A E) (es more : Entries) → OnOk res (HasOther n new more) → OnErr res (HasOther n new es) → AllHold w (of_entries es) → AllHold w (of_entries more) → ((xs : Entries) → HasOther n new xs → AllHold w (of_entries xs) → P) → P

@@ -4,6 +4,7 @@ use Rattle.std.specs.Prelude.{slice_get, is_some, option_map, option_and_then, s
 use Rattle.std.proofs.lemmas.Slice.Eq.{bytes_eq-Decides}
 use Rattle.py_node.specs.declared.refs.PyObjectRef.{PyObjectRef}
 use Rattle.py_node.specs.declared.refs.PyStrInterned.{PyStrInterned}
+use Rattle.class_model.specs.Class.{Classes}
 use Rattle.py_node.specs.declared.payload.Node.{Node as StoredNode}
 use Rattle.py_node.specs.declared.payload.Payload.{Payload}
 use Rattle.py_node.specs.declared.payload.Payload.TheVariants as payload
@@ -69,23 +70,23 @@ payload-text t x (payload.Super s) = refl
 payload-text t x (payload.Iterator i) = refl
 payload-text t x (payload.Slice s) = refl
 
-entries-stored : (t : Reading) (ns : List StoredNode) (n : ℕ) → entries_in (option_map (λ (x : Node). x.datum) (slice_get (map (node_of t) ns) n)) ≡ entries_at (slice_get ns n)
-entries-stored t [] n = refl
-entries-stored t (x ∷ ns) zero = payload-entries t x.payload
-entries-stored t (x ∷ ns) (suc n) = entries-stored t ns n
+entries-stored : (t : Reading) (ks : Classes PyStrInterned) (ns : List StoredNode) (n : ℕ) → entries_in (option_map (λ (x : Node). x.datum) (slice_get (map (node_of t ks) ns) n)) ≡ entries_at (slice_get ns n)
+entries-stored t ks [] n = refl
+entries-stored t ks (x ∷ ns) zero = payload-entries t x.payload
+entries-stored t ks (x ∷ ns) (suc n) = entries-stored t ks ns n
 
-text-stored : (t : Reading) (x : Text) (ns : List StoredNode) (n : ℕ) → is_text_datum x (option_map (λ (x : Node). x.datum) (slice_get (map (node_of t) ns) n)) ≡ is_text_at x (slice_get ns n)
-text-stored t x [] n = refl
-text-stored t x (y ∷ ns) zero = payload-text t x y.payload
-text-stored t x (y ∷ ns) (suc n) = text-stored t x ns n
+text-stored : (t : Reading) (ks : Classes PyStrInterned) (x : Text) (ns : List StoredNode) (n : ℕ) → is_text_datum x (option_map (λ (x : Node). x.datum) (slice_get (map (node_of t ks) ns) n)) ≡ is_text_at x (slice_get ns n)
+text-stored t ks x [] n = refl
+text-stored t ks x (y ∷ ns) zero = payload-text t x y.payload
+text-stored t ks x (y ∷ ns) (suc n) = text-stored t ks x ns n
 
 pub entries-read : (t : Reading) (w : Held) (r : PyObjectRef) → entries_in (datum_at (plain t w) r) ≡ held_entries w.nodes r
 unfolding plain
-entries-read t w r = entries-stored t w.nodes r.0
+entries-read t w r = entries-stored t w.classes w.nodes r.0
 
 is-key-read : (t : Reading) (w : Held) (x : Text) (k : PyObjectRef) → is_key (plain t w) x k ≡ is_held_key w.nodes x k
 unfolding plain
-is-key-read t w x k = text-stored t x w.nodes k.0
+is-key-read t w x k = text-stored t w.classes x w.nodes k.0
 
 tests-read : (t : Reading) (w : Held) (x : Text) → is_key (plain t w) x ≡ is_held_key w.nodes x
 tests-read t w x = λ i k. is-key-read t w x k i
@@ -193,12 +194,12 @@ module _ (t : Reading) (w : Held) (d : PyObjectRef) (x : Text) where
   dict-itself (payload.Iterator i) e = cc
   dict-itself (payload.Slice s) e = cc
 
-  nodes-same : (ns : List StoredNode) (n : ℕ) → home_at ns n ≡ Some Dict → with_datum_in (λ m. ADict (entries_at (slice_get ns n))) (map (node_of t) ns) n ≡ map (node_of t) ns
+  nodes-same : (ns : List StoredNode) (n : ℕ) → home_at ns n ≡ Some Dict → with_datum_in (λ m. ADict (entries_at (slice_get ns n))) (map (node_of t w.classes) ns) n ≡ map (node_of t w.classes) ns
   nodes-same [] n e = cc
   nodes-same (y ∷ ns) zero e =
       let home : home_of y.payload ≡ Dict = cc in
-      ap (λ m. record (node_of t y) { datum = m } ∷ map (node_of t) ns) (dict-itself y.payload home)
-  nodes-same (y ∷ ns) (suc n) e = ap (λ ms. node_of t y ∷ ms) (nodes-same ns n e)
+      ap (λ m. record (node_of t w.classes y) { datum = m } ∷ map (node_of t w.classes) ns) (dict-itself y.payload home)
+  nodes-same (y ∷ ns) (suc n) e = ap (λ ms. node_of t w.classes y ∷ ms) (nodes-same ns n e)
 
   pub kept-read : Holds w (Holding d Dict) → NonePasses test es → plain t w ≡ without_value_in (plain t w) d x
   unfolding plain Holds
@@ -241,7 +242,7 @@ module _ (t : Reading) (w m : Held) (x : Text) (made : plain t m ≡ with_node (
   still : (r : PyObjectRef) (e : Datum) → datum_at (plain t w) r ≡ Some e → datum_at (plain t m) r ≡ Some e
   still r e h = ap (λ u. datum_at u r) made ∙ datum-stays (plain t w) the_str (AText x) e r h
 
-  there : (ns : List StoredNode) (n : ℕ) → n < length ns → (e : Datum) × (option_map (λ (x : Node). x.datum) (slice_get (map (node_of t) ns) n) ≡ Some e)
+  there : (ns : List StoredNode) (n : ℕ) → n < length ns → (e : Datum) × (option_map (λ (x : Node). x.datum) (slice_get (map (node_of t w.classes) ns) n) ≡ Some e)
   there [] n l = absurd (omega arith)
   there (y ∷ ns) zero l = (datum t y.payload, refl)
   there (y ∷ ns) (suc n) l = there ns n (omega arith)

@@ -1,10 +1,10 @@
 -- Worlds that have grown, and claims that hold still.
-use Rattle.std.proofs.Common.{◌≡◌, ℕ, suc, ◌≤◌, List, [], ◌∷◌, ◌++◌, length, Option, Some, None, refl, sym, ap, ◌∙◌, subst, arith, length-append}
-use Rattle.std.specs.Prelude.{nat_lt, slice_get, is_some, is_none, Bool, true, false, ◌&&◌, ◌==◌, option_map, option_and_then}
+use Rattle.std.proofs.Common.{◌≡◌, ℕ, ◌≤◌, List, [], ◌∷◌, ◌++◌, length, Option, Some, None, refl, sym, ap, ◌∙◌, subst, arith, length-append}
+use Rattle.std.specs.Prelude.{slice_get, is_some, is_none, Bool, true, false, ◌&&◌, ◌==◌, option_map, option_and_then}
 use Rattle.py_node.specs.declared.built_in.BuiltIn.{BuiltIn}
 use Rattle.py_node.specs.declared.refs.PyStrInterned.{PyStrInterned}
-use Rattle.class_model.specs.Class.{Class, class_at, is_class, is_along, lin}
-use Rattle.class_model.specs.Layout.{is_place, layout, layout_along, member_count}
+use Rattle.class_model.specs.Class.{Class, class_at, is_class, lin}
+use Rattle.class_model.specs.Layout.{layout, layout_along, member_count, members_in, place_count}
 use Rattle.class_model.specs.Dict.{says_dict, has_dict}
 use Rattle.class_model.specs.Slot.{is_heap_at}
 use Rattle.py_node.specs.BuiltIns.{heap_type}
@@ -12,16 +12,15 @@ use Rattle.py_node.specs.declared.refs.PyTypeRef.{PyTypeRef}
 use Rattle.std.specs.Int.RustNames.{bit_and}
 use Rattle.class_table.specs.OneBase.{says_so}
 use Rattle.class_model.proofs.Numbers.{at-before}
-use Rattle.std.proofs.lemmas.Bool.{and_parts, ltb-true}
 use Rattle.class_model.proofs.Rule.{lin-classes}
 use Rattle.class_model.proofs.Changed.{lin-push}
-use Rattle.class_model.proofs.Kept.{layout-agrees, is_place-agrees}
+use Rattle.class_model.proofs.Kept.{layout-agrees}
+use Rattle.class_model.proofs.PlaceOffsets.{along-there, place_count-alike}
 use Rattle.class_model.proofs.Solid.{is_solid-push}
 use Rattle.plain_machine.specs.Sound.{held_by, is_offset, Key, AreKeys}
 use Rattle.plain_machine.proofs.Offsets.{offset-push}
 use Rattle.py_node.specs.declared.refs.PyObjectRef.{PyObjectRef}
 use Rattle.std.specs.List.{AllByRecursion}
-use Rattle.py_node.specs.declared.members.MemberPlace.{MemberPlace}
 use Rattle.py_node.specs.declared.payload.Node.{Node}
 use Rattle.py_node.specs.declared.payload.Payload.{Payload}
 use Rattle.py_node.specs.declared.payload.Form.{Form}
@@ -29,7 +28,7 @@ use Rattle.class_log.specs.Change.{Change}
 use Rattle.class_log.specs.Following.{Keeps}
 use Rattle.class_log.proofs.Logged.{keeps-itself, keeps-on}
 use Rattle.class_world.specs.Held.{Held}
-use Rattle.class_world.specs.Sound.{Claim, IsNode, AreNodes, IsExpression, AreExpressions, IsName, AreNames, IsClass, IsOf, Holding, Standing, CanBeKeys, KeysDiffer, HasForm, HasParams, HasValues, AreMembers, IsOffset, HasFlags, GetsDict, OfStatic, class_ref_at, flags_at, StandsThere, IsMember, params_in, held_params, AreFilled, home_of, home_at, key_in, held_key, class_in, held_class, Holds, Lasts, Grows}
+use Rattle.class_world.specs.Sound.{Claim, IsNode, AreNodes, IsExpression, AreExpressions, IsName, AreNames, IsClass, IsOf, Holding, Standing, CanBeKeys, KeysDiffer, HasForm, HasParams, HasValues, AreMembers, IsOffset, HasFlags, GetsDict, OfStatic, class_ref_at, flags_at, StandsThere, params_in, held_params, AreFilled, home_of, home_at, key_in, held_key, class_in, held_class, Holds, Lasts, Grows}
 use Rattle.class_world.proofs.Claims.{get-pushed}
 use Rattle.class_world.proofs.Homes.{held_by-push}
 
@@ -54,7 +53,8 @@ pub record Keep (ks : List (Class PyStrInterned)) (old new : List Node) : Type 0
 pub record Like (old new : List (Class PyStrInterned)) : Type 0 where
   pub held : (c : ℕ) (b : BuiltIn) → held_by old c ≡ Some b → held_by new c ≡ Some b
   pub there : (c : ℕ) → is_class old c ≡ true → is_class new c ≡ true
-  pub places : (c d i : ℕ) → is_place old c d i ≡ true → is_place new c d i ≡ true
+  pub layouts : (c : ℕ) (xs : List ℕ) → layout old c ≡ Some xs → layout new c ≡ Some xs
+  pub counts : (c : ℕ) → is_class old c ≡ true → member_count (class_at new c) ≡ member_count (class_at old c)
   pub offsets : (c : ℕ) (o : Option ℕ) → is_offset old c o ≡ true → is_offset new c o ≡ true
   pub flags : (c : ℕ) → is_class old c ≡ true → flags_at new c ≡ flags_at old c
 
@@ -96,7 +96,7 @@ flagged None n e = cc
 flagged (Some k) n e = refl
 
 pub like-itself : (ks : List (Class PyStrInterned)) → Like ks ks
-like-itself ks = record { held = λ c b h. h; there = λ c h. h; places = λ c d i h. h; offsets = λ c o h. h; flags = λ c h. refl }
+like-itself ks = record { held = λ c b h. h; there = λ c h. h; layouts = λ c xs h. h; counts = λ c h. refl; offsets = λ c o h. h; flags = λ c h. refl }
 
 pub keep-itself : (ks : List (Class PyStrInterned)) (ns : List Node) → Keep ks ns ns
 keep-itself ks ns = record { stays = λ n x e. (x, e, refl, λ h. refl) }
@@ -104,24 +104,17 @@ keep-itself ks ns = record { stays = λ n x e. (x, e, refl, λ h. refl) }
 there-push : (ks : List (Class PyStrInterned)) (k : Class PyStrInterned) (c : ℕ) → is_class ks c ≡ true → is_class (ks ++ k ∷ []) c ≡ true
 there-push ks k c e = ap is_some (at-before ks k c e) ∙ e
 
--- a place of a class is one still
-place-push : (ks : List (Class PyStrInterned)) (k : Class PyStrInterned) (c d i : ℕ) → is_place ks c d i ≡ true → is_place (ks ++ k ∷ []) c d i ≡ true
-place-push ks k c d i h =
-    let both = and_parts (is_along d (layout ks c)) (nat_lt i (member_count (class_at ks d))) h in
-    let few = ltb-true i (member_count (class_at ks d)) both.1 in
-    is_place-agrees (ks ++ k ∷ []) ks c d i (go (lin ks c) refl both.0) (ap member_count (at-before ks k d (some (class_at ks d) few))) ∙ h
+-- a class keeps its layout
+layout-push : (ks : List (Class PyStrInterned)) (k : Class PyStrInterned) (c : ℕ) (xs : List ℕ) → layout ks c ≡ Some xs → layout (ks ++ k ∷ []) c ≡ Some xs
+layout-push ks k c xs h = go (lin ks c) refl h
   where
-    some : (o : Option (Class PyStrInterned)) → suc i ≤ member_count o → is_some o ≡ true
-    some None l = absurd (omega arith)
-    some (Some j) l = refl
-
-    go : (o : Option (List ℕ)) → lin ks c ≡ o → is_along d (option_and_then (λ line. Some (layout_along ks line)) o) ≡ true → layout (ks ++ k ∷ []) c ≡ layout ks c
-    go None e l = cc
-    go (Some line) e l =
-        sym (layout-agrees ks (ks ++ k ∷ []) c (e ∙ sym (lin-push ks k c line e)) (λ ls x q m. sym (is_solid-push ks k x (lin-classes ks c ls x q m))))
+    go : (o : Option (List ℕ)) → lin ks c ≡ o → option_and_then (λ line. Some (layout_along ks line)) o ≡ Some xs → layout (ks ++ k ∷ []) c ≡ Some xs
+    go None e q = cc
+    go (Some line) e q =
+        sym (layout-agrees ks (ks ++ k ∷ []) c (e ∙ sym (lin-push ks k c line e)) (λ ls x q m. sym (is_solid-push ks k x (lin-classes ks c ls x q m)))) ∙ h
 
 pub like-push : (ks : List (Class PyStrInterned)) (k : Class PyStrInterned) → Like ks (ks ++ k ∷ [])
-like-push ks k = record { held = held_by-push ks k; there = there-push ks k; places = place-push ks k; offsets = offset-push ks k; flags = λ c h. ap (option_map (λ (k : Class PyStrInterned). k.flags)) (at-before ks k c h) }
+like-push ks k = record { held = held_by-push ks k; there = there-push ks k; layouts = layout-push ks k; counts = λ c h. ap member_count (at-before ks k c h); offsets = offset-push ks k; flags = λ c h. ap (option_map (λ (k : Class PyStrInterned). k.flags)) (at-before ks k c h) }
 
 pub keep-push : (ks : List (Class PyStrInterned)) (ns : List Node) (x : Node) → Keep ks ns (ns ++ x ∷ [])
 keep-push ks ns x = record { stays = λ n y e. (y, get-pushed ns x n y e, refl, λ h. refl) }
@@ -174,10 +167,21 @@ stands-still : (n m : ℕ) → n ≤ m → (o : Option PyObjectRef) → StandsTh
 stands-still n m l None h = h
 stands-still n m l (Some r) h = omega arith
 
-members-still : (old new : Held) → length old.nodes ≤ length new.nodes → Like old.classes new.classes → (c : ℕ) (ms : List (MemberPlace × Option PyObjectRef)) → AllByRecursion (IsMember old c) ms → AllByRecursion (IsMember new c) ms
-members-still old new l k c [] h = h
-members-still old new l k c (m ∷ ms) h =
-    ((k.places c m.0.class.0 m.0.index h.0.0, stands-still (length old.nodes) (length new.nodes) l m.1 h.0.1), members-still old new l k c ms h.1)
+members-still : (n m : ℕ) → n ≤ m → (ms : List (Option PyObjectRef)) → AllByRecursion (StandsThere n) ms → AllByRecursion (StandsThere m) ms
+members-still n m l [] h = h
+members-still n m l (o ∷ ms) h = (stands-still n m l o h.0, members-still n m l ms h.1)
+
+-- a class whose places can be counted keeps its layout, and has as many still
+pub layout-still : (old new : List (Class PyStrInterned)) → Like old new → (c k : ℕ) → place_count old c ≡ Some k → layout new c ≡ layout old c
+layout-still old new l c k e = go (layout old c) refl e
+  where
+    go : (o : Option (List ℕ)) → layout old c ≡ o → option_map (members_in old) o ≡ Some k → layout new c ≡ layout old c
+    go None q e = cc
+    go (Some xs) q e = l.layouts c xs q ∙ sym q
+
+pub count-still : (old new : List (Class PyStrInterned)) → Like old new → (c k : ℕ) → place_count old c ≡ Some k → place_count new c ≡ Some k
+count-still old new l c k e =
+    place_count-alike new old c c (layout-still old new l c k e) (λ x h. l.counts x (along-there old c x h)) ∙ e
 
 static-still : (ks : List (Class PyStrInterned)) (old new : List Node) → Keep ks old new → (n c : ℕ) → class_ref_at old n ≡ Some c → is_heap_at (class_at ks c) ≡ false → class_ref_at new n ≡ Some c
 static-still ks old new g n c h heap = go (slice_get old n) refl h
@@ -206,7 +210,7 @@ grows-at old new x e s n p l (KeysDiffer rs) h = keys-keep old.nodes new.nodes p
 grows-at old new x e s n p l (HasForm m test) h = (h.0, s m h.0 h.1, h.2)
 grows-at old new x e s n p l (HasParams r ps) h = params-still old.nodes new.nodes p r ps h
 grows-at old new x e s n p l (HasValues r vars) h = values-still old.nodes new.nodes p r vars h
-grows-at old new x e s n p l (AreMembers c ms) h = members-still old new n l c ms h
+grows-at old new x e s n p l (AreMembers c ms) h = (count-still old.classes new.classes l c (length ms) h.0, members-still (length old.nodes) (length new.nodes) n ms h.1)
 grows-at old new x e s n p l (IsOffset c o) h = l.offsets c o h
 grows-at old new x e s n p l (HasFlags c m) h = l.flags c (flagged (class_at old.classes c) m h) ∙ h
 grows-at old new x e s n p l (OfStatic r c) h =

@@ -2,6 +2,7 @@ pub mod Claims
 pub mod MemberPlaces
 pub mod Homes
 pub mod Growth
+pub mod SamePlaces
 pub mod Leaves
 pub mod Readable
 pub mod Changes
@@ -26,6 +27,7 @@ pub mod Opening
 pub mod DictEntries
 pub mod DictChanges
 pub mod PayloadChanges
+pub mod ListChanges
 pub mod DictReads
 pub mod KeyEntries
 pub mod Items

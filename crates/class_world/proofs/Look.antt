@@ -25,9 +25,9 @@ use Rattle.class_world.specs.Reading.{Reading, Reads, form_tree, node_of, spelle
 use Rattle.class_world.specs.Sound.{IsClass, Holds, AllHold, Sound, of_node, of_dict, of_class, of_each}
 use Rattle.class_world.proofs.Claims.{got-map, each-get, seen, all-first, all-rest, get-end, get-pushed}
 
-pub node-read : (w now : Held) (r : PyObjectRef) (n : Node) → w ≡ now → slice_get w.nodes r.0 ≡ Some n → (t : Reading) → node_at (plain t now) r ≡ Some (node_of t n)
+pub node-read : (w now : Held) (r : PyObjectRef) (n : Node) → w ≡ now → slice_get w.nodes r.0 ≡ Some n → (t : Reading) → node_at (plain t now) r ≡ Some (node_of t w.classes n)
 unfolding plain
-node-read w now r n v e t = subst (λ w. node_at (plain t w) r ≡ Some (node_of t n)) v (got-map (node_of t) w.nodes r.0 n e)
+node-read w now r n v e t = subst (λ u. node_at (plain t u) r ≡ Some (node_of t w.classes n)) v (got-map (node_of t w.classes) w.nodes r.0 n e)
 
 pub node-holds : (w now : Held) (r : PyObjectRef) (n : Node) → w ≡ now → Sound w → slice_get w.nodes r.0 ≡ Some n → AllHold now (of_node n)
 node-holds w now r n v s e = seen w now (of_node n) v (each-get w of_node w.nodes r.0 n e s.nodes)

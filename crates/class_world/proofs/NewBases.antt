@@ -16,7 +16,7 @@ use Rattle.class_model.proofs.Agreed.{bind-agrees}
 use Rattle.class_model.proofs.Numbers.{at-changed}
 use Rattle.class_model.proofs.Dict.{any_has_dict-agrees}
 use Rattle.class_model.proofs.Sound.{has_dict-renamed}
-use Rattle.class_model.proofs.Kept.{is_class-kept, is_place-agrees, member_count-kept}
+use Rattle.class_model.proofs.Kept.{is_class-kept, member_count-kept}
 use Rattle.class_model.proofs.Renamed.{at-renamed, bases_of-renamed, lin-renamed, is_sub-renamed, solid-renamed, base-renamed, best_of-renamed}
 use Rattle.class_table.specs.declared.fault.ClassFault.{ClassFault}
 use Rattle.class_table.specs.declared.fault.ClassFault.TheVariants.{Refused, RefusedAt, OutOfMemory}
@@ -30,7 +30,7 @@ use Rattle.class_log.specs.Change.{Change}
 use Rattle.class_log.specs.Following.{Keeps}
 use Rattle.class_world.specs.Held.{Held}
 use Rattle.class_world.specs.Reading.{Reading, spelled, plain}
-use Rattle.class_world.specs.Sound.{AllHold, SoundWith, Sound, of_class, of_each}
+use Rattle.class_world.specs.Sound.{AllHold, SoundWith, Sound, of_class, of_each, of_node}
 use Rattle.class_world.proofs.ChangedClass.{changed-read, changed-holds, change-read}
 use Rattle.class_world.proofs.ClassChanges.{AreStanding, SameFlags, classes-sound}
 use Rattle.class_world.proofs.Growth.{Like, like-itself}
@@ -137,7 +137,8 @@ module _ (w : Held) (c : ℕ) (bs : List ℕ) (ok : AreSound w.classes) (here : 
       let same = layout-passed w.classes ok c bs here there e in record {
         held = λ d b h. held_by-layout u w.classes d d (same d) ∙ h;
         there = λ d h. is_class-kept f (λ k. refl) w.classes c d ∙ h;
-        places = λ d x i h. is_place-agrees u w.classes d x i (same d) (member_count-kept f (λ k. refl) w.classes c (λ k. refl) x) ∙ h;
+        layouts = λ d xs h. same d ∙ h;
+        counts = λ d h. member_count-kept f (λ k. refl) w.classes c (λ k. refl) d;
         offsets = λ d o h. offset-agrees u w.classes d o (same d) (member_count-kept f (λ k. refl) w.classes c (λ k. refl)) ∙ h;
         flags = λ d h. at-changed f (λ k. refl) (option_map (λ (k : HeldClass). k.flags)) (λ k. refl) w.classes c d;
       }
@@ -154,5 +155,5 @@ module _ (w : Held) (c : ℕ) (bs : List ℕ) (ok : AreSound w.classes) (here : 
   bases-sound {T = T} ks log keeps said (Err e) p q h s =
       classes-sound w ks log keeps said (bases-like {T = T} ks (Err e) p q h) (subst (SameFlags w.classes) (sym q) (λ d. refl)) (subst (λ ks. AllHold w (of_each of_class ks)) (sym q) s.classes) (subst (AreStanding w) (sym q) s.standing) s
 
-pub bases-set : {T E : Type 0} (w now : Held) (c : ℕ) (bs : List ℕ) (ks : List HeldClass) (log : List Change) (o : Result T E) → OnOk o (ks ≡ with_bases w.classes c bs) → w ≡ now → OnOk o ((t : Reading) → plain t (record w { classes = ks; log = log }) ≡ apply (plain t now) (SetBases c bs))
-bases-set w now c bs ks log o p v = change-read (λ k. record k { bases = bs }) (λ t k. record k { bases = bs }) (λ t k. refl) w now c ks log o p v
+pub bases-set : {T E : Type 0} (w now : Held) (c : ℕ) (bs : List ℕ) (ks : List HeldClass) (log : List Change) (o : Result T E) → OnOk o (ks ≡ with_bases w.classes c bs) → Like w.classes ks → AllHold w (of_each of_node w.nodes) → w ≡ now → OnOk o ((t : Reading) → plain t (record w { classes = ks; log = log }) ≡ apply (plain t now) (SetBases c bs))
+bases-set w now c bs ks log o p l h v = change-read (λ k. record k { bases = bs }) (λ t k. record k { bases = bs }) (λ t k. refl) w now c ks log o p l h v

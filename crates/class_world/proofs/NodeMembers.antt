@@ -1,5 +1,5 @@
 -- Members of objects in a world: what is read of them, and how one is set.
-use Rattle.std.proofs.Common.{◌≡◌, ℕ, zero, suc, ◌<◌, true, cond, eqb, ◌&&◌, List, [], ◌∷◌, Option, Some, None, Result, Ok, Err, OnOk, OnErr, IfSome, refl, sym, ap, ◌∙◌, subst, length, get_or}
+use Rattle.std.proofs.Common.{◌≡◌, ℕ, zero, suc, ◌<◌, true, false, cond, eqb, ◌&&◌, List, [], ◌∷◌, Option, Some, None, IfSome, refl, sym, ap, ◌∙◌, subst, length, get_or}
 use Rattle.std.specs.Prelude.{slice_get, slice_set, option_map, option_and_then}
 use Rattle.std.proofs.lemmas.Bool.{eq-eqb}
 use Rattle.py_node.specs.declared.members.MemberPlace.{MemberPlace}
@@ -7,10 +7,12 @@ use Rattle.py_node.specs.declared.payload.Node.{Node as StoredNode}
 use Rattle.py_node.specs.declared.refs.PyObjectRef.{PyObjectRef}
 use Rattle.py_node.specs.declared.task.PySetterValue.{PySetterValue}
 use Rattle.py_node.specs.declared.task.PySetterValue.TheVariants.{Assign, Delete}
-use Rattle.py_node.specs.Attributes.{with_value}
-use Rattle.py_node.specs.Places.{is_same_place, member_at}
+use Rattle.py_node.specs.Places.{value_at}
 use Rattle.class_model.specs.Class.{is_sub}
-use Rattle.class_model.specs.Layout.{is_place, place_at}
+use Rattle.class_model.specs.Layout.{place_at}
+use Rattle.class_model.specs.Offset.{offset_of}
+use Rattle.class_model.specs.Sound.{AreSound}
+use Rattle.class_model.proofs.PlaceOffsets.{place-offset, offset-below, offset-inherited, offset-anywhere, offset-nowhere}
 use Rattle.plain_machine.specs.Plain.{Node, PlainWorld}
 use Rattle.plain_machine.specs.World.{node_at, with_node_changed}
 use Rattle.plain_machine.specs.Change.{with_place}
@@ -18,12 +20,12 @@ use Rattle.plain_machine.specs.Members.{value_at_place, with_value_at_place}
 use Rattle.plain_machine.specs.Objects.{derives, is_instance}
 use Rattle.class_world.specs.Claims.{of_setter}
 use Rattle.class_world.specs.Held.{Held}
-use Rattle.class_world.specs.Reading.{Reading, spelled, node_of, plain, setter_value}
+use Rattle.class_world.specs.Reading.{Reading, places_of, spelled, node_of, plain, setter_value}
 use Rattle.class_world.specs.Sound.{IsNode, StandsThere, with_members, Holds, AllHold, Grows, Sound, of_node}
 use Rattle.class_world.proofs.Claims.{each-get}
 use Rattle.class_world.proofs.Growth.{lasting}
 use Rattle.class_world.proofs.Look.{node-read, node-holds}
-use Rattle.class_world.proofs.MemberPlaces.{member-is, members-set, places-set}
+use Rattle.class_world.proofs.MemberPlaces.{value-there, places-set, members-length, members-set}
 use Rattle.class_world.proofs.NodeChanges.{change-grows, change-sound, change-read}
 use Rattle.class_world.proofs.OfClasses.{sub-seen}
 use Rattle.class_world.proofs.Placed.{place_at-renamed}
@@ -49,71 +51,79 @@ place-stands u r p v x e =
     ∙ ap (λ b. cond b v (x.members p.0 p.1)) (eq-eqb p.1 p.1 refl)
 
 module _ (w now : Held) (v : w ≡ now) (r : PyObjectRef) (n : StoredNode) (at : slice_get w.nodes r.0 ≡ Some n) where
-  pub member-read : (p : MemberPlace) (t : Reading) → value_at_place (plain t now) r (Some (p.class.0, p.index)) ≡ member_at n.members p
-  member-read p t = ap (option_and_then (λ (x : Node). x.members p.class.0 p.index)) (node-read w now r n v at t)
+  seen : (d i : ℕ) (t : Reading) → value_at_place (plain t now) r (Some (d, i)) ≡ places_of w.classes n.class.0 n.members d i
+  seen d i t = ap (option_and_then (λ (x : Node). x.members d i)) (node-read w now r n v at t)
 
-  pub member-there : Sound w → (p : MemberPlace) → IfSome (member_at n.members p) (λ m. Holds now (IsNode m))
+  -- a place that the object's class gives, at the offset that it has in the objects of some class
+  pub member-read : AreSound w.classes → (c k : ℕ) (p : MemberPlace) → place_at w.classes c k ≡ Some (p.class.0, p.index) → is_sub w.classes n.class.0 p.class.0 ≡ true → (t : Reading) → value_at_place (plain t now) r (Some (p.class.0, p.index)) ≡ value_at n.members k
+  unfolding places_of
+  member-read ok c k p e s t =
+      seen p.class.0 p.index t
+      ∙ ap (option_and_then (value_at n.members)) (offset-anywhere w.classes ok c n.class.0 p.class.0 p.index k (place-offset w.classes c k p.class.0 p.index e) s)
+
+  -- one that it does not give
+  pub member-none : (p : MemberPlace) → is_sub w.classes n.class.0 p.class.0 ≡ false → (t : Reading) → value_at_place (plain t now) r (Some (p.class.0, p.index)) ≡ None
+  unfolding places_of
+  member-none p s t = seen p.class.0 p.index t ∙ ap (option_and_then (value_at n.members)) (offset-nowhere w.classes n.class.0 p.class.0 p.index s)
+
+  pub member-there : Sound w → (k : ℕ) → IfSome (value_at n.members k) (λ m. Holds now (IsNode m))
   unfolding Holds
-  member-there s p = go (member_at n.members p) refl
+  member-there s k = go (value_at n.members k) refl
     where
-      go : (o : Option PyObjectRef) → member_at n.members p ≡ o → IfSome o (λ m. Holds now (IsNode m))
+      go : (o : Option PyObjectRef) → value_at n.members k ≡ o → IfSome o (λ m. Holds now (IsNode m))
       go None e = tt
-      go (Some m) e = (member-is now n.class.0 p m n.members (node-holds w now r n v s at).1.1.0 e).1
+      go (Some m) e = value-there (length now.nodes) n.members k m (node-holds w now r n v s at).1.1.0.1 e
 
   pub instance-sub : (t : Reading) (c : ℕ) → is_instance (plain t now) r c ≡ true → is_sub w.classes n.class.0 c ≡ true
   instance-sub t c h =
       sym (sub-seen w now v t n.class.0 c) ∙ sym (ap (λ o. derives (plain t now) (option_map (λ (x : Node). x.class) o) c) (node-read w now r n v at t)) ∙ h
 
-  -- a value in a place of the object, which is one of its class, or memory ran out
-  module _ {A E : Type 0} (p : MemberPlace) (value : PySetterValue) (new : StoredNode) (o : Result A E) (set : OnOk o (new ≡ with_members n (with_value is_same_place n.members p (setter_value value)))) (err : OnErr o (new ≡ n)) where
-    kept-of : (o : Result A E) → OnOk o (new ≡ with_members n (with_value is_same_place n.members p (setter_value value))) → OnErr o (new ≡ n) → lasting new.payload ≡ lasting n.payload
-    kept-of (Ok a) q f = ap (λ (x : StoredNode). lasting x.payload) q
-    kept-of (Err e) q f = ap (λ (x : StoredNode). lasting x.payload) f
+  -- an offset of a class from which the object's class derives
+  module _ (s : Sound w) (ok : AreSound w.classes) (c k : ℕ) (p : ℕ × ℕ) (e : place_at w.classes c k ≡ Some p) (sub : is_sub w.classes n.class.0 c ≡ true) where
+    offset-is : offset_of w.classes n.class.0 p.0 p.1 ≡ Some k
+    offset-is = offset-inherited w.classes ok n.class.0 c p.0 p.1 k sub (place-offset w.classes c k p.0 p.1 e)
 
-    pub kept : lasting new.payload ≡ lasting n.payload
-    kept = kept-of o set err
-
-    of-of : (o : Result A E) → OnOk o (new ≡ with_members n (with_value is_same_place n.members p (setter_value value))) → OnErr o (new ≡ n) → new.class ≡ n.class
-    of-of (Ok a) q f = ap (λ (x : StoredNode). x.class) q
-    of-of (Err e) q f = ap (λ (x : StoredNode). x.class) f
-
-    of : new.class ≡ n.class
-    of = of-of o set err
-
-    stands : (value : PySetterValue) → AllHold w (of_setter value) → StandsThere (length w.nodes) (setter_value value)
+    pub offset-fits : k < length n.members
     unfolding Holds
-    stands (Assign m) h = h.0
-    stands Delete h = tt
+    offset-fits = offset-below w.classes n.class.0 p.0 p.1 k (length n.members) offset-is (each-get w of_node w.nodes r.0 n at s.nodes).1.1.0.0
 
-    holds-of : (o : Result A E) → OnOk o (new ≡ with_members n (with_value is_same_place n.members p (setter_value value))) → OnErr o (new ≡ n) → AllHold w (of_node n) → is_place w.classes n.class.0 p.class.0 p.index ≡ true → AllHold w (of_setter value) → AllHold w (of_node new)
-    unfolding Holds
-    holds-of (Ok a) q f all i h =
-        subst (λ m. AllHold w (of_node m)) (sym q) (all.0, (all.1.0, (members-set w n.class.0 n.members p (setter_value value) i (stands value h) all.1.1.0, all.1.1.1)))
-    holds-of (Err e) q f all i h = subst (λ m. AllHold w (of_node m)) (sym f) all
+    -- a value at the offset
+    module _ (value : PySetterValue) (new : StoredNode) (set : new ≡ with_members n (slice_set n.members k (setter_value value))) (is : n ≡ get_or w.nodes r.0 n) where
+      abbrev after : Held
+      after = record w { nodes = slice_set w.nodes r.0 new }
 
-    pub member-sound : n ≡ get_or w.nodes r.0 n → is_place w.classes n.class.0 p.class.0 p.index ≡ true → AllHold w (of_setter value) → Sound w → Sound (record w { nodes = slice_set w.nodes r.0 new })
-    member-sound is i h s =
-        change-sound w r n new is kept (λ h. of) (holds-of o set err (each-get w of_node w.nodes r.0 n at s.nodes) i h) s
+      kept : lasting new.payload ≡ lasting n.payload
+      kept = ap (λ (x : StoredNode). lasting x.payload) set
 
-    pub member-grows : n ≡ get_or w.nodes r.0 n → Grows w (record w { nodes = slice_set w.nodes r.0 new })
-    member-grows is = change-grows w r n new is kept (λ h. of)
+      of : new.class ≡ n.class
+      of = ap (λ (x : StoredNode). x.class) set
 
-    pub member-set : r.0 < length w.nodes → n ≡ get_or w.nodes r.0 n → (c : ℕ) (i : ℕ) → place_at w.classes c i ≡ Some (p.class.0, p.index) → OnOk o ((t : Reading) → plain t (record w { nodes = slice_set w.nodes r.0 new }) ≡ with_value_at_place (plain t now) r (place_at (plain t now).classes c i) (setter_value value))
-    member-set l is c i e = go o set
-      where
-        go : (o : Result A E) → OnOk o (new ≡ with_members n (with_value is_same_place n.members p (setter_value value))) → OnOk o ((t : Reading) → plain t (record w { nodes = slice_set w.nodes r.0 new }) ≡ with_value_at_place (plain t now) r (place_at (plain t now).classes c i) (setter_value value))
-        go (Ok a) q = λ t.
-            change-read w now v r n new (λ x. record x { members = with_place x.members p.class.0 p.index (setter_value value) }) t l is
-            (ap (node_of t) q ∙ ap (λ ms. record (node_of t n) { members = ms }) (places-set n.members p (setter_value value)))
-            ∙ ap (λ o. with_value_at_place (plain t now) r o (setter_value value)) (sym (place-seen w now v t c i ∙ e))
-        go (Err x) q = tt
+      stands : (value : PySetterValue) → AllHold w (of_setter value) → StandsThere (length w.nodes) (setter_value value)
+      unfolding Holds
+      stands (Assign m) h = h.0
+      stands Delete h = tt
 
-    pub member-stands : r.0 < length w.nodes → n ≡ get_or w.nodes r.0 n → (c : ℕ) (i : ℕ) → place_at w.classes c i ≡ Some (p.class.0, p.index) → OnOk o ((t : Reading) → value_at_place (plain t (record w { nodes = slice_set w.nodes r.0 new })) r (place_at (plain t now).classes c i) ≡ setter_value value)
-    member-stands l is c i e = go o (member-set l is c i e)
-      where
-        go : (o : Result A E) → OnOk o ((t : Reading) → plain t (record w { nodes = slice_set w.nodes r.0 new }) ≡ with_value_at_place (plain t now) r (place_at (plain t now).classes c i) (setter_value value)) → OnOk o ((t : Reading) → value_at_place (plain t (record w { nodes = slice_set w.nodes r.0 new })) r (place_at (plain t now).classes c i) ≡ setter_value value)
-        go (Ok a) q = λ t.
-            ap (λ u. value_at_place u r (place_at (plain t now).classes c i)) (q t)
-            ∙ ap (λ o. value_at_place (with_value_at_place (plain t now) r o (setter_value value)) r o) (place-seen w now v t c i ∙ e)
-            ∙ place-stands (plain t now) r (p.class.0, p.index) (setter_value value) (node_of t n) (node-read w now r n v at t)
-        go (Err x) q = tt
+      holds : AllHold w (of_setter value) → AllHold w (of_node new)
+      unfolding Holds
+      holds h =
+          let all = each-get w of_node w.nodes r.0 n at s.nodes in
+          let count = all.1.1.0.0 ∙ ap Some (sym (members-length n.members k (setter_value value))) in
+          subst (λ m. AllHold w (of_node m)) (sym set) (all.0, (all.1.0, ((count, members-set (length w.nodes) n.members k (setter_value value) (stands value h) all.1.1.0.1), all.1.1.1)))
+
+      pub member-sound : AllHold w (of_setter value) → Sound after
+      member-sound h = change-sound w r n new is kept (λ h. of) (holds h) s
+
+      pub member-grows : Grows w after
+      member-grows = change-grows w r n new is kept (λ h. of)
+
+      pub member-set : r.0 < length w.nodes → (t : Reading) → plain t after ≡ with_value_at_place (plain t now) r (place_at (plain t now).classes c k) (setter_value value)
+      member-set l t =
+          change-read w now v r n new (λ x. record x { members = with_place x.members p.0 p.1 (setter_value value) }) t l is
+          (ap (node_of t w.classes) set ∙ ap (λ ms. record (node_of t w.classes n) { members = ms }) (places-set w.classes n.class.0 n.members p.0 p.1 k (setter_value value) offset-is offset-fits))
+          ∙ ap (λ o. with_value_at_place (plain t now) r o (setter_value value)) (sym (place-seen w now v t c k ∙ e))
+
+      pub member-stands : r.0 < length w.nodes → (t : Reading) → value_at_place (plain t after) r (place_at (plain t now).classes c k) ≡ setter_value value
+      member-stands l t =
+          ap (λ u. value_at_place u r (place_at (plain t now).classes c k)) (member-set l t)
+          ∙ ap (λ o. value_at_place (with_value_at_place (plain t now) r o (setter_value value)) r o) (place-seen w now v t c k ∙ e)
+          ∙ place-stands (plain t now) r p (setter_value value) (node_of t w.classes n) (node-read w now r n v at t)

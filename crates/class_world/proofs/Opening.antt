@@ -17,6 +17,7 @@ use Rattle.py_node.specs.Known.{known_text, known_texts, number_of}
 use Rattle.py_node.specs.OwnAttrs.{own_attrs}
 use Rattle.class_model.specs.Class.{Class, Classes, class_at}
 use Rattle.class_model.specs.Change.{with_class_attr}
+use Rattle.class_model.specs.Layout.{place_count}
 use Rattle.class_model.specs.Dict.{says_dict, has_dict}
 use Rattle.class_model.specs.Start.{built_in_classes}
 use Rattle.class_model.proofs.Names.{place-first}
@@ -33,9 +34,10 @@ use Rattle.class_world.specs.Reading.{Reading, Reads, datum, spelled, node_of, p
 use Rattle.class_world.specs.Sound.{IsName, IsNode, IsClass, IsOf, Holds, AllHold, SoundWith, Sound, flags_at, home_of, class_in, of_payload}
 use Rattle.class_world.specs.StartNodes.{start_nodes, own_payload, own_node, with_own_node, with_own_nodes, opening_nodes}
 use Rattle.class_world.proofs.Added.{object-sound, object-read}
-use Rattle.class_world.proofs.ClassChanges.{set-sound, set-read}
+use Rattle.class_world.proofs.ClassChanges.{set-like, set-sound, set-read}
+use Rattle.class_world.proofs.Growth.{count-still}
 use Rattle.class_world.proofs.Look.{known-read, known-within}
-use Rattle.class_world.proofs.StartSound.{started-sound, started-plain}
+use Rattle.class_world.proofs.StartSound.{started-bare, started-sound, started-plain}
 
 -- a world that knows the first names, with these classes and nodes
 abbrev pub opened : Classes PyStrInterned → List Node → Held
@@ -121,8 +123,10 @@ pub record Opens (s : Numbered) (ns : List Node) (p : PlainWorld) : Type 0 where
   pub count : length ns ≡ s.1
   pub sound : SoundWith (Unit {0}) (opened s.0 ns)
   pub plain_is : (t : Reading) → Reads t (opened s.0 ns) → plain t (opened s.0 ns) ≡ p
+  -- no built-in class gives its objects places
+  pub placeless : (b : BuiltIn) → place_count s.0 (place_of b) ≡ Some 0
 
-module _ (b : BuiltIn) (x : Known) (a : Attr) (ks : Classes PyStrInterned) (ns : List Node) (s : SoundWith (Unit {0}) (opened ks ns)) where
+module _ (b : BuiltIn) (x : Known) (a : Attr) (ks : Classes PyStrInterned) (ns : List Node) (s : SoundWith (Unit {0}) (opened ks ns)) (placeless : (c : BuiltIn) → place_count ks (place_of c) ≡ Some 0) where
   abbrev w : Held
   w = opened ks ns
 
@@ -153,7 +157,7 @@ module _ (b : BuiltIn) (x : Known) (a : Attr) (ks : Classes PyStrInterned) (ns :
 
   pub object-added : SoundWith (Unit {0}) (opened ks more)
   object-added =
-      object-sound w class (own_payload b name a) None dictless tt tt (class-there (attr_class a))
+      object-sound w class [] (own_payload b name a) None (placeless (attr_class a), λ n. refl) dictless tt tt (class-there (attr_class a))
       (subst (λ h. Holds w (IsOf (place_of (attr_class a)) h)) (own-home b name a) (s.own (attr_class a))) (own-other b name a) (own-holds w b name a named (class-there b) node-there) s
 
   plain-dictless : (t : Reading) → plain_has_dict (plain t w) (place_of (attr_class a)) ≡ false
@@ -165,13 +169,13 @@ module _ (b : BuiltIn) (x : Known) (a : Attr) (ks : Classes PyStrInterned) (ns :
 
   pub object-seen : (t : Reading) → Reads t w → plain t (opened ks more) ≡ with_node (plain t w) (place_of (attr_class a)) (attr_datum b (known_text x) a)
   object-seen t r =
-      object-read w class (own_payload b name a) t None tt (plain-dictless t)
+      object-read w class [] (own_payload b name a) t None (placeless (attr_class a), λ n. refl) tt (plain-dictless t)
       ∙ ap (with_node (plain t w) (place_of (attr_class a))) (own-datum t b name a ∙ ap (λ y. attr_datum b y a) (text-is t r))
 
   pub next-is : (t : Reading) → next_node (plain t w) (place_of (attr_class a)) ≡ ref (length ns)
   unfolding plain
   next-is t =
-      ap (λ d. ref (cond d (length (plain t w).nodes + 1) (length (plain t w).nodes))) (plain-dictless t) ∙ ap ref (length-map ns (node_of t))
+      ap (λ d. ref (cond d (length (plain t w).nodes + 1) (length (plain t w).nodes))) (plain-dictless t) ∙ ap ref (length-map ns (node_of t ks))
 
   -- the attribute is set
   module _ (ms : List Node) (r : PyObjectRef) (m : SoundWith (Unit {0}) (opened ks ms)) (there : Holds (opened ks ms) (IsNode r)) where
@@ -182,9 +186,12 @@ module _ (b : BuiltIn) (x : Known) (a : Attr) (ks : Classes PyStrInterned) (ns :
     attr-added =
         set-sound {A = Unit {0}} {E = Unit {0}} (opened ks ms) (place_of b) name r set [] (keeps-itself []) tt (Ok tt) refl tt m (name-stays (opened ks ns) (opened ks ms) name refl named) there
 
+    pub attr-placeless : (c : BuiltIn) → place_count set (place_of c) ≡ Some 0
+    attr-placeless c = count-still ks set (set-like {A = Unit {0}} {E = Unit {0}} (opened ks ms) (place_of b) name r set (Ok tt) refl tt) (place_of c) 0 (placeless c)
+
     pub attr-seen : (t : Reading) → Reads t w → plain t (opened set ms) ≡ with_own_attr (plain t (opened ks ms)) (place_of b) (known_text x) r
     attr-seen t q =
-        set-read {A = Unit {0}} {E = Unit {0}} (opened ks ms) (place_of b) name r set [] (opened ks ms) (Ok tt) refl refl t
+        set-read {A = Unit {0}} {E = Unit {0}} (opened ks ms) (place_of b) name r set [] (opened ks ms) (Ok tt) refl refl m.nodes t
         ∙ ap (λ y. with_own_attr (plain t (opened ks ms)) (place_of b) y r) (text-is t q)
 
 -- one own attribute: an object is made for it
@@ -194,20 +201,21 @@ made-step b x a s ns p m v n h =
     let more = ns ++ own_node b (record { 0 = number_of x }) a ∷ [] in
     let nodes : with_own_node b ns (x, a) ≡ more = ap (λ y. cond y more ns) m in
     let value : value_number s.1 a ≡ length ns = v ∙ sym h.count in
-    let added = object-added b x a s.0 ns h.sound in
+    let added = object-added b x a s.0 ns h.sound h.placeless in
     let r = ref (length ns) in
     let there = last-there (opened s.0 ns) (own_node b (record { 0 = number_of x }) a) in
     let at : with_own b s (x, a) ≡ (with_class_attr is_same_name s.0 (place_of b) (record { 0 = number_of x }) r, suc s.1) =
     λ i. (with_class_attr is_same_name s.0 (place_of b) (record { 0 = number_of x }) (record { 0 = value i }), n i) in
     subst (λ u. Opens u (with_own_node b ns (x, a)) (with_attr b p (x, a))) (sym at) (subst (λ ms. Opens (with_class_attr is_same_name s.0 (place_of b) (record { 0 = number_of x }) r, suc s.1) ms (with_attr b p (x, a))) (sym nodes) (record {
       count = let l = length-append ns (own_node b (record { 0 = number_of x }) a ∷ []) in let k = h.count in omega (arith, l, k);
-      sound = attr-added b x a s.0 ns h.sound more r added there;
+      sound = attr-added b x a s.0 ns h.sound h.placeless more r added there;
+      placeless = attr-placeless b x a s.0 ns h.sound h.placeless more r added there;
       plain_is = λ t q.
           let before : Reads t (opened s.0 ns) = record { names = q.names; trees = q.trees } in
           let same = h.plain_is t before in
-          attr-seen b x a s.0 ns h.sound more r added there t before
-          ∙ ap (λ w. with_own_attr w (place_of b) (known_text x) r) (object-seen b x a s.0 ns h.sound t before)
-          ∙ ap (λ y. with_own_attr (with_node (plain t (opened s.0 ns)) (place_of (attr_class a)) (attr_datum b (known_text x) a)) (place_of b) (known_text x) y) (sym (next-is b x a s.0 ns h.sound t))
+          attr-seen b x a s.0 ns h.sound h.placeless more r added there t before
+          ∙ ap (λ w. with_own_attr w (place_of b) (known_text x) r) (object-seen b x a s.0 ns h.sound h.placeless t before)
+          ∙ ap (λ y. with_own_attr (with_node (plain t (opened s.0 ns)) (place_of (attr_class a)) (attr_datum b (known_text x) a)) (place_of b) (known_text x) y) (sym (next-is b x a s.0 ns h.sound h.placeless t))
           ∙ ap (λ w. with_own_attr (with_node w (place_of (attr_class a)) (attr_datum b (known_text x) a)) (place_of b) (known_text x) (next_node w (place_of (attr_class a)))) same
           ∙ ap (λ y. with_own_attr (cond y (with_node p (place_of (attr_class a)) (attr_datum b (known_text x) a)) p) (place_of b) (known_text x) (cond y (next_node p (place_of (attr_class a))) (ref fixed_none))) (sym m);
     }))
@@ -219,10 +227,11 @@ none-step b x s ns p h =
     let r = ref fixed_none in
     let there = none-there (opened s.0 ns) h.sound.fixed in record {
       count = h.count;
-      sound = attr-added b x attr.NoHash s.0 ns h.sound ns r h.sound there;
+      sound = attr-added b x attr.NoHash s.0 ns h.sound h.placeless ns r h.sound there;
+      placeless = attr-placeless b x attr.NoHash s.0 ns h.sound h.placeless ns r h.sound there;
       plain_is = λ t q.
           let before : Reads t (opened s.0 ns) = record { names = q.names; trees = q.trees } in
-          attr-seen b x attr.NoHash s.0 ns h.sound ns r h.sound there t before ∙ ap (λ w. with_own_attr w (place_of b) (known_text x) r) (h.plain_is t before);
+          attr-seen b x attr.NoHash s.0 ns h.sound h.placeless ns r h.sound there t before ∙ ap (λ w. with_own_attr w (place_of b) (known_text x) r) (h.plain_is t before);
     }
 
 own-step : (b : BuiltIn) (x : Known) (a : Attr) (s : Numbered) (ns : List Node) (p : PlainWorld) → Opens s ns p → Opens (with_own b s (x, a)) (with_own_node b ns (x, a)) (with_attr b p (x, a))
@@ -251,7 +260,7 @@ unfolding all_built_ins
 started-count = refl
 
 first-opens : Opens (built_in_classes, fixed_node_count) start_nodes bare
-first-opens = record { count = started-count; sound = started-sound; plain_is = λ t r. started-plain t }
+first-opens = record { count = started-count; sound = started-sound; plain_is = λ t r. started-plain t; placeless = started-bare }
 
 all-open : Opens (with_each_own (built_in_classes, fixed_node_count)) (fold with_own_nodes start_nodes all_built_ins) (fold with_attrs bare all_built_ins)
 all-open = all-steps all_built_ins (built_in_classes, fixed_node_count) start_nodes bare first-opens

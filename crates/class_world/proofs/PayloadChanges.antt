@@ -6,6 +6,8 @@ use Rattle.py_node.specs.declared.built_in.BuiltIn.{BuiltIn}
 use Rattle.py_node.specs.declared.payload.Node.{Node as StoredNode}
 use Rattle.py_node.specs.declared.payload.Payload.{Payload}
 use Rattle.py_node.specs.declared.payload.Payload.TheVariants as payload
+use Rattle.py_node.specs.declared.refs.PyStrInterned.{PyStrInterned}
+use Rattle.class_model.specs.Class.{Classes}
 use Rattle.plain_machine.specs.Plain.{Node}
 use Rattle.plain_machine.specs.Objects.{with_datum_in, with_datum}
 use Rattle.class_log.proofs.Logged.{keeps-itself}
@@ -81,13 +83,13 @@ module _ (w now : Held) (r : PyObjectRef) (n : StoredNode) (p : Payload) where
       let same : class_in p ≡ class_in n.payload = ap (λ (l : Lasting). l.class) q in
       record { forms = go _ s.forms; below = s.below; nodes = go _ (each-set w of_node w.nodes r.0 (with_payload n p) s.nodes there); classes = go _ s.classes; vars = go _ s.vars; scopes = go _ s.scopes; fixed = fixed-grow w changed s.fixed (grows-lasts w changed more); built_in = built_in-grow w changed s.built_in (grows-lasts w changed more); own = λ b. more.still _ (s.own b); flags = λ b. more.still _ (s.flags b); of_none = more.still _ s.of_none; unmarked = s.unmarked; standing = λ c e. more.still _ (s.standing c e); itself = λ m c q. s.itself m c (class-set w.nodes r.0 n (with_payload n p) e same m c q); apart = s.apart; scopes_apart = s.scopes_apart; known = s.known; logged = s.logged }
 
-  nodes-read : (t : Reading) (ns : List StoredNode) (i : ℕ) → i < length ns → n ≡ get_or ns i n → map (node_of t) (slice_set ns i (with_payload n p)) ≡ with_datum_in (λ m. datum t p) (map (node_of t) ns) i
-  nodes-read t [] i l e = absurd (omega arith)
-  nodes-read t (m ∷ ns) zero l e = ap (λ (n : StoredNode). record (node_of t n) { datum = datum t p } ∷ map (node_of t) ns) e
-  nodes-read t (m ∷ ns) (suc i) l e = ap (λ ms. node_of t m ∷ ms) (nodes-read t ns i (omega arith) e)
+  nodes-read : (t : Reading) (ks : Classes PyStrInterned) (ns : List StoredNode) (i : ℕ) → i < length ns → n ≡ get_or ns i n → map (node_of t ks) (slice_set ns i (with_payload n p)) ≡ with_datum_in (λ m. datum t p) (map (node_of t ks) ns) i
+  nodes-read t ks [] i l e = absurd (omega arith)
+  nodes-read t ks (m ∷ ns) zero l e = ap (λ (n : StoredNode). record (node_of t ks n) { datum = datum t p } ∷ map (node_of t ks) ns) e
+  nodes-read t ks (m ∷ ns) (suc i) l e = ap (λ ms. node_of t ks m ∷ ms) (nodes-read t ks ns i (omega arith) e)
 
   pub payload-read : w ≡ now → r.0 < length w.nodes → n ≡ get_or w.nodes r.0 n → (t : Reading) → plain t changed ≡ with_datum (plain t now) r (datum t p)
   unfolding plain
   payload-read v l e t =
       subst (λ u. plain t changed ≡ with_datum (plain t u) r (datum t p)) v
-      (ap (λ (ns : List Node). record (plain t w) { nodes = ns }) (nodes-read t w.nodes r.0 l e))
+      (ap (λ (ns : List Node). record (plain t w) { nodes = ns }) (nodes-read t w.classes w.nodes r.0 l e))

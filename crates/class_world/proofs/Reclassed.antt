@@ -1,23 +1,24 @@
 -- An object that gets another class, or another dict.
-use Rattle.std.proofs.Common.{◌≡◌, ℕ, Bool, true, false, List, [], ◌∷◌, Option, Some, None, refl, sym, ap, ◌∙◌, subst}
-use Rattle.std.specs.Prelude.{◌&&◌, nat_lt, is_some, is_none, slice_get, option_map, option_and_then}
-use Rattle.std.specs.List.{AllByRecursion}
+use Rattle.std.proofs.Common.{◌≡◌, ℕ, Bool, true, false, Some, None, refl, sym, ap, ◌∙◌, subst}
+use Rattle.std.specs.Prelude.{◌&&◌, is_some, is_none, slice_get, option_map, option_and_then}
 use Rattle.std.specs.Option.{option_or}
 use Rattle.std.proofs.lemmas.Bool.{eqb-true}
 use Rattle.py_node.specs.declared.built_in.BuiltIn.TheVariants.{Dict}
-use Rattle.py_node.specs.declared.members.MemberPlace.{MemberPlace}
 use Rattle.py_node.specs.declared.payload.Node.{Node as StoredNode}
 use Rattle.py_node.specs.declared.raised.Cause.TheVariants.{ImmutableType, LayoutDiffers}
 use Rattle.py_node.specs.declared.refs.PyObjectRef.{PyObjectRef}
+use Rattle.py_node.specs.declared.refs.PyStrInterned.{PyStrInterned}
 use Rattle.py_node.specs.declared.refs.PyTypeRef.{PyTypeRef}
-use Rattle.class_model.specs.Class.{Classes, class_at, is_class, is_along, renamed}
-use Rattle.class_model.specs.Layout.{layout, member_count, solid}
+use Rattle.py_node.specs.Places.{value_at}
+use Rattle.class_model.specs.Class.{Classes, class_at, is_class, renamed}
+use Rattle.class_model.specs.Layout.{layout, solid}
 use Rattle.class_model.specs.Slot.{is_heap_at}
 use Rattle.class_model.specs.Dict.{alike, gives_dict, has_dict}
 use Rattle.class_model.specs.Sound.{AreSound}
 use Rattle.class_model.proofs.Numbers.{some-of}
 use Rattle.class_model.proofs.Renamed.{at-renamed, solid-renamed}
 use Rattle.class_model.proofs.Dict.{alike-same, has-gives}
+use Rattle.class_model.proofs.PlaceOffsets.{offset-alike, place_count-alike}
 use Rattle.class_model.proofs.Sound.{has_dict-renamed, sound-renamed}
 use Rattle.class_table.specs.Rebase.{is_same, refused_class, unless}
 use Rattle.class_table.proofs.KeptLayouts.{layout-solid}
@@ -25,8 +26,8 @@ use Rattle.plain_machine.specs.Plain.{Node}
 use Rattle.plain_machine.specs.Sound.{held_by}
 use Rattle.plain_machine.specs.World.{class_at as node_class}
 use Rattle.class_world.specs.Held.{Held}
-use Rattle.class_world.specs.Reading.{Reading, spelled, plain}
-use Rattle.class_world.specs.Sound.{IsNode, IsClass, Holding, IsMember, class_in, Holds, AllHold, of_node, of_option, of_dict_ref, with_class_ref, with_dict_ref}
+use Rattle.class_world.specs.Reading.{Reading, places_of, datum, node_of, spelled, plain}
+use Rattle.class_world.specs.Sound.{IsNode, IsClass, Holding, class_in, Holds, AllHold, of_node, of_option, of_dict_ref, with_class_ref, with_dict_ref}
 use Rattle.class_world.proofs.Claims.{all-rest}
 use Rattle.class_world.proofs.Look.{node-read}
 use Rattle.class_world.proofs.OfClasses.{heap-seen}
@@ -97,15 +98,16 @@ was-heap t c d passed = go (is_heap_at (class_at t c)) (is_heap_at (class_at t d
     go false y e = cc
 
 -- the places of one class are those of the other one
-members-moved : (w : Held) (c d : ℕ) → layout w.classes c ≡ layout w.classes d → (ms : List (MemberPlace × Option PyObjectRef)) → AllByRecursion (IsMember w c) ms → AllByRecursion (IsMember w d) ms
-members-moved w c d e [] h = h
-members-moved w c d e (m ∷ ms) h =
-    ((ap (λ o. is_along m.0.class.0 o && nat_lt m.0.index (member_count (class_at w.classes m.0.class.0))) (sym e) ∙ h.0.0, h.0.1), members-moved w c d e ms h.1)
+pub class-moved : (t : Reading) (ks : Classes PyStrInterned) (n : StoredNode) (class : PyTypeRef) → layout ks n.class.0 ≡ layout ks class.0 → node_of t ks (with_class_ref n class) ≡ record (node_of t ks n) { class = class.0 }
+unfolding places_of
+class-moved t ks n class e =
+    let members : places_of ks class.0 n.members ≡ places_of ks n.class.0 n.members = λ i d j. option_and_then (value_at n.members) (offset-alike ks ks class.0 n.class.0 (sym e) (λ x h. refl) d j i) in
+    λ i. record { class = class.0; dict = n.dict; members = members i; datum = datum t n.payload }
 
 pub class-set-holds : (w : Held) (n : StoredNode) (class : PyTypeRef) → AreSound w.classes → AllHold w (of_node n) → Holds w (IsClass class.0) → refused_class w.classes n.class.0 class.0 ≡ None → AllHold w (of_node (with_class_ref n class))
 unfolding Holds
 class-set-holds w n class ok h there passed =
-    (there, (sym (same-held w.classes ok n.class.0 class.0 h.0 there passed) ∙ h.1.0, (members-moved w n.class.0 class.0 (same-layout w.classes ok n.class.0 class.0 h.0 there passed) n.members h.1.1.0, ((there, h.1.1.1.0.1 ∙ ap (λ b. is_none (class_in n.payload) && b) (same-dict w.classes ok n.class.0 class.0 h.0 there passed)), h.1.1.1.1))))
+    (there, (sym (same-held w.classes ok n.class.0 class.0 h.0 there passed) ∙ h.1.0, ((place_count-alike w.classes w.classes class.0 n.class.0 (sym (same-layout w.classes ok n.class.0 class.0 h.0 there passed)) (λ x h. refl) ∙ h.1.1.0.0, h.1.1.0.1), ((there, h.1.1.1.0.1 ∙ ap (λ b. is_none (class_in n.payload) && b) (same-dict w.classes ok n.class.0 class.0 h.0 there passed)), h.1.1.1.1))))
 
 pub dict-set-holds : (w : Held) (n : StoredNode) (dict : PyObjectRef) → is_some n.dict ≡ true → AllHold w (of_node n) → Holds w (IsNode dict) → Holds w (Holding dict Dict) → AllHold w (of_node (with_dict_ref n dict))
 unfolding Holds

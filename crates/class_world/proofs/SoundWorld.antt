@@ -61,10 +61,10 @@ home-read t (payload.Super s) = refl
 home-read t (payload.Iterator i) = refl
 home-read t (payload.Slice s) = refl
 
-home_at-read : (t : Reading) (ns : List StoredNode) (n : ℕ) → option_map home (option_map (λ (x : Node). x.datum) (slice_get (map (node_of t) ns) n)) ≡ home_at ns n
-home_at-read t [] n = refl
-home_at-read t (x ∷ ns) zero = ap Some (home-read t x.payload)
-home_at-read t (x ∷ ns) (suc n) = home_at-read t ns n
+home_at-read : (t : Reading) (ks : Classes PyStrInterned) (ns : List StoredNode) (n : ℕ) → option_map home (option_map (λ (x : Node). x.datum) (slice_get (map (node_of t ks) ns) n)) ≡ home_at ns n
+home_at-read t ks [] n = refl
+home_at-read t ks (x ∷ ns) zero = ap Some (home-read t x.payload)
+home_at-read t ks (x ∷ ns) (suc n) = home_at-read t ks ns n
 
 key-read : (t : Reading) (p : Payload) → key_of (datum t p) ≡ key_in p
 key-read t payload.Object = refl
@@ -88,14 +88,14 @@ key-read t (payload.Super s) = refl
 key-read t (payload.Iterator i) = refl
 key-read t (payload.Slice s) = refl
 
-key_at-stored : (t : Reading) (ns : List StoredNode) (n : ℕ) → option_and_then key_of (option_map (λ (x : Node). x.datum) (slice_get (map (node_of t) ns) n)) ≡ held_key ns (record { 0 = n })
-key_at-stored t [] n = refl
-key_at-stored t (x ∷ ns) zero = key-read t x.payload
-key_at-stored t (x ∷ ns) (suc n) = key_at-stored t ns n
+key_at-stored : (t : Reading) (ks : Classes PyStrInterned) (ns : List StoredNode) (n : ℕ) → option_and_then key_of (option_map (λ (x : Node). x.datum) (slice_get (map (node_of t ks) ns) n)) ≡ held_key ns (record { 0 = n })
+key_at-stored t ks [] n = refl
+key_at-stored t ks (x ∷ ns) zero = key-read t x.payload
+key_at-stored t ks (x ∷ ns) (suc n) = key_at-stored t ks ns n
 
 pub key_at-read : (t : Reading) (w : Held) (r : PyObjectRef) → key_at (plain t w) r ≡ held_key w.nodes r
 unfolding plain
-key_at-read t w r = key_at-stored t w.nodes r.0
+key_at-read t w r = key_at-stored t w.classes w.nodes r.0
 
 -- keys are the same in both worlds
 pub keys-read : (t : Reading) (w : Held) (rs : List PyObjectRef) → AreKeys (held_key w.nodes) rs → AreKeys (key_at (plain t w)) rs
@@ -159,10 +159,10 @@ one-key-differs w r h = record { known = known; apart = apart }
     apart (suc i) j a b e f q = cc
 
 -- a node of the plain world is one that is stored
-stored-at : (t : Reading) (ns : List StoredNode) (i : ℕ) (n : Node) → slice_get (map (node_of t) ns) i ≡ Some n → (x : StoredNode) × (slice_get ns i ≡ Some x) × (node_of t x ≡ n)
-stored-at t [] i n e = cc
-stored-at t (x ∷ ns) zero n e = (x, refl, cc)
-stored-at t (x ∷ ns) (suc i) n e = stored-at t ns i n e
+stored-at : (t : Reading) (ks : Classes PyStrInterned) (ns : List StoredNode) (i : ℕ) (n : Node) → slice_get (map (node_of t ks) ns) i ≡ Some n → (x : StoredNode) × (slice_get ns i ≡ Some x) × (node_of t ks x ≡ n)
+stored-at t ks [] i n e = cc
+stored-at t ks (x ∷ ns) zero n e = (x, refl, cc)
+stored-at t ks (x ∷ ns) (suc i) n e = stored-at t ks ns i n e
 
 abbrev Below : ℕ → List PyObjectRef → Type 0
 Below n rs = All (λ r. r.0 < n) rs
@@ -351,7 +351,7 @@ module _ (w : Held) (t : Reading) where
   filled-in (payload.Iterator i) vars h = absurd h
   filled-in (payload.Slice s) vars h = absurd h
 
-  filled-there : (ns : List StoredNode) (n : ℕ) (vars : List (PyStrInterned × PyObjectRef)) → AreFilled vars (held_params ns (record { 0 = n })) → All (λ x. is_some (value_of (λ y. is_text y x) (bindings t vars)) ≡ true) (params_of (option_map (λ (x : Node). x.datum) (slice_get (map (node_of t) ns) n)))
+  filled-there : (ns : List StoredNode) (n : ℕ) (vars : List (PyStrInterned × PyObjectRef)) → AreFilled vars (held_params ns (record { 0 = n })) → All (λ x. is_some (value_of (λ y. is_text y x) (bindings t vars)) ≡ true) (params_of (option_map (λ (x : Node). x.datum) (slice_get (map (node_of t w.classes) ns) n)))
   filled-there [] n vars h = absurd h
   filled-there (x ∷ ns) zero vars h = filled-in x.payload vars h
   filled-there (x ∷ ns) (suc n) vars h = filled-there ns n vars h
@@ -359,9 +359,9 @@ module _ (w : Held) (t : Reading) where
   scope-is : (s : HeldScope) → AllHold w (of_scope s) → AreNamesDistinct s.vars → IsSoundScope (plain t w) (scope_of t s)
   unfolding Holds plain
   scope-is s h a = record {
-    func = home_at-read t w.nodes s.func.0 ∙ function-there w.nodes s.func.0 s.vars h.1.0;
+    func = home_at-read t w.classes w.nodes s.func.0 ∙ function-there w.nodes s.func.0 s.vars h.1.0;
     params = filled-there w.nodes s.func.0 s.vars h.1.0;
-    vars = subst (λ n. All (λ b. b.1.0 < n) (bindings t s.vars)) (sym (length-map w.nodes (node_of t))) (bound-there s.vars h.1.1);
+    vars = subst (λ n. All (λ b. b.1.0 < n) (bindings t s.vars)) (sym (length-map w.nodes (node_of t w.classes))) (bound-there s.vars h.1.1);
     apart = apart-read t s.vars a;
   }
 
@@ -394,7 +394,7 @@ module _ (w : Held) (t : Reading) where
   class-read (payload.Iterator i) c e = cc
   class-read (payload.Slice s) c e = cc
 
-  stands-at : (ns : List StoredNode) (n c : ℕ) → held_class ns (record { 0 = n }) ≡ Some c → option_map (λ (x : Node). x.datum) (slice_get (map (node_of t) ns) n) ≡ Some (AClass c)
+  stands-at : (ns : List StoredNode) (n c : ℕ) → held_class ns (record { 0 = n }) ≡ Some c → option_map (λ (x : Node). x.datum) (slice_get (map (node_of t w.classes) ns) n) ≡ Some (AClass c)
   stands-at [] n c e = cc
   stands-at (x ∷ ns) zero c e = ap Some (class-read x.payload c e)
   stands-at (x ∷ ns) (suc n) c e = stands-at ns n c e
@@ -443,7 +443,7 @@ module _ (w : Held) (t : Reading) where
   no-class-read (payload.Iterator i) = refl
   no-class-read (payload.Slice s) = refl
 
-  held-back : (ns : List StoredNode) (n c : ℕ) → option_map (λ (x : Node). x.datum) (slice_get (map (node_of t) ns) n) ≡ Some (AClass c) → held_class ns (record { 0 = n }) ≡ Some c
+  held-back : (ns : List StoredNode) (n c : ℕ) → option_map (λ (x : Node). x.datum) (slice_get (map (node_of t w.classes) ns) n) ≡ Some (AClass c) → held_class ns (record { 0 = n }) ≡ Some c
   held-back [] n c e = cc
   held-back (x ∷ ns) zero c e = class-back x.payload c e
   held-back (x ∷ ns) (suc n) c e = held-back ns n c e
@@ -476,9 +476,9 @@ module _ (w : Held) (t : Reading) where
 
   dict-is : (x : StoredNode) (r : PyObjectRef) → AllHold w (of_option of_dict_ref x.dict) → x.dict ≡ Some r → option_map home (datum_at (plain t w) r) ≡ Some Dict
   unfolding Holds plain
-  dict-is x r h e = home_at-read t w.nodes r.0 ∙ (subst (λ o. AllHold w (of_option of_dict_ref o)) e h).1.0
+  dict-is x r h e = home_at-read t w.classes w.nodes r.0 ∙ (subst (λ o. AllHold w (of_option of_dict_ref o)) e h).1.0
 
-  node-is : (x : StoredNode) → AllHold w (of_node x) → IsSoundNode (plain t w) (node_of t x)
+  node-is : (x : StoredNode) → AllHold w (of_node x) → IsSoundNode (plain t w) (node_of t w.classes x)
   unfolding Holds plain
   node-is x h =
       let dict = of_option of_dict_ref x.dict in
@@ -488,8 +488,8 @@ module _ (w : Held) (t : Reading) where
         like = ap by_line (lin-renamed (spelled t) w.classes x.class.0) ∙ h.1.0 ∙ ap Some (sym (home-read t x.payload));
         given = h.1.1.1.0.1 ∙ ap (λ b. b && has_dict w.classes x.class.0) (sym (no-class-read x.payload)) ∙ ap (λ b. is_none (class_number (Some (datum t x.payload))) && b) (sym (has_dict-renamed (spelled t) w.classes x.class.0));
         dict = λ r e. dict-is x r (all-first w dict (of_payload x.payload) h.1.1.1.1) e;
-        members = λ c i r e. let m = member-is w x.class.0 (record { class = record { 0 = c }; index = i }) r x.members h.1.1.0 e in (is_place-renamed (spelled t) w.classes x.class.0 c i ∙ m.0, subst (λ n. r.0 < n) (sym (length-map w.nodes (node_of t))) m.1);
-        nodes = subst (λ n. Below n (nodes_in (datum t x.payload))) (sym (length-map w.nodes (node_of t))) (nodes-there x.payload held);
+        members = λ c i r e. let m = member-is w x.class.0 c i r x.members h.1.1.0 e in (is_place-renamed (spelled t) w.classes x.class.0 c i ∙ m.0, subst (λ n. r.0 < n) (sym (length-map w.nodes (node_of t w.classes))) m.1);
+        nodes = subst (λ n. Below n (nodes_in (datum t x.payload))) (sym (length-map w.nodes (node_of t w.classes))) (nodes-there x.payload held);
         keys = keys-there x.payload held;
         classes = all-read (classes_in (datum t x.payload)) (classes-there x.payload held);
         offsets = offsets-read (offsets_in (datum t x.payload)) (offsets-there x.payload held);
@@ -498,15 +498,15 @@ module _ (w : Held) (t : Reading) where
   world-is : Sound w → AreSound w.classes → All (λ k. AreNamesDistinct k.attrs) w.classes → IsSound (plain t w)
   unfolding plain
   world-is s k a =
-      let size = sym (length-map w.nodes (node_of t)) in
+      let size = sym (length-map w.nodes (node_of t w.classes)) in
       record {
         classes = sound-renamed (spelled t) w.classes k;
         nodes = λ i n e.
-            let r = stored-at t w.nodes i n e in
+            let r = stored-at t w.classes w.nodes i n e in
             subst (λ n. IsSoundNode (plain t w) n) r.2 (node-is r.0 (each-get w of_node w.nodes i r.0 r.1 s.nodes));
         standing = class-stands s.standing;
         itself = class-itself s.itself;
-        attrs = attrs-there (length (map (node_of t) w.nodes)) size w.classes s.classes a;
+        attrs = attrs-there (length (map (node_of t w.classes) w.nodes)) size w.classes s.classes a;
         vars = subst (λ n. All (λ b. b.1.0 < n) (bindings t w.vars)) size (bound-there w.vars s.vars);
         apart = apart-read t w.vars s.apart;
         scopes = scopes-are w.scopes s.scopes s.scopes_apart;

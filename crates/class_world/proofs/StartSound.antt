@@ -1,9 +1,12 @@
 -- The world of a new machine is sound, and is the plain machine's.
-use Rattle.std.proofs.Common.{◌≡◌, ℕ, zero, suc, ◌+◌, ◌^◌, ◌<◌, ◌≤◌, Bool, true, false, cond, List, [], ◌∷◌, ◌++◌, length, Some, None, refl, sym, ap, subst, arith, map}
-use Rattle.std.specs.Prelude.{◌&&◌, eqb, ltb, is_some, option_map}
+use Rattle.std.proofs.Common.{◌≡◌, ℕ, zero, suc, ◌+◌, ◌^◌, ◌<◌, ◌≤◌, Bool, true, false, cond, List, [], ◌∷◌, ◌++◌, length, Option, Some, None, refl, sym, ap, subst, arith, map}
+use Rattle.std.specs.Prelude.{◌&&◌, eqb, ltb, is_some, pos, option_map, option_and_then}
 use Rattle.std.specs.List.{IsDistinct}
 use Rattle.std.proofs.lemmas.Bool.{eqb-true, eqb-false, ltb-true}
+use Rattle.py_node.specs.declared.payload.Payload.{Payload}
+use Rattle.py_node.specs.declared.payload.Payload.TheVariants.{Object, Class as ClassPayload, Number}
 use Rattle.py_node.specs.declared.refs.PyStrInterned.{PyStrInterned}
+use Rattle.py_node.specs.declared.refs.PyTypeRef.{PyTypeRef}
 use Rattle.py_node.specs.declared.built_in.BuiltIn.{BuiltIn}
 use Rattle.py_node.specs.declared.built_in.BuiltIn.TheVariants as built_in
 use Rattle.plain_machine.specs.Sound.{holds_as, held_by}
@@ -11,16 +14,20 @@ use Rattle.py_node.specs.BuiltIns.{place_of, base_of, flags_of, built_in_bases, 
 use Rattle.class_model.specs.Dict.{has_dict}
 use Rattle.class_model.specs.Order.{linear, least_order, arrangements, all_arrangements}
 use Rattle.py_node.specs.Known.{known_texts}
-use Rattle.class_model.specs.Class.{Class, class_at, is_class, has_flag, renamed}
+use Rattle.class_model.specs.Class.{Class, class_at, is_class, has_flag, lin, renamed}
+use Rattle.class_model.specs.Layout.{layout_along, member_count, members_in, place_count}
 use Rattle.class_model.specs.Start.{built_class}
 use Rattle.plain_machine.specs.Start.{class_node as plain_class_node, fixed_nodes as plain_fixed_nodes, bare}
-use Rattle.plain_machine.specs.Known.{the_dict, the_none_type}
+use Rattle.plain_machine.specs.Known.{the_dict, the_none_type, the_not_implemented_type, the_bool}
+use Rattle.plain_machine.specs.Plain.{no_members}
 use Rattle.plain_machine.specs.Row.{none}
 use Rattle.class_world.specs.Held.{Held}
-use Rattle.class_world.specs.StartNodes.{class_node, fixed_nodes, start_nodes}
-use Rattle.class_world.specs.Reading.{Reading, node_of, spelled, plain}
+use Rattle.class_world.specs.StartNodes.{type_ref, plain_node, class_node, fixed_nodes, start_nodes}
+use Rattle.class_world.specs.Reading.{Reading, datum, node_of, spelled, plain}
 use Rattle.class_world.specs.Sound.{Standing, HasFlags, OfStatic, GetsDict, held_class, flags_at, is_marked_heap, Holds, AllHold, SoundWith, of_node, of_dict, of_class, of_each}
 use Rattle.class_world.proofs.Claims.{each-append, all-append}
+use Rattle.class_world.proofs.Homes.{by_line}
+use Rattle.class_world.proofs.SamePlaces.{none-read}
 use Rattle.class_table.proofs.StartParts.{split}
 
 -- whether each class has a place below the number
@@ -32,19 +39,19 @@ abbrev built : BuiltIn → Class PyStrInterned
 built b = built_class b
 
 module _ (w : Held) where
-  nodes-hold : (n : ℕ) (bs : List BuiltIn) → places_below n bs ≡ true → ((c : ℕ) → c < n → is_class w.classes c ≡ true) → 1 < n → held_by w.classes 1 ≡ Some built_in.TypeType → AllHold w (of_each of_node (map class_node bs))
+  nodes-hold : (n : ℕ) (bs : List BuiltIn) → places_below n bs ≡ true → ((c : ℕ) → c < n → is_class w.classes c ≡ true) → 1 < n → held_by w.classes 1 ≡ Some built_in.TypeType → place_count w.classes 1 ≡ Some 0 → AllHold w (of_each of_node (map class_node bs))
   unfolding Holds
-  nodes-hold n [] h l o m = tt
-  nodes-hold n (b ∷ bs) h l o m =
+  nodes-hold n [] h l o m e = tt
+  nodes-hold n (b ∷ bs) h l o m e =
       let both = split (ltb (place_of b) n) (places_below n bs) h in
       let below = ltb-true (place_of b) n both.0 in
-      (l 1 o, (m, (tt, ((l 1 o, refl), (l (place_of b) below, nodes-hold n bs both.1 l o m)))))
+      (l 1 o, (m, ((e, tt), ((l 1 o, refl), (l (place_of b) below, nodes-hold n bs both.1 l o m e)))))
 
-  fixed-hold : ((c : ℕ) → c < 23 → is_class w.classes c ≡ true) → held_by w.classes 2 ≡ Some built_in.Object → held_by w.classes 3 ≡ Some built_in.Object → held_by w.classes 5 ≡ Some built_in.Int → has_dict w.classes 2 ≡ false → has_dict w.classes 3 ≡ false → has_dict w.classes 5 ≡ false → AllHold w (of_each of_node fixed_nodes)
+  fixed-hold : ((c : ℕ) → c < 23 → is_class w.classes c ≡ true) → held_by w.classes 2 ≡ Some built_in.Object → held_by w.classes 3 ≡ Some built_in.Object → held_by w.classes 5 ≡ Some built_in.Int → has_dict w.classes 2 ≡ false → has_dict w.classes 3 ≡ false → has_dict w.classes 5 ≡ false → place_count w.classes 2 ≡ Some 0 → place_count w.classes 3 ≡ Some 0 → place_count w.classes 5 ≡ Some 0 → AllHold w (of_each of_node fixed_nodes)
   unfolding Holds
-  fixed-hold l a b c d e f =
+  fixed-hold l a b c d e f p q r =
       let at : (n : ℕ) → n < 23 → has_dict w.classes n ≡ false → Holds w (GetsDict None n false) = λ n k g. (l n k, sym g) in
-      (l 2 (omega arith), (a, (tt, (at 2 (omega arith) d, (l 3 (omega arith), (b, (tt, (at 3 (omega arith) e, (l 5 (omega arith), (c, (tt, (at 5 (omega arith) f, (l 5 (omega arith), (c, (tt, (at 5 (omega arith) f, tt))))))))))))))))
+      (l 2 (omega arith), (a, ((p, tt), (at 2 (omega arith) d, (l 3 (omega arith), (b, ((q, tt), (at 3 (omega arith) e, (l 5 (omega arith), (c, ((r, tt), (at 5 (omega arith) f, (l 5 (omega arith), (c, ((r, tt), (at 5 (omega arith) f, tt))))))))))))))))
 
   dict-holds : (b : Bool) → is_class w.classes the_dict ≡ true → AllHold w (of_dict b)
   unfolding Holds
@@ -89,6 +96,32 @@ started-own built_in.StaticMethod = refl
 started-own built_in.Super = refl
 started-own built_in.Iterator = refl
 started-own built_in.Slice = refl
+
+-- no built-in class gives its objects places
+none-own : (bs : List BuiltIn) (c : ℕ) → member_count (class_at (map built bs) c) ≡ 0
+none-own [] c = refl
+none-own (b ∷ bs) c = go (eqb (place_of b) c) (none-own bs c)
+  where
+    go : (v : Bool) → member_count (class_at (map built bs) c) ≡ 0 → member_count (cond v (Some (built b)) (class_at (map built bs) c)) ≡ 0
+    go true h = refl
+    go false h = h
+
+none-in : (t : List (Class PyStrInterned)) → ((c : ℕ) → member_count (class_at t c) ≡ 0) → (line : List ℕ) → members_in t line ≡ 0
+none-in t h [] = refl
+none-in t h (c ∷ cs) =
+    let here = h c in
+    let rest = none-in t h cs in
+    omega (arith, here, rest)
+
+none-counted : (t : List (Class PyStrInterned)) → ((c : ℕ) → member_count (class_at t c) ≡ 0) → (c : ℕ) (b : BuiltIn) → held_by t c ≡ Some b → place_count t c ≡ Some 0
+none-counted t h c b e = go (lin t c) e
+  where
+    go : (o : Option (List ℕ)) → by_line o ≡ Some b → option_map (members_in t) (option_and_then (λ line. Some (layout_along t line)) o) ≡ Some 0
+    go None e = cc
+    go (Some line) e = ap Some (none-in t h (layout_along t line))
+
+pub started-bare : (b : BuiltIn) → place_count started.classes (place_of b) ≡ Some 0
+started-bare b = none-counted started.classes (none-own all_built_ins) (place_of b) (holds_as b) (started-own b)
 
 -- None is of its class, by computing
 started-none : Holds started (OfStatic none the_none_type)
@@ -248,7 +281,7 @@ unfolding all_built_ins place_of Holds IsDistinct
 started-sound = record {
   forms = tt;
   below = λ n x e. cc;
-  nodes = each-append started of_node (map class_node all_built_ins) fixed_nodes (nodes-hold started 23 all_built_ins refl started-there (omega arith) (started-own built_in.TypeType)) (fixed-hold started started-there (started-own built_in.NoneType) (started-own built_in.NotImplementedType) (started-own built_in.Bool) started-plain_2 started-plain_3 started-plain_5);
+  nodes = each-append started of_node (map class_node all_built_ins) fixed_nodes (nodes-hold started 23 all_built_ins refl started-there (omega arith) (started-own built_in.TypeType) (started-bare built_in.TypeType)) (fixed-hold started started-there (started-own built_in.NoneType) (started-own built_in.NotImplementedType) (started-own built_in.Bool) started-plain_2 started-plain_3 started-plain_5 (started-bare built_in.NoneType) (started-bare built_in.NotImplementedType) (started-bare built_in.Bool));
   classes = classes-hold started 23 all_built_ins refl (started-there the_dict (omega arith)) (omega arith);
   vars = tt;
   scopes = tt;
@@ -267,9 +300,20 @@ started-sound = record {
 }
 
 module _ (t : Reading) where
-  nodes-read : (bs : List BuiltIn) → map (node_of t) (map class_node bs ++ fixed_nodes) ≡ map plain_class_node bs ++ plain_fixed_nodes
-  nodes-read [] = refl
-  nodes-read (b ∷ bs) = ap (λ ns. plain_class_node b ∷ ns) (nodes-read bs)
+  bare-read : (ks : List (Class PyStrInterned)) (c : PyTypeRef) (p : Payload) → node_of t ks (plain_node c p) ≡ record { class = c.0; dict = None; members = no_members; datum = datum t p }
+  bare-read ks c p = let none = none-read ks c.0 [] (λ n. refl) in λ i. record { class = c.0; dict = None; members = none i; datum = datum t p }
+
+  nodes-read : (ks : List (Class PyStrInterned)) (bs : List BuiltIn) → map (node_of t ks) (map class_node bs ++ fixed_nodes) ≡ map plain_class_node bs ++ plain_fixed_nodes
+  nodes-read ks [] =
+      let none = bare-read ks (record { 0 = the_none_type }) Object in
+      let not_implemented = bare-read ks (record { 0 = the_not_implemented_type }) Object in
+      let falsehood = bare-read ks (record { 0 = the_bool }) (Number (pos 0)) in
+      let truth = bare-read ks (record { 0 = the_bool }) (Number (pos 1)) in
+      λ i. none i ∷ not_implemented i ∷ falsehood i ∷ truth i ∷ []
+  nodes-read ks (b ∷ bs) =
+      let here = bare-read ks type_ref (ClassPayload (record { 0 = place_of b })) in
+      let rest = nodes-read ks bs in
+      λ i. here i ∷ rest i
 
   classes-read : (bs : List BuiltIn) → renamed (spelled t) (map built bs) ≡ map built_class bs
   classes-read [] = refl
@@ -277,4 +321,4 @@ module _ (t : Reading) where
 
   pub started-plain : plain t started ≡ bare
   unfolding plain
-  started-plain = let n = nodes-read all_built_ins in let k = classes-read all_built_ins in cc
+  started-plain = let n = nodes-read started.classes all_built_ins in let k = classes-read all_built_ins in cc

@@ -1,17 +1,25 @@
 -- Objects as they are put into the world, with their dicts.
-use Rattle.std.specs.Prelude.{◌≡◌, ◌+◌, List, [], ◌∷◌, ◌++◌, Option, Some, None, length}
+use Rattle.std.specs.Prelude.{◌≡◌, ℕ, ◌+◌, List, [], ◌∷◌, ◌++◌, Option, Some, None, length}
 use Rattle.py_node.specs.declared.refs.PyObjectRef.{PyObjectRef}
 use Rattle.py_node.specs.declared.refs.PyTypeRef.{PyTypeRef}
 use Rattle.py_node.specs.declared.payload.Node.{Node}
 use Rattle.py_node.specs.declared.payload.Payload.{Payload}
 use Rattle.py_node.specs.declared.payload.Payload.TheVariants as payload
+use Rattle.py_node.specs.declared.refs.PyStrInterned.{PyStrInterned}
+use Rattle.py_node.specs.Places.{value_at}
+use Rattle.class_model.specs.Class.{Classes}
+use Rattle.class_model.specs.Layout.{place_count}
 use Rattle.plain_machine.specs.Known.{the_dict}
 use Rattle.plain_machine.specs.World.{ref}
 
--- an object, after the node that is its dict
-abbrev pub with_object : List Node → Option Node → PyTypeRef → Payload → List Node
-with_object ns None c p = ns ++ record { class = c; dict = None; members = []; payload = p } ∷ []
-with_object ns (Some d) c p = (ns ++ d ∷ []) ++ record { class = c; dict = Some (ref (length ns)); members = []; payload = p } ∷ []
+-- the places of a new object of a class: as many as the class gives, and nothing in them
+abbrev pub AreEmpty : Classes PyStrInterned → ℕ → List (Option PyObjectRef) → Type 0
+AreEmpty t c ms = (place_count t c ≡ Some (length ms)) × ((n : ℕ) → value_at ms n ≡ None)
+
+-- an object with these places, after the node that is its dict
+abbrev pub with_object : List Node → Option Node → PyTypeRef → List (Option PyObjectRef) → Payload → List Node
+with_object ns None c ms p = ns ++ record { class = c; dict = None; members = ms; payload = p } ∷ []
+with_object ns (Some d) c ms p = (ns ++ d ∷ []) ++ record { class = c; dict = Some (ref (length ns)); members = ms; payload = p } ∷ []
 
 -- the number of the object
 abbrev pub number_of_object : List Node → Option Node → PyObjectRef
@@ -23,5 +31,5 @@ HasNoEntries (payload.Dict es) = es.items ≡ []
 HasNoEntries _ = ⊥
 
 -- a new dict
-abbrev pub IsEmptyDict : Node → Type 0
-IsEmptyDict d = (d.class.0 ≡ the_dict) × (d.dict ≡ None) × (d.members ≡ []) × HasNoEntries d.payload
+abbrev pub IsEmptyDict : Classes PyStrInterned → Node → Type 0
+IsEmptyDict t d = (d.class.0 ≡ the_dict) × (d.dict ≡ None) × AreEmpty t d.class.0 d.members × HasNoEntries d.payload

@@ -11,4 +11,5 @@ pub mod StartNodes
 pub mod Added
 pub mod NewHeap
 pub mod Keyed
+pub mod Listed
 pub mod Names

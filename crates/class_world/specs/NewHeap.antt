@@ -1,6 +1,6 @@
 -- Classes that scripts make.
 use Rattle.std.specs.Option.{option_or}
-use Rattle.std.specs.Prelude.{ℕ, Bool, true, false, cond, List, [], ◌∷◌, map, Option, Some, None, option_map}
+use Rattle.std.specs.Prelude.{◌≡◌, ℕ, Bool, true, false, cond, List, [], ◌∷◌, ◌++◌, map, Option, Some, None, option_map}
 use Rattle.std.specs.Global.{Vec}
 use Rattle.py_node.specs.declared.raised.Cause.{Cause}
 use Rattle.py_node.specs.declared.raised.Cause.TheVariants.{QualnameType}
@@ -16,6 +16,8 @@ use Rattle.py_node.specs.declared.known.Known.TheVariants.{Qualname}
 use Rattle.py_node.specs.Known.{known_text}
 use Rattle.plain_machine.specs.Plain.{Datum, AText, Bindings, PlainWorld}
 use Rattle.plain_machine.specs.World.{is_text, datum_at}
+use Rattle.class_model.specs.Class.{Classes}
+use Rattle.class_world.specs.Added.{AreEmpty}
 use Rattle.class_world.specs.Reading.{Reading, spelled}
 use Rattle.class_world.specs.Sound.{Claim, AreNames}
 
@@ -46,6 +48,10 @@ abbrev pub of_slots : Option (Vec PyStrInterned) → List Claim
 of_slots None = []
 of_slots (Some v) = AreNames v.items ∷ []
 
--- the node that stands for a class, by its metaclass and its number
-abbrev pub class_node : PyTypeRef → PyTypeRef → Node
-class_node meta c = record { class = meta; dict = None; members = []; payload = payload.Class c }
+-- the node that stands for a class, by its metaclass, its places and its number
+abbrev pub class_node : PyTypeRef → List (Option PyObjectRef) → PyTypeRef → Node
+class_node meta ms c = record { class = meta; dict = None; members = ms; payload = payload.Class c }
+
+-- it comes last, and nothing stands in the places that its metaclass gives it
+abbrev pub HasClassNode : Classes PyStrInterned → List Node → List Node → PyTypeRef → PyTypeRef → Type 0
+HasClassNode t old new meta c = (ms : List (Option PyObjectRef)) × AreEmpty t meta.0 ms × (new ≡ old ++ class_node meta ms c ∷ [])

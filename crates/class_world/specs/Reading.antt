@@ -1,8 +1,7 @@
 -- How the numbers of the code are read as texts and trees.
-use Rattle.std.specs.Prelude.{◌≡◌, ℕ, eqb, List, [], ◌∷◌, Option, Some, None, Result, Ok, Err, map, slice_get, string_bytes, option_map}
+use Rattle.std.specs.Prelude.{◌≡◌, ℕ, eqb, List, [], ◌∷◌, Option, Some, None, Result, Ok, Err, map, slice_get, string_bytes, option_map, option_and_then}
 use Rattle.py_node.specs.declared.refs.PyObjectRef.{PyObjectRef}
 use Rattle.py_node.specs.declared.refs.PyStrInterned.{PyStrInterned}
-use Rattle.py_node.specs.declared.members.MemberPlace.{MemberPlace}
 use Rattle.py_node.specs.declared.payload.Node.{Node as StoredNode}
 use Rattle.py_node.specs.declared.payload.Payload.{Payload}
 use Rattle.py_node.specs.declared.payload.Payload.TheVariants as payload
@@ -36,8 +35,9 @@ use Rattle.py_node.specs.declared.protocol.ProtocolTask.TheVariants as protocol
 use Rattle.py_node.specs.declared.protocol.ObjectTask.{ObjectTask}
 use Rattle.py_node.specs.declared.protocol.ObjectTask.TheVariants as object
 use Rattle.py_node.specs.Tree.{Text, Tree, TConst, TName, TBind, TTuple, TList, TDict, TFunc, TAttr, TSetAttr, TDelAttr, TCall, TOp, TIf, TSeq, TRaise, TClass, Entries, no_entries, entry, trees_of, keyed_of, literal_of}
-use Rattle.py_node.specs.Places.{member_at}
-use Rattle.class_model.specs.Class.{renamed}
+use Rattle.py_node.specs.Places.{value_at}
+use Rattle.class_model.specs.Class.{Classes, renamed}
+use Rattle.class_model.specs.Offset.{offset_of}
 use Rattle.plain_machine.specs.Plain.{Datum, AnObject, AClass, ANumber, AText, ATuple, AList, ADict, AFunction, AMethod, ANativeFunction, ABuiltinMethod, AMethodDescriptor, AGetSet, AClassMethod, AStaticMethod, AMember, AProperty, ASuper, AnIterator, ASlice, Places, Node, Bindings, Scope, PlainWorld, PlainTask, ToEval, ToAttribute, ToDescriptor, ToCall, ToClass, ToOperator, ToCompare, ToProtocol, ToObject, ToNative, PlainAnswer, AsValue, AsDone, AsNumber, AsTruth, AsMaybe, AsObjects, AsExhausted, AsFunction, AsAttribute, AsStart, Ended}
 use Rattle.plain_machine.specs.Plain.{EvalJob, DoEval, CallJob, DoCall, DoBody, DoTypeCall, DoNew, DoInit, DoObject, ClassJob, DoMakeClass, DoType}
 use Rattle.plain_machine.specs.Plain.{AttributeJob, DoGetAttr, DoGeneric, DoGenericOpt, DoSetAttr, DoGenericSet, DoTypeGet, DoTypeSet, DoHasAttr, DoSpecial, DoBind, DoLoadMethod, DoInvoke}
@@ -122,12 +122,12 @@ datum t (payload.Super s) = ASuper s.typ.0 (option_map (λ b. (b.0, b.1.0)) s.ob
 datum t (payload.Iterator i) = AnIterator i
 datum t (payload.Slice s) = ASlice s
 
--- what stands in the places of an object
-abbrev pub places_of : List (MemberPlace × Option PyObjectRef) → Places
-places_of ms = λ c i. member_at ms (record { class = record { 0 = c }; index = i })
+-- what stands in the places of an object of a class: each at its offset there
+unfoldable pub places_of : Classes PyStrInterned → ℕ → List (Option PyObjectRef) → Places
+places_of classes c ms = λ d i. option_and_then (value_at ms) (offset_of classes c d i)
 
-abbrev pub node_of : Reading → StoredNode → Node
-node_of t n = record { class = n.class.0; dict = n.dict; members = places_of n.members; datum = datum t n.payload }
+abbrev pub node_of : Reading → Classes PyStrInterned → StoredNode → Node
+node_of t classes n = record { class = n.class.0; dict = n.dict; members = places_of classes n.class.0 n.members; datum = datum t n.payload }
 
 abbrev pub bindings : Reading → List (PyStrInterned × PyObjectRef) → Bindings
 bindings t bs = map (λ b. (spelled t b.0, b.1)) bs
@@ -138,7 +138,7 @@ scope_of t s = record { func = s.func; vars = bindings t s.vars }
 -- the plain world that a world stands for
 unfoldable pub plain : Reading → World → PlainWorld
 plain t w = record {
-  nodes = map (node_of t) w.nodes;
+  nodes = map (node_of t w.classes) w.nodes;
   classes = renamed (spelled t) w.classes;
   vars = bindings t w.vars;
   scopes = map (scope_of t) w.scopes;

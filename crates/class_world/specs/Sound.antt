@@ -5,7 +5,6 @@ use Rattle.std.specs.List.{All, AllByRecursion}
 use Rattle.py_node.specs.declared.refs.PyObjectRef.{PyObjectRef}
 use Rattle.py_node.specs.declared.refs.PyStrInterned.{PyStrInterned}
 use Rattle.py_node.specs.declared.refs.PyTypeRef.{PyTypeRef}
-use Rattle.py_node.specs.declared.members.MemberPlace.{MemberPlace}
 use Rattle.py_node.specs.declared.payload.Node.{Node}
 use Rattle.py_node.specs.declared.payload.Payload.{Payload}
 use Rattle.py_node.specs.declared.payload.Payload.TheVariants as payload
@@ -18,7 +17,7 @@ use Rattle.py_node.specs.declared.built_in.BuiltIn.TheVariants as built_in
 use Rattle.py_node.specs.BuiltIns.{place_of, flags_of, built_in_count, fixed_node_count, has_dict as dict_flag, heap_type, method_descriptor}
 use Rattle.class_model.specs.Class.{Class, Classes, class_at, is_class, has_flag}
 use Rattle.class_model.specs.Dict.{has_dict}
-use Rattle.class_model.specs.Layout.{is_place}
+use Rattle.class_model.specs.Layout.{place_count}
 use Rattle.class_model.specs.Slot.{is_heap_at}
 use Rattle.plain_machine.specs.Known.{the_dict, the_none_type}
 use Rattle.plain_machine.specs.Row.{none}
@@ -54,8 +53,8 @@ pub data Claim : Type 0 where
   HasParams : PyObjectRef → List PyStrInterned → Claim
   -- the object is a function, and each of its parameters has a value among these
   HasValues : PyObjectRef → List (PyStrInterned × PyObjectRef) → Claim
-  -- these stand in places of the class's objects
-  AreMembers : ℕ → List (MemberPlace × Option PyObjectRef) → Claim
+  -- these stand in the places of an object of the class, one in each
+  AreMembers : ℕ → List (Option PyObjectRef) → Claim
   -- the offset, if there is one, is that of a place of the class's objects
   IsOffset : ℕ → Option ℕ → Claim
   -- the class has these flags
@@ -101,7 +100,7 @@ abbrev pub with_payload : Node → Payload → Node
 with_payload n p = record n { payload = p }
 
 -- a node with other members
-abbrev pub with_members : Node → List (MemberPlace × Option PyObjectRef) → Node
+abbrev pub with_members : Node → List (Option PyObjectRef) → Node
 with_members n ms = record n { members = ms }
 
 -- a node of another class, and one with another dict
@@ -152,10 +151,6 @@ abbrev pub StandsThere : ℕ → Option PyObjectRef → Type 0
 StandsThere n None = Unit {0}
 StandsThere n (Some r) = r.0 < n
 
--- a place of a class's objects, in which nothing stands or an object that is there
-abbrev pub IsMember : Held → ℕ → MemberPlace × Option PyObjectRef → Type 0
-IsMember w c m = (is_place w.classes c m.0.class.0 m.0.index ≡ true) × StandsThere (length w.nodes) m.1
-
 -- the flags of a class
 abbrev pub flags_at : {K : Type 0} → Classes K → ℕ → Option ℕ
 flags_at t c = option_map (λ k. k.flags) (class_at t c)
@@ -184,7 +179,7 @@ Holds w (KeysDiffer rs) = AreKeys (held_key w.nodes) rs
 Holds w (HasForm e test) = (f : Form) × (slice_get w.forms e ≡ Some f) × (test f ≡ true)
 Holds w (HasParams r ps) = held_params w.nodes r ≡ Some ps
 Holds w (HasValues r vars) = AreFilled vars (held_params w.nodes r)
-Holds w (AreMembers c ms) = AllByRecursion (IsMember w c) ms
+Holds w (AreMembers c ms) = (place_count w.classes c ≡ Some (length ms)) × AllByRecursion (StandsThere (length w.nodes)) ms
 Holds w (IsOffset c o) = is_offset w.classes c o ≡ true
 Holds w (HasFlags c n) = flags_at w.classes c ≡ Some n
 Holds w (OfStatic r c) = (class_ref_at w.nodes r.0 ≡ Some c) × (is_class w.classes c ≡ true) × (is_heap_at (class_at w.classes c) ≡ false)

@@ -1,10 +1,11 @@
 //! Classes as scripts make and change them, and the functions that they define.
 
-ghost use Rattle.std.specs.Prelude.{◌≡◌, ℕ, ◌<◌, ◌≤◌, ◌∷◌, [], ◌++◌, length, vec_len, vec_capacity, Some, IfOk, IfSome, OnOk, OnErr};
+ghost use Rattle.std.specs.Prelude.{◌≡◌, ℕ, true, ◌<◌, ◌≤◌, ◌∷◌, [], ◌++◌, length, vec_len, vec_capacity, Some, IfOk, IfSome, OnOk, OnErr};
 ghost use Rattle.std.specs.Option.{option_or};
 ghost use Rattle.py_node.specs.declared.built_in.BuiltIn.{BuiltIn};
 ghost use Rattle.py_node.specs.declared.built_in.BuiltIn.TheVariants.{TypeType};
 ghost use Rattle.class_model.specs.Change.{with_class};
+ghost use Rattle.class_model.specs.Class.{is_class};
 ghost use Rattle.class_model.specs.Layout.{best_of};
 ghost use Rattle.class_model.specs.Numbers.{limit};
 ghost use Rattle.class_model.specs.Dict.{heap_class};
@@ -14,11 +15,12 @@ ghost use Rattle.class_log.specs.Change.{SetOwn};
 ghost use Rattle.class_log.specs.Logged.{IsLogged, made_by_script};
 ghost use Rattle.plain_machine.specs.Objects.{with_definer};
 ghost use Rattle.plain_machine.specs.World.{ref, text_keys, datum_at, with_new_class, with_own_attr};
-ghost use Rattle.class_world.specs.NewHeap.{class_node, holds_text, qualified, refused_name, refused_heap, slot_texts, of_slots};
+ghost use Rattle.class_world.specs.NewHeap.{HasClassNode, class_node, holds_text, qualified, refused_name, refused_heap, slot_texts, of_slots};
 ghost use Rattle.class_world.specs.Reading.{Reading, Reads, bindings, plain};
 ghost use Rattle.class_world.specs.Sound.{IsNode, IsClass, IsOf, IsName, Holds, AllHold, Grows, of_binding, of_class_ref, of_each};
 
 use crate::definer::define;
+use crate::places::empty_places;
 use crate::world::World;
 use class_log::ClassLog;
 use class_table::{ClassFault, ClassTable};
@@ -240,13 +242,14 @@ fn heap_with_node(
 ) -> Result<PyTypeRef, ClassFault>
     requires bases { AreThere classes.old (numbers bases.items) }
     requires fresh { limit classes.old ≤ length nodes.old.items }
+    requires metaclass { is_class classes.old metaclass.0 ≡ true }
     ensures added { OnOk result (classes.new ≡ with_class classes.old
         (heap_class table_keys classes.old name.now (length nodes.old.items) (numbers bases.items) attrs
         (slot_names slots))) }
     ensures logged { OnOk result (log.new ≡ log.old ++
         made_by_script classes.old (length nodes.old.items) name.now (numbers bases.items) attrs (slot_names slots) ∷ []) }
     ensures law { IsLogged log.old classes.old → IsLogged log.new classes.new }
-    ensures node { IfOk result (λ c. nodes.new.items ≡ nodes.old.items ++ class_node metaclass c ∷ []) }
+    ensures node { IfOk result (λ c. HasClassNode classes.old nodes.old.items nodes.new.items metaclass c) }
     ensures number { IfOk result (λ c. c.0 ≡ length nodes.old.items) }
     ensures refused { WithMemory result (refusal result ≡ refused_bases classes.old (numbers bases.items)) }
     ensures err { OnErr result (classes.new ≡ classes.old) }
@@ -254,6 +257,10 @@ fn heap_with_node(
     ensures unlogged { OnErr result (log.new ≡ log.old) }
     ensures names { NamesNoClass result }
 {
+    let members = match empty_places(classes, alloc, metaclass) {
+        Ok(members) => members,
+        Err(_) => return Err(ClassFault::OutOfMemory),
+    };
     match nodes.reserve(1) {
         Ok(()) => (),
         Err(_) => return Err(ClassFault::OutOfMemory),
@@ -262,7 +269,7 @@ fn heap_with_node(
     match log.new_heap_slots(classes, number, name, bases, attrs, slots) {
         Err(fault) => Err(fault),
         Ok(class) => {
-            push_class_node(nodes, alloc, class, metaclass);
+            push_class_node(nodes, class, metaclass, members);
             Ok(class)
         }
     }
@@ -271,17 +278,17 @@ fn heap_with_node(
 // Adds the node that stands for a class, for which a place is reserved.
 pub(crate) fn push_class_node(
     nodes: &mut Vec<Node>,
-    alloc: Global,
     class: PyTypeRef,
     metaclass: PyTypeRef,
+    members: PyMembers,
 )
     requires { vec_len nodes.old < vec_capacity nodes.old }
-    ensures { nodes.new.items ≡ nodes.old.items ++ class_node metaclass class ∷ [] }
+    ensures { nodes.new.items ≡ nodes.old.items ++ class_node metaclass members class ∷ [] }
 {
     nodes.push_reserved(Node {
         class: metaclass,
         dict: None,
-        members: PyMembers::new(alloc),
+        members,
         payload: Payload::Class(class),
     });
 }

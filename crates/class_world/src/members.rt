@@ -1,17 +1,15 @@
 //! The members of objects: what stands in the places that offsets stand for, and how it is set.
 
-ghost use Rattle.std.specs.Prelude.{◌≡◌, true, Some, IfSome, OnOk, OnErr};
+ghost use Rattle.std.specs.Prelude.{◌≡◌, ℕ, ◌<◌, true, Some, IfSome, length, slice_set};
 ghost use Rattle.class_model.specs.Layout.{place_at};
 ghost use Rattle.plain_machine.specs.Members.{value_at_place, with_value_at_place};
 ghost use Rattle.plain_machine.specs.Objects.{is_instance};
-ghost use Rattle.py_node.specs.Attributes.{with_value};
-ghost use Rattle.py_node.specs.Places.{is_same_place};
 ghost use Rattle.class_world.specs.Claims.{of_setter};
 ghost use Rattle.class_world.specs.Reading.{Reading, Reads, plain, setter_value};
 ghost use Rattle.class_world.specs.Sound.{IsNode, IsClass, IsOffset, Holds, AllHold, Grows, with_members};
 
 use crate::world::World;
-use py_node::{MemberPlace, Node, OutOfMemory, PyObjectRef, PySetterValue, PyTypeRef};
+use py_node::{MemberPlace, Node, PyObjectRef, PySetterValue, PyTypeRef};
 
 #[tactic(auto, unfolding(crate::specs::Reading::plain))]
 impl World {
@@ -30,61 +28,65 @@ impl World {
     {
         match self.classes.place_at(class, offset) {
             None => None,
-            Some(place) => self.member(object, place),
+            Some(place) => self.member(object, place, offset),
         }
     }
 
-    // What stands in a place of an object.
-    fn member(&self, object: PyObjectRef, place: MemberPlace) -> Option<PyObjectRef>
-        requires { Holds self.now (IsNode object) }
+    // What stands in a place of an object. It stands at the offset that the place has in the objects of some class, since
+    // it has the same one in those of each class that gives them the place.
+    fn member(&self, object: PyObjectRef, place: MemberPlace, offset: usize) -> Option<PyObjectRef>
+        requires object { Holds self.now (IsNode object) }
+        requires place { (c : ℕ) × (place_at self.now.classes c offset ≡ Some (place.class.0, place.index)) }
         ensures value { (t : Reading) →
             value_at_place (plain t self.now) object (Some (place.class.0, place.index)) ≡ result }
         ensures node { IfSome result (λ v. Holds self.now (IsNode v)) }
     {
-        self.nodes[object.0 as usize].members.get(place)
+        self.classes.sound();
+        let node = &self.nodes[object.0 as usize];
+        if self.classes.fast_issubclass(node.class, place.class) {
+            node.members.get(offset)
+        } else {
+            None
+        }
     }
 
     /// Sets, or empties, in an object the place that an offset stands for in the objects of a class. The object must be
-    /// one of that class. Where memory runs out, the world stays as it was.
+    /// one of that class. It takes no memory.
     pub fn set_member_value(
         &mut self,
         object: PyObjectRef,
         class: PyTypeRef,
         offset: usize,
         value: PySetterValue,
-    ) -> Result<(), OutOfMemory>
+    )
         requires object { Holds self.old (IsNode object) }
         requires class { Holds self.old (IsClass class.0) }
         requires place { Holds self.old (IsOffset class.0 (Some offset)) }
         requires value { AllHold self.old (of_setter value) }
         requires instance { (t : Reading) → is_instance (plain t self.old) object class.0 ≡ true }
-        ensures set { OnOk result ((t : Reading) → plain t self.new ≡
+        ensures set { (t : Reading) → plain t self.new ≡
             with_value_at_place (plain t self.old) object (place_at (plain t self.old).classes class.0 offset)
-            (setter_value value)) }
-        ensures stands { OnOk result ((t : Reading) →
+            (setter_value value) }
+        ensures stands { (t : Reading) →
             value_at_place (plain t self.new) object (place_at (plain t self.old).classes class.0 offset) ≡
-            setter_value value) }
-        ensures err { OnErr result (self.new ≡ self.old) }
+            setter_value value }
         ensures reads { (t : Reading) → Reads t self.new → Reads t self.old }
         ensures grows { Grows self.old self.new }
     {
         self.readable();
-        match self.classes.place_at(class, offset) {
-            None => Ok(()),
-            Some(place) => set_member(&mut self.nodes[object.0 as usize], place, value),
-        }
+        self.classes.sound();
+        set_member(&mut self.nodes[object.0 as usize], offset, value);
     }
 }
 
-// Another value in a place of a node, or none.
-fn set_member(node: &mut Node, place: MemberPlace, value: PySetterValue) -> Result<(), OutOfMemory>
-    ensures set { OnOk result (node.new ≡
-        with_members node.old (with_value is_same_place node.old.members place (setter_value value))) }
-    ensures err { OnErr result (node.new ≡ node.old) }
+// Another value at an offset of a node, or none.
+fn set_member(node: &mut Node, offset: usize, value: PySetterValue)
+    requires { offset < length node.old.members }
+    ensures { node.new ≡ with_members node.old (slice_set node.old.members offset (setter_value value)) }
 {
     let value = match value {
         PySetterValue::Assign(value) => Some(value),
         PySetterValue::Delete => None,
     };
-    node.members.set(place, value)
+    node.members.set(offset, value);
 }

@@ -10,9 +10,9 @@ ghost use Rattle.class_world.specs.Sound.{IsNode, IsClass, IsOf, Holding, HasPar
 ghost use Rattle.class_world.specs.Added.{IsEmptyDict, with_object, number_of_object};
 ghost use Rattle.plain_machine.specs.Objects.{with_datum};
 
+use crate::places::empty_places;
 use crate::world::World;
 use py_node::{BuiltIn, Node, OutOfMemory, Payload, PyMembers, PyObjectRef, PyTypeRef};
-use std::alloc::Global;
 
 #[tactic(auto, unfolding(crate::specs::Reading::plain))]
 impl World {
@@ -80,29 +80,40 @@ impl World {
         ensures classes { self.new.classes ≡ self.old.classes }
         ensures last { IfOk result (λ r. length self.new.nodes ≡ suc r.0) }
     {
-        let dict = self.new_dict(class);
-        add_object(&mut self.nodes, self.alloc, dict, class, payload)
+        let dict = self.new_dict(class)?;
+        let members = empty_places(&self.classes, self.alloc, class)?;
+        add_object(&mut self.nodes, dict, class, members, payload)
     }
 
     // A new dict, where a class gives its objects one.
-    fn new_dict(&self, class: PyTypeRef) -> Option<Node>
+    fn new_dict(&self, class: PyTypeRef) -> Result<Option<Node>, OutOfMemory>
         requires { Holds self.now (IsClass class.0) }
-        ensures gives { (t : Reading) → has_dict (plain t self.now) class.0 ≡ is_some result }
-        ensures given { class_has_dict self.now.classes class.0 ≡ is_some result }
-        ensures empty { IfSome result (λ d. IsEmptyDict d) }
-        ensures holds { AllHold self.now (of_option of_node result) }
+        ensures gives { IfOk result (λ o. (t : Reading) → has_dict (plain t self.now) class.0 ≡ is_some o) }
+        ensures given { IfOk result (λ o. class_has_dict self.now.classes class.0 ≡ is_some o) }
+        ensures empty { IfOk result (λ o. IfSome o (λ d. IsEmptyDict self.now.classes d)) }
+        ensures holds { IfOk result (λ o. AllHold self.now (of_option of_node o)) }
     {
-        let alloc = self.alloc;
         if self.has_dict(class) {
-            Some(Node {
-                class: self.class_of_dicts(),
-                dict: None,
-                members: PyMembers::new(alloc),
-                payload: Payload::Dict(Vec::new(alloc)),
-            })
+            let dict = self.empty_dict()?;
+            Ok(Some(dict))
         } else {
-            None
+            Ok(None)
         }
+    }
+
+    // A dict without entries.
+    fn empty_dict(&self) -> Result<Node, OutOfMemory>
+        ensures empty { IfOk result (λ d. IsEmptyDict self.now.classes d) }
+        ensures holds { IfOk result (λ d. AllHold self.now (of_node d)) }
+    {
+        let class = self.class_of_dicts();
+        let members = empty_places(&self.classes, self.alloc, class)?;
+        Ok(Node {
+            class,
+            dict: None,
+            members,
+            payload: Payload::Dict(Vec::new(self.alloc)),
+        })
     }
 
     // The class of dicts.
@@ -135,26 +146,26 @@ impl World {
 // neither.
 fn add_object(
     nodes: &mut Vec<Node>,
-    alloc: Global,
     dict: Option<Node>,
     class: PyTypeRef,
+    members: PyMembers,
     payload: Payload,
 ) -> Result<PyObjectRef, OutOfMemory>
-    ensures added { OnOk result (nodes.new.items ≡ with_object nodes.old.items dict class payload) }
+    ensures added { OnOk result (nodes.new.items ≡ with_object nodes.old.items dict class members payload) }
     ensures number { IfOk result (λ r. r ≡ number_of_object nodes.old.items dict) }
     ensures err { OnErr result (nodes.new.items ≡ nodes.old.items) }
 {
     nodes.reserve(2)?;
     match dict {
-        None => Ok(push(nodes, alloc, class, None, payload)),
+        None => Ok(push(nodes, class, None, members, payload)),
         Some(dict) => {
             let number = nodes.len();
             nodes.push_reserved(dict);
             Ok(push(
                 nodes,
-                alloc,
                 class,
                 Some(PyObjectRef(number as u64)),
+                members,
                 payload,
             ))
         }
@@ -164,21 +175,21 @@ fn add_object(
 // One more node, for which there is room.
 fn push(
     nodes: &mut Vec<Node>,
-    alloc: Global,
     class: PyTypeRef,
     dict: Option<PyObjectRef>,
+    members: PyMembers,
     payload: Payload,
 ) -> PyObjectRef
     requires { vec_len nodes.old < vec_capacity nodes.old }
     ensures pushed { nodes.new.items ≡ nodes.old.items ++
-        record { class = class; dict = dict; members = []; payload = payload } ∷ [] }
+        record { class = class; dict = dict; members = members; payload = payload } ∷ [] }
     ensures number { result ≡ ref (length nodes.old.items) }
 {
     let number = nodes.len();
     nodes.push_reserved(Node {
         class,
         dict,
-        members: PyMembers::new(alloc),
+        members,
         payload,
     });
     PyObjectRef(number as u64)

@@ -116,7 +116,25 @@ impl World {
         self.classes.get_attr(class, name)
     }
 
-    /// The same past the class itself.
+    /// Finds the value of a name along a class's linearisation, and keeps it until a class changes: whoever reads it then
+    /// needs no search. It takes no memory, and nothing of the world changes.
+    pub fn find_class_attr(&mut self, class: PyTypeRef, name: PyStrInterned)
+        requires { Holds self.old (IsClass class.0) }
+        ensures { self.new ≡ self.old }
+    {
+        self.classes.find_attr(class, name);
+    }
+
+    /// The same along the linearisation of an object's class.
+    pub fn find_special(&mut self, node: PyObjectRef, name: PyStrInterned)
+        requires { Holds self.old (IsNode node) }
+        ensures { self.new ≡ self.old }
+    {
+        let class = self.class_of(node);
+        self.find_class_attr(class, name);
+    }
+
+    /// The value of a name past the class itself.
     pub fn class_attr_past(&self, class: PyTypeRef, name: PyStrInterned) -> Option<PyObjectRef>
         requires { Holds self.now (IsClass class.0) }
         ensures found { (t : Reading) → Reads t self.now →

@@ -14,11 +14,12 @@ ghost use Rattle.class_log.specs.Logged.{IsLogged, IsGiven, made_single};
 ghost use Rattle.py_node.specs.BuiltIns.{heap_flags};
 ghost use Rattle.plain_machine.specs.Known.{the_type, the_dict};
 ghost use Rattle.plain_machine.specs.World.{ref, text_keys, has_dict, with_new_class, with_own_attr};
-ghost use Rattle.class_world.specs.NewHeap.{class_node};
+ghost use Rattle.class_world.specs.NewHeap.{HasClassNode};
 ghost use Rattle.class_world.specs.Reading.{Reading, Reads, bindings, plain};
 ghost use Rattle.class_world.specs.Sound.{IsNode, IsClass, IsOf, Holds, AllHold, Grows, flags_at, is_marked_heap, of_binding, of_each};
 
 use crate::heap::push_class_node;
+use crate::places::empty_places;
 use crate::world::World;
 use class_log::ClassLog;
 use class_table::one_base::flags_of_static;
@@ -216,6 +217,7 @@ fn single_with_node(
 ) -> Result<PyTypeRef, ClassFault>
     requires base { is_class classes.old base.0 ≡ true }
     requires fresh { limit classes.old ≤ length nodes.old.items }
+    requires metaclass { is_class classes.old metaclass.0 ≡ true }
     requires dict { says_so flags.0 ≡ (brings || class_has_dict classes.old base.0) }
     requires given { IsGiven given.0 flags.0 brings (class_has_dict classes.old base.0) }
     ensures added { OnOk result (classes.new ≡ with_class classes.old
@@ -223,7 +225,7 @@ fn single_with_node(
     ensures logged { OnOk result (log.new ≡ log.old ++
         made_single (length nodes.old.items) name.now base.0 attrs given.0 ∷ []) }
     ensures law { IsLogged log.old classes.old → IsLogged log.new classes.new }
-    ensures node { IfOk result (λ c. nodes.new.items ≡ nodes.old.items ++ class_node metaclass c ∷ []) }
+    ensures node { IfOk result (λ c. HasClassNode classes.old nodes.old.items nodes.new.items metaclass c) }
     ensures number { IfOk result (λ c. c.0 ≡ length nodes.old.items) }
     ensures refused { refusal result ≡ refused_single classes.old base.0 }
     ensures err { OnErr result (classes.new ≡ classes.old) }
@@ -234,6 +236,10 @@ fn single_with_node(
     if !classes.is_base(base) {
         return Err(ClassFault::Refused(Cause::NotBaseType));
     }
+    let members = match empty_places(classes, alloc, metaclass) {
+        Ok(members) => members,
+        Err(_) => return Err(ClassFault::OutOfMemory),
+    };
     match nodes.reserve(1) {
         Ok(()) => (),
         Err(_) => return Err(ClassFault::OutOfMemory),
@@ -242,7 +248,7 @@ fn single_with_node(
     match log.new_single(classes, number, name, base, attrs, flags, brings, given) {
         Err(fault) => Err(fault),
         Ok(class) => {
-            push_class_node(nodes, alloc, class, metaclass);
+            push_class_node(nodes, class, metaclass, members);
             Ok(class)
         }
     }

@@ -12,7 +12,7 @@ use Rattle.class_world.specs.Keyed.{of_entries, of_pairs}
 use Rattle.class_world.specs.Reading.{Reading, datum}
 use Rattle.class_world.specs.Sound.{AreNodes, Holds, AllHold}
 use Rattle.class_world.proofs.DictEntries.{get-below}
-use Rattle.native_containers.specs.Take.{items_in}
+use Rattle.class_world.specs.Listed.{items_in}
 
 -- what is no dict has no entries
 pub no-entries : (t : Reading) (p : Payload) → ((es : _) → p ≡ payload.Dict es → ⊥) → entries_in (Some (datum t p)) ≡ []

@@ -10,6 +10,7 @@ use Rattle.plain_machine.specs.Row.{none, fault}
 use Rattle.plain_machine.specs.Sound.{key_at}
 use Rattle.plain_machine.specs.Takes.{with_one, with_two, with_three}
 use Rattle.plain_machine.specs.World.{datum_at}
+use Rattle.class_world.specs.Listed.{items_in}
 use Rattle.native_containers.specs.declared.take.Kind.{Kind}
 use Rattle.native_containers.specs.declared.take.Kind.TheVariants as kind
 
@@ -29,11 +30,6 @@ home_of_kind kind.Dict = built_in.Dict
 home_of_kind kind.Iterator = built_in.Iterator
 
 -- the items of a tuple or a list
-abbrev pub items_in : Option Datum → List PyObjectRef
-items_in (Some (ATuple rs)) = rs
-items_in (Some (AList rs)) = rs
-items_in _ = []
-
 abbrev pub items_at : PlainWorld → PyObjectRef → List PyObjectRef
 items_at w o = items_in (datum_at w o)
 

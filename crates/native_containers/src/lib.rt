@@ -9,7 +9,7 @@ pub mod keys;
 mod list;
 pub mod made;
 mod pairs;
-pub mod sequence;
+mod sequence;
 pub mod take;
 mod tuple;
 

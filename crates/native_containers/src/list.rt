@@ -1,17 +1,19 @@
 //! The natives of lists.
 
 ghost use Rattle.std.specs.Prelude.{◌≡◌, ◌++◌, ◌∷◌, [], IfOk};
+ghost use Rattle.py_node.specs.declared.built_in.BuiltIn.TheVariants.{List};
 ghost use Rattle.class_world.specs.Reading.{Reading, bindings};
-ghost use Rattle.class_world.specs.Sound.{AreNodes, Holds};
+ghost use Rattle.class_world.specs.Sound.{AreNodes, Holding, Holds, IsNode};
 ghost use Rattle.class_world.specs.Rows.{EndsAs, LeavesEnd};
 ghost use Rattle.native_containers.specs.Say.{list_changed, list_made, list_say, with_joined};
 ghost use Rattle.native_containers.specs.Take.{items_at, with_own_and};
 ghost use Rattle.native_containers.specs.declared.take.Kind.TheVariants as kind;
 
-use crate::made::{change_list, new_list};
-use crate::sequence::{in_one, iter, joined, length};
+use crate::made::{ends_none, new_list};
+use crate::sequence::{iter, joined, length};
 use crate::take::{Kind, items, own_and};
 use class_world::World;
+use class_world::limits::is_within_limit;
 use py_node::{Answer, Cause, ListNative, OutOfMemory, PyObjectRef, PyStrInterned, Raised};
 
 /// A native of lists.
@@ -66,9 +68,26 @@ fn append(
 {
     match own_and(world, Kind::List, args, kw) {
         Err(raised) => Ok(Err(raised)),
-        Ok((list, last)) => {
-            let items = in_one(world.alloc(), items(world, list), &[last])?;
-            Ok(change_list(world, list, items))
-        }
+        Ok((list, last)) => push(world, list, last),
     }
+}
+
+// It is put there, unless the list would be too long.
+fn push(
+    world: &mut World,
+    list: PyObjectRef,
+    last: PyObjectRef,
+) -> Result<Result<Answer, Raised>, OutOfMemory>
+    requires list { Holds world.old (IsNode list) }
+    requires holding { Holds world.old (Holding list List) }
+    requires last { Holds world.old (IsNode last) }
+    ensures ends { IfOk result (λ r. EndsAs (λ t u. list_changed u list (items_at u list ++ last ∷ []))
+        world.old world.new r) }
+    ensures safe { LeavesEnd world.old world.new result }
+{
+    if !is_within_limit(items(world, list).len() + 1) {
+        return Ok(Err(Raised::new(Cause::TooLong)));
+    }
+    world.push_items(list, &[last])?;
+    Ok(ends_none(world))
 }

@@ -82,12 +82,8 @@ pub(crate) fn joined(
     }
 }
 
-/// Items with others after them.
-pub fn in_one(
-    alloc: Global,
-    items: &[PyObjectRef],
-    more: &[PyObjectRef],
-) -> Result<Args, OutOfMemory>
+// Items with others after them.
+fn in_one(alloc: Global, items: &[PyObjectRef], more: &[PyObjectRef]) -> Result<Args, OutOfMemory>
     ensures { IfOk result (λ rs. rs.items ≡ items.now ++ more.now) }
 {
     let mut all = Vec::new(alloc);

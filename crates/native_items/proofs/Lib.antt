@@ -5,3 +5,4 @@ pub mod Searches
 pub mod Natives
 pub mod Iterating
 pub mod Ranges
+pub mod InPlace

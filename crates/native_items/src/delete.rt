@@ -9,15 +9,17 @@ ghost use Rattle.class_world.specs.Reading.{ended_of};
 ghost use Rattle.class_world.specs.Rows.{EndsAs, LeavesEnd};
 ghost use Rattle.class_world.specs.Sound.{AllHold, AreNodes, Grows, Holding, Holds, IsNode};
 ghost use Rattle.native_containers.specs.Say.{list_changed};
+ghost use Rattle.native_containers.specs.Take.{items_at};
 ghost use Rattle.native_items.specs.Items.{del_item, del_rest, placed};
 ghost use Rattle.native_items.specs.Places.{place_at};
 ghost use Rattle.native_items.specs.Rows.{Does, Enters, items_stood, of_item_kept, of_stood};
 
 use crate::ItemKept;
-use crate::places::{place_at, put_part, slice_of};
-use crate::stood::{items_of_own, stood};
+use crate::places::{place_at, replace_part, slice_of};
+use crate::stood::stood;
 use class_world::World;
-use native_containers::made::change_list;
+use class_world::limits::is_within_limit;
+use native_containers::made::{change_list, ends_none};
 use native_containers::take::{Kind, items, own_and};
 use py_node::protocol::ProtocolTask;
 use py_node::task::Args;
@@ -54,8 +56,8 @@ fn delete_asked(
 {
     match slice_of(world, key) {
         Some(slice) => {
-            let rest = put_part(world, slice, items(world, list), &[])?;
-            let ended = change_list(world, list, rest);
+            let none = Vec::new(world.alloc());
+            let ended = replace_part(world, list, slice, none)?;
             Ok(Step::End(ended))
         }
         None => {
@@ -82,16 +84,59 @@ pub(crate) fn item_deleted(
     ensures safe { LeavesEnd world.old world.new result }
 {
     match answer {
-        Ok(Answer::Value(index)) => {
-            let items = items_of_own(world, stood, list)?;
-            Ok(take_out(world, list, index, items))
-        }
+        Ok(Answer::Value(index)) => Ok(take_out(world, list, index, stood)),
         other => Ok(other),
     }
 }
 
 // Without the item at the place to which an object leads.
 fn take_out(
+    world: &mut World,
+    list: PyObjectRef,
+    index: PyObjectRef,
+    stood: Option<Args>,
+) -> Result<Answer, Raised>
+    requires list { Holds world.old (IsNode list) }
+    requires holding { Holds world.old (Holding list List) }
+    requires index { Holds world.old (IsNode index) }
+    requires stood { AllHold world.old (of_stood stood) }
+    ensures ends { EndsAs (λ t u. placed u (place_at u (length (items_stood u stood list)) index)
+        (λ i. list_changed u list
+        (take i (items_stood u stood list) ++ drop (suc i) (items_stood u stood list)))) world.old world.new result }
+    ensures grows { Grows world.old world.new }
+    ensures holds { AllHold world.new (of_ended result) }
+{
+    match stood {
+        None => take_in_place(world, list, index),
+        Some(items) => take_among(world, list, index, items),
+    }
+}
+
+// It is taken out of the items that the list has.
+fn take_in_place(world: &mut World, list: PyObjectRef, index: PyObjectRef) -> Result<Answer, Raised>
+    requires list { Holds world.old (IsNode list) }
+    requires holding { Holds world.old (Holding list List) }
+    requires index { Holds world.old (IsNode index) }
+    ensures ends { EndsAs (λ t u. placed u (place_at u (length (items_at u list)) index)
+        (λ i. list_changed u list (take i (items_at u list) ++ drop (suc i) (items_at u list)))) world.old world.new result }
+    ensures grows { Grows world.old world.new }
+    ensures holds { AllHold world.new (of_ended result) }
+{
+    let count = items(world, list).len();
+    match place_at(world, count, index) {
+        None => Err(Raised::new(Cause::IndexOut)),
+        Some(place) => {
+            if !is_within_limit(count - 1) {
+                return Err(Raised::new(Cause::TooLong));
+            }
+            world.take_item(list, place);
+            ends_none(world)
+        }
+    }
+}
+
+// It is taken out of items that the list has from then on.
+fn take_among(
     world: &mut World,
     list: PyObjectRef,
     index: PyObjectRef,

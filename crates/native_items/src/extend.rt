@@ -1,22 +1,22 @@
 //! A list gets the items of an iteration after its own.
 
-ghost use Rattle.std.specs.Prelude.{◌≡◌, [], ◌∷◌, IfOk};
+ghost use Rattle.std.specs.Prelude.{◌≡◌, [], ◌∷◌, ◌++◌, IfOk};
 ghost use Rattle.py_node.specs.declared.built_in.BuiltIn.TheVariants.{List};
 ghost use Rattle.py_node.specs.declared.entry.ListNative.TheVariants.{InplaceAdd};
 ghost use Rattle.py_node.specs.declared.entry.NativeEntry.TheVariants.{OfList};
 ghost use Rattle.class_world.specs.Claims.{of_ended, Leaves};
 ghost use Rattle.class_world.specs.Reading.{ended_of};
 ghost use Rattle.class_world.specs.Rows.{EndsAs, LeavesEnd};
-ghost use Rattle.class_world.specs.Sound.{AllHold, AreNodes, Grows, Holding, Holds, IsNode};
+ghost use Rattle.class_world.specs.Sound.{AllHold, AreNodes, Holding, Holds, IsNode};
+ghost use Rattle.native_containers.specs.Take.{items_at};
 ghost use Rattle.native_items.specs.Items.{extend, extend_rest, list_extended};
 ghost use Rattle.native_items.specs.Rows.{Does, Enters, items_stood, of_item_kept, of_stood};
 
 use crate::ItemKept;
-use crate::stood::{items_of_own, stood};
+use crate::stood::stood;
 use class_world::World;
 use class_world::limits::is_within_limit;
-use native_containers::sequence::in_one;
-use native_containers::take::{Kind, own_and};
+use native_containers::take::{Kind, items, own_and};
 use proto_base::is_plain;
 use py_node::protocol::ProtocolTask;
 use py_node::task::Args;
@@ -74,27 +74,53 @@ pub(crate) fn list_extended(
     ensures safe { LeavesEnd world.old world.new result }
 {
     match answer {
-        Ok(Answer::Objects(others)) => {
-            let items = items_of_own(world, stood, list)?;
-            let all = in_one(world.alloc(), &items, &others)?;
-            Ok(put_all(world, list, all))
-        }
+        Ok(Answer::Objects(others)) => match stood {
+            None => push_all(world, list, &others),
+            Some(items) => put_all(world, list, items, &others),
+        },
         other => Ok(other),
     }
 }
 
-// A list with other items is the answer, unless they are too many.
-fn put_all(world: &mut World, list: PyObjectRef, items: Args) -> Result<Answer, Raised>
+// A list with others after its items is the answer, unless they are too many.
+fn push_all(
+    world: &mut World,
+    list: PyObjectRef,
+    others: &[PyObjectRef],
+) -> Result<Result<Answer, Raised>, OutOfMemory>
+    requires list { Holds world.old (IsNode list) }
+    requires holding { Holds world.old (Holding list List) }
+    requires others { Holds world.old (AreNodes others.now) }
+    ensures ends { IfOk result (λ r. EndsAs (λ t u. list_extended u list (items_at u list ++ others.now))
+        world.old world.new r) }
+    ensures safe { LeavesEnd world.old world.new result }
+{
+    if !is_within_limit(items(world, list).len() + others.len()) {
+        return Ok(Err(Raised::new(Cause::TooLong)));
+    }
+    world.push_items(list, others)?;
+    Ok(Ok(Answer::Value(list)))
+}
+
+// So is one that has these items from then on, with others after them.
+fn put_all(
+    world: &mut World,
+    list: PyObjectRef,
+    mut items: Args,
+    others: &[PyObjectRef],
+) -> Result<Result<Answer, Raised>, OutOfMemory>
     requires list { Holds world.old (IsNode list) }
     requires holding { Holds world.old (Holding list List) }
     requires items { Holds world.old (AreNodes items.items) }
-    ensures ends { EndsAs (λ t u. list_extended u list items.items) world.old world.new result }
-    ensures grows { Grows world.old world.new }
-    ensures holds { AllHold world.new (of_ended result) }
+    requires others { Holds world.old (AreNodes others.now) }
+    ensures ends { IfOk result (λ r. EndsAs (λ t u. list_extended u list (items.items ++ others.now))
+        world.old world.new r) }
+    ensures safe { LeavesEnd world.old world.new result }
 {
+    items.extend_from_slice(others)?;
     if !is_within_limit(items.len()) {
-        return Err(Raised::new(Cause::TooLong));
+        return Ok(Err(Raised::new(Cause::TooLong)));
     }
     world.set_payload(list, Payload::List(items));
-    Ok(Answer::Value(list))
+    Ok(Ok(Answer::Value(list)))
 }

@@ -1,13 +1,20 @@
 //! Where numbers and slices lead among items, and the parts of lists that slices name.
 
-ghost use Rattle.std.specs.Prelude.{◌≡◌, ◌<◌, ◌≤◌, IfOk, IfSome, length, slice_range};
+ghost use Rattle.std.specs.Prelude.{◌≡◌, ◌<◌, ◌≤◌, IfOk, IfSome, length, max, slice_range};
+ghost use Rattle.py_node.specs.declared.built_in.BuiltIn.TheVariants.{List};
 ghost use Rattle.class_world.specs.Reading.{Reading, plain};
-ghost use Rattle.class_world.specs.Sound.{AllHold, AreNodes, Holds, IsNode, of_node_ref, of_option};
+ghost use Rattle.class_world.specs.Rows.{EndsAs, LeavesEnd};
+ghost use Rattle.class_world.specs.Sound.{AllHold, AreNodes, Holding, Holds, IsNode, of_node_ref, of_option};
+ghost use Rattle.native_containers.specs.Say.{list_changed};
+ghost use Rattle.native_containers.specs.Take.{items_at};
 ghost use Rattle.native_items.specs.Places.{bound_at, bound_of, part, place_at, place_of, put_between, put_part, slice_at};
 
 use class_world::World;
+use class_world::limits::is_within_limit;
+use native_containers::made::ends_none;
+use native_containers::take::items;
 use py_node::task::Args;
-use py_node::{OutOfMemory, Payload, PyObjectRef, PySlice};
+use py_node::{Answer, Cause, OutOfMemory, Payload, PyObjectRef, PySlice, Raised};
 use std::alloc::Global;
 
 /// The slice that an object is, if it is one.
@@ -168,10 +175,43 @@ fn put_between(
     requires stop { stop ≤ length items.now }
     ensures { IfOk result (λ rs. rs.items ≡ put_between start stop items.now others.now) }
 {
-    let after = if start < stop { stop } else { start };
+    let after = later(start, stop);
     let mut all = Vec::new(alloc);
     all.extend_from_slice(&items[..start])?;
     all.extend_from_slice(others)?;
     all.extend_from_slice(&items[after..])?;
     Ok(all)
+}
+
+/// A list gets others in the place of the items between the bounds of a slice, unless they would be too many.
+pub(crate) fn replace_part(
+    world: &mut World,
+    list: PyObjectRef,
+    slice: PySlice,
+    others: Args,
+) -> Result<Result<Answer, Raised>, OutOfMemory>
+    requires list { Holds world.old (IsNode list) }
+    requires holding { Holds world.old (Holding list List) }
+    requires start { AllHold world.old (of_option of_node_ref slice.start) }
+    requires stop { AllHold world.old (of_option of_node_ref slice.stop) }
+    requires others { Holds world.old (AreNodes others.items) }
+    ensures ends { IfOk result (λ r. EndsAs (λ t u. list_changed u list (put_part u slice (items_at u list) others.items))
+        world.old world.new r) }
+    ensures safe { LeavesEnd world.old world.new result }
+{
+    let count = items(world, list).len();
+    let (start, stop) = bounds(world, slice, count);
+    let after = later(start, stop);
+    if !is_within_limit(start + others.len() + (count - after)) {
+        return Ok(Err(Raised::new(Cause::TooLong)));
+    }
+    world.splice_items(list, start, after, others)?;
+    Ok(ends_none(world))
+}
+
+// The later of two places.
+fn later(start: usize, stop: usize) -> usize
+    ensures { result ≡ max start stop }
+{
+    if start < stop { stop } else { start }
 }

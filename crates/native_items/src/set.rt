@@ -9,16 +9,18 @@ ghost use Rattle.class_world.specs.Reading.{ended_of};
 ghost use Rattle.class_world.specs.Rows.{EndsAs, LeavesEnd};
 ghost use Rattle.class_world.specs.Sound.{AllHold, AreNodes, Grows, Holding, Holds, IsNode};
 ghost use Rattle.native_containers.specs.Say.{list_changed};
+ghost use Rattle.native_containers.specs.Take.{items_at};
 ghost use Rattle.native_items.specs.Items.{part_set, placed, set_item, set_rest};
 ghost use Rattle.native_items.specs.Places.{place_at, slice_at};
 ghost use Rattle.native_items.specs.Rows.{Does, Enters, items_stood, of_item_kept, of_stood};
 
 use crate::ItemKept;
-use crate::places::{place_at, put_part, slice_of};
-use crate::stood::{items_of_own, stood};
+use crate::places::{place_at, put_part, replace_part, slice_of};
+use crate::stood::stood;
 use class_world::World;
-use native_containers::made::change_list;
-use native_containers::take::{Kind, own_and_two};
+use class_world::limits::is_within_limit;
+use native_containers::made::{change_list, ends_none};
+use native_containers::take::{Kind, items, own_and_two};
 use proto_base::is_plain;
 use py_node::protocol::ProtocolTask;
 use py_node::task::Args;
@@ -89,20 +91,67 @@ pub(crate) fn item_set(
     ensures safe { LeavesEnd world.old world.new result }
 {
     match answer {
-        Ok(Answer::Objects(values)) => {
-            let items = items_of_own(world, stood, list)?;
-            put_values(world, list, key, &items, &values)
-        }
-        Ok(Answer::Value(index)) => {
-            let items = items_of_own(world, stood, list)?;
-            Ok(put_value(world, list, index, items, value))
-        }
+        Ok(Answer::Objects(values)) => put_values(world, list, key, stood, values),
+        Ok(Answer::Value(index)) => Ok(put_value(world, list, index, stood, value)),
         other => Ok(other),
     }
 }
 
 // A value at the place to which an object leads.
 fn put_value(
+    world: &mut World,
+    list: PyObjectRef,
+    index: PyObjectRef,
+    stood: Option<Args>,
+    value: PyObjectRef,
+) -> Result<Answer, Raised>
+    requires list { Holds world.old (IsNode list) }
+    requires holding { Holds world.old (Holding list List) }
+    requires index { Holds world.old (IsNode index) }
+    requires stood { AllHold world.old (of_stood stood) }
+    requires value { Holds world.old (IsNode value) }
+    ensures ends { EndsAs (λ t u. placed u (place_at u (length (items_stood u stood list)) index)
+        (λ i. list_changed u list (slice_set (items_stood u stood list) i value))) world.old world.new result }
+    ensures grows { Grows world.old world.new }
+    ensures holds { AllHold world.new (of_ended result) }
+{
+    match stood {
+        None => put_in_place(world, list, index, value),
+        Some(items) => put_among(world, list, index, items, value),
+    }
+}
+
+// It is put among the items that the list has.
+fn put_in_place(
+    world: &mut World,
+    list: PyObjectRef,
+    index: PyObjectRef,
+    value: PyObjectRef,
+) -> Result<Answer, Raised>
+    requires list { Holds world.old (IsNode list) }
+    requires holding { Holds world.old (Holding list List) }
+    requires index { Holds world.old (IsNode index) }
+    requires value { Holds world.old (IsNode value) }
+    ensures ends { EndsAs (λ t u. placed u (place_at u (length (items_at u list)) index)
+        (λ i. list_changed u list (slice_set (items_at u list) i value))) world.old world.new result }
+    ensures grows { Grows world.old world.new }
+    ensures holds { AllHold world.new (of_ended result) }
+{
+    let count = items(world, list).len();
+    match place_at(world, count, index) {
+        None => Err(Raised::new(Cause::IndexOut)),
+        Some(place) => {
+            if !is_within_limit(count) {
+                return Err(Raised::new(Cause::TooLong));
+            }
+            world.set_item(list, place, value);
+            ends_none(world)
+        }
+    }
+}
+
+// It is put among items that the list has from then on.
+fn put_among(
     world: &mut World,
     list: PyObjectRef,
     index: PyObjectRef,
@@ -133,23 +182,26 @@ fn put_values(
     world: &mut World,
     list: PyObjectRef,
     key: PyObjectRef,
-    items: &[PyObjectRef],
-    values: &[PyObjectRef],
+    stood: Option<Args>,
+    values: Args,
 ) -> Result<Result<Answer, Raised>, OutOfMemory>
     requires list { Holds world.old (IsNode list) }
     requires holding { Holds world.old (Holding list List) }
     requires key { Holds world.old (IsNode key) }
-    requires items { Holds world.old (AreNodes items.now) }
-    requires values { Holds world.old (AreNodes values.now) }
+    requires stood { AllHold world.old (of_stood stood) }
+    requires values { Holds world.old (AreNodes values.items) }
     ensures ends { IfOk result (λ r. EndsAs (λ t u.
-        part_set u (slice_at u key) list items.now values.now) world.old world.new r) }
+        part_set u (slice_at u key) list (items_stood u stood list) values.items) world.old world.new r) }
     ensures safe { LeavesEnd world.old world.new result }
 {
     match slice_of(world, key) {
         None => Ok(Err(Raised::new(Cause::IndexOut))),
-        Some(slice) => {
-            let all = put_part(world, slice, items, values)?;
-            Ok(change_list(world, list, all))
-        }
+        Some(slice) => match stood {
+            None => replace_part(world, list, slice, values),
+            Some(items) => {
+                let all = put_part(world, slice, &items, &values)?;
+                Ok(change_list(world, list, all))
+            }
+        },
     }
 }

@@ -46,20 +46,3 @@ pub(crate) fn standing<'a>(
         Some(items) => items.as_slice(),
     }
 }
-
-/// The same, as a list of its own.
-pub(crate) fn items_of_own(
-    world: &World,
-    stood: Option<Args>,
-    object: PyObjectRef,
-) -> Result<Args, OutOfMemory>
-    requires object { Holds world.now (IsNode object) }
-    requires stood { AllHold world.now (of_stood stood) }
-    ensures same { IfOk result (λ rs. (t : Reading) → items_stood (plain t world.now) stood object ≡ rs.items) }
-    ensures holds { IfOk result (λ rs. Holds world.now (AreNodes rs.items)) }
-{
-    match stood {
-        None => copy_args(world.alloc(), items(world, object)),
-        Some(items) => Ok(items),
-    }
-}

@@ -150,7 +150,7 @@ fn set_member(
         }
         MemberSetter::Offset(offset) => {
             if takes(world, member.kind, value) {
-                world.set_member_value(o, member.class, offset, value)?;
+                world.set_member_value(o, member.class, offset, value);
                 Ok(Step::End(Ok(Answer::Done)))
             } else {
                 Ok(Step::raise(Cause::MemberBool))

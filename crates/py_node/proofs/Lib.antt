@@ -1,6 +1,5 @@
 pub mod Copies
 pub mod Entries
-pub mod FirstEntries
 pub mod Texts
 pub mod KnownNames
 pub mod SlotTables

@@ -1,13 +1,11 @@
--- The members of an object: what stands in its places.
-use Rattle.std.specs.Prelude.{Bool, eqb, ◌&&◌, List, Option, option_and_then}
+-- The members of an object: what stands at the offsets of its places.
+use Rattle.std.specs.Prelude.{ℕ, List, Option, None, option_and_then, replicate, slice_get}
 use Rattle.py_node.specs.declared.refs.PyObjectRef.{PyObjectRef}
-use Rattle.py_node.specs.declared.members.MemberPlace.{MemberPlace}
-use Rattle.py_node.specs.Attributes.{value_of}
 
--- whether a place is the one that is looked for
-abbrev pub is_same_place : MemberPlace → MemberPlace → Bool
-is_same_place p wanted = eqb wanted.class.0 p.class.0 && eqb wanted.index p.index
+-- what stands at an offset, unless that place is empty. Past the last place nothing stands
+abbrev pub value_at : List (Option PyObjectRef) → ℕ → Option PyObjectRef
+value_at ms n = option_and_then (λ v. v) (slice_get ms n)
 
--- what stands in a place, unless it is empty
-abbrev pub member_at : List (MemberPlace × Option PyObjectRef) → MemberPlace → Option PyObjectRef
-member_at ms p = option_and_then (λ v. v) (value_of (λ q. is_same_place q p) ms)
+-- so many places, in which nothing stands
+abbrev pub empty_places : ℕ → List (Option PyObjectRef)
+empty_places n = replicate n None

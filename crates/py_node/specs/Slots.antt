@@ -1,5 +1,5 @@
 -- The slots: their places, printed names and special names, and how they are read.
-use Rattle.std.specs.Prelude.{ℕ, Bool, List, [], map, slice_index_or}
+use Rattle.std.specs.Prelude.{ℕ, Bool, List, [], map, ◌++◌, slice_index_or}
 use denote.Enum.Bare.{sameb}
 use denote.Enum.Declared.{tag_of}
 use Rattle.py_node.specs.contracts.entry.SlotId.{the_type}
@@ -9,7 +9,7 @@ use Rattle.py_node.specs.declared.slots.Sort.{Sort}
 use Rattle.py_node.specs.declared.slots.Sort.TheVariants.{Nearest}
 use Rattle.py_node.specs.declared.slots.Filling.{Filling}
 use Rattle.py_node.specs.declared.slots.Filling.TheVariants.{BySpecial}
-use Rattle.py_node.specs.declared.slots.TheConstants.{SLOTS, SPECIAL, FILLINGS}
+use Rattle.py_node.specs.declared.slots.TheConstants.{SLOTS, NUMBER_SPECIAL, OTHER_SPECIAL, FILLINGS}
 use Rattle.py_node.specs.Tree.{Text}
 
 -- all slots, in the order in which they are printed
@@ -24,9 +24,16 @@ slot_texts = map (λ r. r.1.now) SLOTS
 unfoldable pub slot_sorts : List Sort
 slot_sorts = map (λ r. r.2) SLOTS
 
+-- the special names of each slot of numbers, and of each other slot
+unfoldable pub number_names : List (List Known)
+number_names = map (λ r. r.1.now) NUMBER_SPECIAL
+
+unfoldable pub other_names : List (List Known)
+other_names = map (λ r. r.1.now) OTHER_SPECIAL
+
 -- the special names of each
 unfoldable pub slot_names : List (List Known)
-slot_names = map (λ r. r.1.now) SPECIAL
+slot_names = map (λ r. r.1.now) NUMBER_SPECIAL ++ map (λ r. r.1.now) OTHER_SPECIAL
 
 -- by which own attributes the built-in classes fill each
 unfoldable pub slot_fillings : List Filling

@@ -1,8 +1,7 @@
-//! The members of an object: what stands in its places.
+//! The members of an object: what stands in its places, one after another.
 
-ghost use Rattle.std.specs.Prelude.{◌≡◌, [], position, OnOk, OnErr};
-ghost use Rattle.py_node.specs.Attributes.{with_value};
-ghost use Rattle.py_node.specs.Places.{is_same_place, member_at};
+ghost use Rattle.std.specs.Prelude.{◌≡◌, ◌<◌, [], length, slice_set, IfOk};
+ghost use Rattle.py_node.specs.Places.{empty_places, value_at};
 
 use crate::memory::OutOfMemory;
 use crate::refs::{PyObjectRef, PyTypeRef};
@@ -16,69 +15,56 @@ pub struct MemberPlace {
     pub index: usize,
 }
 
-impl MemberPlace {
-    // Whether this is the place that is looked for.
-    fn is(&self, wanted: MemberPlace) -> bool
-        ensures { result ≡ is_same_place self.now wanted }
-    {
-        wanted.class.0 == self.class.0 && wanted.index == self.index
-    }
-}
-
-/// What stands in the places of an object. A place that was emptied keeps its entry, so that emptying takes no
-/// memory.
+/// What stands in the places of an object, each at its offset. There are as many as the object's class gives, also of those
+/// that are empty.
 #[derive(Drop)]
 pub struct PyMembers {
-    entries: Vec<(MemberPlace, Option<PyObjectRef>)>,
+    values: Vec<Option<PyObjectRef>>,
 }
 
 impl Model for PyMembers {
     ghost use Rattle.std.specs.Prelude.{List, Option};
     ghost use Rattle.py_node.specs.declared.refs.PyObjectRef.{PyObjectRef as Object};
-    ghost use Rattle.py_node.specs.declared.members.MemberPlace.{MemberPlace as Place};
 
-    ghost Value = { List (Place × Option Object) };
+    ghost Value = { List (Option Object) };
 
-    ghost view = { λ a. a.entries.items };
+    ghost view = { λ a. a.values.items };
 }
 
 impl PyMembers {
-    /// No members: every place is empty.
+    /// No places. They take no memory.
     pub fn new(alloc: Global) -> PyMembers
         ensures { result ≡ [] }
     {
         PyMembers {
-            entries: Vec::new(alloc),
+            values: Vec::new(alloc),
         }
     }
 
-    /// What stands in a place, unless it is empty.
-    pub fn get(&self, place: MemberPlace) -> Option<PyObjectRef>
-        ensures { result ≡ member_at self.now place }
+    /// So many places, all of them empty.
+    pub fn with_places(alloc: Global, count: usize) -> Result<PyMembers, OutOfMemory>
+        ensures { IfOk result (λ m. m ≡ empty_places count) }
     {
-        match self.position(place) {
+        Ok(PyMembers {
+            values: Vec::from_elem(alloc, None, count)?,
+        })
+    }
+
+    /// What stands at an offset, unless that place is empty or there is none.
+    pub fn get(&self, offset: usize) -> Option<PyObjectRef>
+        ensures { result ≡ value_at self.now offset }
+    {
+        match self.values.get(offset) {
             None => None,
-            Some(at) => self.entries[at].1,
+            Some(value) => *value,
         }
     }
 
-    /// Sets a place, or empties it. Where memory runs out, all places are as they were; it never does for a place
-    /// that was set before.
-    pub fn set(&mut self, place: MemberPlace, value: Option<PyObjectRef>) -> Result<(), OutOfMemory>
-        ensures set { OnOk result (self.new ≡ with_value is_same_place self.old place value) }
-        ensures err { OnErr result (self.new ≡ self.old) }
+    /// Sets the place at an offset, or empties it. No other place changes, and it takes no memory.
+    pub fn set(&mut self, offset: usize, value: Option<PyObjectRef>)
+        requires { offset < length self.old }
+        ensures { self.new ≡ slice_set self.old offset value }
     {
-        match self.position(place) {
-            None => self.entries.push((place, value))?,
-            Some(at) => self.entries[at].1 = value,
-        }
-        Ok(())
-    }
-
-    // Where the entry of a place is, if there is one.
-    fn position(&self, place: MemberPlace) -> Option<usize>
-        ensures { result ≡ position (λ e. is_same_place e.0 place) self.now }
-    {
-        self.entries.iter().position(|entry| entry.0.is(place))
+        self.values[offset] = value;
     }
 }

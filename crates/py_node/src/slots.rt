@@ -1,7 +1,7 @@
 //! The slots: their printed names, how they are read, and the special names that fill them.
 
 ghost use Rattle.std.specs.Prelude.{◌≡◌, ◌<◌, Some, map, length, slice_get};
-ghost use Rattle.py_node.specs.Slots.{all_slots, slot_texts, slot_sorts, slot_names, slot_fillings, slot_count, place_of, printed_name, sort_of, names_of, filling_of};
+ghost use Rattle.py_node.specs.Slots.{all_slots, slot_texts, slot_sorts, number_names, other_names, slot_fillings, slot_count, place_of, printed_name, sort_of, names_of, filling_of};
 
 use crate::entry::SlotId;
 use crate::known::Known;
@@ -138,8 +138,9 @@ pub const SLOTS: [(SlotId, &str, Sort); 73] = [
     (SlotId::Del, "del", Sort::Nearest),
 ];
 
-/// The slots in order, each with the special names that fill it in a class that a script makes.
-pub const SPECIAL: [(SlotId, &[Known]); 73] = [
+/// The slots of numbers in order, each with the special names that fill it in a class that a script makes. The two parts of
+/// the table are constants of their own, since Rattle's own compiler builds none of more than 62 parts.
+pub const NUMBER_SPECIAL: [(SlotId, &[Known]); 49] = [
     (SlotId::Add, &[Known::Add]),
     (SlotId::RightAdd, &[Known::RightAdd]),
     (SlotId::InplaceAdd, &[Known::InplaceAdd]),
@@ -189,6 +190,10 @@ pub const SPECIAL: [(SlotId, &[Known]); 73] = [
     (SlotId::Absolute, &[]),
     (SlotId::Invert, &[]),
     (SlotId::Boolean, &[]),
+];
+
+/// The other slots in order, each with the special names that fill it in a class that a script makes.
+pub const OTHER_SPECIAL: [(SlotId, &[Known]); 24] = [
     (SlotId::SeqLength, &[Known::Len]),
     (SlotId::SeqItem, &[Known::GetItem]),
     (SlotId::SeqAssItem, &[Known::SetItem, Known::DelItem]),
@@ -314,13 +319,22 @@ pub fn slots() -> &'static [(SlotId, &'static str, Sort)]
     &SLOTS
 }
 
-// All slots in order, each with its special names.
-#[tactic(auto, unfolding(crate::specs::Slots::slot_names))]
-fn special() -> &'static [(SlotId, &'static [Known])]
-    ensures names { map (λ r. r.1.now) result.now ≡ slot_names }
-    ensures count { length result.now ≡ slot_count }
+// The slots of numbers in order, each with its special names.
+#[tactic(auto, unfolding(crate::specs::Slots::number_names))]
+fn number_special() -> &'static [(SlotId, &'static [Known])]
+    ensures names { map (λ r. r.1.now) result.now ≡ number_names }
+    ensures count { length result.now ≡ 49 }
 {
-    &SPECIAL
+    &NUMBER_SPECIAL
+}
+
+// The other slots in order, each with its special names.
+#[tactic(auto, unfolding(crate::specs::Slots::other_names))]
+fn other_special() -> &'static [(SlotId, &'static [Known])]
+    ensures names { map (λ r. r.1.now) result.now ≡ other_names }
+    ensures count { length result.now ≡ 24 }
+{
+    &OTHER_SPECIAL
 }
 
 // All slots in order, each with the own attributes by which a built-in class fills it.
@@ -367,11 +381,15 @@ impl SlotId {
     }
 
     /// The special names that fill the slot in a class that a script makes.
-    #[tactic(auto, unfolding(crate::specs::Slots::names_of))]
     pub fn special_names(self) -> &'static [Known]
         ensures { result.now ≡ names_of self }
     {
-        special()[self.place()].1
+        let (place, numbers) = (self.place(), number_special());
+        if place < numbers.len() {
+            numbers[place].1
+        } else {
+            other_special()[place - numbers.len()].1
+        }
     }
 
     /// By which of its own attributes a built-in class fills the slot.

@@ -4,6 +4,7 @@
 mod ask;
 pub mod calls;
 mod class_changes;
+mod look_ahead;
 pub mod machine;
 mod makers;
 mod mark;

@@ -18,6 +18,7 @@ ghost use Rattle.natives.specs.Rows.{of_natives_kept};
 ghost use Rattle.vm_eval.specs.Say.{Begins, Resumes, step_among, of_kept, bodies_in};
 ghost use Rattle.vm_eval.specs.Stack.{Answers, Reaches, Keeps, RunsAbove, AsDeep, EndsDeep, turns_left, of_turn, of_end};
 
+use crate::look_ahead;
 use crate::protocols::{Branch, branch_of};
 use class_make::ClassKept;
 use class_world::World;
@@ -74,7 +75,7 @@ fn begin(world: &mut World, task: Task) -> Result<Step<Kept>, OutOfMemory>
             Ok(of_eval(step))
         }
         Task::Attribute(task) => {
-            let step = proto_attr::begin(world, task)?;
+            let step = look_ahead::begin(world, task)?;
             Ok(of_attribute(step))
         }
         Task::Descriptor(task) => {

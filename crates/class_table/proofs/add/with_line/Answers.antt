@@ -22,8 +22,8 @@ returns c =
     record {
       class = refl;
       attrs = c.are_distinct.ensures;
-      full = c.in_ok-slots.ensures;
-      mro = line-given kept ok new c.requires.fresh c.requires.below c.args.best c.requires.best (numbers c.args.rest.now) c.requires.rest ∙ ap Some (sym c.in_ok-mro.ensures);
+      full = c.empty_slots-slots.ensures;
+      mro = line-given kept ok new c.requires.fresh c.requires.below c.args.best c.requires.best (numbers c.args.rest.now) c.requires.rest ∙ ap Some (sym c.in_ok-line.ensures);
       base = base-given kept ok new c.requires.fresh c.requires.below c.args.best c.requires.best;
       solid =
           solid-given kept ok new c.requires.fresh c.requires.below c.args.best c.requires.best

@@ -1,4 +1,4 @@
-use Rattle.std.proofs.Common.{List, ℕ, sym, ap, subst, ◌∙◌}
+use Rattle.std.proofs.Common.{List, ℕ, ◌≤◌, length, sym, ap, subst, ◌∙◌, arith}
 use Rattle.std.proofs.lemmas.Option.{slice_get_within}
 use Rattle.class_model.specs.Order.{Includes}
 use Rattle.class_table.specs.Descendants.{AreAdded}
@@ -32,4 +32,5 @@ loop-index-preserved c =
 
 pub returns : goal.returns
 returns c =
-    finding-full c.args.classes.now c.requires.coherent c.args.class.0 c.loop-index.found c.loop-index.index c.loop-index-test.false c.loop-index.invariant c.all-all.ensures.distinct
+    let past : length c.args.classes.now ≤ c.loop-index.index = omega arith in
+    finding-full c.args.classes.now c.requires.coherent c.args.class.0 c.loop-index.found c.loop-index.index past c.loop-index.invariant c.all-all.ensures.distinct

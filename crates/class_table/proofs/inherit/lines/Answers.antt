@@ -18,6 +18,6 @@ pub loop-base-preserved : goal.loop-base-preserved
 loop-base-preserved c =
     let t = classes_of c.args.classes.now in
     let here = c.stored_at.ensures.here in
-    let held : lin t (get_or c.args.bases.now c.loop-base.base-index (record { 0 = 0 })).0 ≡ Some c.stored_at.result.now.mro = ap (lin t) (sym here.number) ∙ c.requires.coherent.mro here.place c.stored_at.result.now here.at in
+    let held : lin t (get_or c.args.bases.now c.loop-base.base-index (record { 0 = 0 })).0 ≡ Some c.stored_at.result.mro = ap (lin t) (sym here.number) ∙ c.requires.coherent.mro here.place c.stored_at.result here.at in
     ap (λ (vs : List (Vec PyTypeRef)). map Some (rows vs)) c.in_ok-push.ensures.items
     ∙ lines-more (lin t) c.args.bases.now c.loop-base.lines.items c.in_ok-line.line c.loop-base.base-index (record { 0 = 0 }) c.loop-base-test.true c.loop-base.invariant (ap Some (ap numbers c.in_ok-line.ensures.items ∙ c.mro.ensures) ∙ sym held)

@@ -9,7 +9,7 @@ use Rattle.class_table.proofs.member_place.place_at.Goals as goal
 pub place_along-requires-clause-count : goal.place_along-requires-clause-count
 place_along-requires-clause-count c =
     let t = classes_of c.args.classes.now in
-    let stored = c.stored_at-stored.result.now in
+    let stored = c.stored_at-stored.result in
     let here = c.stored_at-stored.ensures.here in
     let line : lin t stored.number ≡ Some stored.mro = c.requires.coherent.mro here.place stored here.at in
     let kept : place_count t stored.number ≡ Some stored.places = c.requires.coherent.places here.place stored here.at in
@@ -20,7 +20,7 @@ place_along-requires-clause-count c =
 pub returns : goal.returns
 returns c =
     let t = classes_of c.args.classes.now in
-    let stored = c.stored_at-stored.result.now in
+    let stored = c.stored_at-stored.result in
     let here = c.stored_at-stored.ensures.here in
     let line : lin t stored.number ≡ Some stored.mro = c.requires.coherent.mro here.place stored here.at in
     c.place_along.ensures

@@ -1,4 +1,4 @@
-use Rattle.std.proofs.Common.{◌≡◌, Some, sym, ap, ◌∙◌}
+use Rattle.std.proofs.Common.{◌≡◌, ◌<◌, Some, length, sym, ap, ◌∙◌, arith}
 use Rattle.std.specs.Prelude.{slice_get}
 use Rattle.std.proofs.lemmas.Option.{slice_get-get_or}
 use Rattle.class_model.specs.Class.{class_at}
@@ -8,6 +8,7 @@ use Rattle.class_table.proofs.place.find_near.Goals as goal
 
 pub returns-then-number-class-clause-class : goal.returns-then-number-class-clause-class
 returns-then-number-class-clause-class c =
-    let k = c.index-classes-near.result in
-    let there : slice_get c.args.classes.now c.args.near ≡ Some k = slice_get-get_or c.args.classes.now c.args.near k c.if-near-classes.true ∙ ap Some (sym c.index-classes-near.is) in
+    let k = c.at-stored.result in
+    let inside : c.args.near < length c.args.classes.now = let l = c.if-near-len.true in let n = c.len.ensures in omega (arith, l, n) in
+    let there : slice_get c.args.classes.now c.args.near ≡ Some k = slice_get-get_or c.args.classes.now c.args.near k inside ∙ ap Some (sym c.at-stored.ensures) in
     sym (ap (class_at (classes_of c.args.classes.now)) (sym (sym c.number.ensures ∙ c.if-number-class.true)) ∙ place-class c.args.classes.now c.requires c.args.near k there)

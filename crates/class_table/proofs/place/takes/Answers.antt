@@ -1,4 +1,4 @@
-use Rattle.std.proofs.Common.{◌≡◌, ◌-◌, suc, length, sym, ap, ◌∙◌, arith}
+use Rattle.std.proofs.Common.{◌≡◌, ◌-◌, suc, length, get_or, sym, ap, ◌∙◌, arith}
 use Rattle.std.specs.Prelude.{nat_lt}
 use Rattle.std.proofs.lemmas.Bool.{eqb-false}
 use Rattle.class_table.proofs.Found.{limit-place}
@@ -8,4 +8,5 @@ pub returns-else-is_empty : goal.returns-else-is_empty
 returns-else-is_empty c =
     let some : length c.args.classes.now ≡ 0 → ⊥ = eqb-false (length c.args.classes.now) 0 (sym c.is_empty.ensures ∙ c.if-is_empty.false) in
     let size : length c.args.classes.now ≡ suc (length c.args.classes.now - 1) = omega arith in
-    ap (λ n. nat_lt n c.args.number.0) c.number.ensures ∙ limit-place c.args.classes.now c.requires (length c.args.classes.now - 1) c.args.number.0 c.index-classes-classes.result size c.index-classes-classes.is
+    let at : c.at.result ≡ get_or c.args.classes.now (length c.args.classes.now - 1) c.at.result = c.at.ensures ∙ ap (λ n. get_or c.args.classes.now (n - 1) c.at.result) c.len.ensures in
+    ap (λ n. nat_lt n c.args.number.0) c.number.ensures ∙ limit-place c.args.classes.now c.requires (length c.args.classes.now - 1) c.args.number.0 c.at.result size at

@@ -14,8 +14,8 @@ use Rattle.class_table.proofs.probe.values_for.Goals as goal
 pub returns-clause-found : goal.returns-clause-found
 returns-clause-found g c = λ d.
     let t = classes_of c.args.classes.now in
-    let r = c.index-classes-at.result in
-    let q : r ≡ get_or c.args.classes.now c.args.at d = c.index-classes-at.is ∙ get_or_default c.args.classes.now c.args.at r d c.requires.inside in
+    let r = c.at-stored.result in
+    let q : r ≡ get_or c.args.classes.now c.args.at d = c.at-stored.ensures ∙ get_or_default c.args.classes.now c.args.at r d c.requires.inside in
     let A : List ℕ → Type 0 = λ line. AreAdded (λ n. along (is_called n) t line) (replicate 70 None) c.add_along.new.values in
     let own = c.own_value.ensures.value
     ∙ ap (λ m. own_of (λ k. is_same_name k c.interned-name.result) (class_at t m)) c.number.ensures
@@ -25,8 +25,8 @@ returns-clause-found g c = λ d.
 
 pub returns-clause-steps : goal.returns-clause-steps
 returns-clause-steps g c = λ d.
-    let r = c.index-classes-at.result in
-    let q : r ≡ get_or c.args.classes.now c.args.at d = c.index-classes-at.is ∙ get_or_default c.args.classes.now c.args.at r d c.requires.inside in
+    let r = c.at-stored.result in
+    let q : r ≡ get_or c.args.classes.now c.args.at d = c.at-stored.ensures ∙ get_or_default c.args.classes.now c.args.at r d c.requires.inside in
     let some = line-some c.args.classes.now c.requires.lines c.args.at d c.requires.inside in
     let line = length c.mro.result.now in
     let long : line ≡ length (get_or c.args.classes.now c.args.at d).mro = sym (length-map c.mro.result.now (λ (x : PyTypeRef). x.0)) ∙ ap length c.mro.ensures ∙ ap (λ (k : StoredClass). length k.mro) q in

@@ -1,4 +1,5 @@
-use Rattle.std.proofs.Common.{◌≡◌, ◌*◌, ℕ, List, get_or, set, refl, sym, ap, subst, ◌∙◌, arith}
+use Rattle.std.proofs.Common.{length, ◌≡◌, ◌*◌, ℕ, List, get_or, set, refl, sym, ap, subst, ◌∙◌, arith}
+use Rattle.std.proofs.lemmas.List.{get_or_default}
 use Rattle.std.proofs.lemmas.List.{length-set}
 use Rattle.class_model.specs.Class.{is_heap}
 use Rattle.class_model.specs.Change.{with_bases}
@@ -6,49 +7,58 @@ use Rattle.class_table.specs.Keys.{numbers}
 use Rattle.class_table.specs.Stored.{StoredClass, class_of, classes_of}
 use Rattle.class_table.specs.Affected.{AreAffected}
 use Rattle.class_table.specs.Renewed.{AreRenewed, AreSwapped}
+use Rattle.class_table.specs.Lines.{AreLinesOf}
 use Rattle.class_table.specs.Descendants.{descendants, AreRanked}
 use Rattle.class_table.specs.Settle.{is_ranked, line_places, places_kept}
 use Rattle.class_table.specs.declared.descendants.Ranked.{Ranked}
-use Rattle.class_table.proofs.Found.{number-within}
+use Rattle.class_table.proofs.Found.{element, number-within}
 use Rattle.class_table.proofs.Counted.{rise-within}
 use Rattle.class_table.proofs.Settles.{settled-plain}
+use Rattle.class_table.proofs.Lined.{lines-of-edited}
 use Rattle.class_table.proofs.Renewing.{lines-mid, full-mid, inside-mid, away-mid, places-mid, plain-final, coherent-final}
 use Rattle.class_table.proofs.rebase.change_bases.Goals as goal
-
--- the classes after the bases of one were changed
-put : (kept : List StoredClass) (at : ℕ) (bs : List ℕ) (k new : StoredClass) → k ≡ get_or kept at k → new ≡ record (get_or kept at k) { bases = bs } → set kept at new ≡ set kept at (record k { bases = bs })
-put kept at bs k new is e = ap (set kept at) (e ∙ ap (λ (z : StoredClass). record z { bases = bs }) (sym is))
 
 pub place-at-requires-clause-ascending : goal.place-at-requires-clause-ascending
 place-at-requires-clause-ascending g c = c.requires.coherent.sound.ascending
 
-pub bounds-classes-at : goal.bounds-classes-at
-bounds-classes-at g c = number-within c.args.classes.now c.place-at.result c.args.class.0 c.place-at.ensures
+pub set_bases-requires : goal.set_bases-requires
+set_bases-requires g c = number-within c.args.classes.now c.place-at.result c.args.class.0 c.place-at.ensures
 
 pub swap_in-requires : goal.swap_in-requires
 swap_in-requires g c =
     let kept = c.args.classes.now in
     let bs = numbers c.args.bases.items in
+    let at = c.place-at.result in
+    let within = number-within kept at c.args.class.0 c.place-at.ensures in
+    let k = get_or kept at (element kept at within) in
+    let held : k ≡ get_or kept at k = get_or_default kept at (element kept at within) k within in
     let A : List ℕ → Type 0 = λ ps. AreAffected kept c.args.class.0 bs ps in
     let B : List ℕ → Type 0 = λ ps. AreRenewed kept c.args.class.0 bs ps c.args.plan.renewed.items in
+    let L : List ℕ → Type 0 = λ ps. AreLinesOf kept ps c.args.plan.renewed.items c.args.plan.lines in
     let affected = subst A (sym c.all.ensures.all) c.requires.affected in
     let are = subst B (sym c.all.ensures.all) c.requires.renewed in
-    let n = length-set kept c.place-at.result c.set_bases.new.self in
+    let lines = subst L (sym c.all.ensures.all) c.requires.lines in
+    let first : c.set_bases.new.self ≡ set kept at (record k { bases = bs }) = c.set_bases.ensures (element kept at within) in
+    let n : length c.set_bases.new.self ≡ length kept = ap length first ∙ length-set kept at (record k { bases = bs }) in
+    let M : List StoredClass → Type 0 = λ ys. AreLinesOf ys c.all.result.now c.args.plan.renewed.items c.args.plan.lines in
     record {
       count = are.count;
       distinct = affected.distinct;
       inside = λ i h. let l = affected.within i h in omega (arith, l, n);
+      lines = subst M (sym first) (lines-of-edited (λ j. record j { bases = bs }) (λ j. refl) kept at k held within c.all.result.now c.args.plan.renewed.items c.args.plan.lines lines);
     }
 
 pub settle_all-requires-clause-lines : goal.settle_all-requires-clause-lines
 settle_all-requires-clause-lines g c =
     let kept = c.args.classes.now in
-    let k = c.index-classes-at.result in
     let bs = numbers c.args.bases.items in
     let renewed = c.args.plan.renewed.items in
     let at = c.place-at.result in
+    let within = number-within kept at c.args.class.0 c.place-at.ensures in
+    let k = get_or kept at (element kept at within) in
+    let held : k ≡ get_or kept at k = get_or_default kept at (element kept at within) k within in
     let mid = c.swap_in.new.classes in
-    let first = put kept at bs k c.set_bases.new.self c.index-classes-at.is c.set_bases.ensures in
+    let first = c.set_bases.ensures (element kept at within) in
     let P : List StoredClass → Type 0 = λ ys. AreSwapped c.all.result.now renewed ys mid in
     let swapped = subst P first c.swap_in.ensures in
     let touched = c.all.result.now in
@@ -56,17 +66,19 @@ settle_all-requires-clause-lines g c =
     let B : List ℕ → Type 0 = λ ps. AreRenewed kept c.args.class.0 bs ps renewed in
     let affected = subst A (sym c.all.ensures.all) c.requires.affected in
     let are = subst B (sym c.all.ensures.all) c.requires.renewed in
-    lines-mid kept c.requires.coherent c.args.class.0 bs c.requires.own c.requires.there c.requires.passed touched affected renewed are at c.place-at.ensures k c.index-classes-at.is mid swapped
+    lines-mid kept c.requires.coherent c.args.class.0 bs c.requires.own c.requires.there c.requires.passed touched affected renewed are at c.place-at.ensures k held mid swapped
 
 pub settle_all-requires-clause-full : goal.settle_all-requires-clause-full
 settle_all-requires-clause-full g c =
     let kept = c.args.classes.now in
-    let k = c.index-classes-at.result in
     let bs = numbers c.args.bases.items in
     let renewed = c.args.plan.renewed.items in
     let at = c.place-at.result in
+    let within = number-within kept at c.args.class.0 c.place-at.ensures in
+    let k = get_or kept at (element kept at within) in
+    let held : k ≡ get_or kept at k = get_or_default kept at (element kept at within) k within in
     let mid = c.swap_in.new.classes in
-    let first = put kept at bs k c.set_bases.new.self c.index-classes-at.is c.set_bases.ensures in
+    let first = c.set_bases.ensures (element kept at within) in
     let P : List StoredClass → Type 0 = λ ys. AreSwapped c.all.result.now renewed ys mid in
     let swapped = subst P first c.swap_in.ensures in
     let touched = c.all.result.now in
@@ -74,17 +86,19 @@ settle_all-requires-clause-full g c =
     let B : List ℕ → Type 0 = λ ps. AreRenewed kept c.args.class.0 bs ps renewed in
     let affected = subst A (sym c.all.ensures.all) c.requires.affected in
     let are = subst B (sym c.all.ensures.all) c.requires.renewed in
-    full-mid kept c.requires.coherent c.args.class.0 bs c.requires.own c.requires.there c.requires.passed touched affected renewed are at c.place-at.ensures k c.index-classes-at.is mid swapped
+    full-mid kept c.requires.coherent c.args.class.0 bs c.requires.own c.requires.there c.requires.passed touched affected renewed are at c.place-at.ensures k held mid swapped
 
 pub settle_all-requires-clause-inside : goal.settle_all-requires-clause-inside
 settle_all-requires-clause-inside g c =
     let kept = c.args.classes.now in
-    let k = c.index-classes-at.result in
     let bs = numbers c.args.bases.items in
     let renewed = c.args.plan.renewed.items in
     let at = c.place-at.result in
+    let within = number-within kept at c.args.class.0 c.place-at.ensures in
+    let k = get_or kept at (element kept at within) in
+    let held : k ≡ get_or kept at k = get_or_default kept at (element kept at within) k within in
     let mid = c.swap_in.new.classes in
-    let first = put kept at bs k c.set_bases.new.self c.index-classes-at.is c.set_bases.ensures in
+    let first = c.set_bases.ensures (element kept at within) in
     let P : List StoredClass → Type 0 = λ ys. AreSwapped c.all.result.now renewed ys mid in
     let swapped = subst P first c.swap_in.ensures in
     let touched = c.all.result.now in
@@ -94,17 +108,19 @@ settle_all-requires-clause-inside g c =
     let are = subst B (sym c.all.ensures.all) c.requires.renewed in
     let Q : List Ranked → Type 0 = λ rs. AreRanked kept c.args.class.0 rs in
     let all = subst Q (sym c.deref.ensures.value) c.requires.ranked in
-    inside-mid kept c.requires.coherent c.args.class.0 bs c.requires.own c.requires.there c.requires.passed touched affected renewed are at c.place-at.ensures k c.index-classes-at.is mid swapped c.deref.result.now all
+    inside-mid kept c.requires.coherent c.args.class.0 bs c.requires.own c.requires.there c.requires.passed touched affected renewed are at c.place-at.ensures k held mid swapped c.deref.result.now all
 
 pub settle_all-requires-clause-away : goal.settle_all-requires-clause-away
 settle_all-requires-clause-away g c =
     let kept = c.args.classes.now in
-    let k = c.index-classes-at.result in
     let bs = numbers c.args.bases.items in
     let renewed = c.args.plan.renewed.items in
     let at = c.place-at.result in
+    let within = number-within kept at c.args.class.0 c.place-at.ensures in
+    let k = get_or kept at (element kept at within) in
+    let held : k ≡ get_or kept at k = get_or_default kept at (element kept at within) k within in
     let mid = c.swap_in.new.classes in
-    let first = put kept at bs k c.set_bases.new.self c.index-classes-at.is c.set_bases.ensures in
+    let first = c.set_bases.ensures (element kept at within) in
     let P : List StoredClass → Type 0 = λ ys. AreSwapped c.all.result.now renewed ys mid in
     let swapped = subst P first c.swap_in.ensures in
     let touched = c.all.result.now in
@@ -114,17 +130,19 @@ settle_all-requires-clause-away g c =
     let are = subst B (sym c.all.ensures.all) c.requires.renewed in
     let Q : List Ranked → Type 0 = λ rs. AreRanked kept c.args.class.0 rs in
     let all = subst Q (sym c.deref.ensures.value) c.requires.ranked in
-    away-mid kept c.requires.coherent c.args.class.0 bs c.requires.own c.requires.there c.requires.passed touched affected renewed are at c.place-at.ensures k c.index-classes-at.is mid swapped c.deref.result.now all
+    away-mid kept c.requires.coherent c.args.class.0 bs c.requires.own c.requires.there c.requires.passed touched affected renewed are at c.place-at.ensures k held mid swapped c.deref.result.now all
 
 pub returns-clause-coherent : goal.returns-clause-coherent
 returns-clause-coherent g c =
     let kept = c.args.classes.now in
-    let k = c.index-classes-at.result in
     let bs = numbers c.args.bases.items in
     let renewed = c.args.plan.renewed.items in
     let at = c.place-at.result in
+    let within = number-within kept at c.args.class.0 c.place-at.ensures in
+    let k = get_or kept at (element kept at within) in
+    let held : k ≡ get_or kept at k = get_or_default kept at (element kept at within) k within in
     let mid = c.swap_in.new.classes in
-    let first = put kept at bs k c.set_bases.new.self c.index-classes-at.is c.set_bases.ensures in
+    let first = c.set_bases.ensures (element kept at within) in
     let P : List StoredClass → Type 0 = λ ys. AreSwapped c.all.result.now renewed ys mid in
     let swapped = subst P first c.swap_in.ensures in
     let touched = c.all.result.now in
@@ -135,17 +153,19 @@ returns-clause-coherent g c =
     let Q : List Ranked → Type 0 = λ rs. AreRanked kept c.args.class.0 rs in
     let all = subst Q (sym c.deref.ensures.value) c.requires.ranked in
     let plain = settled-plain (λ k. is_heap (class_of k)) (λ t k. refl) (λ i k. is_ranked c.deref.result.now i) mid c.settle_all.new.classes c.settle_all.ensures.settled in
-    coherent-final kept c.requires.coherent c.args.class.0 bs c.requires.own c.requires.there c.requires.passed touched affected renewed are at c.place-at.ensures k c.index-classes-at.is mid swapped c.deref.result.now all c.settle_all.new.classes c.settle_all.ensures.settled plain
+    coherent-final kept c.requires.coherent c.args.class.0 bs c.requires.own c.requires.there c.requires.passed touched affected renewed are at c.place-at.ensures k held mid swapped c.deref.result.now all c.settle_all.new.classes c.settle_all.ensures.settled plain
 
 pub returns-clause-set : goal.returns-clause-set
 returns-clause-set g c =
     let kept = c.args.classes.now in
-    let k = c.index-classes-at.result in
     let bs = numbers c.args.bases.items in
     let renewed = c.args.plan.renewed.items in
     let at = c.place-at.result in
+    let within = number-within kept at c.args.class.0 c.place-at.ensures in
+    let k = get_or kept at (element kept at within) in
+    let held : k ≡ get_or kept at k = get_or_default kept at (element kept at within) k within in
     let mid = c.swap_in.new.classes in
-    let first = put kept at bs k c.set_bases.new.self c.index-classes-at.is c.set_bases.ensures in
+    let first = c.set_bases.ensures (element kept at within) in
     let P : List StoredClass → Type 0 = λ ys. AreSwapped c.all.result.now renewed ys mid in
     let swapped = subst P first c.swap_in.ensures in
     let touched = c.all.result.now in
@@ -156,17 +176,19 @@ returns-clause-set g c =
     let Q : List Ranked → Type 0 = λ rs. AreRanked kept c.args.class.0 rs in
     let all = subst Q (sym c.deref.ensures.value) c.requires.ranked in
     let plain = settled-plain (λ k. is_heap (class_of k)) (λ t k. refl) (λ i k. is_ranked c.deref.result.now i) mid c.settle_all.new.classes c.settle_all.ensures.settled in
-    plain-final kept c.requires.coherent c.args.class.0 bs c.requires.own c.requires.there c.requires.passed touched affected renewed are at c.place-at.ensures k c.index-classes-at.is mid swapped c.deref.result.now all c.settle_all.new.classes c.settle_all.ensures.settled plain
+    plain-final kept c.requires.coherent c.args.class.0 bs c.requires.own c.requires.there c.requires.passed touched affected renewed are at c.place-at.ensures k held mid swapped c.deref.result.now all c.settle_all.new.classes c.settle_all.ensures.settled plain
 
 pub returns-clause-steps : goal.returns-clause-steps
 returns-clause-steps g c =
     let kept = c.args.classes.now in
-    let k = c.index-classes-at.result in
     let bs = numbers c.args.bases.items in
     let renewed = c.args.plan.renewed.items in
     let at = c.place-at.result in
+    let within = number-within kept at c.args.class.0 c.place-at.ensures in
+    let k = get_or kept at (element kept at within) in
+    let held : k ≡ get_or kept at k = get_or_default kept at (element kept at within) k within in
     let mid = c.swap_in.new.classes in
-    let first = put kept at bs k c.set_bases.new.self c.index-classes-at.is c.set_bases.ensures in
+    let first = c.set_bases.ensures (element kept at within) in
     let P : List StoredClass → Type 0 = λ ys. AreSwapped c.all.result.now renewed ys mid in
     let swapped = subst P first c.swap_in.ensures in
     let touched = c.all.result.now in
@@ -176,5 +198,5 @@ returns-clause-steps g c =
     let are = subst B (sym c.all.ensures.all) c.requires.renewed in
     let Q : List Ranked → Type 0 = λ rs. AreRanked kept c.args.class.0 rs in
     let all = subst Q (sym c.deref.ensures.value) c.requires.ranked in
-    let few = places-mid kept c.requires.coherent c.args.class.0 bs c.requires.own c.requires.there c.requires.passed touched affected renewed are at c.place-at.ensures k c.index-classes-at.is mid swapped c.deref.result.now all in
+    let few = places-mid kept c.requires.coherent c.args.class.0 bs c.requires.own c.requires.there c.requires.passed touched affected renewed are at c.place-at.ensures k held mid swapped c.deref.result.now all in
     rise-within 0 (70 * places_kept mid c.deref.result.now) 0 (70 * line_places (with_bases (classes_of kept) c.args.class.0 bs) (descendants (classes_of kept) c.args.class.0)) c.args.steps.now c.settle_all.new.steps c.settle_all.ensures.steps (omega arith) (omega (arith, few))

@@ -1,10 +1,9 @@
-use Rattle.std.proofs.Common.{◌≡◌, ℕ, List, Some, None, sym, ap, ◌∙◌}
+use Rattle.std.proofs.Common.{refl, ◌≡◌, ℕ, List, Some, None, sym, ap, ◌∙◌}
 use Rattle.std.specs.Prelude.{is_some, IsSome, option_map}
 use Rattle.py_node.specs.declared.refs.PyStrInterned.{PyStrInterned}
 use Rattle.class_model.specs.Class.{Classes}
 use Rattle.class_model.specs.Change.{failing}
 use Rattle.class_table.specs.Keys.{numbers}
-use Rattle.class_table.specs.Stored.{classes_of}
 use Rattle.class_table.specs.Rebase.{Refusal, refused_change, refused_rebase}
 use Rattle.class_table.proofs.Passed.{either-none, map-none}
 use Rattle.class_table.proofs.rebase.rebase.Goals as goal
@@ -19,4 +18,4 @@ not-early t u c bs ds p q none some =
 
 pub returns-clause-uncounted : goal.returns-clause-uncounted
 returns-clause-uncounted g c = λ some.
-    absurd (not-early _ _ c.args.class.0 _ _ (ap classes_of c.deref.ensures.value) (ap numbers c.deref-2.ensures.value) c.in-Ok.ensures.refused some)
+    absurd (not-early _ _ c.args.class.0 _ _ refl (ap numbers c.deref.ensures.value) c.in-Ok.ensures.refused some)

@@ -1,4 +1,4 @@
-use Rattle.std.proofs.Common.{◌≡◌, ℕ, cond, ltb, Some}
+use Rattle.std.proofs.Common.{◌≡◌, ℕ, cond, length, ltb, Some}
 use Rattle.std.specs.Prelude.{slice_get}
 use Rattle.class_table.specs.Stored.{StoredClass, classes_of}
 use Rattle.class_table.specs.Coherent.{HasLines}
@@ -7,6 +7,7 @@ use Rattle.class_table.proofs.refresh.patch_all.Given as goal
 
 abbrev pub invariant-loop-place : goal.invariant-loop-place
 invariant-loop-place l = record {
+  count : length l.classes ≡ length l.fn.classes;
   lines : HasLines l.classes;
   same : classes_of l.classes ≡ classes_of l.fn.classes;
   at : (i : ℕ) (k : StoredClass) → slice_get l.fn.classes i ≡ Some k → slice_get l.classes i ≡ Some (cond (ltb i l.place) (refreshed_one (classes_of l.fn.classes) l.class.0 k) k);

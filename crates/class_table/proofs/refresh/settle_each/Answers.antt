@@ -4,6 +4,7 @@ use Rattle.class_table.specs.Stored.{StoredClass, classes_of}
 use Rattle.class_table.specs.Coherent.{HasLines}
 use Rattle.class_table.proofs.Found.{element}
 use Rattle.class_table.proofs.Refreshed.{part, part-start, part-end, part-lines, part-then}
+use Rattle.class_table.proofs.Written.{written-inside}
 use Rattle.class_table.proofs.refresh.settle_each.Goals as goal
 
 pub loop-place-init : goal.loop-place-init
@@ -29,3 +30,8 @@ loop-place-preserved c =
 
 pub returns : goal.returns
 returns c = λ d. c.loop-place.invariant.is d ∙ part-end c.args.classes.now c.args.at (get_or c.args.classes.now c.args.at d) c.requires.inside (get_or_default c.args.classes.now c.args.at d (get_or c.args.classes.now c.args.at d) c.requires.inside) c.loop-place.place c.loop-place-test.false (c.requires.full d)
+
+pub patch_slot-requires-clause-inside : goal.patch_slot-requires-clause-inside
+patch_slot-requires-clause-inside c =
+    let e = element c.args.classes.now c.args.at c.requires.inside in
+    written-inside c.args.classes.now c.loop-place.classes c.args.at _ c.requires.inside (c.loop-place.invariant.is e)

@@ -1,37 +1,24 @@
-use Rattle.std.proofs.Common.{◌+◌, ◌<◌, ℕ, List, length, get_or, set, refl, sym, subst, arith}
-use Rattle.std.proofs.lemmas.List.{get_or_default}
-use Rattle.std.proofs.lemmas.Option.{slice_get-get_or}
+use Rattle.std.proofs.Common.{List, length, ap, sym, subst, ◌∙◌, arith}
+use Rattle.std.specs.Prelude.{slice_get}
 use Rattle.class_table.specs.Stored.{StoredClass}
-use Rattle.class_table.specs.Renewed.{with_renewed}
-use Rattle.class_table.proofs.Descended.{Includes-in}
-use Rattle.class_table.proofs.Found.{element}
-use Rattle.class_table.proofs.Swapped.{Swapping, swapping-start, swapping-next, swapping-end}
+use Rattle.class_table.specs.Renewed.{AreSwapped}
+use Rattle.class_table.proofs.Lined.{with-lines-length, lined-line, swapped-lined}
 use Rattle.class_table.proofs.renew.swap_in.Goals as goal
 
-pub loop-index-init : goal.loop-index-init
-loop-index-init c = swapping-start c.args.renewed.items c.args.classes.now c.args.places.now
+pub reline-requires : goal.reline-requires
+reline-requires c = c.requires.lines.count
 
-pub swap_at-requires : goal.swap_at-requires
-swap_at-requires c =
-    let i = c.loop-index.index in
-    let l = c.requires.inside (get_or c.args.places.now i 0) (Includes-in c.args.places.now i 0 c.loop-index-test.true) in
-    let n = c.loop-index.invariant.count in
+pub swap_all-requires-clause-inside : goal.swap_all-requires-clause-inside
+swap_all-requires-clause-inside c = λ i h.
+    let l = c.requires.inside i h in
+    let n = ap length c.reline.ensures ∙ with-lines-length c.args.classes.now c.args.lines c.requires.lines.count in
     omega (arith, l, n)
 
-pub loop-index-preserved : goal.loop-index-preserved
-loop-index-preserved c =
-    let i = c.loop-index.index in
-    let places = c.args.places.now in
-    let cur = c.loop-index.classes in
-    let p : ℕ = get_or places i 0 in
-    let l = c.requires.inside p (Includes-in places i 0 c.loop-index-test.true) in
-    let n = c.loop-index.invariant.count in
-    let inside : p < length cur = omega (arith, l, n) in
-    let d = element cur p inside in
-    let x : StoredClass = get_or cur p d in
-    let y = c.index_mut.result.now in
-    let P : List StoredClass → Type 0 = λ ys. Swapping c.args.renewed.items c.args.classes.now places (i + 1) (set c.loop-index.renewed.items i c.swap_at.new.renewed) ys in
-    subst P (sym (c.swap_at.ensures d)) (swapping-next c.args.renewed.items c.args.classes.now places i c.loop-index.renewed.items cur c.loop-index.invariant c.requires.distinct p (slice_get-get_or places i 0 c.loop-index-test.true) inside x y (with_renewed y x) c.swap_at.new.renewed (get_or_default cur p d x inside) c.index_mut.ensures.value refl)
+pub swap_all-requires-clause-lines : goal.swap_all-requires-clause-lines
+swap_all-requires-clause-lines c = λ j i x r p e f.
+    lined-line c.args.classes.now c.args.lines c.args.places.now c.args.renewed.items c.requires.lines j i r p f x (ap (λ ys. slice_get ys i) (sym c.reline.ensures) ∙ e)
 
 pub returns : goal.returns
-returns c = swapping-end c.args.renewed.items c.args.classes.now c.args.places.now c.loop-index.index c.loop-index.renewed.items c.loop-index.classes c.loop-index.invariant c.loop-index-test.false
+returns c =
+    let P : List StoredClass → Type 0 = λ ys. AreSwapped c.args.places.now c.args.renewed.items ys c.swap_all.new.classes in
+    swapped-lined c.args.classes.now c.args.lines c.args.places.now c.args.renewed.items c.swap_all.new.classes c.requires.lines (subst P c.reline.ensures c.swap_all.ensures)

@@ -1,4 +1,4 @@
-use Rattle.std.proofs.Common.{refl}
+use Rattle.std.proofs.Common.{refl, arith}
 use Rattle.class_model.specs.Class.{is_heap}
 use Rattle.class_table.specs.Stored.{class_of}
 use Rattle.class_table.specs.Settle.{is_heap_ranked}
@@ -25,6 +25,12 @@ settle_statics-requires-clause-full g c =
     let s = c.settle_heaps.ensures.settled in
     let plain = settled-plain (λ k. is_heap (class_of k)) (λ t k. refl) (is_heap_ranked rs) c.args.classes.now c.settle_heaps.new.classes s in
     settled-full (is_heap_ranked rs) c.args.classes.now c.settle_heaps.new.classes s plain c.requires.full
+
+pub settle_statics-requires-clause-inside : goal.settle_statics-requires-clause-inside
+settle_statics-requires-clause-inside g c = λ j r e.
+    let l = c.requires.inside j r e in
+    let n = c.settle_heaps.ensures.settled.count in
+    omega (arith, l, n)
 
 pub returns-clause-settled : goal.returns-clause-settled
 returns-clause-settled g c =

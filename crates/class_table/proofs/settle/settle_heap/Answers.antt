@@ -7,6 +7,7 @@ use Rattle.class_table.proofs.Found.{element}
 use Rattle.class_table.proofs.Refreshed.{part, part-start, part-end, part-lines}
 use Rattle.class_table.proofs.Probed.{slot-found}
 use Rattle.class_table.proofs.Settles.{heap-entry-is, part-written}
+use Rattle.class_table.proofs.Written.{written-inside}
 use Rattle.class_table.proofs.settle.settle_heap.Goals as goal
 
 pub loop-place-init : goal.loop-place-init
@@ -33,3 +34,8 @@ loop-place-preserved g c =
 
 pub returns-clause-set : goal.returns-clause-set
 returns-clause-set g c = λ d. c.loop-place.invariant.is d ∙ part-end c.args.classes.now c.args.at (get_or c.args.classes.now c.args.at d) c.requires.inside (get_or_default c.args.classes.now c.args.at d (get_or c.args.classes.now c.args.at d) c.requires.inside) c.loop-place.place c.loop-place-test.false (c.requires.full d)
+
+pub put_slot-requires : goal.put_slot-requires
+put_slot-requires g c =
+    let e = element c.args.classes.now c.args.at c.requires.inside in
+    written-inside c.args.classes.now c.loop-place.classes c.args.at _ c.requires.inside (c.loop-place.invariant.is e)

@@ -8,6 +8,7 @@ use Rattle.class_table.specs.Settle.{AreHeapsSettled}
 use Rattle.class_table.proofs.Found.{element}
 use Rattle.class_table.proofs.Refreshed.{part, part-start, part-end, part-lines, part-then}
 use Rattle.class_table.proofs.Settles.{part-heaps}
+use Rattle.class_table.proofs.Written.{written-inside}
 use Rattle.class_table.proofs.settle.settle_static.Goals as goal
 
 pub loop-place-init : goal.loop-place-init
@@ -39,3 +40,13 @@ loop-place-preserved c =
 
 pub returns : goal.returns
 returns c = λ d. c.loop-place.invariant.is d ∙ part-end c.args.classes.now c.args.at (get_or c.args.classes.now c.args.at d) c.requires.inside (get_or_default c.args.classes.now c.args.at d (get_or c.args.classes.now c.args.at d) c.requires.inside) c.loop-place.place c.loop-place-test.false (c.requires.full d)
+
+pub static_entry-entry-requires-clause-inside : goal.static_entry-entry-requires-clause-inside
+static_entry-entry-requires-clause-inside c =
+    let e = element c.args.classes.now c.args.at c.requires.inside in
+    written-inside c.args.classes.now c.loop-place.classes c.args.at _ c.requires.inside (c.loop-place.invariant.is e)
+
+pub put_slot-requires : goal.put_slot-requires
+put_slot-requires c =
+    let e = element c.args.classes.now c.args.at c.requires.inside in
+    written-inside c.args.classes.now c.loop-place.classes c.args.at _ c.requires.inside (c.loop-place.invariant.is e)

@@ -15,20 +15,20 @@ pub returns-then-is_inherited : goal.returns-then-is_inherited
 returns-then-is_inherited c = λ d.
     let kept = c.args.classes.now in
     let i = c.args.at in
-    let k = c.index-classes-at.result in
-    let there : slice_get kept i ≡ Some k = slice_get-get_or kept i k c.requires.inside ∙ ap Some (sym c.index-classes-at.is) in
+    let k = c.at-stored.result in
+    let there : slice_get kept i ≡ Some k = slice_get-get_or kept i k c.requires.inside ∙ ap Some (sym c.at-stored.ensures) in
     c.kept_along.ensures
     ∙ ap (λ (line : List ℕ). first_along (given_entry table_keys natives_of (classes_of kept) c.args.slot) line) c.mro.ensures
     ∙ sym (entry-inherited (classes_of kept) k.number (class_of k) k.mro (place-class kept c.requires.lines.ascending i k there) (c.requires.lines.mro i k there) c.args.slot (sym c.is_inherited.ensures ∙ c.if-is_inherited.true))
-    ∙ ap (λ (z : StoredClass). entry table_keys natives_of (classes_of kept) z.number c.args.slot) (c.index-classes-at.is ∙ get_or_default kept i k d c.requires.inside)
+    ∙ ap (λ (z : StoredClass). entry table_keys natives_of (classes_of kept) z.number c.args.slot) (c.at-stored.ensures ∙ get_or_default kept i k d c.requires.inside)
 
 pub returns-else-is_inherited : goal.returns-else-is_inherited
 returns-else-is_inherited c = λ d.
     let kept = c.args.classes.now in
     let i = c.args.at in
-    let k = c.index-classes-at.result in
-    let there : slice_get kept i ≡ Some k = slice_get-get_or kept i k c.requires.inside ∙ ap Some (sym c.index-classes-at.is) in
+    let k = c.at-stored.result in
+    let there : slice_get kept i ≡ Some k = slice_get-get_or kept i k c.requires.inside ∙ ap Some (sym c.at-stored.ensures) in
     c.kept_entry.ensures
     ∙ ap (given_entry table_keys natives_of (classes_of kept) c.args.slot) c.number.ensures
     ∙ sym (entry-given (classes_of kept) k.number (class_of k) k.mro (place-class kept c.requires.lines.ascending i k there) (c.requires.lines.mro i k there) c.args.slot (sym c.is_inherited.ensures ∙ c.if-is_inherited.false))
-    ∙ ap (λ (z : StoredClass). entry table_keys natives_of (classes_of kept) z.number c.args.slot) (c.index-classes-at.is ∙ get_or_default kept i k d c.requires.inside)
+    ∙ ap (λ (z : StoredClass). entry table_keys natives_of (classes_of kept) z.number c.args.slot) (c.at-stored.ensures ∙ get_or_default kept i k d c.requires.inside)

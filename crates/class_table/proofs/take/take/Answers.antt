@@ -1,4 +1,5 @@
 use Rattle.std.proofs.Common.{◌≡◌, ℕ, Bool, true, false, List, Option, Some, get_or, set, sym, ap, subst, ◌∙◌}
+use Rattle.std.proofs.lemmas.List.{get_or_default}
 use Rattle.std.specs.Prelude.{is_some}
 use Rattle.py_node.specs.declared.refs.PyStrInterned.{PyStrInterned}
 use Rattle.py_node.specs.Attributes.{value_of, without_key, is_same_name}
@@ -8,30 +9,26 @@ use Rattle.class_model.specs.Change.{without_class_attr}
 use Rattle.class_table.specs.Stored.{StoredClass, number_at, classes_of}
 use Rattle.class_table.specs.Coherent.{HasLines, IsCoherent}
 use Rattle.class_table.specs.Patch.{AreNear, IsRefreshed}
-use Rattle.class_table.proofs.Found.{number-within, read-number, read-class}
+use Rattle.class_table.proofs.Found.{element, number-within, read-number, read-class}
 use Rattle.class_table.proofs.Edited.{taking}
 use Rattle.class_table.proofs.Changed.{lines-changed, near-changed, plain-changed, plain-final, coherent-final, untaken}
 use Rattle.class_table.proofs.take.take.Goals as goal
 
--- the classes after an attribute of one was taken out
-left : (kept : List StoredClass) (at : ℕ) (k new : StoredClass) (n : PyStrInterned) → k ≡ get_or kept at k → new ≡ record (get_or kept at k) { attrs = without_key is_same_name (get_or kept at k).attrs n } → set kept at new ≡ set kept at (record k { attrs = without_key is_same_name k.attrs n })
-left kept at k new n is e =
-    ap (set kept at) (e ∙ ap (λ (z : StoredClass). record z { attrs = without_key is_same_name z.attrs n }) (sym is))
-
 pub refresh-requires : goal.refresh-requires
 refresh-requires c =
-    let k = c.index-classes-at.result in
     let kept = c.args.classes.now in
     let at = c.place-at.result in
     let within = number-within kept at c.args.class.0 c.place-at.ensures in
-    let num : k.number ≡ c.args.class.0 = read-number kept at c.args.class.0 k c.place-at.ensures c.index-classes-at.is in
-    let is = left kept at k c.remove_attr-there.new.self c.args.name c.index-classes-at.is c.remove_attr-there.ensures.left in
+    let k = get_or kept at (element kept at within) in
+    let held : k ≡ get_or kept at k = get_or_default kept at (element kept at within) k within in
+    let num : k.number ≡ c.args.class.0 = read-number kept at c.args.class.0 k c.place-at.ensures held in
+    let is = c.remove_attr-there.ensures.left (element kept at within) in
     let P : List StoredClass → Type 0 = λ ys. HasLines ys in
     let Q : List StoredClass → Type 0 = λ ys. AreNear c.args.name c.args.class.0 ys in
     let R : ℕ → Type 0 = λ n. AreNear c.args.name n (set kept at (record k { attrs = without_key is_same_name k.attrs c.args.name })) in
     record {
-      lines = subst P (sym is) (lines-changed kept c.requires.coherent at k within c.index-classes-at.is c.args.name (λ attrs. without_key is_same_name attrs c.args.name) (taking c.args.name));
-      near = subst Q (sym is) (subst R num (near-changed kept c.requires.coherent at k within c.index-classes-at.is c.args.name (λ attrs. without_key is_same_name attrs c.args.name) (taking c.args.name)));
+      lines = subst P (sym is) (lines-changed kept c.requires.coherent at k within held c.args.name (λ attrs. without_key is_same_name attrs c.args.name) (taking c.args.name));
+      near = subst Q (sym is) (subst R num (near-changed kept c.requires.coherent at k within held c.args.name (λ attrs. without_key is_same_name attrs c.args.name) (taking c.args.name)));
     }
 
 -- the slots were found anew in the classes after the change
@@ -50,53 +47,61 @@ present kept up at class k n b of is e =
 
 pub returns-then-there-clause-coherent : goal.returns-then-there-clause-coherent
 returns-then-there-clause-coherent c =
-    let k = c.index-classes-at.result in
     let kept = c.args.classes.now in
     let at = c.place-at.result in
-    let n = c.args.name in
     let within = number-within kept at c.args.class.0 c.place-at.ensures in
-    let num : k.number ≡ c.args.class.0 = read-number kept at c.args.class.0 k c.place-at.ensures c.index-classes-at.is in
-    let is = left kept at k c.remove_attr-there.new.self n c.index-classes-at.is c.remove_attr-there.ensures.left in
-    coherent-final kept c.requires.coherent at k within c.index-classes-at.is n (λ attrs. without_key is_same_name attrs n) (taking n) c.refresh.new.classes (done kept (set kept at c.remove_attr-there.new.self) c.refresh.new.classes at c.args.class.0 k n num is c.refresh.ensures)
+    let k = get_or kept at (element kept at within) in
+    let held : k ≡ get_or kept at k = get_or_default kept at (element kept at within) k within in
+    let n = c.args.name in
+    let num : k.number ≡ c.args.class.0 = read-number kept at c.args.class.0 k c.place-at.ensures held in
+    let is = c.remove_attr-there.ensures.left (element kept at within) in
+    coherent-final kept c.requires.coherent at k within held n (λ attrs. without_key is_same_name attrs n) (taking n) c.refresh.new.classes (done kept c.remove_attr-there.new.self c.refresh.new.classes at c.args.class.0 k n num is c.refresh.ensures)
 
 pub returns-then-there-clause-there : goal.returns-then-there-clause-there
 returns-then-there-clause-there c =
-    sym c.if-there.true ∙ present c.args.classes.now c.requires.coherent.sound.ascending c.place-at.result c.args.class.0 c.index-classes-at.result c.args.name c.remove_attr-there.result c.place-at.ensures c.index-classes-at.is c.remove_attr-there.ensures.there
+    let kept = c.args.classes.now in
+    let at = c.place-at.result in
+    let within = number-within kept at c.args.class.0 c.place-at.ensures in
+    let k = get_or kept at (element kept at within) in
+    let held : k ≡ get_or kept at k = get_or_default kept at (element kept at within) k within in
+    sym c.if-there.true ∙ present kept c.requires.coherent.sound.ascending at c.args.class.0 k c.args.name c.remove_attr-there.result c.place-at.ensures held (c.remove_attr-there.ensures.there k)
 
 pub returns-then-there-clause-taken : goal.returns-then-there-clause-taken
 returns-then-there-clause-taken c =
-    let k = c.index-classes-at.result in
     let kept = c.args.classes.now in
     let at = c.place-at.result in
-    let n = c.args.name in
     let within = number-within kept at c.args.class.0 c.place-at.ensures in
-    let num : k.number ≡ c.args.class.0 = read-number kept at c.args.class.0 k c.place-at.ensures c.index-classes-at.is in
-    let is = left kept at k c.remove_attr-there.new.self n c.index-classes-at.is c.remove_attr-there.ensures.left in
-    plain-final kept c.requires.coherent at k within c.index-classes-at.is n (λ attrs. without_key is_same_name attrs n) (taking n) c.refresh.new.classes (done kept (set kept at c.remove_attr-there.new.self) c.refresh.new.classes at c.args.class.0 k n num is c.refresh.ensures)
+    let k = get_or kept at (element kept at within) in
+    let held : k ≡ get_or kept at k = get_or_default kept at (element kept at within) k within in
+    let n = c.args.name in
+    let num : k.number ≡ c.args.class.0 = read-number kept at c.args.class.0 k c.place-at.ensures held in
+    let is = c.remove_attr-there.ensures.left (element kept at within) in
+    plain-final kept c.requires.coherent at k within held n (λ attrs. without_key is_same_name attrs n) (taking n) c.refresh.new.classes (done kept c.remove_attr-there.new.self c.refresh.new.classes at c.args.class.0 k n num is c.refresh.ensures)
     ∙ ap (λ (m : ℕ). without_class_attr is_same_name (classes_of kept) m n) num
 
 pub returns : goal.returns
 returns c =
-    let k = c.index-classes-at.result in
     let kept = c.args.classes.now in
     let at = c.place-at.result in
-    let n = c.args.name in
     let within = number-within kept at c.args.class.0 c.place-at.ensures in
-    let num : k.number ≡ c.args.class.0 = read-number kept at c.args.class.0 k c.place-at.ensures c.index-classes-at.is in
-    let is = left kept at k c.remove_attr-there.new.self n c.index-classes-at.is c.remove_attr-there.ensures.left in
+    let k = get_or kept at (element kept at within) in
+    let held : k ≡ get_or kept at k = get_or_default kept at (element kept at within) k within in
+    let n = c.args.name in
+    let num : k.number ≡ c.args.class.0 = read-number kept at c.args.class.0 k c.place-at.ensures held in
+    let is = c.remove_attr-there.ensures.left (element kept at within) in
     let missing : is_some (value_of (λ j. is_same_name j n) k.attrs) ≡ false =
-    ap (λ (z : StoredClass). is_some (value_of (λ j. is_same_name j n) z.attrs)) c.index-classes-at.is ∙ sym c.remove_attr-there.ensures.there ∙ c.if-there.false in
-    let same = is ∙ untaken kept at k c.index-classes-at.is n missing in
+    ap (λ (z : StoredClass). is_some (value_of (λ j. is_same_name j n) z.attrs)) held ∙ sym (c.remove_attr-there.ensures.there k) ∙ c.if-there.false in
+    let same = is ∙ untaken kept at k held n missing in
     let P : List StoredClass → Type 0 = λ ys. IsCoherent ys in
     record {
       coherent = subst P (sym same) c.requires.coherent;
-      there = sym c.if-there.false ∙ present kept c.requires.coherent.sound.ascending at c.args.class.0 k n c.remove_attr-there.result c.place-at.ensures c.index-classes-at.is c.remove_attr-there.ensures.there;
+      there = sym c.if-there.false ∙ present kept c.requires.coherent.sound.ascending at c.args.class.0 k n c.remove_attr-there.result c.place-at.ensures held (c.remove_attr-there.ensures.there k);
       taken =
           ap classes_of is
-          ∙ plain-changed kept c.requires.coherent at k within c.index-classes-at.is n (λ attrs. without_key is_same_name attrs n) (taking n)
+          ∙ plain-changed kept c.requires.coherent at k within held n (λ attrs. without_key is_same_name attrs n) (taking n)
           ∙ ap (λ (m : ℕ). without_class_attr is_same_name (classes_of kept) m n) num;
       absent = λ e. same;
     }
 
-pub bounds-classes-at : goal.bounds-classes-at
-bounds-classes-at c = number-within c.args.classes.now c.place-at.result c.args.class.0 c.place-at.ensures
+pub remove_attr-there-requires : goal.remove_attr-there-requires
+remove_attr-there-requires c = number-within c.args.classes.now c.place-at.result c.args.class.0 c.place-at.ensures

@@ -1,25 +1,21 @@
-use Rattle.std.proofs.Common.{◌≡◌, ℕ, List, Some, sym, ap, subst, ◌∙◌}
+use Rattle.std.proofs.Common.{ℕ, List, Some, sym, ap, subst, ◌∙◌}
 use Rattle.class_model.specs.Order.{Distinct, Includes}
 use Rattle.class_model.specs.Class.{bases_of}
 use Rattle.class_model.specs.Change.{with_bases}
 use Rattle.class_table.specs.Keys.{numbers}
 use Rattle.class_table.specs.Stored.{StoredClass, classes_of}
-use Rattle.class_table.specs.Trial.{bases_under, IsTrial, IsWithout}
+use Rattle.class_table.specs.Trial.{IsTrial, IsWithout}
 use Rattle.class_table.proofs.Trials.{read-is, read-at, bases-now, distinct-now, there-now, if-ok}
 use Rattle.class_table.proofs.trial.attempt.Goals as goal
-
--- the bases of the class, as they were read
-under : (c : ℕ) (bs ds : List ℕ) (x y : StoredClass) → x ≡ y → ds ≡ bases_under c bs y → ds ≡ bases_under c bs x
-under c bs ds x y e h = h ∙ ap (bases_under c bs) (sym e)
 
 pub lines_of-requires-clause-there : goal.lines_of-requires-clause-there
 lines_of-requires-clause-there g c = λ b h.
     let kept = c.args.change.classes.now in
     let class = c.args.change.class.0 in
     let bs = numbers c.args.change.bases.now in
-    let k = c.index-change-at.result in
-    let e = read-at kept c.args.at k c.requires.inside c.index-change-at.is in
-    let u = under class bs _ k _ c.index-change-at.is c.bases_under-bases.ensures in
+    let k = c.at-stored.result in
+    let e = read-at kept c.args.at k c.requires.inside c.at-stored.ensures in
+    let u = c.bases_under-bases.ensures in
     let P : List ℕ → Type 0 = λ ds. Includes ds b in
     there-now kept c.requires.coherent class bs c.args.at k e c.requires.there c.requires.apart b (subst P u h)
 
@@ -28,9 +24,9 @@ lines_of-requires-clause-known g c = λ b h.
     let kept = c.args.change.classes.now in
     let class = c.args.change.class.0 in
     let bs = numbers c.args.change.bases.now in
-    let k = c.index-change-at.result in
-    let e = read-at kept c.args.at k c.requires.inside c.index-change-at.is in
-    let u = under class bs _ k _ c.index-change-at.is c.bases_under-bases.ensures in
+    let k = c.at-stored.result in
+    let e = read-at kept c.args.at k c.requires.inside c.at-stored.ensures in
+    let u = c.bases_under-bases.ensures in
     let P : List ℕ → Type 0 = λ ds. Includes ds b in
     c.requires.known k b e (subst P u h)
 
@@ -39,9 +35,9 @@ merged-requires-clause-distinct g c =
     let kept = c.args.change.classes.now in
     let class = c.args.change.class.0 in
     let bs = numbers c.args.change.bases.now in
-    let k = c.index-change-at.result in
-    let e = read-at kept c.args.at k c.requires.inside c.index-change-at.is in
-    let u = under class bs _ k _ c.index-change-at.is c.bases_under-bases.ensures in
+    let k = c.at-stored.result in
+    let e = read-at kept c.args.at k c.requires.inside c.at-stored.ensures in
+    let u = c.bases_under-bases.ensures in
     subst Distinct (sym u) (distinct-now kept c.requires.coherent class bs c.args.at k e c.requires.distinct)
 
 pub merged-requires-clause-bases : goal.merged-requires-clause-bases
@@ -49,10 +45,10 @@ merged-requires-clause-bases g c =
     let kept = c.args.change.classes.now in
     let class = c.args.change.class.0 in
     let bs = numbers c.args.change.bases.now in
-    let k = c.index-change-at.result in
-    let e = read-at kept c.args.at k c.requires.inside c.index-change-at.is in
-    let u = under class bs _ k _ c.index-change-at.is c.bases_under-bases.ensures in
-    ap (bases_of (with_bases (classes_of kept) class bs)) (c.number.ensures ∙ ap (λ (z : StoredClass). z.number) (sym c.index-change-at.is))
+    let k = c.at-stored.result in
+    let e = read-at kept c.args.at k c.requires.inside c.at-stored.ensures in
+    let u = c.bases_under-bases.ensures in
+    ap (bases_of (with_bases (classes_of kept) class bs)) c.number.ensures
     ∙ bases-now kept c.requires.coherent class bs c.args.at k e
     ∙ ap Some (sym u)
 
@@ -61,18 +57,18 @@ returns-in-None-clause-trial g c = λ j q.
     let kept = c.args.change.classes.now in
     let class = c.args.change.class.0 in
     let bs = numbers c.args.change.bases.now in
-    let k = c.index-change-at.result in
-    let e = read-at kept c.args.at k c.requires.inside c.index-change-at.is in
-    let u = under class bs _ k _ c.index-change-at.is c.bases_under-bases.ensures in
+    let k = c.at-stored.result in
+    let e = read-at kept c.args.at k c.requires.inside c.at-stored.ensures in
+    let u = c.bases_under-bases.ensures in
     let P : StoredClass → Type 0 = λ z. IsWithout (with_bases (classes_of kept) class bs) z.number in
-    subst P (read-is kept c.args.at k j c.index-change-at.is q) (record { bases = numbers c.bases_under-bases.result.now; of_class = bases-now kept c.requires.coherent class bs c.args.at k e ∙ ap Some (sym u); of_bases = rw c.in-None.is at c.in_ok-lines_of.ensures })
+    subst P (read-is kept c.args.at k j c.at-stored.ensures q) (record { bases = numbers c.bases_under-bases.result.now; of_class = bases-now kept c.requires.coherent class bs c.args.at k e ∙ ap Some (sym u); of_bases = rw c.in-None.is at c.in_ok-lines_of.ensures })
 
 pub returns-in-Some-clause-trial : goal.returns-in-Some-clause-trial
 returns-in-Some-clause-trial g c =
     let kept = c.args.change.classes.now in
     let class = c.args.change.class.0 in
     let bs = numbers c.args.change.bases.now in
-    let k = c.index-change-at.result in
+    let k = c.at-stored.result in
     if-ok _ _ c.merged.result (λ r t j q.
     let P : ℕ → Type 0 = λ x. IsTrial (with_bases (classes_of kept) class bs) x r in
-    subst P (c.number.ensures ∙ ap (λ (z : StoredClass). z.number) (sym c.index-change-at.is ∙ read-is kept c.args.at k j c.index-change-at.is q)) t) c.merged.ensures
+    subst P (c.number.ensures ∙ ap (λ (z : StoredClass). z.number) (read-is kept c.args.at k j c.at-stored.ensures q)) t) c.merged.ensures

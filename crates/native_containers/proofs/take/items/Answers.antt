@@ -1,6 +1,6 @@
 use Rattle.std.proofs.Common.{ap, ◌∙◌}
 use Rattle.class_world.proofs.Claims.{no-nodes}
-use Rattle.native_containers.specs.Take.{items_in}
+use Rattle.class_world.specs.Listed.{items_in}
 use Rattle.native_containers.proofs.Payloads.{no-items}
 use Rattle.native_containers.proofs.take.items.Goals as goal
 

@@ -1,4 +1,4 @@
-use Rattle.std.proofs.Common.{◌∙◌, [], ◌∷◌, ap, sym, refl}
+use Rattle.std.proofs.Common.{◌∙◌, [], ◌∷◌, ap, sym, refl, subst}
 use Rattle.std.specs.Prelude.{is_some}
 use Rattle.py_node.specs.declared.entry.ListNative.TheVariants.{DelItem}
 use Rattle.py_node.specs.declared.entry.NativeEntry.TheVariants.{OfList}
@@ -6,9 +6,11 @@ use Rattle.py_node.specs.declared.protocol.ProtocolTask.TheVariants.{Index}
 use Rattle.py_node.specs.declared.task.Task.TheVariants.{Protocol}
 use Rattle.plain_machine.specs.Plain.{DoIndex, ToProtocol}
 use Rattle.class_world.specs.Reading.{plain}
+use Rattle.class_world.specs.Sound.{AreNodes, Holds}
 use Rattle.class_world.proofs.Claims.{no-nodes}
 use Rattle.native_items.specs.declared.ItemKept.TheVariants.{Deleting}
 use Rattle.native_containers.specs.Say.{list_changed}
+use Rattle.native_containers.specs.Take.{items_at}
 use Rattle.native_items.specs.Items.{del_asked, del_item}
 use Rattle.native_items.specs.Places.{put_part}
 use Rattle.native_items.specs.Rows.{stood_told}
@@ -16,15 +18,14 @@ use Rattle.native_items.proofs.Standing.{del-asked, deleting-alike}
 use Rattle.native_items.proofs.Steps.{asks-does, ends-does}
 use Rattle.native_items.proofs.delete.delete_asked.Goals as goal
 
-pub returns-in_ok-rest-in-Some-clause-goes : goal.returns-in_ok-rest-in-Some-clause-goes
-returns-in_ok-rest-in-Some-clause-goes c =
+pub returns-in_ok-ended-in-Some-clause-goes : goal.returns-in_ok-ended-in-Some-clause-goes
+returns-in_ok-ended-in-Some-clause-goes c =
     let a = c.args in
-    let rs = c.in_ok-rest-in-Some.rest in
-    ends-does (OfList DelItem) (a.list ∷ a.key ∷ []) (λ t u. del_item u a.list a.key []) (λ t u. list_changed u a.list rs.items) a.world.now c.change_list-ended.new.world c.change_list-ended.result (λ t.
+    let s = c.in-Some.slice in
+    ends-does (OfList DelItem) (a.list ∷ a.key ∷ []) (λ t u. del_item u a.list a.key []) (λ t u. list_changed u a.list (put_part u s (items_at u a.list) c.new-none.result.items)) a.world.now c.replace_part.new.world c.in_ok-ended-in-Some.ended (λ t.
     let u = plain t a.world.now in
     ap (λ x. del_asked u x a.list a.key) (c.in-Some.ensures.reads t)
-    ∙ ap (λ l. list_changed u a.list (put_part u c.in-Some.slice l [])) (c.items.ensures.same t)
-    ∙ ap (list_changed u a.list) (c.in_ok-rest-in-Some.ensures.put t)) c.change_list-ended.ensures.ends
+    ∙ ap (λ ys. list_changed u a.list (put_part u s (items_at u a.list) ys)) (sym c.new-none.ensures.items)) c.in_ok-ended-in-Some.ensures.ends
 
 pub returns-in_ok-stood-in-None-clause-goes : goal.returns-in_ok-stood-in-None-clause-goes
 returns-in_ok-stood-in-None-clause-goes c =
@@ -35,5 +36,7 @@ returns-in_ok-stood-in-None-clause-goes c =
     del-asked u a.list a.key a.key c.is_some.result kept (c.in_ok-stood-in-None.ensures.told t) (c.in-None.ensures.reads t) (ap is_some (c.number.ensures t) ∙ sym c.is_some.ensures))
     (λ t q. refl) (deleting-alike a.list a.key kept)
 
-pub put_part-requires-clause-others : goal.put_part-requires-clause-others
-put_part-requires-clause-others c = no-nodes c.args.world.now
+pub replace_part-requires-clause-others : goal.replace_part-requires-clause-others
+replace_part-requires-clause-others c =
+    let w = c.args.world.now in
+    subst (λ rs. Holds w (AreNodes rs)) (sym c.new-none.ensures.items) (no-nodes w)

@@ -10,6 +10,7 @@ use Rattle.class_table.specs.New.{IsBelow}
 use Rattle.class_table.specs.Refused.{refused_order}
 use Rattle.class_table.proofs.Pushed.{there-of}
 use Rattle.class_table.proofs.Single.{one-ordered}
+use Rattle.class_table.proofs.Cached.{coherent-then}
 use Rattle.class_table.proofs.table.ClassTable.add_class.Goals as goal
 
 -- at most one base has an order
@@ -22,12 +23,15 @@ pub unreachable-requires : goal.unreachable-requires
 unreachable-requires c =
     let bases = c.args.new.bases.items in
     let h = rw c.in-Err-Refused.field-0-is at c.in-Err-Refused.ensures.refused in
-    let none = one-allowed (classes_of c.self.inside.classes.items) c.self.invariant.sound c.args.new.number.0 bases c.requires.one (subst (λ u. IsBelow u c.args.new.number.0 (numbers bases)) (sym c.self.view_is) c.requires.below) in
+    let none = one-allowed (classes_of c.self.inside.classes) c.self.invariant.0.sound c.args.new.number.0 bases c.requires.one (subst (λ u. IsBelow u c.args.new.number.0 (numbers bases)) (sym c.self.view_is) c.requires.below) in
     cc (h, none)
 
 pub unreachable-requires-in-Err-RefusedAt : goal.unreachable-requires-in-Err-RefusedAt
 unreachable-requires-in-Err-RefusedAt c =
     let bases = c.args.new.bases.items in
     let h = rw c.in-Err-RefusedAt.field-0-is at c.in-Err-RefusedAt.ensures.refused in
-    let none = one-allowed (classes_of c.self.inside.classes.items) c.self.invariant.sound c.args.new.number.0 bases c.requires.one (subst (λ u. IsBelow u c.args.new.number.0 (numbers bases)) (sym c.self.view_is) c.requires.below) in
+    let none = one-allowed (classes_of c.self.inside.classes) c.self.invariant.0.sound c.args.new.number.0 bases c.requires.one (subst (λ u. IsBelow u c.args.new.number.0 (numbers bases)) (sym c.self.view_is) c.requires.below) in
     cc (h, none)
+
+pub invariant_of-self : goal.invariant_of-self
+invariant_of-self c = (coherent-then _ _ c.add.result c.add.ensures.coherent c.add.ensures.err c.self.invariant.0, c.raise.ensures _ _ c.self.invariant.1)

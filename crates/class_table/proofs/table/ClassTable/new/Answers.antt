@@ -1,14 +1,5 @@
-use Rattle.std.proofs.Common.{sym, ap, subst, ◌∙◌}
-use Rattle.py_node.specs.declared.refs.PyStrInterned.{PyStrInterned}
-use Rattle.py_node.specs.BuiltIns.{fixed_node_count}
-use Rattle.class_model.specs.Class.{Classes}
-use Rattle.class_table.specs.Start.{HasBuiltIns, with_each_own, start_classes}
-use Rattle.class_table.proofs.Owned.{built-there}
+use Rattle.std.proofs.Common.{◌∙◌}
 use Rattle.class_table.proofs.table.ClassTable.new.Goals as goal
 
-pub add_own_attrs-requires : goal.add_own_attrs-requires
-add_own_attrs-requires c = subst HasBuiltIns (sym c.in_ok-table.ensures) built-there
-
 pub returns : goal.returns
-unfolding start_classes
-returns c = c.in_ok-add_own_attrs.ensures ∙ ap (λ (t : Classes PyStrInterned). (with_each_own (t, fixed_node_count)).0) c.in_ok-table.ensures
+returns c = c.in_ok-reserve_rows.ensures ∙ c.in_ok-table.ensures

@@ -29,6 +29,10 @@ heap_with_node-made-requires-clause-bases c =
 pub heap_with_node-made-requires-clause-fresh : goal.heap_with_node-made-requires-clause-fresh
 heap_with_node-made-requires-clause-fresh c = room (the_view c.self.inside) c.self.inside.classes c.self.invariant.classes
 
+pub heap_with_node-made-requires-clause-metaclass : goal.heap_with_node-made-requires-clause-metaclass
+unfolding Holds
+heap_with_node-made-requires-clause-metaclass c = opened-one (the_view c.self.inside) c.args.self.now (IsClass c.args.metaclass.0) c.self.view_is c.requires.metaclass
+
 pub invariant_of-self : goal.invariant_of-self
 invariant_of-self c =
     let w = the_view c.self.inside in
@@ -45,7 +49,7 @@ returns-clause-made c =
     let k = heap_class table_keys w.classes c.args.name.now (length w.nodes) (numbers c.args.bases.items) c.args.attrs (slot_names c.args.slots) in
     let made : IsMade w c.args.metaclass k c.heap_with_node-made.new.classes c.heap_with_node-made.new.nodes.items c.heap_with_node-made.new.log c.heap_with_node-made.result = record { added = c.heap_with_node-made.ensures.added; node = c.heap_with_node-made.ensures.node; number = c.heap_with_node-made.ensures.number; err = c.heap_with_node-made.ensures.err; no_node = c.heap_with_node-made.ensures.no_node; unlogged = c.heap_with_node-made.ensures.unlogged } in
     on_ok_weaker c.heap_with_node-made.result (λ h t r. h t ∙ ap (with_new_class (plain t c.args.self.now) c.args.metaclass.0) (class-read w c.args.self.now c.self.view_is c.self.invariant t r c.args.name.now (length w.nodes) (length (plain t c.args.self.now).nodes) (numbers c.args.bases.items) c.args.attrs c.args.slots))
-    (plain-after w c.args.metaclass k refl c.heap_with_node-made.new.classes c.heap_with_node-made.new.nodes.items c.heap_with_node-made.new.log (keeps-more w.log c.heap_with_node-made.new.log _ c.heap_with_node-made.result c.heap_with_node-made.ensures.logged c.heap_with_node-made.ensures.unlogged) c.args.self.now c.self.view_is c.heap_with_node-made.result made)
+    (plain-after w c.args.metaclass k refl c.heap_with_node-made.new.classes c.heap_with_node-made.new.nodes.items c.heap_with_node-made.new.log (keeps-more w.log c.heap_with_node-made.new.log _ c.heap_with_node-made.result c.heap_with_node-made.ensures.logged c.heap_with_node-made.ensures.unlogged) c.args.self.now c.self.view_is c.heap_with_node-made.result made c.self.invariant)
 
 pub returns-clause-number : goal.returns-clause-number
 returns-clause-number c =

@@ -26,6 +26,10 @@ single_with_node-made-requires-clause-base c = class-there _ _ (opened-one (the_
 pub single_with_node-made-requires-clause-fresh : goal.single_with_node-made-requires-clause-fresh
 single_with_node-made-requires-clause-fresh c = room (the_view c.self.inside) c.self.inside.classes c.self.invariant.classes
 
+pub single_with_node-made-requires-clause-metaclass : goal.single_with_node-made-requires-clause-metaclass
+unfolding Holds
+single_with_node-made-requires-clause-metaclass c = opened-one (the_view c.self.inside) c.args.self.now (IsClass c.args.metaclass.0) c.self.view_is c.requires.metaclass
+
 pub invariant_of-self : goal.invariant_of-self
 invariant_of-self c =
     let w = the_view c.self.inside in
@@ -41,7 +45,7 @@ returns-clause-made c =
     let w = the_view c.self.inside in
     let k = single_class c.args.name.now (length w.nodes) c.args.base.0 c.args.attrs c.args.flags.0 c.args.brings in
     let made : IsMade w c.args.metaclass k c.single_with_node-made.new.classes c.single_with_node-made.new.nodes.items c.single_with_node-made.new.log c.single_with_node-made.result = record { added = c.single_with_node-made.ensures.added; node = c.single_with_node-made.ensures.node; number = c.single_with_node-made.ensures.number; err = c.single_with_node-made.ensures.err; no_node = c.single_with_node-made.ensures.no_node; unlogged = c.single_with_node-made.ensures.unlogged } in
-    plain-after w c.args.metaclass k refl c.single_with_node-made.new.classes c.single_with_node-made.new.nodes.items c.single_with_node-made.new.log (keeps-more w.log c.single_with_node-made.new.log _ c.single_with_node-made.result c.single_with_node-made.ensures.logged c.single_with_node-made.ensures.unlogged) c.args.self.now c.self.view_is c.single_with_node-made.result made
+    plain-after w c.args.metaclass k refl c.single_with_node-made.new.classes c.single_with_node-made.new.nodes.items c.single_with_node-made.new.log (keeps-more w.log c.single_with_node-made.new.log _ c.single_with_node-made.result c.single_with_node-made.ensures.logged c.single_with_node-made.ensures.unlogged) c.args.self.now c.self.view_is c.single_with_node-made.result made c.self.invariant
 
 pub returns-clause-number : goal.returns-clause-number
 returns-clause-number c =

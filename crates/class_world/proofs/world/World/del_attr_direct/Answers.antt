@@ -22,7 +22,7 @@ invariant_of-self c =
 
 pub returns-clause-taken : goal.returns-clause-taken
 returns-clause-taken c =
-    without-read (the_view c.self.inside) c.args.self.now c.args.class.0 c.args.name c.del_attr_direct.new.classes c.del_attr_direct.new.self c.del_attr_direct.result c.del_attr_direct.ensures.taken c.self.view_is
+    without-read (the_view c.self.inside) c.args.self.now c.args.class.0 c.args.name c.del_attr_direct.new.classes c.del_attr_direct.new.self c.del_attr_direct.result c.del_attr_direct.ensures.taken c.del_attr_direct.ensures.err c.self.invariant.nodes c.self.view_is
 
 pub returns-clause-there : goal.returns-clause-there
 returns-clause-there c = own-told (the_view c.self.inside) c.args.self.now c.self.view_is c.args.class.0 c.args.name c.del_attr_direct.result c.del_attr_direct.ensures.there

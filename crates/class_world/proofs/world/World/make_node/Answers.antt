@@ -1,9 +1,10 @@
-use Rattle.std.proofs.Common.{◌≡◌, sym, ap, subst}
+use Rattle.std.proofs.Common.{◌≡◌, IfSome, sym, ap, subst}
 use Rattle.std.specs.Prelude.{is_some}
 use Rattle.class_model.specs.Dict.{has_dict}
+use Rattle.class_world.specs.Added.{IsEmptyDict}
 use Rattle.class_world.specs.Held.{Held}
 use Rattle.class_world.specs.contracts.world.World.{the_view}
-use Rattle.class_world.specs.Sound.{IsClass, IsOf, home_of, of_node, of_option, of_payload}
+use Rattle.class_world.specs.Sound.{Holds, IsClass, IsOf, home_of, of_node, of_option, of_payload}
 use Rattle.class_world.proofs.Claims.{opened, opened-one}
 use Rattle.class_world.proofs.Growth.{grows-seen}
 use Rattle.class_world.proofs.Added.{added-sound, added-grows, added-read, added-number, added-there, added-holding, added-last}
@@ -14,38 +15,44 @@ invariant_of-self c =
     let w = the_view c.self.inside in
     let now = c.args.self.now in
     let e = c.add_object.ensures in
-    let dict = opened w now (of_option of_node c.new_dict-dict.result) c.self.view_is c.new_dict-dict.ensures.holds in
+    let dict = opened w now (of_option of_node c.in_ok-dict.dict) c.self.view_is c.in_ok-dict.ensures.holds in
     let class = opened-one w now (IsClass c.args.class.0) c.self.view_is c.requires.class in
     let of = opened-one w now (IsOf c.args.class.0 (home_of c.args.payload)) c.self.view_is c.requires.of in
     let held = opened w now (of_payload c.args.payload) c.self.view_is c.requires.payload in
-    let given = subst (λ (u : Held). has_dict u.classes c.args.class.0 ≡ is_some c.new_dict-dict.result) (sym c.self.view_is) c.new_dict-dict.ensures.given in
-    added-sound w c.args.class c.args.payload c.new_dict-dict.result c.add_object.new.nodes.items c.add_object.result given e.added e.err c.new_dict-dict.ensures.empty dict class of c.requires.other held c.self.invariant
+    let given = subst (λ (u : Held). has_dict u.classes c.args.class.0 ≡ is_some c.in_ok-dict.dict) (sym c.self.view_is) c.in_ok-dict.ensures.given in
+    let none = subst (λ (u : Held). IfSome c.in_ok-dict.dict (IsEmptyDict u.classes)) (sym c.self.view_is) c.in_ok-dict.ensures.empty in
+    added-sound w c.args.class c.in_ok-members.members c.args.payload c.in_ok-dict.dict c.add_object.new.nodes.items c.add_object.result c.in_ok-members.ensures given e.added e.err none dict class of c.requires.other held c.self.invariant
 
 pub returns-clause-made : goal.returns-clause-made
 returns-clause-made c =
     let e = c.add_object.ensures in
-    added-read (the_view c.self.inside) c.args.class c.args.payload c.new_dict-dict.result c.add_object.new.nodes.items c.args.self.now c.add_object.result c.self.view_is e.added c.new_dict-dict.ensures.empty c.new_dict-dict.ensures.gives
+    let none = subst (λ (u : Held). IfSome c.in_ok-dict.dict (IsEmptyDict u.classes)) (sym c.self.view_is) c.in_ok-dict.ensures.empty in
+    added-read (the_view c.self.inside) c.args.class c.in_ok-members.members c.args.payload c.in_ok-dict.dict c.add_object.new.nodes.items c.args.self.now c.add_object.result c.self.view_is c.in_ok-members.ensures e.added none c.in_ok-dict.ensures.gives
 
 pub returns-clause-number : goal.returns-clause-number
 returns-clause-number c =
-    added-number (the_view c.self.inside) c.args.class c.args.payload c.new_dict-dict.result c.add_object.new.nodes.items c.args.self.now c.add_object.result c.self.view_is c.add_object.ensures.number c.new_dict-dict.ensures.gives
+    added-number (the_view c.self.inside) c.args.class c.in_ok-members.members c.args.payload c.in_ok-dict.dict c.add_object.new.nodes.items c.args.self.now c.add_object.result c.self.view_is c.add_object.ensures.number c.in_ok-dict.ensures.gives
 
 pub returns-clause-grows : goal.returns-clause-grows
 returns-clause-grows c =
     let e = c.add_object.ensures in
-    grows-seen (the_view c.self.inside) _ _ c.self.view_is (added-grows (the_view c.self.inside) c.args.class c.args.payload c.new_dict-dict.result c.add_object.new.nodes.items c.add_object.result e.added e.err)
+    grows-seen (the_view c.self.inside) _ _ c.self.view_is (added-grows (the_view c.self.inside) c.args.class c.in_ok-members.members c.args.payload c.in_ok-dict.dict c.add_object.new.nodes.items c.add_object.result e.added e.err)
 
 pub returns-clause-node : goal.returns-clause-node
 returns-clause-node c =
-    added-there (the_view c.self.inside) c.args.class c.args.payload c.new_dict-dict.result c.add_object.new.nodes.items c.add_object.result c.add_object.ensures.added c.add_object.ensures.number
+    added-there (the_view c.self.inside) c.args.class c.in_ok-members.members c.args.payload c.in_ok-dict.dict c.add_object.new.nodes.items c.add_object.result c.add_object.ensures.added c.add_object.ensures.number
 
 pub returns-clause-holding : goal.returns-clause-holding
 returns-clause-holding c =
-    added-holding (the_view c.self.inside) c.args.class c.args.payload c.new_dict-dict.result c.add_object.new.nodes.items c.add_object.result c.add_object.ensures.added c.add_object.ensures.number
+    added-holding (the_view c.self.inside) c.args.class c.in_ok-members.members c.args.payload c.in_ok-dict.dict c.add_object.new.nodes.items c.add_object.result c.add_object.ensures.added c.add_object.ensures.number
 
 pub returns-clause-classes : goal.returns-clause-classes
 returns-clause-classes c = ap (λ (u : Held). u.classes) c.self.view_is
 
 pub returns-clause-last : goal.returns-clause-last
 returns-clause-last c =
-    added-last (the_view c.self.inside) c.args.class c.args.payload c.new_dict-dict.result c.add_object.new.nodes.items c.add_object.result c.add_object.ensures.added c.add_object.ensures.number
+    added-last (the_view c.self.inside) c.args.class c.in_ok-members.members c.args.payload c.in_ok-dict.dict c.add_object.new.nodes.items c.add_object.result c.add_object.ensures.added c.add_object.ensures.number
+
+pub empty_places-requires : goal.empty_places-requires
+unfolding Holds
+empty_places-requires c = opened-one (the_view c.self.inside) c.args.self.now (IsClass c.args.class.0) c.self.view_is c.requires.class

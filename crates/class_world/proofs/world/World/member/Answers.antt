@@ -1,27 +1,50 @@
-use Rattle.class_world.specs.contracts.world.World.{the_view}
-use Rattle.class_world.specs.Sound.{Holds, IsNode}
-use Rattle.class_world.proofs.Claims.{got, opened-one}
-use Rattle.class_world.proofs.NodeMembers.{member-read, member-there}
-use Rattle.std.proofs.Common.{sym, ◌∙◌, subst}
+use Rattle.std.proofs.Common.{◌≡◌, ℕ, Some, sym, ◌∙◌, subst}
 use Rattle.std.specs.Prelude.{IfSome}
+use Rattle.class_world.specs.contracts.world.World.{the_view}
+use Rattle.class_world.specs.Held.{Held}
+use Rattle.class_model.specs.Layout.{place_at}
+use Rattle.class_world.specs.Sound.{Holds, IsNode, of_node}
+use Rattle.class_world.proofs.Claims.{each-get, got, opened-one}
+use Rattle.class_world.proofs.NodeMembers.{member-read, member-none, member-there}
 use Rattle.class_world.proofs.world.World.member.Goals as goal
 
-pub index-requires : goal.index-requires
+pub index-node-requires : goal.index-node-requires
 unfolding Holds
-index-requires c = rw c.self.inside.nodes.ok.0 (opened-one (the_view c.self.inside) c.args.self.now (IsNode c.args.object) c.self.view_is c.requires)
+index-node-requires c = rw c.self.inside.nodes.ok.0 (opened-one (the_view c.self.inside) c.args.self.now (IsNode c.args.object) c.self.view_is c.requires.object)
 
-pub returns-clause-value : goal.returns-clause-value
+pub fast_issubclass-requires : goal.fast_issubclass-requires
 unfolding Holds
-returns-clause-value c = λ t.
+fast_issubclass-requires c =
     let w = the_view c.self.inside in
-    let here = opened-one w c.args.self.now (IsNode c.args.object) c.self.view_is c.requires in
-    let n = c.index.result.now in
-    member-read w c.args.self.now c.self.view_is c.args.object n (got w.nodes c.args.object.0 n here c.index.ensures) c.args.place t ∙ sym c.get.ensures
+    let here = opened-one w c.args.self.now (IsNode c.args.object) c.self.view_is c.requires.object in
+    let n = c.index-node.result.now in
+    (each-get w of_node w.nodes c.args.object.0 n (got w.nodes c.args.object.0 n here c.index-node.ensures) c.self.invariant.nodes).0
 
-pub returns-clause-node : goal.returns-clause-node
+pub returns-then-fast_issubclass-clause-value : goal.returns-then-fast_issubclass-clause-value
 unfolding Holds
-returns-clause-node c =
+returns-then-fast_issubclass-clause-value c = λ t.
     let w = the_view c.self.inside in
-    let here = opened-one w c.args.self.now (IsNode c.args.object) c.self.view_is c.requires in
-    let n = c.index.result.now in
-    subst (λ o. IfSome o (λ m. Holds c.args.self.now (IsNode m))) (sym c.get.ensures) (member-there w c.args.self.now c.self.view_is c.args.object n (got w.nodes c.args.object.0 n here c.index.ensures) c.self.invariant c.args.place)
+    let now = c.args.self.now in
+    let here = opened-one w now (IsNode c.args.object) c.self.view_is c.requires.object in
+    let n = c.index-node.result.now in
+    let place = subst (λ (u : Held). (k : ℕ) × (place_at u.classes k c.args.offset ≡ Some (c.args.place.class.0, c.args.place.index))) (sym c.self.view_is) c.requires.place in
+    member-read w now c.self.view_is c.args.object n (got w.nodes c.args.object.0 n here c.index-node.ensures) c.sound.ensures.sound place.0 c.args.offset c.args.place place.1 (sym c.fast_issubclass.ensures ∙ c.if-fast_issubclass.true) t
+    ∙ sym c.get.ensures
+
+pub returns-then-fast_issubclass-clause-node : goal.returns-then-fast_issubclass-clause-node
+unfolding Holds
+returns-then-fast_issubclass-clause-node c =
+    let w = the_view c.self.inside in
+    let now = c.args.self.now in
+    let here = opened-one w now (IsNode c.args.object) c.self.view_is c.requires.object in
+    let n = c.index-node.result.now in
+    subst (λ o. IfSome o (λ m. Holds now (IsNode m))) (sym c.get.ensures) (member-there w now c.self.view_is c.args.object n (got w.nodes c.args.object.0 n here c.index-node.ensures) c.self.invariant c.args.offset)
+
+pub returns-else-fast_issubclass-clause-value : goal.returns-else-fast_issubclass-clause-value
+unfolding Holds
+returns-else-fast_issubclass-clause-value c = λ t.
+    let w = the_view c.self.inside in
+    let now = c.args.self.now in
+    let here = opened-one w now (IsNode c.args.object) c.self.view_is c.requires.object in
+    let n = c.index-node.result.now in
+    member-none w now c.self.view_is c.args.object n (got w.nodes c.args.object.0 n here c.index-node.ensures) c.args.place (sym c.fast_issubclass.ensures ∙ c.if-fast_issubclass.false) t

@@ -1,6 +1,8 @@
-use Rattle.std.proofs.Common.{sym, ap, ◌∙◌}
+use Rattle.std.proofs.Common.{◌≡◌, Some, sym, ap, ◌∙◌, subst}
+use Rattle.class_model.specs.Layout.{place_at}
 use Rattle.plain_machine.specs.Members.{value_at_place}
 use Rattle.class_world.specs.contracts.world.World.{the_view}
+use Rattle.class_world.specs.Held.{Held}
 use Rattle.class_world.specs.Reading.{plain}
 use Rattle.class_world.specs.Sound.{Holds, IsClass}
 use Rattle.class_world.proofs.Claims.{opened-one}
@@ -18,3 +20,7 @@ returns-in-None-clause-value c = λ t.
 pub returns-in-Some-clause-value : goal.returns-in-Some-clause-value
 returns-in-Some-clause-value c = λ t.
     ap (value_at_place (plain t c.args.self.now) c.args.object) (place-seen (the_view c.self.inside) c.args.self.now c.self.view_is t c.args.class.0 c.args.offset ∙ sym c.place_at.ensures ∙ ap place-told c.in-Some.is) ∙ c.member.ensures.value t
+
+pub member-requires-clause-place : goal.member-requires-clause-place
+member-requires-clause-place c =
+    (c.args.class.0, subst (λ (u : Held). place_at u.classes c.args.class.0 c.args.offset ≡ Some (c.in-Some.place.class.0, c.in-Some.place.index)) c.self.view_is (sym c.place_at.ensures ∙ ap place-told c.in-Some.is))

@@ -23,7 +23,7 @@ invariant_of-self c =
 
 pub returns-clause-set : goal.returns-clause-set
 returns-clause-set c =
-    set-read (the_view c.self.inside) c.args.class.0 c.args.name c.args.value c.set_attr.new.classes c.set_attr.new.self c.args.self.now c.set_attr.result c.set_attr.ensures.set c.self.view_is
+    set-read (the_view c.self.inside) c.args.class.0 c.args.name c.args.value c.set_attr.new.classes c.set_attr.new.self c.args.self.now c.set_attr.result c.set_attr.ensures.set c.self.view_is c.self.invariant.nodes
 
 pub returns-clause-grows : goal.returns-clause-grows
 returns-clause-grows c =

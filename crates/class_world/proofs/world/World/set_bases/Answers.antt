@@ -45,7 +45,11 @@ returns-clause-uncounted g c =
 
 pub returns-clause-set : goal.returns-clause-set
 returns-clause-set g c =
-    bases-set (the_view c.self.inside) c.args.self.now c.args.class.0 (numbers c.args.bases.items) c.set_bases.new.classes c.set_bases.new.self c.set_bases.result c.set_bases.ensures.set c.self.view_is
+    let w = the_view c.self.inside in
+    let here = class-there w c.args.class.0 (opened-one w c.args.self.now (IsClass c.args.class.0) c.self.view_is c.requires.class) in
+    let there = bases-there w c.args.bases.items (opened w c.args.self.now (of_each of_class_ref c.args.bases.items) c.self.view_is c.requires.bases) in
+    let like = bases-like w c.args.class.0 (numbers c.args.bases.items) c.sound.ensures.sound here there c.set_bases.new.classes c.set_bases.result c.set_bases.ensures.set c.set_bases.ensures.err c.set_bases.ensures.refused in
+    bases-set w c.args.self.now c.args.class.0 (numbers c.args.bases.items) c.set_bases.new.classes c.set_bases.new.self c.set_bases.result c.set_bases.ensures.set like c.self.invariant.nodes c.self.view_is
 
 pub returns-clause-reads : goal.returns-clause-reads
 returns-clause-reads g c = λ t r. subst (Reads t) c.self.view_is (record { names = r.names; trees = r.trees })

@@ -6,7 +6,7 @@ use Rattle.class_world.specs.Sound.{Holds, IsNode, IsClass, of_node, with_class_
 use Rattle.class_world.proofs.Claims.{got, opened-one, each-get}
 use Rattle.class_world.proofs.Growth.{grows-seen}
 use Rattle.class_world.proofs.NodeChanges.{change-grows, change-sound, change-read}
-use Rattle.class_world.proofs.Reclassed.{class-set-holds, class-told, was-heap}
+use Rattle.class_world.proofs.Reclassed.{class-moved, class-set-holds, class-told, same-layout, was-heap}
 use Rattle.class_world.proofs.world.World.set_class.Goals as goal
 
 pub index-requires : goal.index-requires
@@ -57,8 +57,16 @@ unfolding Holds
 returns-in-Ok-clause-set c = λ t.
     let w = the_view c.self.inside in
     let here = opened-one w c.args.self.now (IsNode c.args.object) c.self.view_is c.requires.object in
+    let class = opened-one w c.args.self.now (IsClass c.args.class.0) c.self.view_is c.requires.class in
+    let m = c.index.result.now in
     let n = c.index_mut.result.now in
-    rw c.set_class.ensures (change-read w c.args.self.now c.self.view_is c.args.object n (with_class_ref n c.args.class) (λ x. record x { class = c.args.class.0 }) t here c.index_mut.ensures.value refl)
+    let first = got w.nodes c.args.object.0 m here c.index.ensures in
+    let second = got w.nodes c.args.object.0 n here c.index_mut.ensures.value in
+    let same : m ≡ n = cc in
+    let passed : refused_class w.classes n.class.0 c.args.class.0 ≡ None = sym (ap (λ x. refused_class w.classes x.class.0 c.args.class.0) same) ∙ sym c.may_become.ensures ∙ ap cause_of c.in-Ok.is in
+    let old = (each-get w of_node w.nodes c.args.object.0 n second c.self.invariant.nodes).0 in
+    let moved = class-moved t w.classes n c.args.class (same-layout w.classes c.sound.ensures.sound n.class.0 c.args.class.0 old class passed) in
+    rw c.set_class.ensures (change-read w c.args.self.now c.self.view_is c.args.object n (with_class_ref n c.args.class) (λ x. record x { class = c.args.class.0 }) t here c.index_mut.ensures.value moved)
 
 pub returns-in-Ok-clause-grows : goal.returns-in-Ok-clause-grows
 unfolding Holds

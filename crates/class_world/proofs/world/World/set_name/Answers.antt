@@ -18,7 +18,7 @@ invariant_of-self c =
     change-sound (called c.args.name.now) (λ k. refl) (λ k. refl) (λ k. refl) (λ k. refl) (the_view c.self.inside) c.args.class.0 c.set_name.new.self (the_view c.self.inside).log (keeps-itself (the_view c.self.inside).log) (named-logged (the_view c.self.inside).log (the_view c.self.inside).classes c.args.class.0 c.args.name.now c.set_name.new.self c.set_name.result c.set_name.ensures.named c.set_name.ensures.err c.self.invariant.logged) c.set_name.result c.set_name.ensures.named c.set_name.ensures.err (λ k h. h) c.self.invariant
 
 pub returns-clause-named : goal.returns-clause-named
-returns-clause-named c = called-read (the_view c.self.inside) c.args.self.now c.args.class.0 c.args.name.now c.set_name.new.self (the_view c.self.inside).log c.set_name.result c.set_name.ensures.named c.self.view_is
+returns-clause-named c = called-read (the_view c.self.inside) c.args.self.now c.args.class.0 c.args.name.now c.set_name.new.self (the_view c.self.inside).log c.set_name.result c.set_name.ensures.named c.set_name.ensures.err c.self.invariant.nodes c.self.view_is
 
 pub returns-clause-grows : goal.returns-clause-grows
 returns-clause-grows c =

@@ -1,0 +1,12 @@
+use Rattle.std.proofs.Common.{◌≡◌, Some, set, refl, ◌∙◌, rules, arith}
+use Rattle.std.proofs.lemmas.List.{with_items_is}
+use Rattle.class_table.specs.declared.cache.Row.{Row}
+use Rattle.class_table.proofs.Cached.{filled_cached}
+use Rattle.class_table.proofs.cache.Cache.put.Goals as goal
+
+pub returns : goal.returns
+returns c =
+    let old = c.args.self.now in
+    let row : Row = record { class = c.args.class; name = c.args.name; version = old.version; answer = c.args.answer } in
+    let filled : c.set_row.new.rows ≡ set old.rows.items c.row_of.result (Some row) = search rules in
+    λ t h e. filled_cached t old _ c.row_of.result row h (record { now = λ s. e; earlier = omega arith }) (with_items_is old.rows c.set_row.new.rows (omega arith) ∙ filled) refl

@@ -1,0 +1,5 @@
+use Rattle.class_table.specs.Cache.{AreEmpty}
+use Rattle.class_table.proofs.cache.blank_rows.Given as goal
+
+abbrev pub invariant-loop-row : goal.invariant-loop-row
+invariant-loop-row l = AreEmpty l.rows.items

@@ -1,0 +1,33 @@
+use Rattle.std.proofs.Common.{◌≡◌, ℕ, List, eqb, Option, Some, None, IfSome, IfNone, position, sym, ap, subst, ◌∙◌}
+use Rattle.std.specs.Prelude.{slice_get, is_some}
+use Rattle.std.specs.List.{list_any}
+use Rattle.std.proofs.lemmas.Bool.{eqb-true, false≢true}
+use Rattle.std.proofs.lemmas.List.Quantifiers.{position-Some}
+use Rattle.std.proofs.lemmas.Option.{slice_get-get_or}
+use Rattle.class_model.specs.Order.{Distinct, Includes}
+use Rattle.class_model.proofs.Tests.{Decides-has}
+use Rattle.class_table.proofs.Descended.{any-has, distinct-keys}
+use Rattle.class_table.proofs.place_set.PlaceSet.index_of.Goals as goal
+
+there : (ks : List ℕ) (p : ℕ) (o : Option ℕ) → o ≡ position (eqb p) ks → IfSome o (λ j. slice_get ks j ≡ Some p)
+there ks p None e = tt
+there ks p (Some j) e =
+    let w = position-Some (eqb p) ks j 0 (sym e) in
+    slice_get-get_or ks j 0 w.0 ∙ ap Some (sym (eqb-true p _ w.1))
+
+away : (ks : List ℕ) (p : ℕ) (o : Option ℕ) → is_some o ≡ list_any (eqb p) ks → IfNone o (Includes ks p → ⊥)
+away ks p None e = λ h. false≢true (e ∙ any-has ks p ∙ (Decides-has ks p).1 h)
+away ks p (Some j) e = tt
+
+pub returns-clause-there : goal.returns-clause-there
+returns-clause-there c =
+    let P : List ℕ → Type 0 = λ ks. IfSome c.get_index_of.result (λ j. slice_get ks j ≡ Some c.args.place) in
+    subst P c.self.view_is (there c.self.inside.places.keys c.args.place c.get_index_of.result c.get_index_of.ensures.index)
+
+pub returns-clause-none : goal.returns-clause-none
+returns-clause-none c =
+    let P : List ℕ → Type 0 = λ ks. IfNone c.get_index_of.result (Includes ks c.args.place → ⊥) in
+    subst P c.self.view_is (away c.self.inside.places.keys c.args.place c.get_index_of.result c.get_index_of.ensures.found)
+
+pub returns-clause-distinct : goal.returns-clause-distinct
+returns-clause-distinct c = subst Distinct c.self.view_is (distinct-keys c.self.inside.places.keys c.len-count.ensures.unique)

@@ -1,0 +1,10 @@
+use Rattle.std.proofs.Common.{◌≡◌, ◌==◌, length, ap, sym, ◌∙◌, arith}
+use Rattle.std.specs.Prelude.{vec_len}
+use Rattle.class_table.proofs.Lined.{with-lines-length}
+use Rattle.class_table.proofs.stored_classes.StoredClasses.is_empty.Goals as goal
+
+pub returns : goal.returns
+returns c =
+    let n = sym (with-lines-length c.self.inside.classes.items c.self.inside.lines c.self.invariant) ∙ ap length c.self.view_is in
+    let count : vec_len c.self.inside.classes ≡ length c.args.self.now = omega (arith, n) in
+    c.is_empty.ensures ∙ ap (λ m. m == 0) count

@@ -1,0 +1,5 @@
+use Rattle.class_table.proofs.Cached.{coherent-then}
+use Rattle.class_table.proofs.table.ClassTable.put_attr.Goals as goal
+
+pub invariant_of-self : goal.invariant_of-self
+invariant_of-self c = (coherent-then _ _ c.put_in.result c.put_in.ensures.coherent c.put_in.ensures.err c.self.invariant.0, c.raise.ensures _ _ c.self.invariant.1)
