@@ -143,7 +143,7 @@ module _ (w : Held) (c : PyTypeRef) (r : PyObjectRef) (n new : StoredNode) where
   pub define-grows : n ≡ get_or w.nodes r.0 n → new ≡ defined_node c n → Grows w defined
   define-grows e k =
       let l = set-length w.nodes r.0 new in
-      grows w defined (keeps-itself w.log) refl refl (omega arith) (omega arith) (λ m f h. h) (omega arith) (record { stays = stays-set w.classes w.nodes r.0 n new e (ap (λ (x : StoredNode). lasting x.payload) k ∙ lasting-stays c n.payload) (λ h. ap (λ (x : StoredNode). x.class) k) }) (like-itself w.classes)
+      grows w defined (keeps-itself w.log) refl refl (λ m x h. h) (omega arith) (λ m f h. h) (omega arith) (record { stays = stays-set w.classes w.nodes r.0 n new e (ap (λ (x : StoredNode). lasting x.payload) k ∙ lasting-stays c n.payload) (λ h. ap (λ (x : StoredNode). x.class) k) }) (like-itself w.classes)
 
   pub define-sound : r.0 < length w.nodes → n ≡ get_or w.nodes r.0 n → new ≡ defined_node c n → Holds w (IsClass c.0) → Sound w → Sound defined
   define-sound l e k h s =

@@ -68,7 +68,7 @@ module _ (w now : Held) (r : PyObjectRef) (n : StoredNode) (p : Payload) where
   pub payload-grows : n ≡ get_or w.nodes r.0 n → is_lasting (home_of p) ≡ false → home_of n.payload ≡ home_of p → Grows w changed
   payload-grows e k h =
       let l = set-length w.nodes r.0 (with_payload n p) in
-      grows w changed (keeps-itself w.log) refl refl (omega arith) (omega arith) (λ m f h. h) (omega arith) (record { stays = stays-set w.classes w.nodes r.0 n (with_payload n p) e (same-lasting k h) (λ h. refl) }) (like-itself w.classes)
+      grows w changed (keeps-itself w.log) refl refl (λ m x h. h) (omega arith) (λ m f h. h) (omega arith) (record { stays = stays-set w.classes w.nodes r.0 n (with_payload n p) e (same-lasting k h) (λ h. refl) }) (like-itself w.classes)
 
   pub payload-sound : n ≡ get_or w.nodes r.0 n → is_lasting (home_of p) ≡ false → IsThere → AllHold w (of_payload p) → Sound w → Sound changed
   payload-sound e k i h s =

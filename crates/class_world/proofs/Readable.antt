@@ -47,7 +47,7 @@ text_at-injective names d n m = go (slice_get names n) (slice_get names m) refl 
         let l = sym (length-replicate (suc (total names + n)) 0) ∙ ap length h ∙ length-replicate (suc (total names + m)) 0 in
         omega (arith, l)
 
-same-tests : (a b : Bool) → (a ≡ true → b ≡ true) → (b ≡ true → a ≡ true) → a ≡ b
+pub same-tests : (a b : Bool) → (a ≡ true → b ≡ true) → (b ≡ true → a ≡ true) → a ≡ b
 same-tests true b f g = sym (f refl)
 same-tests false true f g = g refl
 same-tests false false f g = refl

@@ -206,7 +206,7 @@ module _ (w : Held) (t : Reading) where
   nodes-there (payload.Text s) h = none (λ r. r.0 < length w.nodes)
   nodes-there (payload.Tuple rs) h = h.0
   nodes-there (payload.List rs) h = h.0
-  nodes-there (payload.Dict es) h = joined (length w.nodes) (map (λ e. e.0) es.items) (map (λ e. e.1) es.items) h.0 h.1.0
+  nodes-there (payload.Dict es) h = joined (length w.nodes) (map (λ e. e.0) es.items) (map (λ e. e.1) es.items) h.1.0 h.1.1.0
   nodes-there (payload.Function f) h = none (λ r. r.0 < length w.nodes)
   nodes-there (payload.Method m) h = more (λ r. r.0 < length w.nodes) m.target (m.func ∷ []) h.0 (more (λ r. r.0 < length w.nodes) m.func [] h.1.0 (none (λ r. r.0 < length w.nodes)))
   nodes-there (payload.NativeFunction f) h = optional-there f.target (all-first w (of_option of_node_ref f.target) (of_option of_name_ref f.doc) h.1)
@@ -275,7 +275,7 @@ module _ (w : Held) (t : Reading) where
   keys-there (payload.Text s) h = no-keys (key_at (plain t w))
   keys-there (payload.Tuple rs) h = no-keys (key_at (plain t w))
   keys-there (payload.List rs) h = no-keys (key_at (plain t w))
-  keys-there (payload.Dict es) h = keys-read t w (map (λ e. e.0) es.items) h.1.1.0
+  keys-there (payload.Dict es) h = keys-read t w (map (λ e. e.0) es.items) h.1.1.1.0
   keys-there (payload.Function f) h = no-keys (key_at (plain t w))
   keys-there (payload.Method m) h = no-keys (key_at (plain t w))
   keys-there (payload.NativeFunction f) h = no-keys (key_at (plain t w))

@@ -5,6 +5,8 @@ use Rattle.std.specs.List.{All, AllByRecursion}
 use Rattle.py_node.specs.declared.refs.PyObjectRef.{PyObjectRef}
 use Rattle.py_node.specs.declared.refs.PyStrInterned.{PyStrInterned}
 use Rattle.py_node.specs.declared.refs.PyTypeRef.{PyTypeRef}
+use Rattle.py_node.specs.declared.dict.PyDictKey.{PyDictKey}
+use Rattle.py_node.specs.declared.dict.PyDictKey.TheVariants as dict_key
 use Rattle.py_node.specs.declared.payload.Node.{Node}
 use Rattle.py_node.specs.declared.payload.Payload.{Payload}
 use Rattle.py_node.specs.declared.payload.Payload.TheVariants as payload
@@ -47,6 +49,8 @@ pub data Claim : Type 0 where
   CanBeKeys : List PyObjectRef → Claim
   -- the objects are numbers or texts, no two of them alike
   KeysDiffer : List PyObjectRef → Claim
+  -- the objects are the numbers and texts that these keys name, one by one
+  KeysRead : List PyDictKey → List PyObjectRef → Claim
   -- the expression is of a form that passes the test
   HasForm : ℕ → (Form → Bool) → Claim
   -- the object is a function with these parameters
@@ -122,6 +126,24 @@ key_in _ = None
 abbrev pub held_key : List Node → PyObjectRef → Option Key
 held_key ns r = option_and_then (λ x. key_in x.payload) (slice_get ns r.0)
 
+-- the number or the text that a stored key names
+abbrev pub read_key : List (List ℕ) → PyDictKey → Option Key
+read_key names (dict_key.Number z) = Some (NumberKey z)
+read_key names (dict_key.Text x) = option_map TextKey (slice_get names x.0)
+
+-- a stored key names this one
+abbrev pub NamesKey : List (List ℕ) → PyDictKey → Option Key → Type 0
+NamesKey names k o = (c : Key) × (read_key names k ≡ Some c) × (o ≡ Some c)
+
+-- an object is what a stored key names
+abbrev pub IsRead : List (List ℕ) → List Node → PyDictKey → PyObjectRef → Type 0
+IsRead names ns k r = NamesKey names k (held_key ns r)
+
+abbrev pub AreRead : List (List ℕ) → List Node → List PyDictKey → List PyObjectRef → Type 0
+AreRead names ns [] [] = Unit {0}
+AreRead names ns (k ∷ ks) (r ∷ rs) = IsRead names ns k r × AreRead names ns ks rs
+AreRead names ns _ _ = ⊥
+
 -- the class that a node stands for
 abbrev pub class_in : Payload → Option ℕ
 class_in (payload.Class c) = Some c.0
@@ -176,6 +198,7 @@ Holds w (Holding r b) = home_at w.nodes r.0 ≡ Some b
 Holds w (Standing c r) = held_class w.nodes r ≡ Some c
 Holds w (CanBeKeys rs) = All (λ r. is_some (held_key w.nodes r) ≡ true) rs
 Holds w (KeysDiffer rs) = AreKeys (held_key w.nodes) rs
+Holds w (KeysRead ks rs) = AreRead w.names w.nodes ks rs
 Holds w (HasForm e test) = (f : Form) × (slice_get w.forms e ≡ Some f) × (test f ≡ true)
 Holds w (HasParams r ps) = held_params w.nodes r ≡ Some ps
 Holds w (HasValues r vars) = AreFilled vars (held_params w.nodes r)
@@ -232,7 +255,7 @@ of_payload (payload.Number z) = []
 of_payload (payload.Text s) = []
 of_payload (payload.Tuple rs) = AreNodes rs.items ∷ []
 of_payload (payload.List rs) = AreNodes rs.items ∷ []
-of_payload (payload.Dict es) = AreNodes (map (λ e. e.0) es.items) ∷ AreNodes (map (λ e. e.1) es.items) ∷ KeysDiffer (map (λ e. e.0) es.items) ∷ []
+of_payload (payload.Dict es) = KeysRead es.keys (map (λ e. e.0) es.items) ∷ AreNodes (map (λ e. e.0) es.items) ∷ AreNodes (map (λ e. e.1) es.items) ∷ KeysDiffer (map (λ e. e.0) es.items) ∷ []
 of_payload (payload.Function f) = IsName f.name ∷ AreNames f.params.items ∷ IsExpression f.body ∷ of_option of_class_ref f.class
 of_payload (payload.Method m) = IsNode m.target ∷ IsNode m.func ∷ []
 of_payload (payload.NativeFunction f) = IsName f.name ∷ of_option of_node_ref f.target ++ of_option of_name_ref f.doc

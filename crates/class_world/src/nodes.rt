@@ -12,7 +12,7 @@ ghost use Rattle.plain_machine.specs.Objects.{with_datum};
 
 use crate::places::empty_places;
 use crate::world::World;
-use py_node::{BuiltIn, Node, OutOfMemory, Payload, PyMembers, PyObjectRef, PyTypeRef};
+use py_node::{BuiltIn, Node, OutOfMemory, Payload, PyDict, PyMembers, PyObjectRef, PyTypeRef};
 
 #[tactic(auto, unfolding(crate::specs::Reading::plain))]
 impl World {
@@ -112,7 +112,7 @@ impl World {
             class,
             dict: None,
             members,
-            payload: Payload::Dict(Vec::new(self.alloc)),
+            payload: Payload::Dict(PyDict::new(self.alloc)),
         })
     }
 

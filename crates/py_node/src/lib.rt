@@ -7,9 +7,11 @@ pub mod attrs_of_callables;
 pub mod attrs_of_values;
 pub mod built_in;
 pub mod clone;
+pub mod dict;
 pub mod entry;
 pub mod expr;
 pub mod flags;
+mod key_index;
 pub mod known;
 pub mod members;
 pub mod memory;
@@ -27,6 +29,7 @@ pub mod task;
 pub use attr::Attr;
 pub use attributes::PyAttributes;
 pub use built_in::BuiltIn;
+pub use dict::{PyDict, PyDictKey};
 pub use entry::{
     ArithmeticNative, BitNative, CallableNative, CompareNative, DescriptorNative, Detail,
     DictNative, FixedNative, IntNative, IteratorNative, ListNative, NativeEntry, NumberNative,

@@ -3,6 +3,7 @@
 ghost use Rattle.std.specs.Prelude.{◌≡◌};
 ghost use Rattle.py_node.specs.Members.{kind_number};
 
+use crate::dict::PyDict;
 use crate::entry::NativeEntry;
 use crate::members::PyMembers;
 use crate::refs::{PyObjectRef, PyStrInterned, PyTypeRef};
@@ -21,7 +22,7 @@ pub enum Payload {
     Tuple(Vec<PyObjectRef>),
     List(Vec<PyObjectRef>),
     /// Keys with their values, in the order in which the keys came.
-    Dict(Vec<(PyObjectRef, PyObjectRef)>),
+    Dict(PyDict),
     Function(Function),
     Method(BoundMethod),
     NativeFunction(NativeFunction),
