@@ -1,5 +1,5 @@
 -- A key that is taken out of a dict, and how long a dict is with one.
-use Rattle.std.proofs.Common.{◌≡◌, suc, Bool, true, false, ◌++◌, ◌∷◌, [], length, Option, Some, None, cond, refl, ap, ◌∙◌, arith, length-append}
+use Rattle.std.proofs.Common.{◌≡◌, suc, Bool, true, false, ◌∷◌, [], length, Option, Some, None, cond, refl, ap, ◌∙◌, arith, length-append}
 use Rattle.std.specs.Prelude.{is_some}
 use Rattle.py_node.specs.declared.refs.PyObjectRef.{PyObjectRef}
 use Rattle.py_node.specs.declared.raised.Cause.TheVariants.{MissingKey}

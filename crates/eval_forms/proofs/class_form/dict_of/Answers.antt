@@ -1,4 +1,4 @@
-use Rattle.std.proofs.Common.{◌≡◌, ap, sym, ◌∙◌}
+use Rattle.std.proofs.Common.{ap, sym, ◌∙◌}
 use Rattle.plain_machine.specs.Dicts.{entries_from}
 use Rattle.class_world.specs.Reading.{plain}
 use Rattle.class_world.proofs.KeyEntries.{entries-themselves, keys-can}

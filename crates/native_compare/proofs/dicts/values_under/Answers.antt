@@ -1,4 +1,4 @@
-use Rattle.std.proofs.Common.{◌∙◌, sym, arith}
+use Rattle.std.proofs.Common.{◌∙◌}
 use Rattle.class_world.specs.Reading.{plain}
 use Rattle.class_world.proofs.Claims.{no-nodes, more-nodes}
 use Rattle.class_world.proofs.KeyEntries.{pair-holds, keys-can}

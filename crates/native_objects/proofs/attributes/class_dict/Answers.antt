@@ -1,4 +1,4 @@
-use Rattle.std.proofs.Common.{◌≡◌, [], ap, sym, subst, ◌∙◌}
+use Rattle.std.proofs.Common.{[], ap, sym, subst, ◌∙◌}
 use Rattle.py_node.specs.BuiltIns.{place_of}
 use Rattle.py_node.specs.declared.payload.Payload.TheVariants as payload
 use Rattle.class_model.specs.Class.{class_at as class_numbered}

@@ -1,4 +1,4 @@
-use Rattle.std.proofs.Common.{◌≡◌, [], ap, ◌∙◌}
+use Rattle.std.proofs.Common.{[], ap, ◌∙◌}
 use Rattle.py_node.specs.BuiltIns.{place_of}
 use Rattle.py_node.specs.Dicts.{PlainDict}
 use Rattle.plain_machine.specs.Known.{the_dict}

@@ -1,4 +1,4 @@
-use Rattle.std.proofs.Common.{◌≡◌, sym, ap, subst}
+use Rattle.std.proofs.Common.{sym, subst}
 use Rattle.std.specs.Prelude.{IfNone, IfSome}
 use Rattle.py_node.specs.declared.dict.PyDictKey.{PyDictKey}
 use Rattle.class_world.specs.contracts.world.World.{the_view}

@@ -1,9 +1,7 @@
 use Rattle.std.proofs.Common.{◌<◌, length, sym, ap, ◌∙◌, subst}
 use Rattle.std.specs.Prelude.{IfSome, position}
 use Rattle.py_node.specs.Dicts.{PlainDict, is_same_key}
-use Rattle.py_node.specs.Texts.{AreDistinct}
 use Rattle.class_world.specs.contracts.world.World.{the_view}
-use Rattle.class_world.specs.Held.{Held}
 use Rattle.class_world.specs.Keyed.{dict_in}
 use Rattle.class_world.specs.Sound.{Holds, IsNode}
 use Rattle.class_world.proofs.Claims.{got, opened-one}
