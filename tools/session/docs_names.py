@@ -14,6 +14,7 @@ from __future__ import annotations
 import os
 import re
 import sys
+from fnmatch import fnmatchcase
 
 from tree import Moves, Tree, read, write
 
@@ -169,6 +170,28 @@ def follow(tree: Tree, moves: Moves, about: str) -> None:
             for source in moves.modules:
                 text = re.sub(rf'"{source}" / "src" / "(\w+)\.rt"', lambda it: f'"{moves.target}" / "src" / "{moves.modules[source]}" / "{it[1]}.rt"', text)
             write(path, text)
+
+
+def rename(tree: Tree, old: str, new: str) -> None:
+    """All documents follow a crate that has another name, but for the table of minutes."""
+    for path in documents(tree):
+        text = read(path)
+        table = re.search(r"(?m)^\| crate \| minutes \|\n(\|.*\n)+", text)
+        keeps = table.span() if table else (0, 0)
+        parts = [text[: keeps[0]], text[keeps[0] : keeps[1]], text[keeps[1] :]]
+        parts[0], parts[2] = (re.sub(rf"\b{old}\b", new, it) for it in (parts[0], parts[2]))
+        made = "".join(parts)
+        if path.endswith("PROVED.md"):
+            made = re.sub(r"(?m)^### .*$", lambda it: with_name(it[0], old, new), made)
+        write(path, filled(made, text))
+
+
+def with_name(heading: str, old: str, new: str) -> str:
+    """A heading that was of a crate by a star is of it by its new name."""
+    names = re.findall(r"`([^`]+)`", heading)
+    if any("*" in it and fnmatchcase(old, it) for it in names) and not any(fnmatchcase(new, it) for it in names):
+        return f"{heading}, `{new}`"
+    return heading
 
 
 def main(words: list[str]) -> int:

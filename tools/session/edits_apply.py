@@ -71,21 +71,21 @@ def lines_of(others: list[str], pairs: list[Pair]) -> str:
     return "\n".join(rows) + "\n"
 
 
-def one_place(tree: Tree, old: str, names: list[str]) -> tuple[str, str] | None:
-    """The crate and the file in which a line stands, if it is one file, and once."""
-    found = []
-    for crate in names:
-        for path in tree.texts(crate):
-            if path.endswith(CODE) and (count := read(path).count(old)):
-                found += [(crate, os.path.relpath(path, f"{tree.crates}/{crate}"))] * count
+def one_place(tree: Tree, old: str, files: list[tuple[str, str]]) -> tuple[str, str] | None:
+    """The crate and the file among some in which a line stands, if it is one file, and once."""
+    found = [(crate, file) for crate, file in files for _ in range(read(f"{tree.crates}/{crate}/{file}").count(old))]
     return found[0] if len(found) == 1 else None
 
 
-def moved(tree: Tree, path: str, names: list[str]) -> bool:
+def moved(tree: Tree, path: str, hints: dict[tuple[str, str], list[tuple[str, str]]]) -> bool:
     """Puts an edit that doesn't apply where its lines stand now, if all of them stand in one crate."""
     crate = path.split("/")[-2]
     others, pairs = pairs_of(read(path))
-    places = [one_place(tree, it.old, names) for it in pairs]
+    every = [(it, os.path.relpath(file, f"{tree.crates}/{it}")) for it in tree.names for file in tree.texts(it) if file.endswith(CODE)]
+    places = []
+    for it in pairs:
+        here = [one for one in [(crate, it.file), *hints.get((crate, it.file), [])] if os.path.isfile(f"{tree.crates}/{one[0]}/{one[1]}")]
+        places.append(one_place(tree, it.old, here) or one_place(tree, it.old, every))
     if None in places or len({it[0] for it in places if it}) != 1:
         return False
     new = [Pair(place[1], it.old, it.new) for it, place in zip(pairs, places) if place]
@@ -98,8 +98,18 @@ def moved(tree: Tree, path: str, names: list[str]) -> bool:
         to = to.replace(".edit", f"_of_{crate}.edit")
     os.remove(path)
     write(to, lines_of(others, new))
-    print(f"{os.path.relpath(path, tree.top)} is {os.path.relpath(to, tree.top)}")
+    print(f"  {os.path.relpath(path, tree.top)} is {os.path.relpath(to, tree.top)}")
     return True
+
+
+def move_all(tree: Tree, hints: dict[tuple[str, str], list[tuple[str, str]]]) -> None:
+    """Puts each edit that doesn't apply where its lines stand now: first where its file's items went."""
+    for crate in sorted(it for it in os.listdir(tree.edits) if os.path.isdir(f"{tree.edits}/{it}")):
+        for path in tree.edit_files(crate):
+            if crate not in tree.names or fault_of(tree, crate, pairs_of(read(path))[1]):
+                moved(tree, path, hints)
+        if not os.listdir(f"{tree.edits}/{crate}"):
+            os.rmdir(f"{tree.edits}/{crate}")
 
 
 def main(words: list[str]) -> int:
@@ -110,6 +120,8 @@ def main(words: list[str]) -> int:
         print(__doc__)
         return 2
     tree = Tree(words[0])
+    if moves:
+        move_all(tree, {})
     wrong = count = 0
     for crate in sorted(it for it in os.listdir(tree.edits) if os.path.isdir(f"{tree.edits}/{it}")):
         if words[1:] and crate not in words[1:]:
@@ -120,11 +132,9 @@ def main(words: list[str]) -> int:
                 fault: str | None = f"there is no crate {crate}"
             else:
                 fault = fault_of(tree, crate, pairs_of(read(path))[1])
-            if fault and not (moves and moved(tree, path, tree.names)):
+            if fault:
                 wrong += 1
                 print(f"{os.path.relpath(path, tree.top)}: {fault}")
-        if os.path.isdir(f"{tree.edits}/{crate}") and not os.listdir(f"{tree.edits}/{crate}"):
-            os.rmdir(f"{tree.edits}/{crate}")
     print(f"{count} edits, and {wrong} that don't apply")
     return 1 if wrong else 0
 

@@ -43,7 +43,7 @@ STEPS = {
     "reports": Step("hierarchy_text", ["report_text"]),
     "shared": Step("shared_vm", ["shared_run"]),
     "definitions": Step("native_defs", ["accessors"]),
-    "kit": Step("row_kit", ["native_base", "proto_base", "signatures"], "what rows and natives share: arguments that they take, objects that they give, what they ask"),
+    "kit": Step("row_kit", ["proto_base", "signatures"], "what rows and natives share: arguments that they take, objects that they give, what they ask"),
     "operators": Step("proto_ops", ["proto_compare", "native_numbers", "native_repeats"], after=["kit"]),
     "items": Step("native_items", ["native_parts"], after=["kit"]),
     "objects": Step("proto_object", ["proto_number", "proto_items", "proto_iter"], after=["kit"]),
@@ -53,6 +53,10 @@ STEPS = {
     "script": Step("script_text", ["json_text", "reply_text"]),
     "table": Step("class_table", ["mro_merge", "class_log"]),
 }
+
+
+# The crate that becomes the kit: its modules stand at the kit's root.
+FIRST = "native_base"
 
 
 def is_open(tree: Tree, step: Step) -> bool:
@@ -82,17 +86,21 @@ def do(top: str, name: str) -> None:
         print(f"{name}: left out, since there is no crate {' '.join(sorted(set(step.sources) - set(tree.names)))}")
         return
     print(f"{name}: {step.target} of {' '.join(step.sources)}: {cost(tree, step)}")
+    moved = None
     if name == "kit":
         import move_items
 
-        moved = move_items.kit(tree, step)
+        merge_crates.rename(tree, FIRST, step.target, step.about)
+        docs_names.rename(tree, FIRST, step.target)
+        moved = move_items.kit(Tree(top))
         tree = Tree(top)
     moves = merge_crates.merge(tree, step.target, step.modules(), step.about[:1].upper() + step.about[1:] + ".")
     for it in merge_crates.left_over(tree, moves):
         print(f"  left: {it}")
     docs_names.follow(tree, moves, step.about)
-    if name == "kit":
+    if moved:
         moved.documents(Tree(top))
+        edits_apply.move_all(Tree(top), moved.places())
     print(f"  {told(tree)}")
 
 

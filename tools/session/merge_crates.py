@@ -195,6 +195,32 @@ def merge(tree: Tree, target: str, modules: dict[str, str], about: str = "") -> 
     return moves
 
 
+def rename(tree: Tree, old: str, new: str, about: str) -> None:
+    """Gives a crate another name."""
+    for entry in tree.entries:
+        for path in tree.texts(entry.name):
+            text = re.sub(rf"\bRattle\.{old}\.", f"Rattle.{new}.", was := read(path))
+            if path.endswith(CODE) and old in entry.below:
+                text = re.sub(rf"(?<![\w:.$]){old}::", f"{new}::", text)
+            if text != was:
+                write(path, text)
+    shutil.move(f"{tree.crates}/{old}", f"{tree.crates}/{new}")
+    lib = f"{tree.crates}/{new}/src/lib.rt"
+    write(lib, re.sub(r"\A(//!.*\n)+", f"//! {about[:1].upper()}{about[1:]}.\n", read(lib)))
+    for entry in tree.entries:
+        entry.name = new if entry.name == old else entry.name
+        entry.below = [new if it == old else it for it in entry.below]
+    tree.save()
+    for crate in sorted(os.listdir(tree.edits)):
+        for path in tree.edit_files(crate):
+            text = re.sub(rf"\bRattle\.{old}\.", f"Rattle.{new}.", read(path))
+            write(path, re.sub(rf"(?<![\w:.$]){old}::", f"{new}::", text))
+    if os.path.isdir(f"{tree.edits}/{old}"):
+        shutil.move(f"{tree.edits}/{old}", f"{tree.edits}/{new}")
+    if os.path.isfile(record := f"{tree.edits}/tried.txt"):
+        write(record, "".join(it + "\n" for it in read(record).splitlines() if it.split()[:1] != [old]))
+
+
 def left_over(tree: Tree, moves: Moves) -> list[str]:
     """Places of code, definitions and proofs that still name a source as a crate."""
     words = "|".join(moves.modules)
