@@ -172,8 +172,8 @@ def follow(tree: Tree, moves: Moves, about: str) -> None:
             write(path, text)
 
 
-def rename(tree: Tree, old: str, new: str) -> None:
-    """All documents follow a crate that has another name, but for the table of minutes."""
+def rename(tree: Tree, old: str, new: str, about: str) -> None:
+    """All documents follow a crate that has another name, and says another thing of itself, but for the table of minutes."""
     for path in documents(tree):
         text = read(path)
         table = re.search(r"(?m)^\| crate \| minutes \|\n(\|.*\n)+", text)
@@ -181,6 +181,7 @@ def rename(tree: Tree, old: str, new: str) -> None:
         parts = [text[: keeps[0]], text[keeps[0] : keeps[1]], text[keeps[1] :]]
         parts[0], parts[2] = (re.sub(rf"\b{old}\b", new, it) for it in (parts[0], parts[2]))
         made = "".join(parts)
+        made = re.sub(rf"(?m)^\| `{new}` \| [^|]* \|", lambda _: f"| `{new}` | {about} |", made)
         if path.endswith("PROVED.md"):
             made = re.sub(r"(?m)^### .*$", lambda it: with_name(it[0], old, new), made)
         write(path, filled(made, text))

@@ -20,6 +20,7 @@ import docs_names
 import edits_apply
 import merge_crates
 import names
+import prose
 from tree import Tree
 
 
@@ -79,29 +80,31 @@ def told(tree: Tree) -> str:
     return f"{len(tree.names)} crates, {len(chain)} in the longest chain: {' '.join(chain)}"
 
 
-def do(top: str, name: str) -> None:
-    """Does a step."""
+def do(top: str, name: str) -> list[str]:
+    """Does a step. Gives the crates that became modules."""
     tree, step = Tree(top), STEPS[name]
     if not is_open(tree, step):
         print(f"{name}: left out, since there is no crate {' '.join(sorted(set(step.sources) - set(tree.names)))}")
-        return
+        return []
     print(f"{name}: {step.target} of {' '.join(step.sources)}: {cost(tree, step)}")
     moved = None
     if name == "kit":
         import move_items
 
         merge_crates.rename(tree, FIRST, step.target, step.about)
-        docs_names.rename(tree, FIRST, step.target)
+        docs_names.rename(tree, FIRST, step.target, step.about)
         moved = move_items.kit(Tree(top))
         tree = Tree(top)
     moves = merge_crates.merge(tree, step.target, step.modules(), step.about[:1].upper() + step.about[1:] + ".")
     for it in merge_crates.left_over(tree, moves):
         print(f"  left: {it}")
     docs_names.follow(tree, moves, step.about)
+    prose.follow(Tree(top), name)
     if moved:
         moved.documents(Tree(top))
         edits_apply.move_all(Tree(top), moved.places())
     print(f"  {told(tree)}")
+    return step.sources
 
 
 def laid_out(tree: Tree) -> None:
@@ -136,9 +139,12 @@ def main(words: list[str]) -> int:
             said = cost(tree, step) if is_open(tree, step) else "done"
             print(f"  {name}: {step.target} of {' '.join(step.sources)}{' (after ' + ' '.join(step.after) + ')' if step.after else ''}: {said}")
         return 0
+    merged: dict[str, list[str]] = {}
     for name in steps:
-        do(top, name)
+        if made := do(top, name):
+            merged.setdefault(STEPS[name].target, []).extend(made)
     tree = Tree(top)
+    prose.tell(tree, merged)
     if "--no-fmt" not in flags:
         laid_out(tree)
     print("\n".join([*names.faults(tree, tree.names), told(tree)]))

@@ -103,7 +103,9 @@ class Names:
             path, rest = found
             text = read(path)
             if rest and not rest[0].startswith("The") and not re.search(rf"\b(struct|enum|trait|type|fn|impl|mod|const|static|union) .*\b{re.escape(rest[0])}\b", text):
-                if not re.search(rf"\b{re.escape(rest[0])}\b", text):
+                # (an impl is named by the type and the trait, one after the other)
+                of_impl = any(rest[0].startswith(it) for it in re.findall(r"\b(?:struct|enum|trait) (\w+)", text))
+                if not of_impl and not re.search(rf"\b{re.escape(rest[0])}\b", text):
                     return f"{os.path.relpath(path, self.tree.top)} has no {rest[0]}"
             return None
         if part == "proofs" and steps and re.match(r"[a-z_+]", steps[0]):

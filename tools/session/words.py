@@ -238,6 +238,10 @@ def main(words: list[str]) -> int:
         found = gather(tree, name, least, "--answers" in flags, "--count" in flags)
         total += found
         print(f"{name}: {found['before']} imports, then {found['after']} and {found['words']} in modules of words")
+    if "--count" not in flags:
+        import prose
+
+        prose.follow(tree, "words")
     print(f"all: {total['before']} imports, then {total['after']} and {total['words']} in modules of words")
     return 0
 
