@@ -1,5 +1,5 @@
 #!/usr/bin/env python3
-"""Says which imports of definitions and lemmas name nothing, by text alone: quick, where a check takes minutes.
+"""Says which imports of definitions and lemmas name nothing, or what may not be unfolded, by text alone: in seconds.
 
     names.py TOP [CRATE ..]
 
@@ -125,12 +125,32 @@ class Names:
         return f"{os.path.relpath(path, self.tree.top)} has no {', '.join(lost)}" if lost else None
 
 
+def unfolds(names: Names, path: str, text: str) -> list[str]:
+    """What a file unfolds and imports, and may not unfold."""
+    wanted = {one for row in re.findall(r"(?m)^\s*unfolding (.*)$", text) for one in row.split()}
+    found = []
+    for use in uses_of(text) if wanted else []:
+        _, crate, part, *steps = use.path.split(".")
+        file = names.file_of(crate, part, steps) if crate in names.tree.names and steps else None
+        if not file or path.startswith(file.removesuffix(ANTT) + "/"):
+            continue
+        for name, called in use.names():
+            if called not in wanted:
+                continue
+            declared = re.search(rf"(?m)^\s*((?:(?:pattern|unfoldable|abbrev|pub|mutual) )*)(?:{WORD} )*?{re.escape(name)}(?: .*)? :", read(file))
+            passed = re.search(rf"(?m)^unfoldable (?:mutual$|pub use .*[{{ ]{re.escape(name)}[,}}])", read(file))
+            if not passed and (not declared or not re.search("unfoldable|abbrev", declared[1])):
+                found.append(f"{os.path.relpath(path, names.tree.top)}: {name} of {use.path} can't be unfolded there")
+    return found
+
+
 def faults(tree: Tree, crates: list[str]) -> list[str]:
     """The imports of crates that name nothing, and modules that no root names."""
     names, found = Names(tree), []
     for crate in crates:
         below = {"std", "core", crate, *tree.entry(crate).below}
         for path in tree.texts(crate):
+            found += unfolds(names, path, read(path)) if path.endswith(ANTT) else []
             for use in uses_of(read(path)):
                 if fault := names.fault(use):
                     found.append(f"{os.path.relpath(path, tree.top)}: {use.path}: {fault}")
