@@ -54,6 +54,8 @@ CALLED = {
     ("native_texts", "specs", "Say"): "TakeTexts",
     ("native_texts", "specs", "Texts"): "TakeTexts",
 }
+# Functions that several groups have by a word, and their definitions, by name.
+TOLD = {name: {"src": "questions", "specs": "Questions"} for name in ("is_not_implemented", "has_null")}
 # The module of what moves to the only group that needs it: its code, its definitions, its lemmas.
 ALONE = {
     ("class_make", "native_objects"): ("type_natives", "TypeNatives", "OfTypeNatives"),
@@ -75,6 +77,8 @@ ABOUT = {
     "class_names": "What classes are called, in their modules.",
     "ClassNames": "What classes are called, in their modules.",
     "ClassAttributes": "The names of attributes as new texts, with their values.",
+    "questions": "What rows ask of one object or one text: whether it is NotImplemented, and whether it has a null.",
+    "Questions": "What rows ask of one text: whether it has a null.",
     "take_texts": "What a native takes of a text: alone, or with one argument; and how many characters it has.",
     "TakeTexts": "What a native takes of a text, and how many characters it has.",
     "type_natives": "The natives of `type` that ask no task.",
@@ -377,9 +381,9 @@ def paths_of(head: str, word: str) -> list[tuple[str, str]]:
 
 def groups_of(tree: Tree) -> dict[str, str]:
     """The groups: of each crate of rows or natives the crate that later steps make of it. The kit's own crates are no group."""
-    from house import STEPS
+    from house import FIRST, STEPS
 
-    kit = {*STEPS["kit"].sources, KIT}
+    kit = {*STEPS["kit"].sources, KIT, FIRST}
     found = {it: it for it in tree.names if re.match(r"(proto|native)_|class_make$|eval_forms$", it) and it not in ("native_defs", *kit)}
     for name, step in STEPS.items():
         if "kit" in step.after and name != "natives":
@@ -394,6 +398,47 @@ class Plan:
     items: Items
     groups: dict[str, str]
     homes: dict[Node, str] = field(default_factory=dict)
+    same: dict[Node, Node] = field(default_factory=dict)  # of each function that stands elsewhere too, by a word: which one stays
+
+
+def told_twice(plan: Plan, rests: dict[Node, set[Node]]) -> None:
+    """Functions of several groups that are the same by a word: one of them goes to the kit, and all are that one."""
+    items = plan.items
+    classes: dict[tuple[str, str], list[Node]] = defaultdict(list)
+    for node in items.all():
+        file = items.files[node[0], node[1]]
+        chunk = file.chunk(node[2])
+        if chunk and file.part != "proofs":
+            text = re.sub(r"#\[.*\]\n", "", re.sub(r"\bpub(\(crate\))? ", "", bare(chunk.text)))
+            if not file.is_code or chunk.text and re.search(r"(?m)^(pub(\(crate\))? )?fn ", chunk.text):
+                classes[file.part, " ".join(text.split())].append(node)
+    kind = {node: key for key, nodes in classes.items() for node in nodes}
+
+    def alike(a: Node, b: Node) -> bool:
+        """Whether two items of one class name the same."""
+        first, second = ({it[2]: it for it in rests[one]} for one in (a, b))
+        return first.keys() == second.keys() and all(
+            first[it] == second[it] or first[it] in kind and kind.get(first[it]) == kind.get(second[it]) and first[it] not in (a, b) and alike(first[it], second[it]) for it in first
+        )
+
+    def take(nodes: list[Node]) -> None:
+        """All of these are one, and so is what they rest on."""
+        one = next((it for it in nodes if plan.homes.get(it) == KIT), nodes[0])
+        plan.homes[one] = KIT
+        for other in nodes:
+            if other != one and other not in plan.same:
+                plan.homes[other] = KIT
+                plan.same[other] = one
+        for it in rests[one]:
+            plan.homes[it] = KIT
+            take([it, *(two for node in nodes for two in rests[node] if two[2] == it[2] and two != it)])
+
+    for (part, _), nodes in sorted(classes.items()):
+        if part == "src" and len({plan.groups[it[0]] for it in nodes}) > 1:
+            nodes = [it for it in nodes if alike(nodes[0], it)]
+            inner = {it for node in nodes for it in rests[node]}
+            if len(nodes) > 1 and all(plan.homes.get(it) == KIT or len(classes[kind[it]]) > 1 for it in inner if it in kind) and all(it in kind for it in inner):
+                take(nodes)
 
 
 def plan_of(tree: Tree) -> Plan:
@@ -454,6 +499,7 @@ def plan_of(tree: Tree) -> Plan:
             if plan.homes.get(one) != KIT:
                 plan.homes[one] = KIT
                 todo.append(one)
+    told_twice(plan, rests)
     return plan
 
 
@@ -497,11 +543,13 @@ class Move:
 
     # --- places ---
 
-    def place(self, file: File, home: str) -> str:
-        """The file in which moved items of a file stand."""
+    def place(self, file: File, home: str, name: str = "") -> str:
+        """The file in which a moved item of a file stands."""
         stem = "_".join(file.steps)
         part = file.part
-        if (home, file.crate) in ALONE:
+        if home == KIT and part in TOLD.get(name, {}):
+            name = TOLD[name][part]
+        elif (home, file.crate) in ALONE:
             code, specs, proofs = ALONE[home, file.crate]
             name = {"src": code, "specs": specs, "proofs": proofs}[part]
         elif part == "src":
@@ -514,9 +562,11 @@ class Move:
         """The crate and the file to which an item moves."""
         if not node:
             return None
+        node = self.items.first(node)
+        node = self.plan.same.get(node, node)
         file = self.items.files[node[0], node[1]]
         chunk = file.chunk(node[2])
-        return (chunk.home, self.place(file, chunk.home)) if chunk and chunk.home else None
+        return (chunk.home, self.place(file, chunk.home, chunk.names[0] if chunk.names else "")) if chunk and chunk.home else None
 
     # --- imports ---
 
@@ -645,13 +695,14 @@ class Move:
     def run(self) -> None:
         """Moves all."""
         gathered: dict[tuple[str, str], list[tuple[File, list[Chunk]]]] = {}
+        self.again = {id(chunk) for node in self.plan.same for _, chunk in self.items.chunks_of(node)}
         for file in self.items.files.values():
-            by_home: dict[str, list[Chunk]] = defaultdict(list)
+            by_place: dict[tuple[str, str], list[Chunk]] = defaultdict(list)
             for it in file.chunks:
-                if it.home:
-                    by_home[it.home].append(it)
-            for home, chunks in by_home.items():
-                gathered.setdefault((home, self.place(file, home)), []).append((file, chunks))
+                if it.home and id(it) not in self.again:
+                    by_place[it.home, self.place(file, it.home, (it.names or [it.of or ""])[0])].append(it)
+            for key, chunks in by_place.items():
+                gathered.setdefault(key, []).append((file, chunks))
         self.gathered = gathered
         # (proofs of functions go with their files as they are)
         folders = []
@@ -661,8 +712,10 @@ class Move:
                     for name in chunk.names if chunk.home else []:
                         steps = file.steps if file.steps != ["lib"] else []
                         folder = f"{self.tree.crates}/{file.crate}/proofs/" + "/".join([*steps, name])
-                        if os.path.isdir(folder):
-                            place = self.place(file, chunk.home or "").rsplit(".", 1)[0].split("/")[1:]
+                        if os.path.isdir(folder) and id(chunk) in self.again:
+                            shutil.rmtree(folder)
+                        elif os.path.isdir(folder):
+                            place = self.place(file, chunk.home or "", name).rsplit(".", 1)[0].split("/")[1:]
                             folders.append((folder, f"{self.tree.crates}/{chunk.home}/proofs/" + "/".join([*place, name]), file.crate))
         texts = {key: self.new_text(key, parts) for key, parts in gathered.items()}
         self.note_calls()
@@ -698,7 +751,8 @@ class Move:
             for chunk in file.chunks:
                 if file.is_code and chunk.home and re.search(r"(?m)^pub fn ", chunk.text):
                     name = chunk.names[0]
-                    new = "::".join([*self.place(file, chunk.home).rsplit(".", 1)[0].split("/")[1:], name])
+                    home = self.home_of((file.crate, file.path, name))
+                    new = "::".join([*(home[1] if home else "").rsplit(".", 1)[0].split("/")[1:], name])
                     self.calls.append((file.crate, "::".join([*file.steps, name]), chunk.home, new))
 
     def new_text(self, key: tuple[str, str], parts: list[tuple[File, list[Chunk]]]) -> str:
@@ -715,7 +769,9 @@ class Move:
             bodies.append(self.inline(text, home, file.crate) if is_code else self.inline_antt(text))
             heads.append(head_line(file.head))
             if is_code:
-                tactics.append(self.tactic(file, home))
+                # (what stood in several groups is proved without the tactics of one)
+                is_told = any(place == f"src/{it['src']}{CODE}" for it in TOLD.values())
+                tactics.append("" if is_told else self.tactic(file, home))
         heads = [ABOUT.get(place.rsplit(".", 1)[0].split("/")[-1], " ".join(dict.fromkeys(heads)))]
         module = ".".join(["Rattle", home, *place.rsplit(".", 1)[0].split("/")])
         code_module = "::".join([home, *place.rsplit(".", 1)[0].split("/")[1:]])
@@ -756,6 +812,8 @@ class Move:
         if not any(it.names or it.of for it in left):
             return None
         text = "\n\n".join(it.text for it in left)
+        if file.is_code and re.search(r"(?m)^(pub )?mod |^pub use ", file.head):
+            return self.root_text(file, left)
         imports = [it for it in self.imports_of(file.crate, file.head, file.is_code) if is_used(it, text)]
         imports += self.own_imports(file, left, [it for it in file.chunks if it.home])
         imports = [self.moved_import(it) for it in imports]
@@ -767,6 +825,25 @@ class Move:
         top = [it for it in file.head.split("\n") if re.match(r"//!|#!\[", it)]
         top = [self.inline(it, file.crate, file.crate) if it.startswith("#!") else it for it in top]
         return "\n".join(top) + "\n\n" + "\n".join(ghost) + "\n\n" + "\n".join(code) + "\n\n" + self.inline(text, file.crate, file.crate) + "\n"
+
+    def root_text(self, file: File, left: list[Chunk]) -> str:
+        """What is left of a file that names modules: it imports what went from it."""
+        gone = [it for it in file.chunks if it.home]
+        text = "\n\n".join(it.text for it in left)
+        need = [it for it in self.own_imports(file, left, gone) if it.name]
+        head = file.head
+        steps = [] if file.steps == ["lib"] else file.steps
+        for it in need:
+            head = re.sub(r"(?m)^use ", f"use {'::'.join(['crate', *steps, it.name or ''])};\nuse ", head, count=1)
+        made = self.other_text(file.crate, f"{self.tree.crates}/{file.crate}/{file.path}", head + "\n\n" + text + "\n") or head + "\n\n" + text + "\n"
+
+        def used(hit: re.Match[str]) -> str:
+            kept = [it for it in self.imports_of(file.crate, hit[0], True) if is_used(it, re.sub(r"(?ms)^(pub(\(crate\))? |ghost )?use [^;]*;\n", "", made))]
+            rows, code = self.lines(file.crate, kept)
+            rows = [f"ghost {it}" if it.startswith("use ") else it for it in rows]
+            return "".join(it + ("" if it.endswith(";") else ";") + "\n" for it in [*rows, *code])
+
+        return re.sub(r"(?ms)^(ghost )?use [^;]*;\n", used, made)
 
     def other_text(self, crate: str, path: str, text: str) -> str | None:
         """A file from which nothing moves, with imports of where things are then."""
@@ -907,6 +984,9 @@ class Move:
         for new, parts in self.gathered.items():
             for file, _ in parts:
                 found[file.crate, file.path].append(new)
+        for node, one in self.plan.same.items():
+            if home := self.home_of(one):
+                found[node[0], node[1]].append(home)
         return found
 
     def documents(self, tree: Tree) -> None:
