@@ -604,6 +604,8 @@ class Move:
         """The imports of a file's head, those of code by paths from a crate."""
         found = []
         for use in uses_of(head):
+            if use.indent:
+                continue
             if use.items is None:
                 found.append(Import(use.word, use.path, None, use.alias))
             for name, called in use.names():
@@ -760,18 +762,23 @@ class Move:
         home, place = key
         is_code = place.endswith(CODE)
         imports: list[Import] = []
-        bodies, heads, tactics = [], [], []
+        heads, tactics = [], []
+        all_chunks: list[Chunk] = []
+        owner: dict[int, File] = {}
         for file, chunks in parts:
             text = "\n\n".join(it.text for it in chunks)
+            owner.update({id(it): file for it in chunks})
             mine = [it for it in self.imports_of(file.crate, file.head, is_code) if is_used(it, text)]
             mine += self.own_imports(file, chunks, [it for it in file.chunks if it not in chunks])
             imports += [self.moved_import(it) for it in mine]
-            bodies.append(self.inline(text, home, file.crate) if is_code else self.inline_antt(text))
+            all_chunks += chunks
             heads.append(head_line(file.head))
             if is_code:
                 # (what stood in several groups is proved without the tactics of one)
                 is_told = any(place == f"src/{it['src']}{CODE}" for it in TOLD.values())
                 tactics.append("" if is_told else self.tactic(file, home))
+        all_chunks = all_chunks if is_code else above_first(all_chunks)
+        bodies = [self.inline(it.text, home, owner[id(it)].crate) if is_code else self.inline_antt(it.text) for it in all_chunks]
         heads = [ABOUT.get(place.rsplit(".", 1)[0].split("/")[-1], " ".join(dict.fromkeys(heads)))]
         module = ".".join(["Rattle", home, *place.rsplit(".", 1)[0].split("/")])
         code_module = "::".join([home, *place.rsplit(".", 1)[0].split("/")[1:]])
@@ -860,7 +867,7 @@ class Move:
                 return hit[0]
             rows, _ = self.lines(crate, new)
             end = ";" if hit[0].rstrip().endswith(";") else ""
-            return "\n".join(it.rstrip(";") + end for it in rows)
+            return "\n".join(use.indent + it.rstrip(";") + end for it in rows)
 
         text = USE.sub(one, text)
         if text != was:
@@ -1000,7 +1007,7 @@ def joined(text: str) -> str:
     """A text whose imports of one module by one word stand in one line."""
     first: dict[tuple[str, str], list[str]] = {}
     for use in uses_of(text):
-        if use.items is not None:
+        if use.items is not None and not use.indent:
             list_ = first.setdefault((use.word, use.path), [])
             list_ += [it for it in use.items if it not in list_]
     done: set[tuple[str, str]] = set()
@@ -1008,7 +1015,7 @@ def joined(text: str) -> str:
     def one(hit: re.Match[str]) -> str:
         use = uses_of(hit[0])[0]
         key = use.word, use.path
-        if use.items is None:
+        if use.items is None or use.indent:
             return hit[0]
         if key in done:
             return "\0"
@@ -1016,6 +1023,24 @@ def joined(text: str) -> str:
         return f"{use.word} {use.path}.{{{', '.join(first[key])}}}" + (";" if hit[0].rstrip().endswith(";") else "")
 
     return USE.sub(one, text).replace("\0\n", "")
+
+
+def above_first(chunks: list[Chunk]) -> list[Chunk]:
+    """Items in an order in which each stands below those that it names, and else as they were."""
+    where = {name: it for it in chunks for name in it.names}
+    done: list[Chunk] = []
+
+    def put_below(it: Chunk, above: tuple[int, ...]) -> None:
+        if any(it is one for one in done) or id(it) in above:
+            return
+        for word in re.findall(WORD, bare(it.text)):
+            if word in where and where[word] is not it:
+                put_below(where[word], (*above, id(it)))
+        done.append(it)
+
+    for it in chunks:
+        put_below(it, ())
+    return done
 
 
 def bare(text: str) -> str:

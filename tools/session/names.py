@@ -17,21 +17,25 @@ from dataclasses import dataclass
 
 from tree import ANTT, CODE, Tree, files, read
 
-USE = re.compile(r"(?m)^[ \t]*((?:unfoldable )?(?:pub )?(?:ghost )?use) (Rattle\.[^\s{};]*?)(?:\.\{([^}]*)\}| as (\S+?))?;?[ \t]*$")
+USE = re.compile(
+    r"(?m)^(?P<indent>[ \t]*)(?P<word>(?:unfoldable )?(?:pub )?(?:ghost )?use) (?P<path>Rattle\.[^\s{};]*?)"
+    r"(?:\.\{(?P<items>[^}]*)\}| as (?P<alias>\S+?))?;?[ \t]*$"
+)
 WORD = r"[^\s(){}:;,.=→λ×⊎]+"
 DECLARED = re.compile(rf"(?m)^[ \t]*(?:(?:pattern|unfoldable|abbrev|pub|axiom|data|record|ruleset|mutual) )*({WORD}(?: {WORD})*)(?: .*?)?(?= :| where|=|$)")
 
 
 @dataclass
 class Use:
-    """An import: its words before the path, the path of the module, the items (None: the module itself), and its place."""
+    """An import: its words before the path, the path of the module, the items (None: the module itself), and how it is indented.
+
+    One that is indented is of a block of a type's code, and stands for that alone."""
 
     word: str
     path: str
     items: list[str] | None
     alias: str | None
-    start: int
-    end: int
+    indent: str = ""
 
     def names(self) -> list[tuple[str, str]]:
         """Each item, and the name that it has in the file."""
@@ -46,8 +50,8 @@ def uses_of(text: str) -> list[Use]:
     """The imports of a file, of this project's and of std's definitions."""
     found = []
     for it in USE.finditer(text):
-        items = None if it[3] is None else [one.strip() for one in it[3].split(",") if one.strip()]
-        found.append(Use(it[1], it[2], items, it[4], it.start(), it.end()))
+        items = None if it["items"] is None else [one.strip() for one in it["items"].split(",") if one.strip()]
+        found.append(Use(it["word"], it["path"], items, it["alias"], it["indent"]))
     return found
 
 

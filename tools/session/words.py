@@ -67,7 +67,7 @@ class Words:
 
 def simple(use: Use) -> bool:
     """Whether an import is one of names, for this file alone."""
-    return use.items is not None and "pub" not in use.word and not any("." in name or name == "*" for name, _ in use.names())
+    return use.items is not None and not use.indent and "pub" not in use.word and not any("." in name or name == "*" for name, _ in use.names())
 
 
 def unfolded(text: str) -> set[str]:
