@@ -2,7 +2,7 @@
 use Rattle.std.proofs.Common.{◌≡◌, ◌==◌, ℕ, zero, suc, ◌≤◌, List, [], ◌∷◌, ◌++◌, length, map, take, Some, None, true, refl, sym, ap, ◌∙◌, subst, arith, length-append}
 use Rattle.std.specs.Prelude.{slice_get, Result}
 use Rattle.std.specs.Global.{Vec}
-use Rattle.std.proofs.lemmas.Bool.{ltb-true, lt-ltb}
+use Rattle.std.proofs.lemmas.Bool.{eqb-true, ltb-true, lt-ltb}
 use Rattle.std.proofs.lemmas.List.{map-append, length-map, take_all}
 use Rattle.std.proofs.lemmas.Option.{slice_get_within}
 use Rattle.py_node.specs.declared.refs.PyObjectRef.{PyObjectRef}
@@ -157,7 +157,7 @@ named-hold w _ h = no-names w
 
 pub no-more : {A : Type 0} (xs : List A) → (length xs == 0) ≡ true → xs ≡ []
 no-more [] h = refl
-no-more (x ∷ xs) h = cc
+no-more (x ∷ xs) h = let none : length (x ∷ xs) ≡ 0 = eqb-true (length (x ∷ xs)) 0 h in absurd (omega (arith, none))
 
 -- with no keywords, all values are arguments
 pub plainly-given : (w : World) (f : Form) (c : Called) (vs : List PyObjectRef) (next : Step EvalKept) → length (arguments f) ≡ length vs → named f ≡ []
