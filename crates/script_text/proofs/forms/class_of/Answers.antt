@@ -7,4 +7,4 @@ use Rattle.script_text.proofs.forms.class_of.Goals as goal
 pub returns-clause-ok : goal.returns-clause-ok
 returns-clause-ok c =
     class-tree c.in_ok-new.field-0
-    ∙ ap (λ v. class (string_bytes v.name) (map tree_of v.bases.items) (map named v.entries.items) (map named v.keywords.items)) c.in_ok-new.ensures
+    ∙ ap (λ v. class (string_bytes v.name) (map tree_of v.bases.items) (map named v.entries.items) (map named v.keywords.items)) c.in_ok-new.ensures.ok
