@@ -53,7 +53,7 @@ form_of-returns-in_ok-boxed-in-Call-clause-form t c =
     let k = c.in-Call in
     let args = c.store_each-in-Call.ensures.adds in
     let keywords = c.store_entries.ensures.adds in
-    call-form b.boxed _ k.call b.ensures.ok k.is (tree-stays keywords (tree-stays args c.in_ok-function.ensures.tree)) (trees-stay keywords c.in_ok-args.ensures.trees) c.in_ok-keywords-in-Call.ensures.entries
+    call-form b.boxed _ k.call b.ensures.ok k.is (tree-stays keywords (tree-stays args c.in_ok-function-in-Call.ensures.tree)) (trees-stay keywords c.in_ok-args-in-Call.ensures.trees) c.in_ok-keywords-in-Call.ensures.entries
 
 pub form_of-returns-in_ok-boxed-in-Class-clause-form : goal.form_of-returns-in_ok-boxed-in-Class-clause-form
 form_of-returns-in_ok-boxed-in-Class-clause-form t c =
@@ -63,8 +63,8 @@ form_of-returns-in_ok-boxed-in-Class-clause-form t c =
     let keywords = c.store_entries-in-Class.ensures.adds in
     let entries = c.store_entries-in-Class-2.ensures.adds in
     let name = name-stays entries (name-stays keywords (name-stays bases c.in_ok-name-in-Class.ensures.name)) in
-    let read = trees-stay entries (trees-stay keywords c.in_ok-bases.ensures.trees) in
-    class-form b.boxed _ k.class b.ensures.ok k.is name read (entries-stay entries c.in_ok-keywords-in-Class.ensures.entries) c.in_ok-entries.ensures.entries
+    let read = trees-stay entries (trees-stay keywords c.in_ok-bases-in-Class.ensures.trees) in
+    class-form b.boxed _ k.class b.ensures.ok k.is name read (entries-stay entries c.in_ok-keywords-in-Class.ensures.entries) c.in_ok-entries-in-Class.ensures.entries
 
 pub form_of-returns-in_ok-value-in-Bind-clause-form : goal.form_of-returns-in_ok-value-in-Bind-clause-form
 form_of-returns-in_ok-value-in-Bind-clause-form t c =
@@ -90,7 +90,7 @@ pub form_of-returns-in_ok-boxed-in-Func-clause-form : goal.form_of-returns-in_ok
 form_of-returns-in_ok-boxed-in-Func-clause-form t c =
     let b = c.in_ok-boxed-in-Func in
     let k = c.in-Func in
-    func-form b.boxed _ k.func b.ensures.ok k.is refl (name-stays c.store-in-Func.ensures.adds (name-stays c.names_of.ensures.adds c.in_ok-name-in-Func.ensures.name)) (names-stay c.store-in-Func.ensures.adds c.in_ok-params.ensures.names) c.in_ok-body.ensures.tree
+    func-form b.boxed _ k.func b.ensures.ok k.is refl (name-stays c.store-in-Func.ensures.adds (name-stays c.names_of.ensures.adds c.in_ok-name-in-Func.ensures.name)) (names-stay c.store-in-Func.ensures.adds c.in_ok-params-in-Func.ensures.names) c.in_ok-body-in-Func.ensures.tree
 
 pub form_of-returns-in_ok-name-in-Attr-clause-form : goal.form_of-returns-in_ok-name-in-Attr-clause-form
 form_of-returns-in_ok-name-in-Attr-clause-form t c =
