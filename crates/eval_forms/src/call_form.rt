@@ -187,10 +187,7 @@ fn call_plainly(alloc: Global, called: Called, values: Args) -> Step<EvalKept>
     ensures safe { (w : World) → AllHold w (of_called called) → Holds w (AreNodes values.items) →
         AllHold w (of_step of_eval_kept result) }
 {
-    Step::Ask(
-        call_task(called, values, Vec::new(alloc)),
-        EvalKept::Pass,
-    )
+    Step::Ask(call_task(called, values, Vec::new(alloc)), EvalKept::Pass)
 }
 
 // The arguments of a call.
