@@ -72,17 +72,18 @@ form_tree text tree (form.Bind x e) = TBind (text x.0) (tree e)
 form_tree text tree (form.Tuple es) = TTuple (trees_of (map tree es.items))
 form_tree text tree (form.List es) = TList (trees_of (map tree es.items))
 form_tree text tree (form.Dict ps) = TDict (keyed_of (map (λ p. (tree p.0, tree p.1)) ps.items))
-form_tree text tree (form.Func x ps rest e) = TFunc (text x.0) (map (λ p. text p.0) ps.items) rest (tree e)
+form_tree text tree (form.Func f) = TFunc (text f.value.name.0) (map (λ p. text p.0) f.value.params.items) f.value.rest (tree f.value.body)
 form_tree text tree (form.Attr o x) = TAttr (tree o) (text x.0)
 form_tree text tree (form.SetAttr o x e) = TSetAttr (tree o) (text x.0) (tree e)
 form_tree text tree (form.DelAttr o x) = TDelAttr (tree o) (text x.0)
-form_tree text tree (form.Call f es kw) = TCall (tree f) (trees_of (map tree es.items)) (stored_entries text tree kw.items)
+form_tree text tree (form.Call c) =
+    TCall (tree c.value.function) (trees_of (map tree c.value.args.items)) (stored_entries text tree c.value.keywords.items)
 form_tree text tree (form.Op word es) = TOp word (trees_of (map tree es.items))
 form_tree text tree (form.If c a b) = TIf (tree c) (tree a) (tree b)
 form_tree text tree (form.Seq es) = TSeq (trees_of (map tree es.items))
 form_tree text tree (form.Raise kind) = TRaise kind
-form_tree text tree (form.Class x bs kw es) =
-    TClass (text x.0) (trees_of (map tree bs.items)) (stored_entries text tree kw.items) (stored_entries text tree es.items)
+form_tree text tree (form.Class k) =
+    TClass (text k.value.name.0) (trees_of (map tree k.value.bases.items)) (stored_entries text tree k.value.keywords.items) (stored_entries text tree k.value.entries.items)
 
 -- the numbers are read as the world's tables have them
 pub record Reads (t : Reading) (w : World) : Type 0 where

@@ -288,16 +288,16 @@ of_form (form.Bind x e) = IsName x ∷ IsExpression e ∷ []
 of_form (form.Tuple es) = AreExpressions es.items ∷ []
 of_form (form.List es) = AreExpressions es.items ∷ []
 of_form (form.Dict ps) = AreExpressions (map (λ p. p.0) ps.items) ∷ AreExpressions (map (λ p. p.1) ps.items) ∷ []
-of_form (form.Func x ps rest e) = IsName x ∷ AreNames ps.items ∷ IsExpression e ∷ []
+of_form (form.Func f) = IsName f.value.name ∷ AreNames f.value.params.items ∷ IsExpression f.value.body ∷ []
 of_form (form.Attr o x) = IsExpression o ∷ IsName x ∷ []
 of_form (form.SetAttr o x e) = IsExpression o ∷ IsName x ∷ IsExpression e ∷ []
 of_form (form.DelAttr o x) = IsExpression o ∷ IsName x ∷ []
-of_form (form.Call f es kw) = IsExpression f ∷ AreExpressions es.items ∷ of_stored kw.items
+of_form (form.Call c) = IsExpression c.value.function ∷ AreExpressions c.value.args.items ∷ of_stored c.value.keywords.items
 of_form (form.Op word es) = AreExpressions es.items ∷ []
 of_form (form.If c a b) = IsExpression c ∷ IsExpression a ∷ IsExpression b ∷ []
 of_form (form.Seq es) = AreExpressions es.items ∷ []
 of_form (form.Raise kind) = []
-of_form (form.Class x bs kw es) = IsName x ∷ AreExpressions bs.items ∷ of_stored kw.items ++ of_stored es.items
+of_form (form.Class k) = IsName k.value.name ∷ AreExpressions k.value.bases.items ∷ of_stored k.value.keywords.items ++ of_stored k.value.entries.items
 
 abbrev pub of_binding : PyStrInterned × PyObjectRef → List Claim
 of_binding b = IsName b.0 ∷ IsNode b.1 ∷ []

@@ -36,7 +36,7 @@ pub(crate) fn evaluated(world: &World, form: &Form, operand: u64) -> u64
     ensures holds { Holds world.now (IsExpression result) }
 {
     match form {
-        Form::Call(_, _, _) => callee(world, operand),
+        Form::Call(_) => callee(world, operand),
         _ => operand,
     }
 }
@@ -198,7 +198,7 @@ fn positional(form: &Form) -> &[u64]
     ensures { result.now ≡ positional form.now }
 {
     match form {
-        Form::Call(_, args, _) => args,
+        Form::Call(call) => &call.args,
         _ => &[],
     }
 }
@@ -208,7 +208,7 @@ fn named(form: &Form) -> &[(PyStrInterned, u64)]
     ensures { result.now ≡ named form.now }
 {
     match form {
-        Form::Call(_, _, keywords) => keywords,
+        Form::Call(call) => &call.keywords,
         _ => &[],
     }
 }

@@ -5,7 +5,9 @@ ghost use Rattle.py_node.specs.Members.{kind_number};
 
 use crate::dict::PyDict;
 use crate::entry::NativeEntry;
+use crate::expr::{CallParts, ClassParts, Constant, FuncParts, Word};
 use crate::members::PyMembers;
+use crate::raised::Kind;
 use crate::refs::{PyObjectRef, PyStrInterned, PyTypeRef};
 
 /// What a node holds beside its class and its dict.
@@ -189,23 +191,25 @@ pub struct Node {
     pub payload: Payload,
 }
 
-/// An expression in the world's store, which names its parts by their numbers there.
+/// An expression in the world's store, which names its parts by their numbers there. What is large stands in a box.
 #[derive(Drop)]
 pub enum Form {
-    Const(crate::expr::Constant),
+    Const(Constant),
     Name(PyStrInterned),
     Bind(PyStrInterned, u64),
     Tuple(Vec<u64>),
     List(Vec<u64>),
     Dict(Vec<(u64, u64)>),
-    Func(PyStrInterned, Vec<PyStrInterned>, bool, u64),
+    Func(Box<FuncParts<PyStrInterned, u64>>),
     Attr(u64, PyStrInterned),
     SetAttr(u64, PyStrInterned, u64),
     DelAttr(u64, PyStrInterned),
-    Call(u64, Vec<u64>, Vec<(PyStrInterned, u64)>),
-    Op(crate::expr::Word, Vec<u64>),
+    Call(Box<CallParts<PyStrInterned, u64>>),
+    Op(Word, Vec<u64>),
     If(u64, u64, u64),
     Seq(Vec<u64>),
-    Raise(crate::raised::Kind),
-    Class(PyStrInterned, Vec<u64>, Vec<(PyStrInterned, u64)>, Vec<(PyStrInterned, u64)>),
+    Raise(Kind),
+    Class(Box<ClassParts<PyStrInterned, u64>>),
 }
+
+const _: () = prove!(size_of::<Form>() == 40);
