@@ -430,7 +430,8 @@ fn func_step(
         body,
         class: None,
     };
-    let node = world.make_node(class, Payload::Function(function))?;
+    let boxed = Box::new(world.alloc(), function)?;
+    let node = world.make_node(class, Payload::Function(boxed))?;
     Ok(Step::End(Ok(Answer::Value(node))))
 }
 

@@ -9,7 +9,7 @@ use crate::members::PyMembers;
 use crate::raised::Kind;
 use crate::refs::{PyObjectRef, PyStrInterned, PyTypeRef};
 
-/// What a node holds beside its class and its dict.
+/// What a node holds beside its class and its dict. What is larger than the others stands in a box, so that nodes are small.
 #[derive(Drop)]
 pub enum Payload {
     /// An object of a class that keeps nothing else, and None and NotImplemented.
@@ -24,7 +24,7 @@ pub enum Payload {
     List(Vec<PyObjectRef>),
     /// Keys with their values, in the order in which the keys came.
     Dict(Vec<(PyObjectRef, PyObjectRef)>),
-    Function(Function),
+    Function(Box<Function>),
     Method(BoundMethod),
     NativeFunction(NativeFunction),
     BuiltinMethod(BuiltinMethod),
@@ -34,12 +34,14 @@ pub enum Payload {
     ClassMethod(PyObjectRef),
     /// The callable that a static method wraps.
     StaticMethod(PyObjectRef),
-    Member(MemberDescriptor),
-    Property(PyProperty),
+    Member(Box<MemberDescriptor>),
+    Property(Box<PyProperty>),
     Super(PySuper),
     Iterator(SequenceIterator),
     Slice(PySlice),
 }
+
+const _: () = prove!(size_of::<Payload>() == 64);
 
 /// A function of a script.
 #[derive(Drop)]
@@ -189,6 +191,8 @@ pub struct Node {
     pub members: PyMembers,
     pub payload: Payload,
 }
+
+const _: () = prove!(size_of::<Node>() == 112);
 
 /// An expression in the world's store, which names its parts by their numbers there. What is large stands in a box.
 #[derive(Drop)]
