@@ -137,9 +137,6 @@ pub enum Expr {
     Class(Box<ClassParts<String, Expr>>),
 }
 
-
-
-
 const _: () = prove!(size_of::<Expr>() == 40);
 
 /// A command: an expression that is evaluated by itself.

@@ -7,9 +7,7 @@ ghost use Rattle.class_world.specs.Sound.{IsExpression, Holds, Grows};
 ghost use Rattle.world_text.specs.Store.{Adds, HasName, HasNames, HasTree, HasTrees, HasPairs, HasEntries, HasForm};
 
 use class_world::World;
-use py_node::{
-    CallParts, ClassParts, Constant, Expr, Form, FuncParts, OutOfMemory, PyStrInterned,
-};
+use py_node::{CallParts, ClassParts, Constant, Expr, Form, FuncParts, OutOfMemory, PyStrInterned};
 
 /// Puts an expression into the store, and answers its number there.
 pub fn add_expr(world: &mut World, expr: &Expr) -> Result<u64, OutOfMemory>

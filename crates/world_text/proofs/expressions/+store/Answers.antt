@@ -1,4 +1,10 @@
-use Rattle.std.proofs.Common.{refl}
+use Rattle.std.proofs.Common.{ℕ, ap, String}
+use Rattle.std.specs.declared.alloc.Global.{Global}
+use Rattle.py_node.specs.declared.refs.PyStrInterned.{PyStrInterned}
+use Rattle.py_node.specs.declared.expr.FuncParts.{FuncParts}
+use Rattle.py_node.specs.declared.expr.CallParts.{CallParts}
+use Rattle.py_node.specs.declared.expr.ClassParts.{ClassParts}
+use Rattle.py_node.specs.declared.expr.Expr.{Expr}
 use Rattle.world_text.proofs.Adding.{adds-itself, adds-on, tree-as, name-stays, names-stay, tree-stays, trees-stay, pairs-stay, entries-stay, stored, no-tree, no-pair, no-entry, trees-next, pairs-next, entries-next}
 use Rattle.world_text.proofs.Forms.{call-form, class-form, attr-form, bind-form, del_attr-form, dict-form, func-form, if-form, list-form, op-form, seq-form, set_attr-form, tuple-form}
 use Rattle.world_text.proofs.expressions.+store.Goals as goal
@@ -53,7 +59,8 @@ form_of-returns-in_ok-boxed-in-Call-clause-form t c =
     let k = c.in-Call in
     let args = c.store_each-in-Call.ensures.adds in
     let keywords = c.store_entries.ensures.adds in
-    call-form b.boxed _ k.call b.ensures.ok k.is (tree-stays keywords (tree-stays args c.in_ok-function.ensures.tree)) (trees-stay keywords c.in_ok-args.ensures.trees) c.in_ok-keywords-in-Call.ensures.entries
+    let parts : CallParts PyStrInterned ℕ = record { function = c.in_ok-function-in-Call.function; args = c.in_ok-args-in-Call.args; keywords = c.in_ok-keywords-in-Call.keywords } in
+    call-form b.boxed parts k.call b.ensures.ok k.is c.deref-in-Call.ensures c.deref-in-Call-2.ensures c.deref-in-Call-3.ensures (tree-stays keywords (tree-stays args c.in_ok-function-in-Call.ensures.tree)) (trees-stay keywords c.in_ok-args-in-Call.ensures.trees) c.in_ok-keywords-in-Call.ensures.entries
 
 pub form_of-returns-in_ok-boxed-in-Class-clause-form : goal.form_of-returns-in_ok-boxed-in-Class-clause-form
 form_of-returns-in_ok-boxed-in-Class-clause-form t c =
@@ -63,8 +70,9 @@ form_of-returns-in_ok-boxed-in-Class-clause-form t c =
     let keywords = c.store_entries-in-Class.ensures.adds in
     let entries = c.store_entries-in-Class-2.ensures.adds in
     let name = name-stays entries (name-stays keywords (name-stays bases c.in_ok-name-in-Class.ensures.name)) in
-    let read = trees-stay entries (trees-stay keywords c.in_ok-bases.ensures.trees) in
-    class-form b.boxed _ k.class b.ensures.ok k.is name read (entries-stay entries c.in_ok-keywords-in-Class.ensures.entries) c.in_ok-entries.ensures.entries
+    let read = trees-stay entries (trees-stay keywords c.in_ok-bases-in-Class.ensures.trees) in
+    let parts : ClassParts PyStrInterned ℕ = record { name = c.in_ok-name-in-Class.name; bases = c.in_ok-bases-in-Class.bases; keywords = c.in_ok-keywords-in-Class.keywords; entries = c.in_ok-entries-in-Class.entries } in
+    class-form b.boxed parts k.class b.ensures.ok k.is c.deref-in-Class.ensures c.deref-in-Class-2.ensures c.deref-in-Class-3.ensures c.deref-in-Class-4.ensures name read (entries-stay entries c.in_ok-keywords-in-Class.ensures.entries) c.in_ok-entries-in-Class.ensures.entries
 
 pub form_of-returns-in_ok-value-in-Bind-clause-form : goal.form_of-returns-in_ok-value-in-Bind-clause-form
 form_of-returns-in_ok-value-in-Bind-clause-form t c =
@@ -90,7 +98,8 @@ pub form_of-returns-in_ok-boxed-in-Func-clause-form : goal.form_of-returns-in_ok
 form_of-returns-in_ok-boxed-in-Func-clause-form t c =
     let b = c.in_ok-boxed-in-Func in
     let k = c.in-Func in
-    func-form b.boxed _ k.func b.ensures.ok k.is refl (name-stays c.store-in-Func.ensures.adds (name-stays c.names_of.ensures.adds c.in_ok-name-in-Func.ensures.name)) (names-stay c.store-in-Func.ensures.adds c.in_ok-params.ensures.names) c.in_ok-body.ensures.tree
+    let parts : FuncParts PyStrInterned ℕ = record { name = c.in_ok-name-in-Func.name; params = c.in_ok-params-in-Func.params; rest = c.deref-in-Func-4.result.now.rest; body = c.in_ok-body-in-Func.body } in
+    func-form b.boxed parts k.func b.ensures.ok k.is c.deref-in-Func.ensures c.deref-in-Func-2.ensures c.deref-in-Func-3.ensures (ap (λ (v : FuncParts (String Global) Expr). v.rest) c.deref-in-Func-4.ensures) (name-stays c.store-in-Func.ensures.adds (name-stays c.names_of.ensures.adds c.in_ok-name-in-Func.ensures.name)) (names-stay c.store-in-Func.ensures.adds c.in_ok-params-in-Func.ensures.names) c.in_ok-body-in-Func.ensures.tree
 
 pub form_of-returns-in_ok-name-in-Attr-clause-form : goal.form_of-returns-in_ok-name-in-Attr-clause-form
 form_of-returns-in_ok-name-in-Attr-clause-form t c =
@@ -100,7 +109,7 @@ form_of-returns-in_ok-name-in-Attr-clause-form t c =
 pub form_of-returns-in_ok-value-in-SetAttr-clause-form : goal.form_of-returns-in_ok-value-in-SetAttr-clause-form
 form_of-returns-in_ok-value-in-SetAttr-clause-form t c =
     let k = c.in-SetAttr in
-    set_attr-form k.set k.is (tree-stays c.store-in-SetAttr-2.ensures.adds (tree-stays c.name_of-in-SetAttr.ensures.adds c.in_ok-target-in-SetAttr.ensures.tree)) (name-stays c.store-in-SetAttr-2.ensures.adds c.in_ok-name-in-SetAttr.ensures.name) c.in_ok-value-in-SetAttr.ensures.tree
+    set_attr-form c.in_ok-target-in-SetAttr.target c.in_ok-name-in-SetAttr.name c.in_ok-value-in-SetAttr.value k.set k.is c.deref-in-SetAttr.ensures c.deref-in-SetAttr-2.ensures c.deref-in-SetAttr-3.ensures (tree-stays c.store-in-SetAttr-2.ensures.adds (tree-stays c.name_of-in-SetAttr.ensures.adds c.in_ok-target-in-SetAttr.ensures.tree)) (name-stays c.store-in-SetAttr-2.ensures.adds c.in_ok-name-in-SetAttr.ensures.name) c.in_ok-value-in-SetAttr.ensures.tree
 
 pub form_of-returns-in_ok-name-in-DelAttr-clause-form : goal.form_of-returns-in_ok-name-in-DelAttr-clause-form
 form_of-returns-in_ok-name-in-DelAttr-clause-form t c =
