@@ -1,9 +1,9 @@
 -- Calls whose arguments are evaluated in order.
-use Rattle.std.proofs.Common.{◌≡◌, ℕ, zero, suc, ◌≤◌, List, [], ◌∷◌, ◌++◌, length, map, Some, None, refl, sym, ap, ◌∙◌, subst, arith}
+use Rattle.std.proofs.Common.{◌≡◌, ◌==◌, ℕ, zero, suc, ◌≤◌, List, [], ◌∷◌, ◌++◌, length, map, take, Some, None, true, refl, sym, ap, ◌∙◌, subst, arith, length-append}
 use Rattle.std.specs.Prelude.{slice_get, Result}
 use Rattle.std.specs.Global.{Vec}
-use Rattle.std.proofs.lemmas.Bool.{ltb-true, lt-ltb}
-use Rattle.std.proofs.lemmas.List.{map-append, length-map}
+use Rattle.std.proofs.lemmas.Bool.{eqb-true, ltb-true, lt-ltb}
+use Rattle.std.proofs.lemmas.List.{map-append, length-map, take_all}
 use Rattle.std.proofs.lemmas.Option.{slice_get_within}
 use Rattle.py_node.specs.declared.refs.PyObjectRef.{PyObjectRef}
 use Rattle.py_node.specs.declared.raised.Raised.{Raised as Fault}
@@ -17,7 +17,7 @@ use Rattle.py_node.specs.declared.task.Task.TheVariants as task
 use Rattle.py_node.specs.declared.task.EvalTask.TheVariants as eval
 use Rattle.py_node.specs.Tree.{Text, Tree, list_of, entry_trees}
 use Rattle.plain_machine.specs.Plain.{PlainWorld, DoEval, ToEval, Answered, Told, Asks, Ends}
-use Rattle.plain_machine.specs.Row.{Row, evaluate}
+use Rattle.plain_machine.specs.Row.{Row, start, pass, end, evaluate}
 use Rattle.class_world.specs.Held.{Held}
 use Rattle.class_world.specs.Reading.{Reading, Reads, entry_list, form_tree, spelled, plain, ended_of}
 use Rattle.class_world.specs.Sound.{Holds, AllHold, AreNames, IsExpression, HasForm, of_form}
@@ -154,3 +154,18 @@ no-names w = λ i d l. absurd (omega arith)
 pub named-hold : (w : Held) (f : Form) → AllHold w (of_form f) → Holds w (AreNames (map (λ k. k.0) (named f)))
 named-hold w (form.Call f es kw) h = h.1.1.0
 named-hold w _ h = no-names w
+
+pub no-more : {A : Type 0} (xs : List A) → (length xs == 0) ≡ true → xs ≡ []
+no-more [] h = refl
+no-more (x ∷ xs) h = let none : length (x ∷ xs) ≡ 0 = eqb-true (length (x ∷ xs)) 0 h in absurd (omega (arith, none))
+
+-- with no keywords, all values are arguments
+pub plainly-given : (w : World) (f : Form) (c : Called) (vs : List PyObjectRef) (next : Step EvalKept) → length (arguments f) ≡ length vs → named f ≡ []
+    → Takes (λ t u. start (pass u (called_task c vs [])) (end u)) w w next → Takes (λ t u. given_say u (called_task c) (length (positional f)) (map (spelled t) (map (λ k. k.0) (named f))) vs) w w next
+plainly-given w f c vs next l none goes =
+    let parts = length-append (positional f) (map (λ k. k.1) (named f)) in
+    let count = length-map (named f) (λ k. k.1) in
+    let empty = ap length none in
+    let all : take (length (positional f)) vs ≡ vs = take_all (length (positional f)) vs (omega (arith, l, parts, count, empty)) in
+    subst (λ ks. Takes (λ t u. given_say u (called_task c) (length (positional f)) (map (spelled t) (map (λ k. k.0) ks)) vs) w w next) (sym none)
+    (subst (λ xs. Takes (λ t u. start (pass u (called_task c xs [])) (end u)) w w next) (sym all) goes)

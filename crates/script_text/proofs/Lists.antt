@@ -5,10 +5,12 @@ use Rattle.serde_json.specs.Data.{depth, items_depth}
 use Rattle.serde_json.specs.View.{view, items_view}
 use Rattle.serde_json.specs.declared.value.Value.{Value}
 use Rattle.py_node.specs.declared.expr.Expr.{Expr, Call, Class, Op, the_lemmas}
+use Rattle.py_node.specs.declared.expr.Command.{Command}
 use Rattle.py_node.specs.declared.expr.Word.{Word}
 use Rattle.py_node.specs.Tree.{TCall, TClass, TOp, entry, entries_of, trees_of, tree_of, pair_of}
 use Rattle.script_text.specs.Forms.{expr_of, exprs_of, pair_in, pairs_in, entry_of, entries_in, named, named_entries, call, class, operation}
 use Rattle.json_text.proofs.Lists.{onto, turn}
+use Rattle.script_text.specs.Script.{command_trees}
 use Rattle.script_text.specs.Words.{allows}
 use Rattle.script_text.specs.declared.words.Arity.{Arity}
 
@@ -29,6 +31,12 @@ pub exprs-turn : (vs : List Value) (i : ℕ) (v : Value) (found : List Expr) (e 
     → exprs_of (items_view vs) ≡ onto (map tree_of (found ++ e ∷ [])) (exprs_of (items_view (drop (i + 1) vs)))
 unfolding exprs_of
 exprs-turn vs i v found e = turn (λ w. expr_of (view w)) (λ ws. exprs_of (items_view ws)) tree_of (λ w ws. refl) vs i v found e (exprs_of (items_view vs))
+
+pub commands-turn : (vs : List Value) (i : ℕ) (v : Value) (found : List Command) (k : Command) → i < length vs → v ≡ get_or vs i v → expr_of (view v) ≡ Some (tree_of k.expr)
+    → exprs_of (items_view vs) ≡ onto (command_trees found) (exprs_of (items_view (drop i vs)))
+    → exprs_of (items_view vs) ≡ onto (command_trees (found ++ k ∷ [])) (exprs_of (items_view (drop (i + 1) vs)))
+unfolding exprs_of
+commands-turn vs i v found k = turn (λ w. expr_of (view w)) (λ ws. exprs_of (items_view ws)) (λ (k : Command). tree_of k.expr) (λ w ws. refl) vs i v found k (exprs_of (items_view vs))
 
 pub entries-turn : (vs : List Value) (i : ℕ) (v : Value) (found : List (String Global × Expr)) (e : String Global × Expr) → i < length vs → v ≡ get_or vs i v → entry_of (view v) ≡ Some (named e)
     → entries_in (items_view vs) ≡ onto (map named found) (entries_in (items_view (drop i vs)))
