@@ -43,17 +43,17 @@ form-below w (form.List es) h = h.0
 form-below w (form.Dict ps) h =
     let n = length w.forms in
     (all-unmap (λ (p : ℕ × ℕ). p.0) n ps.items h.0, all-unmap (λ (p : ℕ × ℕ). p.1) n ps.items h.1.0)
-form-below w (form.Func x ps rest e) h = h.1.1.0
+form-below w (form.Func parts) h = h.1.1.0
 form-below w (form.Attr o x) h = h.0
 form-below w (form.SetAttr o x e) h = (h.0, h.1.1.0)
 form-below w (form.DelAttr o x) h = h.0
-form-below w (form.Call f es kw) h = (h.0, h.1.0, all-stored (length w.forms) kw.items h.1.1.1.0)
+form-below w (form.Call parts) h = (h.0, h.1.0, all-stored (length w.forms) parts.value.keywords.items h.1.1.1.0)
 form-below w (form.Op word es) h = h.0
 form-below w (form.If c a b) h = (h.0, h.1.0, h.1.1.0)
 form-below w (form.Seq es) h = h.0
 form-below w (form.Raise kind) h = tt
-form-below w (form.Class x bs kw es) h =
-    (h.1.0, all-stored (length w.forms) kw.items h.1.1.1.0, all-stored (length w.forms) es.items h.1.1.1.1.1.0)
+form-below w (form.Class parts) h =
+    (h.1.0, all-stored (length w.forms) parts.value.keywords.items h.1.1.1.0, all-stored (length w.forms) parts.value.entries.items h.1.1.1.1.1.0)
 
 below-push : (forms : List Form) (f : Form) → AreBelow forms → IsBelow (length forms) f → AreBelow (forms ++ f ∷ [])
 below-push forms f b h = λ n x e. go forms n x (λ m y k. b m y k) h e

@@ -39,7 +39,7 @@ payload-holds w c (payload.Text s) k h = h
 payload-holds w c (payload.Tuple rs) k h = h
 payload-holds w c (payload.List rs) k h = h
 payload-holds w c (payload.Dict es) k h = h
-payload-holds w c (payload.Function f) k h = (h.0, (h.1.0, (h.1.1.0, go f.class h.1.1.1)))
+payload-holds w c (payload.Function f) k h = (h.0, (h.1.0, (h.1.1.0, go f.value.class h.1.1.1)))
   where
     go : (o : Option PyTypeRef) → AllHold w (of_option of_class_ref o) → AllHold w (of_option of_class_ref (or_class_ref o c))
     go None p = (k, tt)
@@ -92,7 +92,7 @@ payload-read t c (payload.Text s) = refl
 payload-read t c (payload.Tuple rs) = refl
 payload-read t c (payload.List rs) = refl
 payload-read t c (payload.Dict es) = refl
-payload-read t c (payload.Function f) = ap (AFunction (spelled t f.name) (map (spelled t) f.params.items) f.rest (t.tree f.body)) (go f.class)
+payload-read t c (payload.Function f) = ap (AFunction (spelled t f.value.name) (map (spelled t) f.value.params.items) f.value.rest (t.tree f.value.body)) (go f.value.class)
   where
     go : (o : Option PyTypeRef) → option_map (λ d. d.0) (or_class_ref o c) ≡ or_class (option_map (λ d. d.0) o) c.0
     go None = refl

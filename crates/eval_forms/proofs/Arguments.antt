@@ -42,18 +42,18 @@ given u c x = given_say u (called_task c) (length (list_of (args_of x))) (entry_
 
 -- the arguments and keywords of an expression of the store are those of its tree
 pub args-form : (text : ℕ → Text) (tree : ℕ → Tree) (f : Form) → all (form_tree text tree f) ≡ map tree (arguments f)
-args-form text tree (form.Call f es kw) =
-    ap (λ l. l ++ entry_trees (entry_list (map (part text tree) kw.items))) (list_of-trees_of (map tree es.items))
-    ∙ ap (λ l. map tree es.items ++ l) (entry_trees-list text tree kw.items)
-    ∙ sym (map-append tree es.items (map (λ e. e.1) kw.items))
+args-form text tree (form.Call parts) =
+    ap (λ l. l ++ entry_trees (entry_list (map (part text tree) parts.value.keywords.items))) (list_of-trees_of (map tree parts.value.args.items))
+    ∙ ap (λ l. map tree parts.value.args.items ++ l) (entry_trees-list text tree parts.value.keywords.items)
+    ∙ sym (map-append tree parts.value.args.items (map (λ e. e.1) parts.value.keywords.items))
 args-form text tree _ = refl
 
 long-form : (text : ℕ → Text) (tree : ℕ → Tree) (f : Form) → length (list_of (args_of (form_tree text tree f))) ≡ length (positional f)
-long-form text tree (form.Call f es kw) = long-trees tree es.items
+long-form text tree (form.Call parts) = long-trees tree parts.value.args.items
 long-form text tree _ = refl
 
 names-form : (text : ℕ → Text) (tree : ℕ → Tree) (f : Form) → entry_names (keywords_of (form_tree text tree f)) ≡ map (λ x. text x.0) (map (λ e. e.0) (named f))
-names-form text tree (form.Call f es kw) = names-of-entries text tree kw.items
+names-form text tree (form.Call parts) = names-of-entries text tree parts.value.keywords.items
 names-form text tree _ = refl
 
 -- a call that has learnt what it calls evaluates its arguments and keywords
@@ -139,7 +139,7 @@ argument-other w e c vs s o h = λ t r.
 
 -- an argument is an expression
 pub argument-holds : (w : Held) (f : Form) (n e : ℕ) → AllHold w (of_form f) → slice_get (arguments f) n ≡ Some e → Holds w (IsExpression e)
-argument-holds w (form.Call f es kw) n e h p = append-holds w es.items (map (λ k. k.1) kw.items) n e h.1.0 h.1.1.1.0 p
+argument-holds w (form.Call parts) n e h p = append-holds w parts.value.args.items (map (λ k. k.1) parts.value.keywords.items) n e h.1.0 h.1.1.1.0 p
 argument-holds w _ n e h p = cc
 
 pub has-argument : (w : Held) (e n : ℕ) (f : Form) (x : ℕ) → slice_get w.forms e ≡ Some f → slice_get (arguments f) n ≡ Some x → Holds w (HasForm e (has_argument n))
@@ -152,7 +152,7 @@ no-names w = λ i d l. absurd (omega arith)
 
 -- the names of keywords are names
 pub named-hold : (w : Held) (f : Form) → AllHold w (of_form f) → Holds w (AreNames (map (λ k. k.0) (named f)))
-named-hold w (form.Call f es kw) h = h.1.1.0
+named-hold w (form.Call parts) h = h.1.1.0
 named-hold w _ h = no-names w
 
 pub no-more : {A : Type 0} (xs : List A) → (length xs == 0) ≡ true → xs ≡ []

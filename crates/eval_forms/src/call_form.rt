@@ -36,7 +36,7 @@ pub(crate) fn evaluated(world: &World, form: &Form, operand: u64) -> u64
     ensures holds { Holds world.now (IsExpression result) }
 {
     match form {
-        Form::Call(_, _, _) => callee(world, operand),
+        Form::Call(_) => callee(world, operand),
         _ => operand,
     }
 }
@@ -195,7 +195,7 @@ fn positional(form: &Form) -> &[u64]
     ensures { result.now ≡ positional form.now }
 {
     match form {
-        Form::Call(_, args, _) => args,
+        Form::Call(call) => &call.args,
         _ => &[],
     }
 }
@@ -205,7 +205,7 @@ fn named(form: &Form) -> &[(PyStrInterned, u64)]
     ensures { result.now ≡ named form.now }
 {
     match form {
-        Form::Call(_, _, keywords) => keywords,
+        Form::Call(call) => &call.keywords,
         _ => &[],
     }
 }

@@ -115,7 +115,8 @@ fn new_property(
                 doc: None,
                 name: None,
             };
-            let node = world.make_node(class, Payload::Property(parts))?;
+            let boxed = Box::new(world.alloc(), parts)?;
+            let node = world.make_node(class, Payload::Property(boxed))?;
             Ok(Ok(Answer::Value(node)))
         }
     }

@@ -36,7 +36,10 @@ pub use entry::{
     ObjectNative, Property, PropertyNative, SlotEntry, SlotId, StrNative, SuperNative, TupleNative,
     TypeNative, WrapperNative,
 };
-pub use expr::{Command, Constant, Expr, ObjectWord, SequenceWord, Word};
+pub use expr::{
+    CallParts, ClassParts, Command, Constant, Expr, FuncParts, ObjectWord, SequenceWord,
+    SetAttrParts, Word,
+};
 pub use flags::{PyMethodFlags, PyTypeFlags};
 pub use known::Known;
 pub use members::{MemberPlace, PyMembers};

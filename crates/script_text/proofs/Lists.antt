@@ -4,6 +4,8 @@ use Rattle.std.proofs.lemmas.List.{length-map}
 use Rattle.serde_json.specs.Data.{depth, items_depth}
 use Rattle.serde_json.specs.View.{view, items_view}
 use Rattle.serde_json.specs.declared.value.Value.{Value}
+use Rattle.py_node.specs.declared.expr.CallParts.{CallParts}
+use Rattle.py_node.specs.declared.expr.ClassParts.{ClassParts}
 use Rattle.py_node.specs.declared.expr.Expr.{Expr, Call, Class, Op, the_lemmas}
 use Rattle.py_node.specs.declared.expr.Command.{Command}
 use Rattle.py_node.specs.declared.expr.Word.{Word}
@@ -55,23 +57,23 @@ entries-named [] = refl
 entries-named (f ∷ fs) = ap (entry (string_bytes f.0) (tree_of f.1)) (entries-named fs)
 
 -- a call that was read
-pub call-tree : (callee : Box Expr Global) (args : Vec Expr Global) (keywords : Vec (String Global × Expr) Global)
-    → tree_of (Call callee args keywords) ≡ call (tree_of callee.value) (map tree_of args.items) (map named keywords.items)
-call-tree callee args keywords =
-    let seen : tree_of (Call callee args keywords) ≡ TCall (tree_of callee.value) (trees_of (map tree_of args.items))
-    (entries_of (map (λ (e : String Global × Expr). (e.0, tree_of e.1)) keywords.items)) =
+pub call-tree : (b : Box (CallParts (String Global) Expr) Global)
+    → tree_of (Call b) ≡ call (tree_of b.value.function) (map tree_of b.value.args.items) (map named b.value.keywords.items)
+call-tree b =
+    let seen : tree_of (Call b) ≡ TCall (tree_of b.value.function) (trees_of (map tree_of b.value.args.items))
+    (entries_of (map (λ (e : String Global × Expr). (e.0, tree_of e.1)) b.value.keywords.items)) =
     search (rules, the_lemmas) in
-    seen ∙ ap (TCall (tree_of callee.value) (trees_of (map tree_of args.items))) (entries-named keywords.items)
+    seen ∙ ap (TCall (tree_of b.value.function) (trees_of (map tree_of b.value.args.items))) (entries-named b.value.keywords.items)
 
 -- a class that was read
-pub class-tree : (text : String Global) (bases : Vec Expr Global) (keywords entries : Vec (String Global × Expr) Global)
-    → tree_of (Class text bases keywords entries) ≡ class (string_bytes text) (map tree_of bases.items) (map named entries.items) (map named keywords.items)
-class-tree text bases keywords entries =
-    let seen : tree_of (Class text bases keywords entries) ≡ TClass (string_bytes text) (trees_of (map tree_of bases.items))
-    (entries_of (map (λ (e : String Global × Expr). (e.0, tree_of e.1)) keywords.items)) (entries_of (map (λ (e : String Global × Expr). (e.0, tree_of e.1)) entries.items)) =
+pub class-tree : (b : Box (ClassParts (String Global) Expr) Global)
+    → tree_of (Class b) ≡ class (string_bytes b.value.name) (map tree_of b.value.bases.items) (map named b.value.entries.items) (map named b.value.keywords.items)
+class-tree b =
+    let seen : tree_of (Class b) ≡ TClass (string_bytes b.value.name) (trees_of (map tree_of b.value.bases.items))
+    (entries_of (map (λ (e : String Global × Expr). (e.0, tree_of e.1)) b.value.keywords.items)) (entries_of (map (λ (e : String Global × Expr). (e.0, tree_of e.1)) b.value.entries.items)) =
     search (rules, the_lemmas) in
-    seen ∙ ap (λ ks. TClass (string_bytes text) (trees_of (map tree_of bases.items)) ks (entries_of (map (λ (e : String Global × Expr). (e.0, tree_of e.1)) entries.items))) (entries-named keywords.items)
-    ∙ ap (TClass (string_bytes text) (trees_of (map tree_of bases.items)) (named_entries (map named keywords.items))) (entries-named entries.items)
+    seen ∙ ap (λ ks. TClass (string_bytes b.value.name) (trees_of (map tree_of b.value.bases.items)) ks (entries_of (map (λ (e : String Global × Expr). (e.0, tree_of e.1)) b.value.entries.items))) (entries-named b.value.keywords.items)
+    ∙ ap (TClass (string_bytes b.value.name) (trees_of (map tree_of b.value.bases.items)) (named_entries (map named b.value.keywords.items))) (entries-named b.value.entries.items)
 
 -- an operation that was read: its word is known, and it takes so many operands
 pub op-tree : (row : Word × Arity) (operands : Vec Expr Global) → allows row.1 (length operands.items) ≡ true → operation (Some row) (Some (map tree_of operands.items)) ≡ Some (tree_of (Op row.0 operands))
