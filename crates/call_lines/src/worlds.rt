@@ -6,7 +6,8 @@ ghost use Rattle.class_world.specs.Sound.{Holds, Holding, IsNode};
 
 use class_world::{Fixed, World};
 use py_node::{
-    BuiltIn, Constant, Expr, Known, OutOfMemory, Payload, PyObjectRef, PyStrInterned, PyTypeRef,
+    BuiltIn, Constant, Expr, Known, OutOfMemory, Payload, PyDict, PyObjectRef, PyStrInterned,
+    PyTypeRef,
 };
 use table_lines::{NoValue, Table};
 use world_text::expressions::add_expr;
@@ -71,7 +72,7 @@ fn dict(world: &mut World) -> Result<PyObjectRef, OutOfMemory>
     ensures dict { IfOk result (λ r. Holds world.new (Holding r Dict)) }
 {
     let class = world.built_in(BuiltIn::Dict);
-    let dict = world.make_node(class, Payload::Dict(Vec::new(world.alloc())))?;
+    let dict = world.make_node(class, Payload::Dict(PyDict::new(world.alloc())))?;
     let name = world.known(Known::Qualname);
     let none = world.fixed(Fixed::None);
     world.set_value_in(dict, name, none)?;

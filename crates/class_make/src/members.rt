@@ -117,7 +117,8 @@ fn put_member(
         doc: None,
     };
     let home = world.built_in(BuiltIn::MemberDescriptor);
-    let node = world.make_node(home, Payload::Member(member))?;
+    let boxed = Box::new(world.alloc(), member)?;
+    let node = world.make_node(home, Payload::Member(boxed))?;
     match world.set_attr(class, name, node) {
         Ok(()) => Ok(()),
         Err(_) => Err(OutOfMemory),
@@ -156,7 +157,7 @@ fn define_value(world: &mut World, class: PyTypeRef, value: PyObjectRef)
             world.set_definer(class, func);
         }
         Payload::Property(property) => {
-            let property = *property;
+            let property = **property;
             define_part(world, class, property.fget);
             define_part(world, class, property.fset);
             define_part(world, class, property.fdel);

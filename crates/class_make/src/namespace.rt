@@ -58,8 +58,8 @@ pub(crate) fn dict_at(world: &World, node: PyObjectRef) -> Result<Option<Entries
 {
     let alloc = world.alloc();
     match world.payload(node) {
-        Payload::Dict(entries) => {
-            let copy = copy_entries(alloc, entries)?;
+        Payload::Dict(dict) => {
+            let copy = copy_entries(alloc, dict.entries())?;
             Ok(Some(copy))
         }
         _ => Ok(None),

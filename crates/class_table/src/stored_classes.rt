@@ -105,8 +105,8 @@ impl StoredClasses {
     {
         StoredRef {
             stored: &self.classes[place],
-            line: self.lines.at(place),
-            near: self.lines.near(place),
+            lines: &self.lines,
+            place,
         }
     }
 

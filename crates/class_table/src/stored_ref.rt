@@ -9,29 +9,32 @@ ghost use Rattle.class_model.specs.Dict.{says_dict};
 ghost use Rattle.class_table.specs.Keys.{numbers, number_of};
 ghost use Rattle.class_table.specs.Stored.{class_of};
 
+use crate::lines::Lines;
 use crate::stored::{Stored, has};
 use py_node::{
     PyAttributes, PyObjectRef, PyStrInterned, PyTypeFlags, PyTypeRef, SlotEntry, SlotId,
 };
 use std::marker::Model;
 
-/// A class that is lent, with its linearisation.
+/// A class that is lent, with the place of its linearisation among those of all classes: it is read only where it is
+/// asked for.
 #[derive(Drop)]
 pub(crate) struct StoredRef<'a> {
     pub(crate) stored: &'a Stored,
-    pub(crate) line: &'a [PyTypeRef],
-    // Where each class of the linearisation is likely kept. Any number will do: each is tested.
-    pub(crate) near: &'a [usize],
+    pub(crate) lines: &'a Lines,
+    pub(crate) place: usize,
 }
 
 impl<'a> Model for StoredRef<'a> {
-    ghost use Rattle.class_table.specs.Keys.{numbers};
+    ghost use Rattle.std.specs.Prelude.{◌<◌, [], length, slice_index_or};
     ghost use Rattle.class_table.specs.Lines.{with_line};
     ghost use Rattle.class_table.specs.Stored.{StoredClass};
 
     ghost Value = { StoredClass };
 
-    ghost view = { λ a. with_line a.stored.now (numbers a.line.now) };
+    ghost view = { λ a. with_line a.stored.now (slice_index_or a.lines.now a.place []) };
+
+    ghost invariant = { λ a. a.place < length a.lines.now };
 }
 
 impl<'a> StoredRef<'a> {
@@ -71,7 +74,7 @@ impl<'a> StoredRef<'a> {
     pub(crate) fn derives(&self, class: PyTypeRef) -> bool
         ensures { result ≡ has self.now.mro class.0 }
     {
-        has(self.line, class)
+        has(self.mro(), class)
     }
 
     // The class's name.
@@ -110,14 +113,15 @@ impl<'a> StoredRef<'a> {
     pub(crate) fn mro(&self) -> &'a [PyTypeRef]
         ensures { numbers result.now ≡ self.now.mro }
     {
-        self.line
+        let lines = self.lines;
+        lines.at(self.place)
     }
 
     // How many classes the linearisation has.
     pub(crate) fn line_length(&self) -> usize
         ensures { result ≡ length self.now.mro }
     {
-        self.line.len()
+        self.mro().len()
     }
 
     // The class's direct bases, in order.
@@ -130,7 +134,8 @@ impl<'a> StoredRef<'a> {
 
     // Where each class of the linearisation is likely kept.
     pub(crate) fn near(&self) -> &'a [usize] {
-        self.near
+        let lines = self.lines;
+        lines.near(self.place)
     }
 
     // The class's nearest solid class, where it has one.

@@ -8,6 +8,7 @@ use Rattle.py_node.specs.declared.built_in.BuiltIn.TheVariants.{Dict}
 use Rattle.py_node.specs.declared.payload.Node.{Node}
 use Rattle.py_node.specs.declared.payload.Payload.{Payload}
 use Rattle.py_node.specs.declared.payload.Payload.TheVariants as payload
+use Rattle.py_node.specs.Dicts.{PlainDict}
 use Rattle.plain_machine.specs.Known.{the_dict}
 use Rattle.plain_machine.specs.Plain.{ADict, no_members, Node as PlainNode}
 use Rattle.py_node.specs.declared.refs.PyStrInterned.{PyStrInterned}
@@ -75,7 +76,7 @@ dict-datum t (payload.Number z) h = absurd h
 dict-datum t (payload.Text s) h = absurd h
 dict-datum t (payload.Tuple rs) h = absurd h
 dict-datum t (payload.List rs) h = absurd h
-dict-datum t (payload.Dict es) h = ap ADict h
+dict-datum t (payload.Dict es) h = ap (λ (d : PlainDict). ADict d.items) h
 dict-datum t (payload.Function f) h = absurd h
 dict-datum t (payload.Method m) h = absurd h
 dict-datum t (payload.NativeFunction f) h = absurd h

@@ -43,17 +43,17 @@ form-below w (form.List es) h = h.0
 form-below w (form.Dict ps) h =
     let n = length w.forms in
     (all-unmap (λ (p : ℕ × ℕ). p.0) n ps.items h.0, all-unmap (λ (p : ℕ × ℕ). p.1) n ps.items h.1.0)
-form-below w (form.Func x ps rest e) h = h.1.1.0
+form-below w (form.Func parts) h = h.1.1.0
 form-below w (form.Attr o x) h = h.0
 form-below w (form.SetAttr o x e) h = (h.0, h.1.1.0)
 form-below w (form.DelAttr o x) h = h.0
-form-below w (form.Call f es kw) h = (h.0, h.1.0, all-stored (length w.forms) kw.items h.1.1.1.0)
+form-below w (form.Call parts) h = (h.0, h.1.0, all-stored (length w.forms) parts.value.keywords.items h.1.1.1.0)
 form-below w (form.Op word es) h = h.0
 form-below w (form.If c a b) h = (h.0, h.1.0, h.1.1.0)
 form-below w (form.Seq es) h = h.0
 form-below w (form.Raise kind) h = tt
-form-below w (form.Class x bs kw es) h =
-    (h.1.0, all-stored (length w.forms) kw.items h.1.1.1.0, all-stored (length w.forms) es.items h.1.1.1.1.1.0)
+form-below w (form.Class parts) h =
+    (h.1.0, all-stored (length w.forms) parts.value.keywords.items h.1.1.1.0, all-stored (length w.forms) parts.value.entries.items h.1.1.1.1.1.0)
 
 below-push : (forms : List Form) (f : Form) → AreBelow forms → IsBelow (length forms) f → AreBelow (forms ++ f ∷ [])
 below-push forms f b h = λ n x e. go forms n x (λ m y k. b m y k) h e
@@ -114,8 +114,8 @@ module _ (w : Held) (s : Sound w) where
       let go = all-grow w new (form-grows w f) in
       record { forms = each-push new of_form w.forms f (go _ s.forms) (go (of_form f) h); below = below-push w.forms f s.below (form-below w f h); nodes = go _ s.nodes; classes = go _ s.classes; vars = go _ s.vars; scopes = go _ s.scopes; fixed = fixed-grow w new s.fixed (grows-lasts w new (form-grows w f)); built_in = built_in-grow w new s.built_in (grows-lasts w new (form-grows w f)); own = λ b. (form-grows w f).still _ (s.own b); flags = λ b. (form-grows w f).still _ (s.flags b); of_none = (form-grows w f).still _ s.of_none; unmarked = s.unmarked; standing = λ c e. (form-grows w f).still _ (s.standing c e); itself = s.itself; apart = s.apart; scopes_apart = s.scopes_apart; known = s.known; logged = s.logged }
 
-  pub names-sound : (names : List (List ℕ)) → length w.names ≤ length names → ((n : ℕ) (x : List ℕ) → slice_get w.names n ≡ Some x → slice_get names n ≡ Some x) → Sound (record w { names = names })
-  names-sound names l k =
+  pub names-sound : (names : List (List ℕ)) → ((n : ℕ) (x : List ℕ) → slice_get w.names n ≡ Some x → slice_get names n ≡ Some x) → Sound (record w { names = names })
+  names-sound names k =
       let new = record w { names = names } in
-      let go = all-grow w new (names-grow w names l) in
-      record { forms = go _ s.forms; below = s.below; nodes = go _ s.nodes; classes = go _ s.classes; vars = go _ s.vars; scopes = go _ s.scopes; fixed = fixed-grow w new s.fixed (grows-lasts w new (names-grow w names l)); built_in = built_in-grow w new s.built_in (grows-lasts w new (names-grow w names l)); own = λ b. (names-grow w names l).still _ (s.own b); flags = λ b. (names-grow w names l).still _ (s.flags b); of_none = (names-grow w names l).still _ s.of_none; unmarked = s.unmarked; standing = λ c e. (names-grow w names l).still _ (s.standing c e); itself = s.itself; apart = s.apart; scopes_apart = s.scopes_apart; known = λ n x e. k n x (s.known n x e); logged = s.logged }
+      let go = all-grow w new (names-grow w names k) in
+      record { forms = go _ s.forms; below = s.below; nodes = go _ s.nodes; classes = go _ s.classes; vars = go _ s.vars; scopes = go _ s.scopes; fixed = fixed-grow w new s.fixed (grows-lasts w new (names-grow w names k)); built_in = built_in-grow w new s.built_in (grows-lasts w new (names-grow w names k)); own = λ b. (names-grow w names k).still _ (s.own b); flags = λ b. (names-grow w names k).still _ (s.flags b); of_none = (names-grow w names k).still _ s.of_none; unmarked = s.unmarked; standing = λ c e. (names-grow w names k).still _ (s.standing c e); itself = s.itself; apart = s.apart; scopes_apart = s.scopes_apart; known = λ n x e. k n x (s.known n x e); logged = s.logged }

@@ -70,7 +70,7 @@ attr-there ks c d x r = at-changed (λ (k : Class PyStrInterned). record k { att
 
 -- as many classes as before
 pub classes-grow : (w : Held) (ks : HeldClasses) (log : List Change) → Keeps w.log log → Like w.classes ks → Grows w (record w { classes = ks; log = log })
-classes-grow w ks log more k = grows w (record w { classes = ks; log = log }) more refl refl (omega arith) (omega arith) (λ m f h. h) (omega arith) (keep-itself w.classes w.nodes) k
+classes-grow w ks log more k = grows w (record w { classes = ks; log = log }) more refl refl (λ m x h. h) (omega arith) (λ m f h. h) (omega arith) (keep-itself w.classes w.nodes) k
 
 abbrev pub AreStanding : Held → HeldClasses → Type 0
 AreStanding w ks = (c : ℕ) → is_class ks c ≡ true → Holds w (Standing c (record { 0 = c }))
@@ -156,7 +156,7 @@ module _ (w : Held) (meta : PyTypeRef) (k : Class PyStrInterned) (ms : List (Opt
   pub made-grows : (c : PyTypeRef) → Grows w (class_made c)
   made-grows c =
       let n = length-append w.nodes (record { class = meta; dict = None; members = ms; payload = payload.Class c } ∷ []) in
-      grows w (class_made c) keeps refl refl (omega arith) (omega arith) (λ m f h. h) (omega arith) (keep-push w.classes w.nodes (record { class = meta; dict = None; members = ms; payload = payload.Class c })) (like-push w.classes k)
+      grows w (class_made c) keeps refl refl (λ m x h. h) (omega arith) (λ m f h. h) (omega arith) (keep-push w.classes w.nodes (record { class = meta; dict = None; members = ms; payload = payload.Class c })) (like-push w.classes k)
 
   pub node-made : (c : PyTypeRef) (r : PyObjectRef) → r.0 ≡ length w.nodes → Holds (class_made c) (IsNode r)
   unfolding Holds

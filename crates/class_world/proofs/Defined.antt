@@ -39,7 +39,7 @@ payload-holds w c (payload.Text s) k h = h
 payload-holds w c (payload.Tuple rs) k h = h
 payload-holds w c (payload.List rs) k h = h
 payload-holds w c (payload.Dict es) k h = h
-payload-holds w c (payload.Function f) k h = (h.0, (h.1.0, (h.1.1.0, go f.class h.1.1.1)))
+payload-holds w c (payload.Function f) k h = (h.0, (h.1.0, (h.1.1.0, go f.value.class h.1.1.1)))
   where
     go : (o : Option PyTypeRef) → AllHold w (of_option of_class_ref o) → AllHold w (of_option of_class_ref (or_class_ref o c))
     go None p = (k, tt)
@@ -92,7 +92,7 @@ payload-read t c (payload.Text s) = refl
 payload-read t c (payload.Tuple rs) = refl
 payload-read t c (payload.List rs) = refl
 payload-read t c (payload.Dict es) = refl
-payload-read t c (payload.Function f) = ap (AFunction (spelled t f.name) (map (spelled t) f.params.items) f.rest (t.tree f.body)) (go f.class)
+payload-read t c (payload.Function f) = ap (AFunction (spelled t f.value.name) (map (spelled t) f.value.params.items) f.value.rest (t.tree f.value.body)) (go f.value.class)
   where
     go : (o : Option PyTypeRef) → option_map (λ d. d.0) (or_class_ref o c) ≡ or_class (option_map (λ d. d.0) o) c.0
     go None = refl
@@ -143,7 +143,7 @@ module _ (w : Held) (c : PyTypeRef) (r : PyObjectRef) (n new : StoredNode) where
   pub define-grows : n ≡ get_or w.nodes r.0 n → new ≡ defined_node c n → Grows w defined
   define-grows e k =
       let l = set-length w.nodes r.0 new in
-      grows w defined (keeps-itself w.log) refl refl (omega arith) (omega arith) (λ m f h. h) (omega arith) (record { stays = stays-set w.classes w.nodes r.0 n new e (ap (λ (x : StoredNode). lasting x.payload) k ∙ lasting-stays c n.payload) (λ h. ap (λ (x : StoredNode). x.class) k) }) (like-itself w.classes)
+      grows w defined (keeps-itself w.log) refl refl (λ m x h. h) (omega arith) (λ m f h. h) (omega arith) (record { stays = stays-set w.classes w.nodes r.0 n new e (ap (λ (x : StoredNode). lasting x.payload) k ∙ lasting-stays c n.payload) (λ h. ap (λ (x : StoredNode). x.class) k) }) (like-itself w.classes)
 
   pub define-sound : r.0 < length w.nodes → n ≡ get_or w.nodes r.0 n → new ≡ defined_node c n → Holds w (IsClass c.0) → Sound w → Sound defined
   define-sound l e k h s =

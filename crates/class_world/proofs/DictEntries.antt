@@ -1,13 +1,13 @@
 -- Entries of dicts and lists of keys, by places.
 use Rattle.std.proofs.Common.{◌≡◌, ℕ, zero, suc, ◌+◌, ◌<◌, Bool, true, false, cond, List, [], ◌∷◌, ◌++◌, length, get_or, map, Option, Some, None, refl, sym, ap, ◌∙◌, subst, arith}
-use Rattle.std.specs.Prelude.{slice_get, slice_set, is_some, option_map, position}
+use Rattle.std.specs.Prelude.{slice_get, is_some, option_map, position}
 use Rattle.std.specs.List.{All, remove, position_from}
 use Rattle.std.proofs.lemmas.Iterator.Adapters.{position_from-zero}
 use Rattle.py_node.specs.declared.refs.PyObjectRef.{PyObjectRef}
 use Rattle.py_node.specs.Attributes.{value_of}
 use Rattle.plain_machine.specs.Dicts.{Entries, with_value_for, without_value_for}
 use Rattle.plain_machine.specs.Sound.{Key, AreKeys}
-use Rattle.class_world.specs.Keyed.{put_at}
+use Rattle.py_node.specs.Dicts.{put_at}
 
 -- the first key that passes, where the entries start at a place
 pub record IsFirstFrom (test : PyObjectRef → Bool) (k n : ℕ) (es : Entries) : Type 0 where
@@ -85,12 +85,6 @@ pub get-below : {A : Type 0} (xs : List A) (i : ℕ) (d : A) → i < length xs �
 get-below [] i d l = absurd (omega arith)
 get-below (x ∷ xs) zero d l = refl
 get-below (x ∷ xs) (suc i) d l = get-below xs i d (omega arith)
-
--- an entry that is written over
-pub put-is : (es : Entries) (n : ℕ) (e : PyObjectRef × PyObjectRef) (v : PyObjectRef) → n < length es → e ≡ get_or es n e → slice_set es n (e.0, v) ≡ put_at es n v
-put-is [] n e v l q = absurd (omega arith)
-put-is (x ∷ es) zero e v l q = ap (λ (x : PyObjectRef × PyObjectRef). (x.0, v) ∷ es) q
-put-is (x ∷ es) (suc n) e v l q = ap (λ xs. x ∷ xs) (put-is es n e v (omega arith) q)
 
 pub map-remove : {A B : Type 0} (f : A → B) (xs : List A) (n : ℕ) → map f (remove xs n) ≡ remove (map f xs) n
 map-remove f [] zero = refl

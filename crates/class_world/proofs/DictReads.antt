@@ -9,7 +9,9 @@ use Rattle.py_node.specs.declared.payload.Node.{Node as StoredNode}
 use Rattle.py_node.specs.declared.payload.Payload.{Payload}
 use Rattle.py_node.specs.declared.payload.Payload.TheVariants as payload
 use Rattle.py_node.specs.declared.built_in.BuiltIn.TheVariants.{Dict}
+use Rattle.py_node.specs.declared.dict.PyDictKey.TheVariants.{Text as StoredText}
 use Rattle.py_node.specs.Attributes.{value_of}
+use Rattle.py_node.specs.Dicts.{put_at}
 use Rattle.py_node.specs.Tree.{Text}
 use Rattle.plain_machine.specs.Plain.{Datum, AText, ADict, Node}
 use Rattle.plain_machine.specs.World.{or_empty, datum_at, with_node, next_node}
@@ -18,12 +20,13 @@ use Rattle.plain_machine.specs.Objects.{with_datum_in}
 use Rattle.plain_machine.specs.Dicts.{Entries, entries_in, is_text_datum, is_key, value_in, with_entries, with_value_for, set_under, with_value_in, without_value_for, without_value_in}
 use Rattle.plain_machine.specs.Sound.{TextKey, AreKeys, key_of, key_at}
 use Rattle.class_world.specs.Held.{Held}
-use Rattle.class_world.specs.Keyed.{entries_of, entries_at, held_entries, is_text_of, is_text_at, is_held_key, held_text, of_entries, put_at}
+use Rattle.class_world.specs.Keyed.{entries_of, entries_at, held_entries, is_text_of, is_text_at, is_held_key, held_text, of_entries}
 use Rattle.class_world.specs.Reading.{Reading, Reads, datum, node_of, plain}
-use Rattle.class_world.specs.Sound.{IsNode, IsName, KeysDiffer, Holding, home_of, home_at, key_in, held_key, Holds, AllHold, Grows}
+use Rattle.class_world.specs.Sound.{IsNode, IsName, KeysDiffer, KeysRead, Holding, home_of, home_at, key_in, held_key, Holds, AllHold, Grows}
 use Rattle.class_world.proofs.NewNodes.{datum-stays, datum-new}
 use Rattle.class_world.proofs.SoundWorld.{key_at-read, keys-stored, keys-read}
 use Rattle.class_world.proofs.DictEntries.{IsFirstFrom, NonePasses, first-key, no-key, keys-pushed, map-end}
+use Rattle.class_world.proofs.KeysRead.{text-there}
 use Rattle.std.specs.List.{remove}
 
 payload-entries : (t : Reading) (p : Payload) → entries_in (Some (datum t p)) ≡ entries_of p
@@ -261,12 +264,22 @@ module _ (t : Reading) (w m : Held) (x : Text) (made : plain t m ≡ with_node (
       go None e h = cc
       go (Some k) e h = ap (option_and_then key_of) (still r k e ∙ sym e)
 
+  key-new : (key : PyObjectRef) → key ≡ next_node (plain t w) the_str → key_at (plain t m) key ≡ Some (TextKey x)
+  key-new key q = ap (option_and_then key_of) (ap (λ u. datum_at u key) made ∙ ap (datum_at (with_node (plain t w) the_str (AText x))) q ∙ datum-new (plain t w) the_str (AText x))
+
+  -- the new text is what its name says
+  pub new-key-read : (name : PyStrInterned) (key : PyObjectRef) → Reads t m → Holds m (IsName name) → t.text name.0 ≡ x → key ≡ next_node (plain t w) the_str → Holds m (KeysRead (StoredText name ∷ []) (key ∷ []))
+  unfolding Holds
+  new-key-read name key r h s q =
+      let spelled : slice_get m.names name.0 ≡ Some x = text-there m.names name.0 h ∙ ap Some (sym (text-read t m name r h) ∙ s) in
+      ((TextKey x, ap (option_map TextKey) spelled, sym (key_at-read t m key) ∙ key-new key q), tt)
+
   -- the new text is unlike the keys of which none is that text
   pub new-key-differs : (es : Entries) (key v : PyObjectRef) → key ≡ next_node (plain t w) the_str → NonePasses (is_held_key w.nodes x) es → AllHold w (of_entries es) → Grows w m → Holds m (KeysDiffer (map (λ e. e.0) (es ++ (key, v) ∷ [])))
   unfolding Holds
   new-key-differs es key v q f h g =
       let rs = map (λ e. e.0) es in
-      let here : key_at (plain t m) key ≡ Some (TextKey x) = ap (option_and_then key_of) (ap (λ u. datum_at u key) made ∙ ap (datum_at (with_node (plain t w) the_str (AText x))) q ∙ datum-new (plain t w) the_str (AText x)) in
+      let here = key-new key q in
       let unlike : (i : ℕ) (s : PyObjectRef) → slice_get rs i ≡ Some s → key_at (plain t m) key ≡ key_at (plain t m) s → ⊥ =
       λ i s e same.
       let known : is_some (key_at (plain t w) s) ≡ true = ap is_some (key_at-read t w s) ∙ h.1.1.0.known i s e in

@@ -1,5 +1,5 @@
 -- Worlds that have grown, and claims that hold still.
-use Rattle.std.proofs.Common.{◌≡◌, ℕ, ◌≤◌, List, [], ◌∷◌, ◌++◌, length, Option, Some, None, refl, sym, ap, ◌∙◌, subst, arith, length-append}
+use Rattle.std.proofs.Common.{◌≡◌, ℕ, suc, ◌≤◌, List, [], ◌∷◌, ◌++◌, length, Option, Some, None, refl, sym, ap, ◌∙◌, subst, arith, length-append}
 use Rattle.std.specs.Prelude.{slice_get, is_some, is_none, Bool, true, false, ◌&&◌, ◌==◌, option_map, option_and_then}
 use Rattle.py_node.specs.declared.built_in.BuiltIn.{BuiltIn}
 use Rattle.py_node.specs.declared.refs.PyStrInterned.{PyStrInterned}
@@ -17,9 +17,11 @@ use Rattle.class_model.proofs.Changed.{lin-push}
 use Rattle.class_model.proofs.Kept.{layout-agrees}
 use Rattle.class_model.proofs.PlaceOffsets.{along-there, place_count-alike}
 use Rattle.class_model.proofs.Solid.{is_solid-push}
-use Rattle.plain_machine.specs.Sound.{held_by, is_offset, Key, AreKeys}
+use Rattle.plain_machine.specs.Sound.{held_by, is_offset, Key, TextKey, AreKeys}
 use Rattle.plain_machine.proofs.Offsets.{offset-push}
 use Rattle.py_node.specs.declared.refs.PyObjectRef.{PyObjectRef}
+use Rattle.py_node.specs.declared.dict.PyDictKey.{PyDictKey}
+use Rattle.py_node.specs.declared.dict.PyDictKey.TheVariants as dict_key
 use Rattle.std.specs.List.{AllByRecursion}
 use Rattle.py_node.specs.declared.payload.Node.{Node}
 use Rattle.py_node.specs.declared.payload.Payload.{Payload}
@@ -28,13 +30,21 @@ use Rattle.class_log.specs.Change.{Change}
 use Rattle.class_log.specs.Following.{Keeps}
 use Rattle.class_log.proofs.Logged.{keeps-itself, keeps-on}
 use Rattle.class_world.specs.Held.{Held}
-use Rattle.class_world.specs.Sound.{Claim, IsNode, AreNodes, IsExpression, AreExpressions, IsName, AreNames, IsClass, IsOf, Holding, Standing, CanBeKeys, KeysDiffer, HasForm, HasParams, HasValues, AreMembers, IsOffset, HasFlags, GetsDict, OfStatic, class_ref_at, flags_at, StandsThere, params_in, held_params, AreFilled, home_of, home_at, key_in, held_key, class_in, held_class, Holds, Lasts, Grows}
+use Rattle.class_world.specs.Sound.{Claim, IsNode, AreNodes, IsExpression, AreExpressions, IsName, AreNames, IsClass, IsOf, Holding, Standing, CanBeKeys, KeysDiffer, KeysRead, HasForm, HasParams, HasValues, AreMembers, IsOffset, HasFlags, GetsDict, OfStatic, class_ref_at, flags_at, StandsThere, params_in, held_params, AreFilled, home_of, home_at, key_in, held_key, read_key, AreRead, class_in, held_class, Holds, Lasts, Grows}
 use Rattle.class_world.proofs.Claims.{get-pushed}
 use Rattle.class_world.proofs.Homes.{held_by-push}
 
--- an expression of the store stands there still
-abbrev Stays : List Form → List Form → Type 0
-Stays old new = (n : ℕ) (f : Form) → slice_get old n ≡ Some f → slice_get new n ≡ Some f
+-- what stands in a table stands there still
+abbrev Stays : {A : Type 0} → List A → List A → Type 0
+Stays {A} old new = (n : ℕ) (x : A) → slice_get old n ≡ Some x → slice_get new n ≡ Some x
+
+stays-length : {A : Type 0} (old new : List A) → Stays old new → length old ≤ length new
+stays-length [] new s = omega arith
+stays-length (x ∷ old) [] s = absurd (nothing (s 0 x refl))
+  where
+    nothing : None ≡ Some x → ⊥
+    nothing e = cc
+stays-length (x ∷ old) (y ∷ new) s = let rest = stays-length old new (λ n z e. s (suc n) z e) in omega arith
 
 -- what a payload tells for ever: whose like its object is, the key that it is, the class that it stands for, and its parameters
 pub record Lasting : Type 0 where
@@ -163,6 +173,22 @@ keys-keep old new g rs h = record {
       h.apart i j r s e f same;
 }
 
+-- the key that is stored says what it said
+reads-still : (old new : List (List ℕ)) → Stays old new → (k : PyDictKey) (c : Key) → read_key old k ≡ Some c → read_key new k ≡ Some c
+reads-still old new s (dict_key.Number z) c h = h
+reads-still old new s (dict_key.Text x) c h = go (slice_get old x.0) refl h
+  where
+    go : (o : Option (List ℕ)) → slice_get old x.0 ≡ o → option_map TextKey o ≡ Some c → option_map TextKey (slice_get new x.0) ≡ Some c
+    go None e h = cc
+    go (Some y) e h = ap (option_map TextKey) (s x.0 y e) ∙ h
+
+read-still : {ls : List (Class PyStrInterned)} (old new : List (List ℕ)) → Stays old new → (ns ms : List Node) → Keep ls ns ms → (ks : List PyDictKey) (rs : List PyObjectRef) → AreRead old ns ks rs → AreRead new ms ks rs
+read-still old new s ns ms g [] [] h = tt
+read-still old new s ns ms g [] (r ∷ rs) h = absurd h
+read-still old new s ns ms g (k ∷ ks) [] h = absurd h
+read-still old new s ns ms g (k ∷ ks) (r ∷ rs) h =
+    ((h.0.0, reads-still old new s k h.0.0 h.0.1, key-still ns ms g r h.0.0 h.0.2), read-still old new s ns ms g ks rs h.1)
+
 stands-still : (n m : ℕ) → n ≤ m → (o : Option PyObjectRef) → StandsThere n o → StandsThere m o
 stands-still n m l None h = h
 stands-still n m l (Some r) h = omega arith
@@ -193,20 +219,21 @@ static-still ks old new g n c h heap = go (slice_get old n) refl h
         let y = g.stays n x e in
         ap (option_map (λ (x : Node). x.class.0)) y.1 ∙ ap (λ (k : PyTypeRef). Some k.0) (y.3 (ap (λ c. is_heap_at (class_at ks c)) here ∙ heap)) ∙ h
 
-grows-at : (old new : Held) → length old.names ≤ length new.names → length old.forms ≤ length new.forms → Stays old.forms new.forms → length old.nodes ≤ length new.nodes → Keep old.classes old.nodes new.nodes → Like old.classes new.classes → (c : Claim) → Holds old c → Holds new c
+grows-at : (old new : Held) → Stays old.names new.names → length old.forms ≤ length new.forms → Stays old.forms new.forms → length old.nodes ≤ length new.nodes → Keep old.classes old.nodes new.nodes → Like old.classes new.classes → (c : Claim) → Holds old c → Holds new c
 unfolding Holds
 grows-at old new x e s n p l (IsNode r) h = omega arith
 grows-at old new x e s n p l (AreNodes rs) h = λ i d m. let below = h i d m in omega arith
 grows-at old new x e s n p l (IsExpression m) h = omega arith
 grows-at old new x e s n p l (AreExpressions es) h = λ i d m. let below = h i d m in omega arith
-grows-at old new x e s n p l (IsName m) h = omega arith
-grows-at old new x e s n p l (AreNames xs) h = λ i d m. let below = h i d m in omega arith
+grows-at old new x e s n p l (IsName m) h = let longer = stays-length old.names new.names x in omega arith
+grows-at old new x e s n p l (AreNames xs) h = λ i d m. let longer = stays-length old.names new.names x in let below = h i d m in omega arith
 grows-at old new x e s n p l (IsClass c) h = l.there c h
 grows-at old new x e s n p l (IsOf c b) h = l.held c b h
 grows-at old new x e s n p l (Holding r b) h = home-still old.nodes new.nodes p r.0 b h
 grows-at old new x e s n p l (Standing c r) h = class-still old.nodes new.nodes p r c h
 grows-at old new x e s n p l (CanBeKeys rs) h = λ i d m. key-keep old.nodes new.nodes p _ (h i d m)
 grows-at old new x e s n p l (KeysDiffer rs) h = keys-keep old.nodes new.nodes p rs h
+grows-at old new x e s n p l (KeysRead ks rs) h = read-still old.names new.names x old.nodes new.nodes p ks rs h
 grows-at old new x e s n p l (HasForm m test) h = (h.0, s m h.0 h.1, h.2)
 grows-at old new x e s n p l (HasParams r ps) h = params-still old.nodes new.nodes p r ps h
 grows-at old new x e s n p l (HasValues r vars) h = values-still old.nodes new.nodes p r vars h
@@ -221,11 +248,11 @@ same-log : (old new : List Change) → old ≡ new → Keeps old new
 same-log old new e = subst (Keeps old) e (keeps-itself old)
 
 -- where no table is shorter
-lasts : (old new : Held) → old.log ≡ new.log → length old.names ≤ length new.names → length old.forms ≤ length new.forms → Stays old.forms new.forms → length old.nodes ≤ length new.nodes → Keep old.classes old.nodes new.nodes → Like old.classes new.classes → Lasts old new
+lasts : (old new : Held) → old.log ≡ new.log → Stays old.names new.names → length old.forms ≤ length new.forms → Stays old.forms new.forms → length old.nodes ≤ length new.nodes → Keep old.classes old.nodes new.nodes → Like old.classes new.classes → Lasts old new
 lasts old new log x e s n p l = record { still = grows-at old new x e s n p l; log = same-log old.log new.log log }
 
 -- and the same bodies run, and the same notes stand
-pub grows : (old new : Held) → Keeps old.log new.log → old.scopes ≡ new.scopes → old.calls ≡ new.calls → length old.names ≤ length new.names → length old.forms ≤ length new.forms → Stays old.forms new.forms → length old.nodes ≤ length new.nodes → Keep old.classes old.nodes new.nodes → Like old.classes new.classes → Grows old new
+pub grows : (old new : Held) → Keeps old.log new.log → old.scopes ≡ new.scopes → old.calls ≡ new.calls → Stays old.names new.names → length old.forms ≤ length new.forms → Stays old.forms new.forms → length old.nodes ≤ length new.nodes → Keep old.classes old.nodes new.nodes → Like old.classes new.classes → Grows old new
 grows old new log b q x e s n p l = record { still = grows-at old new x e s n p l; log = log; bodies = ap length (sym b); notes = sym q }
 
 pub grows-lasts : (old new : Held) → Grows old new → Lasts old new
@@ -243,10 +270,9 @@ lasts-on a b c g h = record { still = λ k p. h.still k (g.still k p); log = kee
 -- where the tables are the same
 pub same-lasts : (old new : Held) → old.log ≡ new.log → old.names ≡ new.names → old.forms ≡ new.forms → old.nodes ≡ new.nodes → old.classes ≡ new.classes → Lasts old new
 same-lasts old new log x e n k =
-    let a = ap length x in
     let b = ap length e in
     let d = ap length n in
-    lasts old new log (omega arith) (omega arith) (λ m f h. subst (λ fs. slice_get fs m ≡ Some f) e h) (omega arith) (subst (λ ns. Keep old.classes old.nodes ns) n (keep-itself old.classes old.nodes)) (subst (λ ks. Like old.classes ks) k (like-itself old.classes))
+    lasts old new log (λ m y h. subst (λ ns. slice_get ns m ≡ Some y) x h) (omega arith) (λ m f h. subst (λ fs. slice_get fs m ≡ Some f) e h) (omega arith) (subst (λ ns. Keep old.classes old.nodes ns) n (keep-itself old.classes old.nodes)) (subst (λ ks. Like old.classes ks) k (like-itself old.classes))
 
 pub grows-seen : (w now new : Held) → w ≡ now → Grows w new → Grows now new
 grows-seen w now new e g = subst (λ w. Grows w new) e g
@@ -255,10 +281,10 @@ pub lasts-seen : (w now new : Held) → w ≡ now → Lasts w new → Lasts now 
 lasts-seen w now new e g = subst (λ w. Lasts w new) e g
 
 pub node-grows : (w : Held) (n : Node) → Grows w (record w { nodes = w.nodes ++ n ∷ [] })
-node-grows w n = let l = length-append w.nodes (n ∷ []) in grows w (record w { nodes = w.nodes ++ n ∷ [] }) (keeps-itself w.log) refl refl (omega arith) (omega arith) (λ m f h. h) (omega arith) (keep-push w.classes w.nodes n) (like-itself w.classes)
+node-grows w n = let l = length-append w.nodes (n ∷ []) in grows w (record w { nodes = w.nodes ++ n ∷ [] }) (keeps-itself w.log) refl refl (λ m x h. h) (omega arith) (λ m f h. h) (omega arith) (keep-push w.classes w.nodes n) (like-itself w.classes)
 
 pub form-grows : (w : Held) (f : Form) → Grows w (record w { forms = w.forms ++ f ∷ [] })
-form-grows w f = let l = length-append w.forms (f ∷ []) in grows w (record w { forms = w.forms ++ f ∷ [] }) (keeps-itself w.log) refl refl (omega arith) (omega arith) (λ m g h. get-pushed w.forms f m g h) (omega arith) (keep-itself w.classes w.nodes) (like-itself w.classes)
+form-grows w f = let l = length-append w.forms (f ∷ []) in grows w (record w { forms = w.forms ++ f ∷ [] }) (keeps-itself w.log) refl refl (λ m x h. h) (omega arith) (λ m g h. get-pushed w.forms f m g h) (omega arith) (keep-itself w.classes w.nodes) (like-itself w.classes)
 
-pub names-grow : (w : Held) (names : List (List ℕ)) → length w.names ≤ length names → Grows w (record w { names = names })
-names-grow w names l = grows w (record w { names = names }) (keeps-itself w.log) refl refl l (omega arith) (λ m f h. h) (omega arith) (keep-itself w.classes w.nodes) (like-itself w.classes)
+pub names-grow : (w : Held) (names : List (List ℕ)) → Stays w.names names → Grows w (record w { names = names })
+names-grow w names s = grows w (record w { names = names }) (keeps-itself w.log) refl refl s (omega arith) (λ m f h. h) (omega arith) (keep-itself w.classes w.nodes) (like-itself w.classes)

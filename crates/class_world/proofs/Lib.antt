@@ -25,6 +25,7 @@ pub mod SoundWorld
 pub mod NewNodes
 pub mod Opening
 pub mod DictEntries
+pub mod KeysRead
 pub mod DictChanges
 pub mod PayloadChanges
 pub mod ListChanges

@@ -25,7 +25,7 @@ module _ (w : Held) (r : PyObjectRef) (n new : StoredNode) (is : n ≡ get_or w.
   pub change-grows : Grows w changed
   change-grows =
       let l = set-length w.nodes r.0 new in
-      grows w changed (keeps-itself w.log) refl refl (omega arith) (omega arith) (λ m f h. h) (omega arith) (record { stays = stays-set w.classes w.nodes r.0 n new is same of }) (like-itself w.classes)
+      grows w changed (keeps-itself w.log) refl refl (λ m x h. h) (omega arith) (λ m f h. h) (omega arith) (record { stays = stays-set w.classes w.nodes r.0 n new is same of }) (like-itself w.classes)
 
   pub change-sound : AllHold w (of_node new) → Sound w → Sound changed
   change-sound there s =

@@ -6,14 +6,17 @@ use Rattle.py_node.specs.declared.built_in.BuiltIn.{BuiltIn}
 use Rattle.py_node.specs.declared.payload.Node.{Node as StoredNode}
 use Rattle.py_node.specs.declared.payload.Payload.{Payload}
 use Rattle.py_node.specs.declared.payload.Payload.TheVariants as payload
+use Rattle.py_node.specs.declared.payload.PyProperty.{PyProperty}
+use Rattle.py_node.specs.declared.built_in.BuiltIn.TheVariants as built_in
 use Rattle.py_node.specs.declared.refs.PyStrInterned.{PyStrInterned}
 use Rattle.class_model.specs.Class.{Classes}
-use Rattle.plain_machine.specs.Plain.{Node}
+use Rattle.plain_machine.specs.Plain.{AProperty, Node}
 use Rattle.plain_machine.specs.Objects.{with_datum_in, with_datum}
 use Rattle.class_log.proofs.Logged.{keeps-itself}
 use Rattle.class_world.specs.Held.{Held}
 use Rattle.class_world.specs.Reading.{Reading, datum, node_of, plain}
-use Rattle.class_world.specs.Sound.{IsNode, IsOf, GetsDict, Holding, home_of, is_lasting, class_in, with_payload, Holds, AllHold, Grows, Sound, of_option, of_dict_ref, of_payload, of_node}
+use Rattle.class_world.specs.Sound.{IsNode, IsOf, GetsDict, Holding, home_of, is_lasting, class_in, with_payload, Holds, AllHold, Grows, Sound, of_option, of_dict_ref, of_payload, of_property, of_node}
+use Rattle.class_world.specs.Defined.{with_parts}
 use Rattle.class_world.proofs.Claims.{opened-one, all-grow, all-append, all-first, each-get, got}
 use Rattle.class_world.proofs.Growth.{Lasting, lasting, like-itself, grows, grows-lasts}
 use Rattle.class_world.proofs.Changes.{fixed-grow, built_in-grow}
@@ -68,7 +71,7 @@ module _ (w now : Held) (r : PyObjectRef) (n : StoredNode) (p : Payload) where
   pub payload-grows : n ≡ get_or w.nodes r.0 n → is_lasting (home_of p) ≡ false → home_of n.payload ≡ home_of p → Grows w changed
   payload-grows e k h =
       let l = set-length w.nodes r.0 (with_payload n p) in
-      grows w changed (keeps-itself w.log) refl refl (omega arith) (omega arith) (λ m f h. h) (omega arith) (record { stays = stays-set w.classes w.nodes r.0 n (with_payload n p) e (same-lasting k h) (λ h. refl) }) (like-itself w.classes)
+      grows w changed (keeps-itself w.log) refl refl (λ m x h. h) (omega arith) (λ m f h. h) (omega arith) (record { stays = stays-set w.classes w.nodes r.0 n (with_payload n p) e (same-lasting k h) (λ h. refl) }) (like-itself w.classes)
 
   pub payload-sound : n ≡ get_or w.nodes r.0 n → is_lasting (home_of p) ≡ false → IsThere → AllHold w (of_payload p) → Sound w → Sound changed
   payload-sound e k i h s =
@@ -93,3 +96,29 @@ module _ (w now : Held) (r : PyObjectRef) (n : StoredNode) (p : Payload) where
   payload-read v l e t =
       subst (λ u. plain t changed ≡ with_datum (plain t u) r (datum t p)) v
       (ap (λ (ns : List Node). record (plain t w) { nodes = ns }) (nodes-read t w.classes w.nodes r.0 l e))
+
+-- a property with other parts is one, and holds them
+pub record IsProperty (v : PyProperty) (p : Payload) : Type 0 where
+  pub home : home_of (with_parts v p) ≡ built_in.Property
+  pub claims : of_payload (with_parts v p) ≡ of_property v
+  pub read : (t : Reading) → datum t (with_parts v p) ≡ AProperty v
+
+pub is-property : (v : PyProperty) (p : Payload) → home_of p ≡ built_in.Property → IsProperty v p
+is-property v (payload.Property p) h = record { home = refl; claims = refl; read = λ t. refl }
+is-property v _ h = cc
+
+pub record IsPropertyThere (w now : Held) (r : PyObjectRef) (n : StoredNode) (v : PyProperty) : Type 0 where
+  pub there : IsThere w now r n (with_parts v n.payload)
+  pub lasts : is_lasting (home_of (with_parts v n.payload)) ≡ false
+  pub claims : of_payload (with_parts v n.payload) ≡ of_property v
+  pub read : (t : Reading) → datum t (with_parts v n.payload) ≡ AProperty v
+
+pub property-there : (w now : Held) (r : PyObjectRef) (n : StoredNode) (v : PyProperty) → w ≡ now → Holds now (IsNode r) → Holds now (Holding r built_in.Property) → n ≡ get_or w.nodes r.0 n → IsPropertyThere w now r n v
+unfolding Holds
+property-there w now r n v e h k i =
+    let here = opened-one w now (IsNode r) e h in
+    let at = got w.nodes r.0 n here i in
+    let some : Some (home_of n.payload) ≡ Some built_in.Property = sym (ap (option_map (λ (x : StoredNode). home_of x.payload)) at) ∙ opened-one w now (Holding r built_in.Property) e k in
+    let home : home_of n.payload ≡ built_in.Property = cc some in
+    let is = is-property v n.payload home in
+    record { there = record { below = here; home = home ∙ sym is.home }; lasts = ap is_lasting is.home; claims = is.claims; read = is.read }

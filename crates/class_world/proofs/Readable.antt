@@ -47,7 +47,7 @@ text_at-injective names d n m = go (slice_get names n) (slice_get names m) refl 
         let l = sym (length-replicate (suc (total names + n)) 0) ∙ ap length h ∙ length-replicate (suc (total names + m)) 0 in
         omega (arith, l)
 
-same-tests : (a b : Bool) → (a ≡ true → b ≡ true) → (b ≡ true → a ≡ true) → a ≡ b
+pub same-tests : (a b : Bool) → (a ≡ true → b ≡ true) → (b ≡ true → a ≡ true) → a ≡ b
 same-tests true b f g = sym (f refl)
 same-tests false true f g = g refl
 same-tests false false f g = refl
@@ -106,16 +106,16 @@ module _ (text : ℕ → Text) (f g : ℕ → Tree) (n : ℕ) (h : (a : ℕ) →
   form_tree-agrees (form.Tuple es) b = ap TTuple (trees-agree es.items b)
   form_tree-agrees (form.List es) b = ap TList (trees-agree es.items b)
   form_tree-agrees (form.Dict ps) b = ap (λ l. TDict (keyed_of l)) (pairs-agree ps.items b.0 b.1)
-  form_tree-agrees (form.Func x ps rest e) b = cc (h e b)
+  form_tree-agrees (form.Func parts) b = cc (h parts.value.body b)
   form_tree-agrees (form.Attr o x) b = cc (h o b)
   form_tree-agrees (form.SetAttr o x e) b = cc (h o b.0, h e b.1)
   form_tree-agrees (form.DelAttr o x) b = cc (h o b)
-  form_tree-agrees (form.Call k es kw) b = cc (h k b.0, trees-agree es.items b.1, entries-agree kw.items b.2)
+  form_tree-agrees (form.Call parts) b = cc (h parts.value.function b.0, trees-agree parts.value.args.items b.1, entries-agree parts.value.keywords.items b.2)
   form_tree-agrees (form.Op word es) b = ap (TOp word) (trees-agree es.items b)
   form_tree-agrees (form.If c k l) b = cc (h c b.0, h k b.1, h l b.2)
   form_tree-agrees (form.Seq es) b = ap TSeq (trees-agree es.items b)
   form_tree-agrees (form.Raise kind) b = refl
-  form_tree-agrees (form.Class x bs kw es) b = cc (trees-agree bs.items b.0, entries-agree kw.items b.1, entries-agree es.items b.2)
+  form_tree-agrees (form.Class parts) b = cc (trees-agree parts.value.bases.items b.0, entries-agree parts.value.keywords.items b.1, entries-agree parts.value.entries.items b.2)
 
 module _ (text : ℕ → Text) (forms : List Form) (below : AreBelow forms) where
   tree_at-agrees : (i j n : ℕ) → n < i → n < j → tree_at text forms i n ≡ tree_at text forms j n

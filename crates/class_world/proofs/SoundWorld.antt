@@ -206,7 +206,7 @@ module _ (w : Held) (t : Reading) where
   nodes-there (payload.Text s) h = none (λ r. r.0 < length w.nodes)
   nodes-there (payload.Tuple rs) h = h.0
   nodes-there (payload.List rs) h = h.0
-  nodes-there (payload.Dict es) h = joined (length w.nodes) (map (λ e. e.0) es.items) (map (λ e. e.1) es.items) h.0 h.1.0
+  nodes-there (payload.Dict es) h = joined (length w.nodes) (map (λ e. e.0) es.items) (map (λ e. e.1) es.items) h.1.0 h.1.1.0
   nodes-there (payload.Function f) h = none (λ r. r.0 < length w.nodes)
   nodes-there (payload.Method m) h = more (λ r. r.0 < length w.nodes) m.target (m.func ∷ []) h.0 (more (λ r. r.0 < length w.nodes) m.func [] h.1.0 (none (λ r. r.0 < length w.nodes)))
   nodes-there (payload.NativeFunction f) h = optional-there f.target (all-first w (of_option of_node_ref f.target) (of_option of_name_ref f.doc) h.1)
@@ -216,7 +216,7 @@ module _ (w : Held) (t : Reading) where
   nodes-there (payload.ClassMethod r) h = more (λ r. r.0 < length w.nodes) r [] h.0 (none (λ r. r.0 < length w.nodes))
   nodes-there (payload.StaticMethod r) h = more (λ r. r.0 < length w.nodes) r [] h.0 (none (λ r. r.0 < length w.nodes))
   nodes-there (payload.Member m) h = none (λ r. r.0 < length w.nodes)
-  nodes-there (payload.Property p) h = all_optional-there (p.fget ∷ p.fset ∷ p.fdel ∷ p.doc ∷ p.name ∷ []) h
+  nodes-there (payload.Property p) h = all_optional-there (p.value.fget ∷ p.value.fset ∷ p.value.fdel ∷ p.value.doc ∷ p.value.name ∷ []) h
   nodes-there (payload.Super s) h = bound_object-there s.obj h.1
   nodes-there (payload.Iterator i) h = more (λ r. r.0 < length w.nodes) i.object [] h.0 (none (λ r. r.0 < length w.nodes))
   nodes-there (payload.Slice s) h = all_optional-there (s.start ∷ s.stop ∷ s.step ∷ []) h
@@ -230,7 +230,7 @@ module _ (w : Held) (t : Reading) where
   classes-there (payload.Tuple rs) h = none (λ c. is_class w.classes c ≡ true)
   classes-there (payload.List rs) h = none (λ c. is_class w.classes c ≡ true)
   classes-there (payload.Dict es) h = none (λ c. is_class w.classes c ≡ true)
-  classes-there (payload.Function f) h = optional_class-there f.class h.1.1.1
+  classes-there (payload.Function f) h = optional_class-there f.value.class h.1.1.1
   classes-there (payload.Method m) h = none (λ c. is_class w.classes c ≡ true)
   classes-there (payload.NativeFunction f) h = none (λ c. is_class w.classes c ≡ true)
   classes-there (payload.BuiltinMethod m) h = more (λ c. is_class w.classes c ≡ true) m.class.0 [] h.1.1.0 (none (λ c. is_class w.classes c ≡ true))
@@ -238,7 +238,7 @@ module _ (w : Held) (t : Reading) where
   classes-there (payload.GetSet g) h = more (λ c. is_class w.classes c ≡ true) g.class.0 [] h.0 (none (λ c. is_class w.classes c ≡ true))
   classes-there (payload.ClassMethod r) h = none (λ c. is_class w.classes c ≡ true)
   classes-there (payload.StaticMethod r) h = none (λ c. is_class w.classes c ≡ true)
-  classes-there (payload.Member m) h = more (λ c. is_class w.classes c ≡ true) m.class.0 [] h.0 (none (λ c. is_class w.classes c ≡ true))
+  classes-there (payload.Member m) h = more (λ c. is_class w.classes c ≡ true) m.value.class.0 [] h.0 (none (λ c. is_class w.classes c ≡ true))
   classes-there (payload.Property p) h = none (λ c. is_class w.classes c ≡ true)
   classes-there (payload.Super s) h = more (λ c. is_class w.classes c ≡ true) s.typ.0 (optional_class (super_start (option_map (λ b. (b.0, b.1.0)) s.obj))) h.0 (bound_class-there s.obj h.1)
   classes-there (payload.Iterator i) h = none (λ c. is_class w.classes c ≡ true)
@@ -261,7 +261,7 @@ module _ (w : Held) (t : Reading) where
   offsets-there (payload.GetSet g) h = none (λ p. is_offset w.classes p.0 p.1 ≡ true)
   offsets-there (payload.ClassMethod r) h = none (λ p. is_offset w.classes p.0 p.1 ≡ true)
   offsets-there (payload.StaticMethod r) h = none (λ p. is_offset w.classes p.0 p.1 ≡ true)
-  offsets-there (payload.Member m) h = more (λ p. is_offset w.classes p.0 p.1 ≡ true) (m.class.0, read_offset m.getter) ((m.class.0, set_offset m.setter) ∷ []) h.1.1.0 (more (λ p. is_offset w.classes p.0 p.1 ≡ true) (m.class.0, set_offset m.setter) [] h.1.1.1.0 (none (λ p. is_offset w.classes p.0 p.1 ≡ true)))
+  offsets-there (payload.Member m) h = more (λ p. is_offset w.classes p.0 p.1 ≡ true) (m.value.class.0, read_offset m.value.getter) ((m.value.class.0, set_offset m.value.setter) ∷ []) h.1.1.0 (more (λ p. is_offset w.classes p.0 p.1 ≡ true) (m.value.class.0, set_offset m.value.setter) [] h.1.1.1.0 (none (λ p. is_offset w.classes p.0 p.1 ≡ true)))
   offsets-there (payload.Property p) h = none (λ p. is_offset w.classes p.0 p.1 ≡ true)
   offsets-there (payload.Super s) h = none (λ p. is_offset w.classes p.0 p.1 ≡ true)
   offsets-there (payload.Iterator i) h = none (λ p. is_offset w.classes p.0 p.1 ≡ true)
@@ -275,7 +275,7 @@ module _ (w : Held) (t : Reading) where
   keys-there (payload.Text s) h = no-keys (key_at (plain t w))
   keys-there (payload.Tuple rs) h = no-keys (key_at (plain t w))
   keys-there (payload.List rs) h = no-keys (key_at (plain t w))
-  keys-there (payload.Dict es) h = keys-read t w (map (λ e. e.0) es.items) h.1.1.0
+  keys-there (payload.Dict es) h = keys-read t w (map (λ e. e.0) es.items) h.1.1.1.0
   keys-there (payload.Function f) h = no-keys (key_at (plain t w))
   keys-there (payload.Method m) h = no-keys (key_at (plain t w))
   keys-there (payload.NativeFunction f) h = no-keys (key_at (plain t w))
@@ -337,7 +337,7 @@ module _ (w : Held) (t : Reading) where
   filled-in (payload.Tuple rs) vars h = absurd h
   filled-in (payload.List rs) vars h = absurd h
   filled-in (payload.Dict es) vars h = absurd h
-  filled-in (payload.Function f) vars h = filled-texts vars f.params.items h
+  filled-in (payload.Function f) vars h = filled-texts vars f.value.params.items h
   filled-in (payload.Method m) vars h = absurd h
   filled-in (payload.NativeFunction f) vars h = absurd h
   filled-in (payload.BuiltinMethod m) vars h = absurd h

@@ -6,6 +6,7 @@ use Rattle.py_node.specs.declared.payload.Node.{Node}
 use Rattle.py_node.specs.declared.payload.Payload.{Payload}
 use Rattle.py_node.specs.declared.payload.Payload.TheVariants as payload
 use Rattle.py_node.specs.declared.refs.PyStrInterned.{PyStrInterned}
+use Rattle.py_node.specs.Dicts.{empty_dict}
 use Rattle.py_node.specs.Places.{value_at}
 use Rattle.class_model.specs.Class.{Classes}
 use Rattle.class_model.specs.Layout.{place_count}
@@ -27,7 +28,7 @@ number_of_object ns None = ref (length ns)
 number_of_object ns (Some d) = ref (length ns + 1)
 
 abbrev pub HasNoEntries : Payload → Type 0
-HasNoEntries (payload.Dict es) = es.items ≡ []
+HasNoEntries (payload.Dict es) = es ≡ empty_dict
 HasNoEntries _ = ⊥
 
 -- a new dict

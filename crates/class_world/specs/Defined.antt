@@ -1,9 +1,11 @@
--- Functions as they are stored, and the classes that define them.
+-- Functions as they are stored, and the classes that define them; and properties with other parts.
 use Rattle.std.specs.Prelude.{Option, Some, None}
+use Rattle.std.specs.Box.{with_value}
 use Rattle.py_node.specs.declared.payload.Function.{Function}
 use Rattle.py_node.specs.declared.payload.Node.{Node}
 use Rattle.py_node.specs.declared.payload.Payload.{Payload}
 use Rattle.py_node.specs.declared.payload.Payload.TheVariants as payload
+use Rattle.py_node.specs.declared.payload.PyProperty.{PyProperty}
 use Rattle.py_node.specs.declared.refs.PyTypeRef.{PyTypeRef}
 
 abbrev pub or_class_ref : Option PyTypeRef → PyTypeRef → Option PyTypeRef
@@ -15,8 +17,13 @@ defined_function c f = record f { class = or_class_ref f.class c }
 
 -- a function that no class defines yet is defined by this one
 abbrev pub defined_payload : PyTypeRef → Payload → Payload
-defined_payload c (payload.Function f) = payload.Function (defined_function c f)
+defined_payload c (payload.Function f) = payload.Function (with_value f (defined_function c f.value))
 defined_payload c p = p
+
+-- a property with other parts
+abbrev pub with_parts : PyProperty → Payload → Payload
+with_parts v (payload.Property p) = payload.Property (with_value p v)
+with_parts v p = p
 
 abbrev pub defined_node : PyTypeRef → Node → Node
 defined_node c n = record n { payload = defined_payload c n.payload }

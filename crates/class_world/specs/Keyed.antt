@@ -1,31 +1,47 @@
 -- The entries of dicts as they are stored.
-use Rattle.std.specs.Prelude.{◌≡◌, ℕ, Bool, false, List, [], ◌∷◌, ◌++◌, take, drop, map, Option, Some, None, slice_get, string_bytes}
+use Rattle.std.specs.Prelude.{◌≡◌, Bool, false, List, [], ◌∷◌, map, Option, Some, None, slice_get, string_bytes}
 use Rattle.py_node.specs.declared.refs.PyObjectRef.{PyObjectRef}
 use Rattle.py_node.specs.declared.refs.PyStrInterned.{PyStrInterned}
 use Rattle.py_node.specs.declared.payload.Node.{Node}
 use Rattle.py_node.specs.declared.payload.Payload.{Payload}
 use Rattle.py_node.specs.declared.payload.Payload.TheVariants as payload
+use Rattle.py_node.specs.Dicts.{PlainDict, empty_dict}
 use Rattle.py_node.specs.Tree.{Text}
 use Rattle.plain_machine.specs.Dicts.{Entries}
 use Rattle.plain_machine.specs.World.{is_text, or_empty}
 use Rattle.class_world.specs.Held.{Held}
-use Rattle.class_world.specs.Sound.{Claim, AreNodes, CanBeKeys, KeysDiffer}
+use Rattle.class_world.specs.Sound.{Claim, AreNodes, CanBeKeys, KeysDiffer, KeysRead}
 
-abbrev pub entries_of : Payload → Entries
-entries_of (payload.Dict es) = es.items
-entries_of _ = []
+-- the dict that a payload is
+abbrev pub dict_in : Payload → PlainDict
+dict_in (payload.Dict es) = es
+dict_in _ = empty_dict
 
-abbrev pub entries_at : Option Node → Entries
-entries_at None = []
-entries_at (Some n) = entries_of n.payload
+abbrev pub dict_at : Option Node → PlainDict
+dict_at None = empty_dict
+dict_at (Some n) = dict_in n.payload
+
+-- a dict of the world
+abbrev pub held_dict : List Node → PyObjectRef → PlainDict
+held_dict ns r = dict_at (slice_get ns r.0)
 
 -- the entries of a dict
+abbrev pub entries_of : Payload → Entries
+entries_of p = (dict_in p).items
+
+abbrev pub entries_at : Option Node → Entries
+entries_at o = (dict_at o).items
+
 abbrev pub held_entries : List Node → PyObjectRef → Entries
-held_entries ns r = entries_at (slice_get ns r.0)
+held_entries ns r = (held_dict ns r).items
 
 -- what is said of entries
 abbrev pub of_entries : Entries → List Claim
 of_entries es = AreNodes (map (λ e. e.0) es) ∷ AreNodes (map (λ e. e.1) es) ∷ KeysDiffer (map (λ e. e.0) es) ∷ []
+
+-- what is said of a dict
+abbrev pub of_keyed : PlainDict → List Claim
+of_keyed d = KeysRead d.keys (map (λ e. e.0) d.items) ∷ of_entries d.items
 
 -- what is said of keys with their values, where keys may be alike
 abbrev pub of_pairs : Entries → List Claim
@@ -47,19 +63,11 @@ is_held_key ns x r = is_text_at x (slice_get ns r.0)
 abbrev pub held_text : Held → PyStrInterned → Text
 held_text w x = or_empty (slice_get w.names x.0)
 
--- a dict that has these entries
-abbrev pub HasEntries : Payload → Entries → Type 0
-HasEntries (payload.Dict es) xs = es.items ≡ xs
-HasEntries _ xs = ⊥
+-- this dict
+abbrev pub IsDict : Payload → PlainDict → Type 0
+IsDict (payload.Dict es) d = es ≡ d
+IsDict _ d = ⊥
 
 -- a dict that has other entries, and else is the same
-abbrev pub HasOther : Node → Node → Entries → Type 0
-HasOther old new es = (new.class ≡ old.class) × (new.dict ≡ old.dict) × (new.members ≡ old.members) × HasEntries new.payload es
-
-abbrev pub put_first : Entries → PyObjectRef → Entries
-put_first [] v = []
-put_first (e ∷ es) v = (e.0, v) ∷ es
-
--- the key at a place has another value
-abbrev pub put_at : Entries → ℕ → PyObjectRef → Entries
-put_at es n v = take n es ++ put_first (drop n es) v
+abbrev pub HasOther : Node → Node → PlainDict → Type 0
+HasOther old new d = (new.class ≡ old.class) × (new.dict ≡ old.dict) × (new.members ≡ old.members) × IsDict new.payload d

@@ -3,6 +3,8 @@ use Rattle.std.specs.Prelude.{◌≡◌, ℕ, eqb, List, [], ◌∷◌, Option, 
 use Rattle.py_node.specs.declared.refs.PyObjectRef.{PyObjectRef}
 use Rattle.py_node.specs.declared.refs.PyStrInterned.{PyStrInterned}
 use Rattle.py_node.specs.declared.payload.Node.{Node as StoredNode}
+use Rattle.py_node.specs.declared.payload.Function.{Function}
+use Rattle.py_node.specs.declared.payload.MemberDescriptor.{MemberDescriptor}
 use Rattle.py_node.specs.declared.payload.Payload.{Payload}
 use Rattle.py_node.specs.declared.payload.Payload.TheVariants as payload
 use Rattle.py_node.specs.declared.payload.Form.{Form}
@@ -72,17 +74,18 @@ form_tree text tree (form.Bind x e) = TBind (text x.0) (tree e)
 form_tree text tree (form.Tuple es) = TTuple (trees_of (map tree es.items))
 form_tree text tree (form.List es) = TList (trees_of (map tree es.items))
 form_tree text tree (form.Dict ps) = TDict (keyed_of (map (λ p. (tree p.0, tree p.1)) ps.items))
-form_tree text tree (form.Func x ps rest e) = TFunc (text x.0) (map (λ p. text p.0) ps.items) rest (tree e)
+form_tree text tree (form.Func f) = TFunc (text f.value.name.0) (map (λ p. text p.0) f.value.params.items) f.value.rest (tree f.value.body)
 form_tree text tree (form.Attr o x) = TAttr (tree o) (text x.0)
 form_tree text tree (form.SetAttr o x e) = TSetAttr (tree o) (text x.0) (tree e)
 form_tree text tree (form.DelAttr o x) = TDelAttr (tree o) (text x.0)
-form_tree text tree (form.Call f es kw) = TCall (tree f) (trees_of (map tree es.items)) (stored_entries text tree kw.items)
+form_tree text tree (form.Call c) =
+    TCall (tree c.value.function) (trees_of (map tree c.value.args.items)) (stored_entries text tree c.value.keywords.items)
 form_tree text tree (form.Op word es) = TOp word (trees_of (map tree es.items))
 form_tree text tree (form.If c a b) = TIf (tree c) (tree a) (tree b)
 form_tree text tree (form.Seq es) = TSeq (trees_of (map tree es.items))
 form_tree text tree (form.Raise kind) = TRaise kind
-form_tree text tree (form.Class x bs kw es) =
-    TClass (text x.0) (trees_of (map tree bs.items)) (stored_entries text tree kw.items) (stored_entries text tree es.items)
+form_tree text tree (form.Class k) =
+    TClass (text k.value.name.0) (trees_of (map tree k.value.bases.items)) (stored_entries text tree k.value.keywords.items) (stored_entries text tree k.value.entries.items)
 
 -- the numbers are read as the world's tables have them
 pub record Reads (t : Reading) (w : World) : Type 0 where
@@ -100,6 +103,12 @@ spelled t x = t.text x.0
 abbrev pub spelled_option : Reading → Option PyStrInterned → Option Text
 spelled_option t o = option_map (spelled t) o
 
+abbrev pub function_datum : Reading → Function → Datum
+function_datum t f = AFunction (spelled t f.name) (map (spelled t) f.params.items) f.rest (t.tree f.body) (option_map (λ c. c.0) f.class)
+
+abbrev pub member_datum : Reading → MemberDescriptor → Datum
+member_datum t m = AMember m.class.0 (spelled t m.name) m.kind m.getter m.setter (spelled_option t m.qualname) (spelled_option t m.doc)
+
 abbrev pub datum : Reading → Payload → Datum
 datum t payload.Object = AnObject
 datum t (payload.Class c) = AClass c.0
@@ -108,7 +117,7 @@ datum t (payload.Text s) = AText (string_bytes s)
 datum t (payload.Tuple rs) = ATuple rs.items
 datum t (payload.List rs) = AList rs.items
 datum t (payload.Dict es) = ADict es.items
-datum t (payload.Function f) = AFunction (spelled t f.name) (map (spelled t) f.params.items) f.rest (t.tree f.body) (option_map (λ c. c.0) f.class)
+datum t (payload.Function f) = function_datum t f.value
 datum t (payload.Method m) = AMethod m.target m.func
 datum t (payload.NativeFunction f) = ANativeFunction (spelled t f.name) f.entry f.target (spelled_option t f.doc)
 datum t (payload.BuiltinMethod m) = ABuiltinMethod (spelled t m.name) m.entry m.target m.class.0 (spelled_option t m.doc)
@@ -116,8 +125,8 @@ datum t (payload.MethodDescriptor m) = AMethodDescriptor m.class.0 (spelled t m.
 datum t (payload.GetSet g) = AGetSet g.class.0 (spelled t g.name) g.getter g.setter
 datum t (payload.ClassMethod r) = AClassMethod r
 datum t (payload.StaticMethod r) = AStaticMethod r
-datum t (payload.Member m) = AMember m.class.0 (spelled t m.name) m.kind m.getter m.setter (spelled_option t m.qualname) (spelled_option t m.doc)
-datum t (payload.Property p) = AProperty p
+datum t (payload.Member m) = member_datum t m.value
+datum t (payload.Property p) = AProperty p.value
 datum t (payload.Super s) = ASuper s.typ.0 (option_map (λ b. (b.0, b.1.0)) s.obj)
 datum t (payload.Iterator i) = AnIterator i
 datum t (payload.Slice s) = ASlice s

@@ -5,6 +5,11 @@ use Rattle.std.specs.List.{All, AllByRecursion}
 use Rattle.py_node.specs.declared.refs.PyObjectRef.{PyObjectRef}
 use Rattle.py_node.specs.declared.refs.PyStrInterned.{PyStrInterned}
 use Rattle.py_node.specs.declared.refs.PyTypeRef.{PyTypeRef}
+use Rattle.py_node.specs.declared.dict.PyDictKey.{PyDictKey}
+use Rattle.py_node.specs.declared.dict.PyDictKey.TheVariants as dict_key
+use Rattle.py_node.specs.declared.payload.Function.{Function}
+use Rattle.py_node.specs.declared.payload.MemberDescriptor.{MemberDescriptor}
+use Rattle.py_node.specs.declared.payload.PyProperty.{PyProperty}
 use Rattle.py_node.specs.declared.payload.Node.{Node}
 use Rattle.py_node.specs.declared.payload.Payload.{Payload}
 use Rattle.py_node.specs.declared.payload.Payload.TheVariants as payload
@@ -47,6 +52,8 @@ pub data Claim : Type 0 where
   CanBeKeys : List PyObjectRef → Claim
   -- the objects are numbers or texts, no two of them alike
   KeysDiffer : List PyObjectRef → Claim
+  -- the objects are the numbers and texts that these keys name, one by one
+  KeysRead : List PyDictKey → List PyObjectRef → Claim
   -- the expression is of a form that passes the test
   HasForm : ℕ → (Form → Bool) → Claim
   -- the object is a function with these parameters
@@ -122,6 +129,24 @@ key_in _ = None
 abbrev pub held_key : List Node → PyObjectRef → Option Key
 held_key ns r = option_and_then (λ x. key_in x.payload) (slice_get ns r.0)
 
+-- the number or the text that a stored key names
+abbrev pub read_key : List (List ℕ) → PyDictKey → Option Key
+read_key names (dict_key.Number z) = Some (NumberKey z)
+read_key names (dict_key.Text x) = option_map TextKey (slice_get names x.0)
+
+-- a stored key names this one
+abbrev pub NamesKey : List (List ℕ) → PyDictKey → Option Key → Type 0
+NamesKey names k o = (c : Key) × (read_key names k ≡ Some c) × (o ≡ Some c)
+
+-- an object is what a stored key names
+abbrev pub IsRead : List (List ℕ) → List Node → PyDictKey → PyObjectRef → Type 0
+IsRead names ns k r = NamesKey names k (held_key ns r)
+
+abbrev pub AreRead : List (List ℕ) → List Node → List PyDictKey → List PyObjectRef → Type 0
+AreRead names ns [] [] = Unit {0}
+AreRead names ns (k ∷ ks) (r ∷ rs) = IsRead names ns k r × AreRead names ns ks rs
+AreRead names ns _ _ = ⊥
+
 -- the class that a node stands for
 abbrev pub class_in : Payload → Option ℕ
 class_in (payload.Class c) = Some c.0
@@ -132,7 +157,7 @@ held_class ns r = option_and_then (λ x. class_in x.payload) (slice_get ns r.0)
 
 -- the parameters of a function
 abbrev pub params_in : Payload → Option (List PyStrInterned)
-params_in (payload.Function f) = Some f.params.items
+params_in (payload.Function f) = Some f.value.params.items
 params_in _ = None
 
 abbrev pub held_params : List Node → PyObjectRef → Option (List PyStrInterned)
@@ -176,6 +201,7 @@ Holds w (Holding r b) = home_at w.nodes r.0 ≡ Some b
 Holds w (Standing c r) = held_class w.nodes r ≡ Some c
 Holds w (CanBeKeys rs) = All (λ r. is_some (held_key w.nodes r) ≡ true) rs
 Holds w (KeysDiffer rs) = AreKeys (held_key w.nodes) rs
+Holds w (KeysRead ks rs) = AreRead w.names w.nodes ks rs
 Holds w (HasForm e test) = (f : Form) × (slice_get w.forms e ≡ Some f) × (test f ≡ true)
 Holds w (HasParams r ps) = held_params w.nodes r ≡ Some ps
 Holds w (HasValues r vars) = AreFilled vars (held_params w.nodes r)
@@ -225,6 +251,16 @@ of_optional (o ∷ os) = of_option of_node_ref o ++ of_optional os
 abbrev pub of_start : PyObjectRef × PyTypeRef → List Claim
 of_start s = IsNode s.0 ∷ IsClass s.1.0 ∷ []
 
+abbrev pub of_function : Function → List Claim
+of_function f = IsName f.name ∷ AreNames f.params.items ∷ IsExpression f.body ∷ of_option of_class_ref f.class
+
+abbrev pub of_member : MemberDescriptor → List Claim
+of_member m = IsClass m.class.0 ∷ IsName m.name ∷ IsOffset m.class.0 (read_offset m.getter) ∷ IsOffset m.class.0 (set_offset m.setter) ∷ of_option of_name_ref m.qualname ++ of_option of_name_ref m.doc
+
+-- the parts of a property that are there
+abbrev pub of_property : PyProperty → List Claim
+of_property p = of_optional (p.fget ∷ p.fset ∷ p.fdel ∷ p.doc ∷ p.name ∷ [])
+
 abbrev pub of_payload : Payload → List Claim
 of_payload payload.Object = []
 of_payload (payload.Class c) = IsClass c.0 ∷ []
@@ -232,8 +268,8 @@ of_payload (payload.Number z) = []
 of_payload (payload.Text s) = []
 of_payload (payload.Tuple rs) = AreNodes rs.items ∷ []
 of_payload (payload.List rs) = AreNodes rs.items ∷ []
-of_payload (payload.Dict es) = AreNodes (map (λ e. e.0) es.items) ∷ AreNodes (map (λ e. e.1) es.items) ∷ KeysDiffer (map (λ e. e.0) es.items) ∷ []
-of_payload (payload.Function f) = IsName f.name ∷ AreNames f.params.items ∷ IsExpression f.body ∷ of_option of_class_ref f.class
+of_payload (payload.Dict es) = KeysRead es.keys (map (λ e. e.0) es.items) ∷ AreNodes (map (λ e. e.0) es.items) ∷ AreNodes (map (λ e. e.1) es.items) ∷ KeysDiffer (map (λ e. e.0) es.items) ∷ []
+of_payload (payload.Function f) = of_function f.value
 of_payload (payload.Method m) = IsNode m.target ∷ IsNode m.func ∷ []
 of_payload (payload.NativeFunction f) = IsName f.name ∷ of_option of_node_ref f.target ++ of_option of_name_ref f.doc
 of_payload (payload.BuiltinMethod m) = IsName m.name ∷ IsNode m.target ∷ IsClass m.class.0 ∷ of_option of_name_ref m.doc
@@ -241,8 +277,8 @@ of_payload (payload.MethodDescriptor m) = IsClass m.class.0 ∷ IsName m.name �
 of_payload (payload.GetSet g) = IsClass g.class.0 ∷ IsName g.name ∷ []
 of_payload (payload.ClassMethod r) = IsNode r ∷ []
 of_payload (payload.StaticMethod r) = IsNode r ∷ []
-of_payload (payload.Member m) = IsClass m.class.0 ∷ IsName m.name ∷ IsOffset m.class.0 (read_offset m.getter) ∷ IsOffset m.class.0 (set_offset m.setter) ∷ of_option of_name_ref m.qualname ++ of_option of_name_ref m.doc
-of_payload (payload.Property p) = of_optional (p.fget ∷ p.fset ∷ p.fdel ∷ p.doc ∷ p.name ∷ [])
+of_payload (payload.Member m) = of_member m.value
+of_payload (payload.Property p) = of_property p.value
 of_payload (payload.Super s) = IsClass s.typ.0 ∷ of_option of_start s.obj
 of_payload (payload.Iterator i) = IsNode i.object ∷ []
 of_payload (payload.Slice s) = of_optional (s.start ∷ s.stop ∷ s.step ∷ [])
@@ -265,16 +301,16 @@ of_form (form.Bind x e) = IsName x ∷ IsExpression e ∷ []
 of_form (form.Tuple es) = AreExpressions es.items ∷ []
 of_form (form.List es) = AreExpressions es.items ∷ []
 of_form (form.Dict ps) = AreExpressions (map (λ p. p.0) ps.items) ∷ AreExpressions (map (λ p. p.1) ps.items) ∷ []
-of_form (form.Func x ps rest e) = IsName x ∷ AreNames ps.items ∷ IsExpression e ∷ []
+of_form (form.Func f) = IsName f.value.name ∷ AreNames f.value.params.items ∷ IsExpression f.value.body ∷ []
 of_form (form.Attr o x) = IsExpression o ∷ IsName x ∷ []
 of_form (form.SetAttr o x e) = IsExpression o ∷ IsName x ∷ IsExpression e ∷ []
 of_form (form.DelAttr o x) = IsExpression o ∷ IsName x ∷ []
-of_form (form.Call f es kw) = IsExpression f ∷ AreExpressions es.items ∷ of_stored kw.items
+of_form (form.Call c) = IsExpression c.value.function ∷ AreExpressions c.value.args.items ∷ of_stored c.value.keywords.items
 of_form (form.Op word es) = AreExpressions es.items ∷ []
 of_form (form.If c a b) = IsExpression c ∷ IsExpression a ∷ IsExpression b ∷ []
 of_form (form.Seq es) = AreExpressions es.items ∷ []
 of_form (form.Raise kind) = []
-of_form (form.Class x bs kw es) = IsName x ∷ AreExpressions bs.items ∷ of_stored kw.items ++ of_stored es.items
+of_form (form.Class k) = IsName k.value.name ∷ AreExpressions k.value.bases.items ∷ of_stored k.value.keywords.items ++ of_stored k.value.entries.items
 
 abbrev pub of_binding : PyStrInterned × PyObjectRef → List Claim
 of_binding b = IsName b.0 ∷ IsNode b.1 ∷ []

@@ -4,17 +4,19 @@
 ghost use Rattle.std.specs.Prelude.{◌≡◌, ◌<◌, ◌∷◌, ◌++◌, [], length, map, position, None, IfSome, OnOk};
 ghost use Rattle.std.specs.List.{remove};
 ghost use Rattle.py_node.specs.declared.built_in.BuiltIn.TheVariants.{Dict, Str};
+ghost use Rattle.py_node.specs.Dicts.{is_same_key, put_at};
+ghost use Rattle.py_node.specs.Texts.{AreDistinct};
 ghost use Rattle.plain_machine.specs.Plain.{AText};
 ghost use Rattle.plain_machine.specs.World.{datum_at, with_node, next_node};
 ghost use Rattle.plain_machine.specs.Known.{the_str};
 ghost use Rattle.plain_machine.specs.Dicts.{dict_of, entries_in, value_in, own_value, with_entries, with_value_in, without_value_in};
-ghost use Rattle.class_world.specs.Keyed.{held_entries, held_text, is_held_key, of_entries, put_at};
+ghost use Rattle.class_world.specs.Keyed.{held_dict, held_text, is_held_key, of_keyed};
 ghost use Rattle.class_world.specs.Reading.{Reading, Reads, plain};
-ghost use Rattle.class_world.specs.Sound.{IsNode, IsClass, IsOf, IsName, Holding, KeysDiffer, Holds, AllHold, Grows};
+ghost use Rattle.class_world.specs.Sound.{IsNode, IsClass, IsOf, IsName, Holding, KeysDiffer, KeysRead, Holds, AllHold, Grows};
 
-use crate::entries::{place_of, push_entry, put_value, take_entry};
+use crate::entries::{push_entry, put_value, take_entry};
 use crate::world::World;
-use py_node::{BuiltIn, OutOfMemory, Payload, PyObjectRef, PyStrInterned, PyTypeRef};
+use py_node::{BuiltIn, OutOfMemory, Payload, PyDictKey, PyObjectRef, PyStrInterned, PyTypeRef};
 
 impl World {
     /// The dict of an object, if it has one.
@@ -56,13 +58,13 @@ impl World {
     }
 
     // The entries of a dict.
-    fn entries(&self, dict: PyObjectRef) -> &[(PyObjectRef, PyObjectRef)]
+    pub(crate) fn entries(&self, dict: PyObjectRef) -> &[(PyObjectRef, PyObjectRef)]
         requires { Holds self.now (IsNode dict) }
-        ensures same { held_entries self.now.nodes dict ≡ result.now }
-        ensures holds { AllHold self.now (of_entries result.now) }
+        ensures same { (held_dict self.now.nodes dict).items ≡ result.now }
+        ensures holds { AllHold self.now (of_keyed (held_dict self.now.nodes dict)) }
     {
         match &self.nodes[dict.0 as usize].payload {
-            Payload::Dict(entries) => entries,
+            Payload::Dict(dict) => dict.entries(),
             _ => &[],
         }
     }
@@ -72,10 +74,26 @@ impl World {
         requires dict { Holds self.now (IsNode dict) }
         requires name { Holds self.now (IsName name) }
         ensures first { result ≡ position (λ e. is_held_key self.now.nodes (held_text self.now name) e.0)
-            (held_entries self.now.nodes dict) }
-        ensures holds { AllHold self.now (of_entries (held_entries self.now.nodes dict)) }
+            (held_dict self.now.nodes dict).items }
+        ensures below { IfSome result (λ n. n < length (held_dict self.now.nodes dict).items) }
+        ensures holds { AllHold self.now (of_keyed (held_dict self.now.nodes dict)) }
     {
-        place_of(&self.nodes, self.entries(dict), self.names.text(name))
+        self.place_of(dict, PyDictKey::Text(name))
+    }
+
+    // The place of a stored key among those of a dict.
+    pub(crate) fn place_of(&self, dict: PyObjectRef, key: PyDictKey) -> Option<usize>
+        requires { Holds self.now (IsNode dict) }
+        ensures first { result ≡ position (is_same_key key) (held_dict self.now.nodes dict).keys }
+        ensures below { IfSome result (λ n. n < length (held_dict self.now.nodes dict).items) }
+        ensures holds { AllHold self.now (of_keyed (held_dict self.now.nodes dict)) }
+        ensures distinct { AreDistinct self.now.names }
+    {
+        let _names = self.names.len();
+        match &self.nodes[dict.0 as usize].payload {
+            Payload::Dict(dict) => dict.place_of(key),
+            _ => None,
+        }
     }
 
     /// Gives a dict a value under a name: in its place, or else last, with a new text as its key.
@@ -130,20 +148,20 @@ impl World {
         requires holding { Holds self.old (Holding dict Dict) }
         requires name { Holds self.old (IsName name) }
         requires value { Holds self.old (IsNode value) }
-        requires entries { AllHold self.old (of_entries (held_entries self.old.nodes dict)) }
+        requires entries { AllHold self.old (of_keyed (held_dict self.old.nodes dict)) }
         requires absent { position (λ e. is_held_key self.old.nodes (held_text self.old name) e.0)
-            (held_entries self.old.nodes dict) ≡ None }
+            (held_dict self.old.nodes dict).items ≡ None }
         ensures added { OnOk result ((t : Reading) → Reads t self.new →
             plain t self.new ≡ with_entries (with_node (plain t self.old) the_str (AText (t.text name.0))) dict
-            (held_entries self.old.nodes dict ++ (next_node (plain t self.old) the_str, value) ∷ [])) }
+            ((held_dict self.old.nodes dict).items ++ (next_node (plain t self.old) the_str, value) ∷ [])) }
         ensures reads { (t : Reading) → Reads t self.new → Reads t self.old }
         ensures grows { Grows self.old self.new }
     {
-        self.readable();
         let text = self.spelling(name)?;
         let class = self.class_of_texts();
         let key = self.make_node(class, Payload::Text(text))?;
-        self.push_entry(dict, key, value)
+        self.readable();
+        self.push_entry(dict, PyDictKey::Text(name), key, value)
     }
 
     // The class of texts.
@@ -157,23 +175,24 @@ impl World {
     }
 
     // Another value for the key at a place.
-    fn put_value(&mut self, dict: PyObjectRef, place: usize, value: PyObjectRef)
+    pub(crate) fn put_value(&mut self, dict: PyObjectRef, place: usize, value: PyObjectRef)
         requires dict { Holds self.old (IsNode dict) }
         requires holding { Holds self.old (Holding dict Dict) }
-        requires place { place < length (held_entries self.old.nodes dict) }
+        requires place { place < length (held_dict self.old.nodes dict).items }
         requires value { Holds self.old (IsNode value) }
         ensures put { (t : Reading) → plain t self.new ≡ with_entries (plain t self.old) dict
-            (put_at (held_entries self.old.nodes dict) place value) }
+            (put_at (held_dict self.old.nodes dict).items place value) }
         ensures reads { (t : Reading) → Reads t self.new → Reads t self.old }
         ensures grows { Grows self.old self.new }
     {
         put_value(&mut self.nodes[dict.0 as usize], place, value);
     }
 
-    // A key is put last, with its value. It is unlike the others.
-    fn push_entry(
+    // A key is put last, with its value. It is unlike the others, and is stored as given.
+    pub(crate) fn push_entry(
         &mut self,
         dict: PyObjectRef,
+        stored: PyDictKey,
         key: PyObjectRef,
         value: PyObjectRef,
     ) -> Result<(), OutOfMemory>
@@ -181,23 +200,25 @@ impl World {
         requires holding { Holds self.old (Holding dict Dict) }
         requires key { Holds self.old (IsNode key) }
         requires value { Holds self.old (IsNode value) }
+        requires read { Holds self.old (KeysRead (stored ∷ []) (key ∷ [])) }
         requires differs { Holds self.old (KeysDiffer (map (λ e. e.0)
-            (held_entries self.old.nodes dict ++ (key, value) ∷ []))) }
+            ((held_dict self.old.nodes dict).items ++ (key, value) ∷ []))) }
         ensures pushed { OnOk result ((t : Reading) → plain t self.new ≡ with_entries (plain t self.old) dict
-            (held_entries self.old.nodes dict ++ (key, value) ∷ [])) }
+            ((held_dict self.old.nodes dict).items ++ (key, value) ∷ [])) }
         ensures reads { (t : Reading) → Reads t self.new → Reads t self.old }
         ensures grows { Grows self.old self.new }
     {
-        push_entry(&mut self.nodes[dict.0 as usize], key, value)
+        let alloc = self.alloc;
+        push_entry(&mut self.nodes[dict.0 as usize], alloc, stored, key, value)
     }
 
     // The key at a place is taken out.
-    fn take_entry(&mut self, dict: PyObjectRef, place: usize)
+    pub(crate) fn take_entry(&mut self, dict: PyObjectRef, place: usize)
         requires dict { Holds self.old (IsNode dict) }
         requires holding { Holds self.old (Holding dict Dict) }
-        requires place { place < length (held_entries self.old.nodes dict) }
+        requires place { place < length (held_dict self.old.nodes dict).items }
         ensures taken { (t : Reading) → plain t self.new ≡ with_entries (plain t self.old) dict
-            (remove (held_entries self.old.nodes dict) place) }
+            (remove (held_dict self.old.nodes dict).items place) }
         ensures reads { (t : Reading) → Reads t self.new → Reads t self.old }
         ensures grows { Grows self.old self.new }
     {

@@ -1,18 +1,17 @@
-//! The keys of dicts: which objects can be keys, and entries with a value under one.
+//! The keys of dicts: which objects can be keys, how they are stored, and dicts with a value under one.
 #![tactic(auto, unfolding(crate::specs::Reading::plain))]
 
-ghost use Rattle.std.specs.Prelude.{◌≡◌, [], ◌∷◌, true, is_some, position, Some, IfOk};
-ghost use Rattle.plain_machine.specs.Dicts.{is_one_key, with_entry, entries_from};
-ghost use Rattle.plain_machine.specs.Sound.{NumberKey, TextKey, key_at};
-ghost use Rattle.class_world.specs.Keyed.{of_entries, of_pairs};
-ghost use Rattle.class_world.specs.Reading.{Reading, plain};
-ghost use Rattle.class_world.specs.Sound.{IsNode, CanBeKeys, Holds, AllHold, key_in, held_key};
+ghost use Rattle.std.specs.Prelude.{◌≡◌, List, ℕ, [], ◌∷◌, true, is_some, IfOk, IfSome, IfNone, OnErr, Some, slice_get};
+ghost use Rattle.py_node.specs.declared.dict.PyDictKey.{PyDictKey as StoredKey};
+ghost use Rattle.py_node.specs.Texts.{AreDistinct};
+ghost use Rattle.plain_machine.specs.Dicts.{with_entry, entries_from};
+ghost use Rattle.plain_machine.specs.Sound.{key_at};
+ghost use Rattle.class_world.specs.Keyed.{of_keyed, of_pairs};
+ghost use Rattle.class_world.specs.Reading.{Reading, Reads, plain};
+ghost use Rattle.class_world.specs.Sound.{IsNode, CanBeKeys, KeysRead, NamesKey, Holds, AllHold, Grows, key_in, held_key};
 
 use crate::world::World;
-use py_node::{Node, OutOfMemory, Payload, PyObjectRef};
-
-// Keys with their values.
-type Entries = Vec<(PyObjectRef, PyObjectRef)>;
+use py_node::{Names, OutOfMemory, Payload, PyDict, PyDictKey, PyObjectRef};
 
 impl World {
     /// Whether an object can be the key of a dict: whether it is a number or a text.
@@ -24,54 +23,87 @@ impl World {
         is_key(&self.nodes[node.0 as usize].payload)
     }
 
-    /// Entries with a value under a key. A key that is there stays, and gets the value; else the key comes last.
+    /// A dict with a value under a key. A key that is there stays, and gets the value; else the key comes last. Where the
+    /// key is a text, it becomes a name, by which it is found.
     pub fn with_entry(
-        &self,
-        entries: Entries,
+        &mut self,
+        dict: PyDict,
         key: PyObjectRef,
         value: PyObjectRef,
-    ) -> Result<Entries, OutOfMemory>
-        requires entries { AllHold self.now (of_entries entries.items) }
-        requires node { Holds self.now (IsNode key) }
-        requires key { Holds self.now (CanBeKeys (key ∷ [])) }
-        requires value { Holds self.now (IsNode value) }
-        ensures entries { IfOk result (λ v. (t : Reading) →
-            v.items ≡ with_entry (plain t self.now) entries.items (key, value)) }
-        ensures holds { IfOk result (λ v. AllHold self.now (of_entries v.items)) }
+    ) -> Result<PyDict, OutOfMemory>
+        requires dict { AllHold self.old (of_keyed dict) }
+        requires node { Holds self.old (IsNode key) }
+        requires key { Holds self.old (CanBeKeys (key ∷ [])) }
+        requires value { Holds self.old (IsNode value) }
+        ensures entries { IfOk result (λ d. (t : Reading) →
+            d.items ≡ with_entry (plain t self.old) dict.items (key, value)) }
+        ensures holds { IfOk result (λ d. AllHold self.new (of_keyed d)) }
+        ensures same { (t : Reading) → plain t self.new ≡ plain t self.old }
+        ensures reads { (t : Reading) → Reads t self.new → Reads t self.old }
+        ensures grows { Grows self.old self.new }
     {
-        let mut entries = entries;
-        match self.place_like(&entries, key) {
+        let stored = self.intern_key(key)?;
+        self.distinct();
+        let alloc = self.alloc();
+        let mut dict = dict;
+        match dict.place_of(stored) {
             Some(place) => {
-                entries[place] = (entries[place].0, value);
-                Ok(entries)
+                dict.put(place, value);
+                Ok(dict)
             }
             None => {
-                entries.push((key, value))?;
-                Ok(entries)
+                dict.push(alloc, stored, key, value)?;
+                Ok(dict)
             }
         }
     }
 
-    /// Keys with their values, one after another: the entries of a dict.
-    pub fn entries_from(&self, pairs: &[(PyObjectRef, PyObjectRef)]) -> Result<Entries, OutOfMemory>
-        requires { AllHold self.now (of_pairs pairs.now) }
-        ensures entries { IfOk result (λ v. (t : Reading) → v.items ≡ entries_from (plain t self.now) pairs.now) }
-        ensures holds { IfOk result (λ v. AllHold self.now (of_entries v.items)) }
+    /// Keys with their values, one after another, as a dict.
+    pub fn entries_from(
+        &mut self,
+        pairs: &[(PyObjectRef, PyObjectRef)],
+    ) -> Result<PyDict, OutOfMemory>
+        requires { AllHold self.old (of_pairs pairs.now) }
+        ensures entries { IfOk result (λ d. (t : Reading) → d.items ≡ entries_from (plain t self.old) pairs.now) }
+        ensures holds { IfOk result (λ d. AllHold self.new (of_keyed d)) }
+        ensures same { (t : Reading) → plain t self.new ≡ plain t self.old }
+        ensures reads { (t : Reading) → Reads t self.new → Reads t self.old }
+        ensures grows { Grows self.old self.new }
     {
-        let mut entries = Vec::new(self.alloc());
+        let mut dict = PyDict::new(self.alloc());
         for pair in pairs {
-            entries = self.with_entry(entries, pair.0, pair.1)?;
+            dict = self.with_entry(dict, pair.0, pair.1)?;
         }
-        Ok(entries)
+        Ok(dict)
     }
 
-    // The place of the first key that is the same.
-    fn place_like(&self, entries: &[(PyObjectRef, PyObjectRef)], key: PyObjectRef) -> Option<usize>
-        requires { Holds self.now (IsNode key) }
-        ensures { result ≡
-            position (λ e. is_one_key (held_key self.now.nodes e.0) (held_key self.now.nodes key)) entries.now }
+    // How a key is stored: a text becomes a name.
+    pub(crate) fn intern_key(&mut self, key: PyObjectRef) -> Result<PyDictKey, OutOfMemory>
+        requires node { Holds self.old (IsNode key) }
+        requires can { Holds self.old (CanBeKeys (key ∷ [])) }
+        ensures read { IfOk result (λ k. Holds self.new (KeysRead (k ∷ []) (key ∷ []))) }
+        ensures nodes { self.new.nodes ≡ self.old.nodes }
+        ensures same { (t : Reading) → plain t self.new ≡ plain t self.old }
+        ensures reads { (t : Reading) → Reads t self.new → Reads t self.old }
+        ensures grows { Grows self.old self.new }
     {
-        place_like(&self.nodes, entries, &self.nodes[key.0 as usize].payload)
+        key_named(&mut self.names, &self.nodes[key.0 as usize].payload)
+    }
+
+    // How a key is stored, where it is a number or the text of a name.
+    pub(crate) fn known_key(&self, key: PyObjectRef) -> Option<PyDictKey>
+        requires { Holds self.now (IsNode key) }
+        ensures read { IfSome result (λ k. NamesKey self.now.names k (held_key self.now.nodes key)) }
+        ensures none { IfNone result ((k : StoredKey) → NamesKey self.now.names k (held_key self.now.nodes key) → ⊥) }
+    {
+        known_key(&self.names, &self.nodes[key.0 as usize].payload)
+    }
+
+    // No two names have one text.
+    pub(crate) fn distinct(&self)
+        ensures { AreDistinct self.now.names }
+    {
+        let _names = self.names.len();
     }
 }
 
@@ -85,56 +117,31 @@ fn is_key(payload: &Payload) -> bool
     }
 }
 
-// The place of the first key that is the same.
-fn place_like(
-    nodes: &[Node],
-    entries: &[(PyObjectRef, PyObjectRef)],
-    key: &Payload,
-) -> Option<usize>
-    ensures { result ≡ position (λ e. is_one_key (held_key nodes.now e.0) (key_in key.now)) entries.now }
-{
-    entries
-        .iter()
-        .position(|entry| is_key_at(nodes, entry.0, key))
-}
-
-// Whether an object is this key.
-fn is_key_at(nodes: &[Node], node: PyObjectRef, key: &Payload) -> bool
-    ensures { result ≡ is_one_key (held_key nodes.now node) (key_in key.now) }
-{
-    match nodes.get(node.0 as usize) {
-        None => false,
-        Some(node) => is_one_key(&node.payload, key),
-    }
-}
-
-// Whether two payloads are one key.
-fn is_one_key(payload: &Payload, key: &Payload) -> bool
-    ensures { result ≡ is_one_key (key_in payload.now) (key_in key.now) }
+// How a key is stored. A text becomes a name.
+fn key_named(names: &mut Names, payload: &Payload) -> Result<PyDictKey, OutOfMemory>
+    requires { is_some (key_in payload.now) ≡ true }
+    ensures read { IfOk result (λ k. NamesKey names.new k (key_in payload.now)) }
+    ensures grows { (n : ℕ) (x : List ℕ) → slice_get names.old n ≡ Some x → slice_get names.new n ≡ Some x }
+    ensures err { OnErr result (names.new ≡ names.old) }
 {
     match payload {
-        Payload::Number(number) => is_number(*number, key),
-        Payload::Text(text) => is_text(text.as_str(), key),
-        _ => false,
+        Payload::Number(number) => Ok(PyDictKey::Number(*number)),
+        Payload::Text(text) => Ok(PyDictKey::Text(names.intern(text.as_str())?)),
+        _ => Ok(PyDictKey::Number(0)),
     }
 }
 
-// Whether a key is this number.
-fn is_number(number: i128, key: &Payload) -> bool
-    ensures { result ≡ is_one_key (Some (NumberKey number)) (key_in key.now) }
+// How a key is stored, where it is a number or the text of a name.
+fn known_key(names: &Names, payload: &Payload) -> Option<PyDictKey>
+    ensures read { IfSome result (λ k. NamesKey names.now k (key_in payload.now)) }
+    ensures none { IfNone result ((k : StoredKey) → NamesKey names.now k (key_in payload.now) → ⊥) }
 {
-    match key {
-        Payload::Number(other) => number == *other,
-        _ => false,
-    }
-}
-
-// Whether a key is this text.
-fn is_text(text: &str, key: &Payload) -> bool
-    ensures { result ≡ is_one_key (Some (TextKey text.now)) (key_in key.now) }
-{
-    match key {
-        Payload::Text(other) => text == other.as_str(),
-        _ => false,
+    match payload {
+        Payload::Number(number) => Some(PyDictKey::Number(*number)),
+        Payload::Text(text) => match names.interned_str(text.as_str()) {
+            Some(name) => Some(PyDictKey::Text(name)),
+            None => None,
+        },
+        _ => None,
     }
 }

@@ -30,6 +30,7 @@ mod setting;
 mod slots;
 mod start;
 pub mod takes;
+pub mod under;
 mod variables;
 pub mod world;
 

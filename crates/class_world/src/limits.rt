@@ -35,7 +35,7 @@ fn entry_count(world: &World, dict: PyObjectRef) -> usize
     ensures { (t : Reading) → length (entries_in (datum_at (plain t world.now) dict)) ≡ result }
 {
     match world.payload(dict) {
-        Payload::Dict(entries) => entries.len(),
+        Payload::Dict(dict) => dict.len(),
         _ => 0,
     }
 }

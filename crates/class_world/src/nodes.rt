@@ -4,15 +4,18 @@ ghost use Rattle.std.specs.Prelude.{◌≡◌, is_some, Some, None, IfOk, OnOk, 
 ghost use Rattle.plain_machine.specs.World.{with_node, next_node, has_dict, class_at, datum_at, number_of, ref};
 ghost use Rattle.class_model.specs.Dict.{has_dict as class_has_dict};
 ghost use Rattle.plain_machine.specs.Known.{the_dict};
-ghost use Rattle.py_node.specs.declared.built_in.BuiltIn.TheVariants.{Dict, TypeType};
+ghost use Rattle.py_node.specs.declared.built_in.BuiltIn.TheVariants.{Dict, Property, TypeType};
 ghost use Rattle.class_world.specs.Reading.{Reading, Reads, datum, plain};
-ghost use Rattle.class_world.specs.Sound.{IsNode, IsClass, IsOf, Holding, HasParams, GetsDict, Holds, AllHold, Grows, home_of, class_in, params_in, of_option, of_node, of_payload, is_lasting, with_payload};
+ghost use Rattle.class_world.specs.Sound.{IsNode, IsClass, IsOf, Holding, HasParams, GetsDict, Holds, AllHold, Grows, home_of, class_in, params_in, of_option, of_node, of_payload, of_property, is_lasting, with_payload};
+ghost use Rattle.class_world.specs.Defined.{with_parts};
+ghost use Rattle.plain_machine.specs.Plain.{AProperty};
 ghost use Rattle.class_world.specs.Added.{IsEmptyDict, with_object, number_of_object};
 ghost use Rattle.plain_machine.specs.Objects.{with_datum};
 
+use crate::definer::put_parts;
 use crate::places::empty_places;
 use crate::world::World;
-use py_node::{BuiltIn, Node, OutOfMemory, Payload, PyMembers, PyObjectRef, PyTypeRef};
+use py_node::{BuiltIn, Node, OutOfMemory, Payload, PyDict, PyMembers, PyObjectRef, PyProperty, PyTypeRef};
 
 #[tactic(auto, unfolding(crate::specs::Reading::plain))]
 impl World {
@@ -112,7 +115,7 @@ impl World {
             class,
             dict: None,
             members,
-            payload: Payload::Dict(Vec::new(self.alloc)),
+            payload: Payload::Dict(PyDict::new(self.alloc)),
         })
     }
 
@@ -139,6 +142,18 @@ impl World {
         ensures grows { Grows self.old self.new }
     {
         set_payload(&mut self.nodes[node.0 as usize], payload);
+    }
+
+    /// Gives a property other parts. It takes no memory.
+    pub fn set_property(&mut self, node: PyObjectRef, parts: PyProperty)
+        requires node { Holds self.old (IsNode node) }
+        requires holding { Holds self.old (Holding node Property) }
+        requires parts { AllHold self.old (of_property parts) }
+        ensures set { (t : Reading) → plain t self.new ≡ with_datum (plain t self.old) node (AProperty parts) }
+        ensures reads { (t : Reading) → Reads t self.new → Reads t self.old }
+        ensures grows { Grows self.old self.new }
+    {
+        set_parts(&mut self.nodes[node.0 as usize], parts);
     }
 }
 
@@ -200,4 +215,11 @@ fn set_payload(node: &mut Node, payload: Payload)
     ensures { node.new ≡ with_payload node.old payload }
 {
     node.payload = payload;
+}
+
+// Other parts of a property.
+fn set_parts(node: &mut Node, parts: PyProperty)
+    ensures { node.new ≡ with_payload node.old (with_parts parts node.old.payload) }
+{
+    put_parts(&mut node.payload, parts);
 }

@@ -1,9 +1,9 @@
 -- Calls whose arguments are evaluated in order.
-use Rattle.std.proofs.Common.{◌≡◌, ℕ, zero, suc, ◌≤◌, List, [], ◌∷◌, ◌++◌, length, map, Some, None, refl, sym, ap, ◌∙◌, subst, arith}
+use Rattle.std.proofs.Common.{◌≡◌, ◌==◌, ℕ, zero, suc, ◌≤◌, List, [], ◌∷◌, ◌++◌, length, map, take, Some, None, true, refl, sym, ap, ◌∙◌, subst, arith, length-append}
 use Rattle.std.specs.Prelude.{slice_get, Result}
 use Rattle.std.specs.Global.{Vec}
-use Rattle.std.proofs.lemmas.Bool.{ltb-true, lt-ltb}
-use Rattle.std.proofs.lemmas.List.{map-append, length-map}
+use Rattle.std.proofs.lemmas.Bool.{eqb-true, ltb-true, lt-ltb}
+use Rattle.std.proofs.lemmas.List.{map-append, length-map, take_all}
 use Rattle.std.proofs.lemmas.Option.{slice_get_within}
 use Rattle.py_node.specs.declared.refs.PyObjectRef.{PyObjectRef}
 use Rattle.py_node.specs.declared.raised.Raised.{Raised as Fault}
@@ -17,7 +17,7 @@ use Rattle.py_node.specs.declared.task.Task.TheVariants as task
 use Rattle.py_node.specs.declared.task.EvalTask.TheVariants as eval
 use Rattle.py_node.specs.Tree.{Text, Tree, list_of, entry_trees}
 use Rattle.plain_machine.specs.Plain.{PlainWorld, DoEval, ToEval, Answered, Told, Asks, Ends}
-use Rattle.plain_machine.specs.Row.{Row, evaluate}
+use Rattle.plain_machine.specs.Row.{Row, start, pass, end, evaluate}
 use Rattle.class_world.specs.Held.{Held}
 use Rattle.class_world.specs.Reading.{Reading, Reads, entry_list, form_tree, spelled, plain, ended_of}
 use Rattle.class_world.specs.Sound.{Holds, AllHold, AreNames, IsExpression, HasForm, of_form}
@@ -42,18 +42,18 @@ given u c x = given_say u (called_task c) (length (list_of (args_of x))) (entry_
 
 -- the arguments and keywords of an expression of the store are those of its tree
 pub args-form : (text : ℕ → Text) (tree : ℕ → Tree) (f : Form) → all (form_tree text tree f) ≡ map tree (arguments f)
-args-form text tree (form.Call f es kw) =
-    ap (λ l. l ++ entry_trees (entry_list (map (part text tree) kw.items))) (list_of-trees_of (map tree es.items))
-    ∙ ap (λ l. map tree es.items ++ l) (entry_trees-list text tree kw.items)
-    ∙ sym (map-append tree es.items (map (λ e. e.1) kw.items))
+args-form text tree (form.Call parts) =
+    ap (λ l. l ++ entry_trees (entry_list (map (part text tree) parts.value.keywords.items))) (list_of-trees_of (map tree parts.value.args.items))
+    ∙ ap (λ l. map tree parts.value.args.items ++ l) (entry_trees-list text tree parts.value.keywords.items)
+    ∙ sym (map-append tree parts.value.args.items (map (λ e. e.1) parts.value.keywords.items))
 args-form text tree _ = refl
 
 long-form : (text : ℕ → Text) (tree : ℕ → Tree) (f : Form) → length (list_of (args_of (form_tree text tree f))) ≡ length (positional f)
-long-form text tree (form.Call f es kw) = long-trees tree es.items
+long-form text tree (form.Call parts) = long-trees tree parts.value.args.items
 long-form text tree _ = refl
 
 names-form : (text : ℕ → Text) (tree : ℕ → Tree) (f : Form) → entry_names (keywords_of (form_tree text tree f)) ≡ map (λ x. text x.0) (map (λ e. e.0) (named f))
-names-form text tree (form.Call f es kw) = names-of-entries text tree kw.items
+names-form text tree (form.Call parts) = names-of-entries text tree parts.value.keywords.items
 names-form text tree _ = refl
 
 -- a call that has learnt what it calls evaluates its arguments and keywords
@@ -139,7 +139,7 @@ argument-other w e c vs s o h = λ t r.
 
 -- an argument is an expression
 pub argument-holds : (w : Held) (f : Form) (n e : ℕ) → AllHold w (of_form f) → slice_get (arguments f) n ≡ Some e → Holds w (IsExpression e)
-argument-holds w (form.Call f es kw) n e h p = append-holds w es.items (map (λ k. k.1) kw.items) n e h.1.0 h.1.1.1.0 p
+argument-holds w (form.Call parts) n e h p = append-holds w parts.value.args.items (map (λ k. k.1) parts.value.keywords.items) n e h.1.0 h.1.1.1.0 p
 argument-holds w _ n e h p = cc
 
 pub has-argument : (w : Held) (e n : ℕ) (f : Form) (x : ℕ) → slice_get w.forms e ≡ Some f → slice_get (arguments f) n ≡ Some x → Holds w (HasForm e (has_argument n))
@@ -152,5 +152,20 @@ no-names w = λ i d l. absurd (omega arith)
 
 -- the names of keywords are names
 pub named-hold : (w : Held) (f : Form) → AllHold w (of_form f) → Holds w (AreNames (map (λ k. k.0) (named f)))
-named-hold w (form.Call f es kw) h = h.1.1.0
+named-hold w (form.Call parts) h = h.1.1.0
 named-hold w _ h = no-names w
+
+pub no-more : {A : Type 0} (xs : List A) → (length xs == 0) ≡ true → xs ≡ []
+no-more [] h = refl
+no-more (x ∷ xs) h = let none : length (x ∷ xs) ≡ 0 = eqb-true (length (x ∷ xs)) 0 h in absurd (omega (arith, none))
+
+-- with no keywords, all values are arguments
+pub plainly-given : (w : World) (f : Form) (c : Called) (vs : List PyObjectRef) (next : Step EvalKept) → length (arguments f) ≡ length vs → named f ≡ []
+    → Takes (λ t u. start (pass u (called_task c vs [])) (end u)) w w next → Takes (λ t u. given_say u (called_task c) (length (positional f)) (map (spelled t) (map (λ k. k.0) (named f))) vs) w w next
+plainly-given w f c vs next l none goes =
+    let parts = length-append (positional f) (map (λ k. k.1) (named f)) in
+    let count = length-map (named f) (λ k. k.1) in
+    let empty = ap length none in
+    let all : take (length (positional f)) vs ≡ vs = take_all (length (positional f)) vs (omega (arith, l, parts, count, empty)) in
+    subst (λ ks. Takes (λ t u. given_say u (called_task c) (length (positional f)) (map (spelled t) (map (λ k. k.0) ks)) vs) w w next) (sym none)
+    (subst (λ xs. Takes (λ t u. start (pass u (called_task c xs [])) (end u)) w w next) (sym all) goes)

@@ -279,3 +279,10 @@ own-dict w new e f vs es (Ok step) h l o n k = λ t r.
     let point : (TDict (pairs_of (t.tree e)), pairs_told es.items) ≡ (t.tree e, map answered vs) = λ i. (tree i, told i) in
     (here.0, subst (λ (p : Tree × Told). Steps eval_say (eval_stands t) t (DoEval p.0) p.1 (eval_say (plain t w) (DoEval p.0) p.1) step new) point here.1)
 own-dict w new e f vs es (Err out) h l o n k = tt
+
+-- a dict that is made once its keys are found, in a world that says the same as before
+pub made-after : (old mid new : World) (ps es : Pairs) (step : Step EvalKept) → ((t : Reading) → plain t mid ≡ plain t old) → ((t : Reading) → Reads t mid → Reads t old) → ((t : Reading) → es ≡ entries_from (plain t old) ps) → EndsRow (λ t u. make_dict u es) mid new step → EndsRow (λ t u. make_dict u (entries_from u ps)) old new step
+made-after old mid new ps es (Ask asked kept) same reads is h = absurd h
+made-after old mid new ps es (End r) same reads is h = λ t q.
+    let here = h t q in
+    (reads t here.0, (λ i. make_dict (sym (same t) i) (sym (is t) i) []) ∙ here.1)

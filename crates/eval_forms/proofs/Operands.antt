@@ -54,12 +54,12 @@ operand_trees-form text tree (form.Tuple es) = list_of-trees_of (map tree es.ite
 operand_trees-form text tree (form.List es) = list_of-trees_of (map tree es.items)
 operand_trees-form text tree (form.Op word es) = list_of-trees_of (map tree es.items)
 operand_trees-form text tree (form.Seq es) = list_of-trees_of (map tree es.items)
-operand_trees-form text tree (form.Class x bs kw es) =
-    ap (λ l. l ++ (entry_trees (entry_list (map (part text tree) kw.items)) ++ entry_trees (entry_list (map (part text tree) es.items)))) (list_of-trees_of (map tree bs.items))
-    ∙ ap (λ l. map tree bs.items ++ (l ++ entry_trees (entry_list (map (part text tree) es.items)))) (entry_trees-list text tree kw.items)
-    ∙ ap (λ l. map tree bs.items ++ (map tree (map (λ e. e.1) kw.items) ++ l)) (entry_trees-list text tree es.items)
-    ∙ ap (λ l. map tree bs.items ++ l) (sym (map-append tree (map (λ e. e.1) kw.items) (map (λ e. e.1) es.items)))
-    ∙ sym (map-append tree bs.items (map (λ e. e.1) kw.items ++ map (λ e. e.1) es.items))
+operand_trees-form text tree (form.Class parts) =
+    ap (λ l. l ++ (entry_trees (entry_list (map (part text tree) parts.value.keywords.items)) ++ entry_trees (entry_list (map (part text tree) parts.value.entries.items)))) (list_of-trees_of (map tree parts.value.bases.items))
+    ∙ ap (λ l. map tree parts.value.bases.items ++ (l ++ entry_trees (entry_list (map (part text tree) parts.value.entries.items)))) (entry_trees-list text tree parts.value.keywords.items)
+    ∙ ap (λ l. map tree parts.value.bases.items ++ (map tree (map (λ e. e.1) parts.value.keywords.items) ++ l)) (entry_trees-list text tree parts.value.entries.items)
+    ∙ ap (λ l. map tree parts.value.bases.items ++ l) (sym (map-append tree (map (λ e. e.1) parts.value.keywords.items) (map (λ e. e.1) parts.value.entries.items)))
+    ∙ sym (map-append tree parts.value.bases.items (map (λ e. e.1) parts.value.keywords.items ++ map (λ e. e.1) parts.value.entries.items))
 operand_trees-form text tree _ = refl
 
 pub append-nil : {A : Type 0} (xs : List A) → xs ++ [] ≡ xs
@@ -132,14 +132,14 @@ operand-holds w (form.DelAttr o x) zero e h p = let same : o ≡ e = cc in subst
 operand-holds w (form.DelAttr o x) (suc n) e h p = cc
 operand-holds w (form.If c a b) zero e h p = let same : c ≡ e = cc in subst (λ e. Holds w (IsExpression e)) same h.0
 operand-holds w (form.If c a b) (suc n) e h p = cc
-operand-holds w (form.Call f es kw) zero e h p = let same : f ≡ e = cc in subst (λ e. Holds w (IsExpression e)) same h.0
-operand-holds w (form.Call f es kw) (suc n) e h p = cc
+operand-holds w (form.Call parts) zero e h p = let same : parts.value.function ≡ e = cc in subst (λ e. Holds w (IsExpression e)) same h.0
+operand-holds w (form.Call parts) (suc n) e h p = cc
 operand-holds w (form.Tuple es) n e h p = expression-in w es.items n e h.0 p
 operand-holds w (form.List es) n e h p = expression-in w es.items n e h.0 p
 operand-holds w (form.Op word es) n e h p = expression-in w es.items n e h.0 p
 operand-holds w (form.Seq es) n e h p = expression-in w es.items n e h.0 p
-operand-holds w (form.Class x bs kw es) n e h p =
-    append-holds w bs.items (map (λ e. e.1) kw.items ++ map (λ e. e.1) es.items) n e h.1.0 (both-hold w (map (λ e. e.1) kw.items) (map (λ e. e.1) es.items) h.1.1.1.0 h.1.1.1.1.1.0) p
+operand-holds w (form.Class parts) n e h p =
+    append-holds w parts.value.bases.items (map (λ e. e.1) parts.value.keywords.items ++ map (λ e. e.1) parts.value.entries.items) n e h.1.0 (both-hold w (map (λ e. e.1) parts.value.keywords.items) (map (λ e. e.1) parts.value.entries.items) h.1.1.1.0 h.1.1.1.1.1.0) p
 operand-holds w _ n e h p = cc
 
 -- a row at an expression of the store is that at its tree
@@ -242,10 +242,10 @@ one-holds w (a ∷ (b ∷ vs)) h = tt
 -- a function
 says-func : (x : PyStrInterned) (ps : Vec PyStrInterned) (rest : Bool) (e : ℕ) (vs : List PyObjectRef) (f : Form) → IsOwn (own.Func x ps rest e) f
     → (t : Reading) (u : PlainWorld) → own_say u (form_tree t.text t.tree f) vs [] ≡ func_say u (t.text x.0) (map (λ p. t.text p.0) ps.items) rest (t.tree e) []
-says-func x ps rest e vs (form.Func y qs more b) o t u =
-    ap (λ z. func_say u (t.text z.0) (map (λ p. t.text p.0) qs.items) more (t.tree b) []) (sym o.0)
-    ∙ ap (λ rs. func_say u (t.text x.0) (map (λ p. t.text p.0) rs) more (t.tree b) []) (sym o.1)
-    ∙ ap (λ m. func_say u (t.text x.0) (map (λ p. t.text p.0) ps.items) m (t.tree b) []) (sym o.2)
+says-func x ps rest e vs (form.Func parts) o t u =
+    ap (λ z. func_say u (t.text z.0) (map (λ p. t.text p.0) parts.value.params.items) parts.value.rest (t.tree parts.value.body) []) (sym o.0)
+    ∙ ap (λ rs. func_say u (t.text x.0) (map (λ p. t.text p.0) rs) parts.value.rest (t.tree parts.value.body) []) (sym o.1)
+    ∙ ap (λ m. func_say u (t.text x.0) (map (λ p. t.text p.0) ps.items) m (t.tree parts.value.body) []) (sym o.2)
     ∙ ap (λ c. func_say u (t.text x.0) (map (λ p. t.text p.0) ps.items) rest (t.tree c) []) (sym o.3)
 says-func x ps rest e vs _ o t u = absurd o
 
@@ -286,8 +286,8 @@ says-attr x vs (form.Attr a y) o t u more = ap (λ z. attr_say u (t.text z.0) (o
 says-attr x vs _ o t u more = absurd o
 
 pub says-call : (g : ℕ) (vs : List PyObjectRef) (f : Form) → IsOwn (own.Call g) f → (t : Reading) (u : PlainWorld) (more : Told) → own_say u (form_tree t.text t.tree f) vs more ≡ called_say u (t.tree g) (args_of (form_tree t.text t.tree f)) (keywords_of (form_tree t.text t.tree f)) (one_of vs) more
-says-call g vs (form.Call h es kw) o t u more =
-    ap (λ k. called_say u (t.tree k) (trees_of (map t.tree es.items)) (stored_entries t.text t.tree kw.items) (one_of vs) more) (sym o)
+says-call g vs (form.Call parts) o t u more =
+    ap (λ k. called_say u (t.tree k) (trees_of (map t.tree parts.value.args.items)) (stored_entries t.text t.tree parts.value.keywords.items) (one_of vs) more) (sym o)
 says-call g vs _ o t u more = absurd o
 
 pub says-op : (word : Word) (vs : List PyObjectRef) (f : Form) → IsOwn (own.Op word) f → (t : Reading) (u : PlainWorld) (more : Told) → own_say u (form_tree t.text t.tree f) vs more ≡ op_say u word vs more
@@ -321,29 +321,29 @@ names-of-entries text tree [] = refl
 names-of-entries text tree (e ∷ es) = ap (λ l. text e.0.0 ∷ l) (names-of-entries text tree es)
 
 pub says-class : (x : PyStrInterned) (n : ℕ) (ks xs : Vec PyStrInterned) (vs : List PyObjectRef) (f : Form) → IsOwn (own.Class x n ks xs) f → (t : Reading) (u : PlainWorld) (more : Told) → own_say u (form_tree t.text t.tree f) vs more ≡ class_say u (t.text x.0) n (map (spelled t) ks.items) (map (spelled t) xs.items) vs more
-says-class x n ks xs vs (form.Class y bs kw es) o t u more =
-    ap (λ m. class_say u (t.text y.0) m (entry_names (entry_list (map (part t.text t.tree) kw.items))) (entry_names (entry_list (map (part t.text t.tree) es.items))) vs more) (long-trees t.tree bs.items ∙ sym o.1)
-    ∙ ap (λ ys. class_say u (t.text y.0) n ys (entry_names (entry_list (map (part t.text t.tree) es.items))) vs more) (names-of-entries t.text t.tree kw.items ∙ ap (map (spelled t)) (sym o.2))
-    ∙ ap (λ ys. class_say u (t.text y.0) n (map (spelled t) ks.items) ys vs more) (names-of-entries t.text t.tree es.items ∙ ap (map (spelled t)) (sym o.3))
+says-class x n ks xs vs (form.Class parts) o t u more =
+    ap (λ m. class_say u (t.text parts.value.name.0) m (entry_names (entry_list (map (part t.text t.tree) parts.value.keywords.items))) (entry_names (entry_list (map (part t.text t.tree) parts.value.entries.items))) vs more) (long-trees t.tree parts.value.bases.items ∙ sym o.1)
+    ∙ ap (λ ys. class_say u (t.text parts.value.name.0) n ys (entry_names (entry_list (map (part t.text t.tree) parts.value.entries.items))) vs more) (names-of-entries t.text t.tree parts.value.keywords.items ∙ ap (map (spelled t)) (sym o.2))
+    ∙ ap (λ ys. class_say u (t.text parts.value.name.0) n (map (spelled t) ks.items) ys vs more) (names-of-entries t.text t.tree parts.value.entries.items ∙ ap (map (spelled t)) (sym o.3))
     ∙ ap (λ z. class_say u (t.text z.0) n (map (spelled t) ks.items) (map (spelled t) xs.items) vs more) (sym o.0)
 says-class x n ks xs vs _ o t u more = absurd o
 
 -- how many operands a class has
 pub class-long : (x : PyStrInterned) (n : ℕ) (ks xs : Vec PyStrInterned) (f : Form) → IsOwn (own.Class x n ks xs) f → length (operands f) ≡ n + (length ks.items + length xs.items)
-class-long x n ks xs (form.Class y bs kw es) o =
-    let all = length-append bs.items (map (λ e. e.1) kw.items ++ map (λ e. e.1) es.items) in
-    let both = length-append (map (λ e. e.1) kw.items) (map (λ e. e.1) es.items) in
-    let keywords = length-map kw.items (λ e. e.1) in
-    let entries = length-map es.items (λ e. e.1) in
-    let keys = ap length o.2 ∙ length-map kw.items (λ e. e.0) in
-    let names = ap length o.3 ∙ length-map es.items (λ e. e.0) in
+class-long x n ks xs (form.Class parts) o =
+    let all = length-append parts.value.bases.items (map (λ e. e.1) parts.value.keywords.items ++ map (λ e. e.1) parts.value.entries.items) in
+    let both = length-append (map (λ e. e.1) parts.value.keywords.items) (map (λ e. e.1) parts.value.entries.items) in
+    let keywords = length-map parts.value.keywords.items (λ e. e.1) in
+    let entries = length-map parts.value.entries.items (λ e. e.1) in
+    let keys = ap length o.2 ∙ length-map parts.value.keywords.items (λ e. e.0) in
+    let names = ap length o.3 ∙ length-map parts.value.entries.items (λ e. e.0) in
     let bases = o.1 in
     omega (arith, all, both, keywords, entries, keys, names, bases)
 class-long x n ks xs _ o = absurd o
 
 -- what is said of the names of a class
 pub class-names : (w : Held) (x : PyStrInterned) (n : ℕ) (ks xs : Vec PyStrInterned) (f : Form) → IsOwn (own.Class x n ks xs) f → AllHold w (of_form f) → Holds w (IsName x) × Holds w (AreNames ks.items) × Holds w (AreNames xs.items)
-class-names w x n ks xs (form.Class y bs kw es) o h =
+class-names w x n ks xs (form.Class parts) o h =
     (subst (λ z. Holds w (IsName z)) (sym o.0) h.0, subst (λ ys. Holds w (AreNames ys)) (sym o.2) h.1.1.0, subst (λ ys. Holds w (AreNames ys)) (sym o.3) h.1.1.1.1.0)
 class-names w x n ks xs _ o h = absurd o
 
@@ -357,7 +357,7 @@ attr-name w x _ o h = absurd o
 
 -- what a call calls is an expression
 pub call-func : (w : Held) (g : ℕ) (f : Form) → IsOwn (own.Call g) f → AllHold w (of_form f) → Holds w (IsExpression g)
-call-func w g (form.Call h es kw) o k = subst (λ x. Holds w (IsExpression x)) (sym o) k.0
+call-func w g (form.Call parts) o k = subst (λ x. Holds w (IsExpression x)) (sym o) k.0
 call-func w g _ o k = absurd o
 
 pub del-name : (w : Held) (x : PyStrInterned) (f : Form) → IsOwn (own.DelAttr x) f → AllHold w (of_form f) → Holds w (IsName x)

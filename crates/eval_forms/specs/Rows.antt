@@ -148,11 +148,11 @@ operands (form.List es) = es.items
 operands (form.Attr o x) = o ∷ []
 operands (form.SetAttr o x e) = o ∷ e ∷ []
 operands (form.DelAttr o x) = o ∷ []
-operands (form.Call f es kw) = f ∷ []
+operands (form.Call parts) = parts.value.function ∷ []
 operands (form.Op word es) = es.items
 operands (form.If c a b) = c ∷ []
 operands (form.Seq es) = es.items
-operands (form.Class x bs kw es) = bs.items ++ (map (λ e. e.1) kw.items ++ map (λ e. e.1) es.items)
+operands (form.Class parts) = parts.value.bases.items ++ (map (λ e. e.1) parts.value.keywords.items ++ map (λ e. e.1) parts.value.entries.items)
 operands _ = []
 
 abbrev pub operands_at : Option Form → List ℕ
@@ -165,7 +165,7 @@ has_operand n f = ltb n (length (operands f))
 
 -- what is evaluated for an operand
 abbrev pub evaluated_tree : Form → Tree → Tree
-evaluated_tree (form.Call f es kw) x = callee_tree x
+evaluated_tree (form.Call parts) x = callee_tree x
 evaluated_tree _ x = x
 
 -- the object and the name of an attribute
@@ -175,11 +175,11 @@ attribute _ = None
 
 -- the arguments of a call of the store, its keywords, and all that is evaluated for both
 abbrev pub positional : Form → List ℕ
-positional (form.Call f es kw) = es.items
+positional (form.Call parts) = parts.value.args.items
 positional _ = []
 
 abbrev pub named : Form → List (PyStrInterned × ℕ)
-named (form.Call f es kw) = kw.items
+named (form.Call parts) = parts.value.keywords.items
 named _ = []
 
 abbrev pub arguments : Form → List ℕ
@@ -271,7 +271,7 @@ IsOwn own.List (form.List es) = Unit {0}
 IsOwn own.List _ = ⊥
 IsOwn own.Dict (form.Dict ps) = Unit {0}
 IsOwn own.Dict _ = ⊥
-IsOwn (own.Func x ps rest e) (form.Func y qs more b) = (x ≡ y) × (ps.items ≡ qs.items) × (rest ≡ more) × (e ≡ b)
+IsOwn (own.Func x ps rest e) (form.Func parts) = (x ≡ parts.value.name) × (ps.items ≡ parts.value.params.items) × (rest ≡ parts.value.rest) × (e ≡ parts.value.body)
 IsOwn (own.Func x ps rest e) _ = ⊥
 IsOwn (own.Op word) (form.Op other es) = word ≡ other
 IsOwn (own.Op word) _ = ⊥
@@ -285,12 +285,12 @@ IsOwn (own.If a b) (form.If c x y) = (a ≡ x) × (b ≡ y)
 IsOwn (own.If a b) _ = ⊥
 IsOwn own.Seq (form.Seq es) = Unit {0}
 IsOwn own.Seq _ = ⊥
-IsOwn (own.Call f) (form.Call g es kw) = f ≡ g
+IsOwn (own.Call f) (form.Call parts) = f ≡ parts.value.function
 IsOwn (own.Call f) _ = ⊥
 IsOwn (own.Raise kind) (form.Raise other) = kind ≡ other
 IsOwn (own.Raise kind) _ = ⊥
-IsOwn (own.Class x n ks xs) (form.Class y bs kw es) =
-    (x ≡ y) × (n ≡ length bs.items) × (ks.items ≡ map (λ e. e.0) kw.items) × (xs.items ≡ map (λ e. e.0) es.items)
+IsOwn (own.Class x n ks xs) (form.Class parts) =
+    (x ≡ parts.value.name) × (n ≡ length parts.value.bases.items) × (ks.items ≡ map (λ e. e.0) parts.value.keywords.items) × (xs.items ≡ map (λ e. e.0) parts.value.entries.items)
 IsOwn (own.Class x n ks xs) _ = ⊥
 
 -- the expression's operands have so many values

@@ -1,7 +1,8 @@
 //! Calls: what is called, or the object whose method is, has a value. Then a method is loaded, and then the
 //! arguments and the keywords are evaluated.
 
-ghost use Rattle.std.specs.Prelude.{◌≡◌, ◌+◌, ◌≤◌, length, map, slice_get, IfOk};
+ghost use Rattle.std.specs.Prelude.{◌≡◌, ◌+◌, ◌≤◌, [], length, map, slice_get, IfOk};
+ghost use Rattle.plain_machine.specs.Row.{start, pass, end};
 ghost use Rattle.class_world.specs.Sound.{AllHold, Holds, IsExpression, IsNode, AreNames, AreNodes, of_node_ref, of_option};
 ghost use Rattle.class_world.specs.Claims.{of_args, of_ended, of_step, of_task};
 ghost use Rattle.class_world.specs.Reading.{Reading, Reads, bindings, spelled, task_of};
@@ -35,7 +36,7 @@ pub(crate) fn evaluated(world: &World, form: &Form, operand: u64) -> u64
     ensures holds { Holds world.now (IsExpression result) }
 {
     match form {
-        Form::Call(_, _, _) => callee(world, operand),
+        Form::Call(_) => callee(world, operand),
         _ => operand,
     }
 }
@@ -170,10 +171,23 @@ fn next_argument(
         )),
         None => {
             let alloc = world.alloc();
-            let names = names_of(alloc, named(form))?;
+            let keywords = named(form);
+            if keywords.is_empty() {
+                return Ok(call_plainly(alloc, called, values));
+            }
+            let names = names_of(alloc, keywords)?;
             call_with(alloc, called, positional(form).len(), &names, &values)
         }
     }
+}
+
+// Something is called with these arguments, and with no keywords.
+fn call_plainly(alloc: Global, called: Called, values: Args) -> Step<EvalKept>
+    ensures goes { (w : World) → Takes (λ t u. start (pass u (called_task called values.items [])) (end u)) w w result }
+    ensures safe { (w : World) → AllHold w (of_called called) → Holds w (AreNodes values.items) →
+        AllHold w (of_step of_eval_kept result) }
+{
+    Step::Ask(call_task(called, values, Vec::new(alloc)), EvalKept::Pass)
 }
 
 // The arguments of a call.
@@ -181,7 +195,7 @@ fn positional(form: &Form) -> &[u64]
     ensures { result.now ≡ positional form.now }
 {
     match form {
-        Form::Call(_, args, _) => args,
+        Form::Call(call) => &call.args,
         _ => &[],
     }
 }
@@ -191,7 +205,7 @@ fn named(form: &Form) -> &[(PyStrInterned, u64)]
     ensures { result.now ≡ named form.now }
 {
     match form {
-        Form::Call(_, _, keywords) => keywords,
+        Form::Call(call) => &call.keywords,
         _ => &[],
     }
 }

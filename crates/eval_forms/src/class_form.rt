@@ -5,13 +5,13 @@ ghost use Rattle.std.specs.Prelude.{◌≡◌, ◌+◌, [], ◌∷◌, length, m
 ghost use Rattle.plain_machine.specs.World.{with_node, next_node};
 ghost use Rattle.plain_machine.specs.Plain.{AText, ATuple};
 ghost use Rattle.plain_machine.specs.Row.{start, end};
-ghost use Rattle.class_world.specs.Sound.{AllHold, Grows, Holds, IsName, IsNode, AreNames, AreNodes, KeysDiffer, of_each, of_binding, of_option, of_node_ref};
+ghost use Rattle.class_world.specs.Sound.{AllHold, Grows, Holds, IsName, IsNode, AreNames, AreNodes, of_each, of_binding, of_option, of_node_ref};
 ghost use Rattle.class_world.specs.Claims.{Leaves};
+ghost use Rattle.class_world.specs.Keyed.{of_entries, of_keyed};
 ghost use Rattle.class_world.specs.Reading.{Reading, Reads, bindings, plain, spelled};
 ghost use Rattle.py_node.specs.Attributes.{is_same_name};
 ghost use Rattle.eval_forms.specs.Say.{class_by, class_say, class_within, keyed, metaclass, with_dict};
 ghost use Rattle.plain_machine.specs.Known.{the_str, the_tuple};
-ghost use Rattle.eval_forms.specs.ClassForm.{ArePairs};
 ghost use Rattle.eval_forms.specs.Rows.{Takes, of_eval_kept};
 
 use crate::EvalKept;
@@ -20,7 +20,7 @@ use class_world::World;
 use class_world::args::{copy_args, filled};
 use class_world::limits::is_within_limit;
 use py_node::{
-    BuiltIn, CallTask, Cause, Known, OutOfMemory, Payload, PyAttributes, PyObjectRef,
+    BuiltIn, CallTask, Cause, Known, OutOfMemory, Payload, PyAttributes, PyDict, PyObjectRef,
     PyStrInterned, Step, Task,
 };
 
@@ -141,9 +141,9 @@ fn new_dict(world: &mut World, entries: &PyAttributes) -> Result<PyObjectRef, Ou
     ensures grows { Grows world.old world.new }
     ensures node { IfOk result (λ r. Holds world.new (IsNode r)) }
 {
-    let pairs = key_all(world, entries)?;
+    let dict = dict_of(world, entries)?;
     let class = world.built_in(BuiltIn::Dict);
-    world.make_node(class, Payload::Dict(pairs))
+    world.make_node(class, Payload::Dict(dict))
 }
 
 // The first of some objects.
@@ -187,6 +187,20 @@ fn new_text(world: &mut World, name: PyStrInterned) -> Result<PyObjectRef, OutOf
     world.make_node(class, Payload::Text(text))
 }
 
+// The dict of new texts for names, with their values.
+fn dict_of(world: &mut World, entries: &PyAttributes) -> Result<PyDict, OutOfMemory>
+    requires { AllHold world.old (of_each of_binding entries.now) }
+    ensures keyed { IfOk result (λ d. (t : Reading) → Reads t world.new →
+        keyed (plain t world.old) [] (bindings t entries.now) ≡ (plain t world.new, d.items)) }
+    ensures reads { (t : Reading) → Reads t world.new → Reads t world.old }
+    ensures grows { Grows world.old world.new }
+    ensures holds { IfOk result (λ d. AllHold world.new (of_keyed d)) }
+{
+    let pairs = key_all(world, entries)?;
+    let dict = world.entries_from(&pairs)?;
+    Ok(dict)
+}
+
 // New texts for names, with their values.
 fn key_all(
     world: &mut World,
@@ -197,8 +211,7 @@ fn key_all(
         keyed (plain t world.old) [] (bindings t entries.now) ≡ (plain t world.new, v.items)) }
     ensures reads { (t : Reading) → Reads t world.new → Reads t world.old }
     ensures grows { Grows world.old world.new }
-    ensures pairs { IfOk result (λ v. ArePairs world.new v.items) }
-    ensures keys { IfOk result (λ v. Holds world.new (KeysDiffer (map (λ p. p.0) v.items))) }
+    ensures holds { IfOk result (λ v. AllHold world.new (of_entries v.items)) }
 {
     let alloc = world.alloc();
     let mut pairs = Vec::new(alloc);

@@ -1,7 +1,7 @@
 //! Dicts: each key is evaluated and then its value, and then the key is tested, before the next pair.
 
 ghost use Rattle.std.specs.Prelude.{◌≡◌, ◌≤◌, ◌<◌, length, slice_get, Ok, IfOk};
-ghost use Rattle.class_world.specs.Keyed.{of_pairs};
+ghost use Rattle.class_world.specs.Keyed.{of_keyed, of_pairs};
 ghost use Rattle.class_world.specs.Sound.{AllHold, Holds, IsExpression};
 ghost use Rattle.class_world.specs.Claims.{of_ended, of_step, Leaves};
 ghost use Rattle.plain_machine.specs.Dicts.{entries_from};
@@ -12,7 +12,8 @@ use crate::{EvalKept, object_of};
 use class_world::World;
 use class_world::limits::is_within_limit;
 use py_node::{
-    Answer, BuiltIn, Cause, EvalTask, Form, OutOfMemory, Payload, PyObjectRef, Raised, Step, Task,
+    Answer, BuiltIn, Cause, EvalTask, Form, OutOfMemory, Payload, PyDict, PyObjectRef, Raised,
+    Step, Task,
 };
 
 // Keys with their values.
@@ -103,8 +104,7 @@ pub(crate) fn valued(
     }
 }
 
-// A new dict of keys with their values.
-#[tactic(auto, unfolding(py_node::specs::BuiltIns::place_of))]
+// A new dict of keys with their values, of which later ones win.
 fn make_dict(
     world: &mut World,
     found: &[(PyObjectRef, PyObjectRef)],
@@ -114,11 +114,21 @@ fn make_dict(
         EndsRow (λ t w. make_dict w (entries_from w found.now)) world.old world.new step) }
     ensures safe { Leaves of_eval_kept world.old world.new result }
 {
-    let entries = world.entries_from(found)?;
-    if !is_within_limit(entries.len()) {
+    let dict = world.entries_from(found)?;
+    new_dict(world, dict)
+}
+
+// A new dict, unless it is too long.
+#[tactic(auto, unfolding(py_node::specs::BuiltIns::place_of))]
+fn new_dict(world: &mut World, dict: PyDict) -> Result<Step<EvalKept>, OutOfMemory>
+    requires { AllHold world.old (of_keyed dict) }
+    ensures goes { IfOk result (λ step. EndsRow (λ t w. make_dict w dict.items) world.old world.new step) }
+    ensures safe { Leaves of_eval_kept world.old world.new result }
+{
+    if !is_within_limit(dict.len()) {
         return Ok(Step::raise(Cause::TooLong));
     }
     let class = world.built_in(BuiltIn::Dict);
-    let node = world.make_node(class, Payload::Dict(entries))?;
+    let node = world.make_node(class, Payload::Dict(dict))?;
     Ok(Step::End(Ok(Answer::Value(node))))
 }

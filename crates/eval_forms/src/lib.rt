@@ -2,7 +2,7 @@
 #![tactic(auto, unfolding(crate::specs::Say::eval_say))]
 
 ghost use Rattle.std.specs.Prelude.{◌≡◌, ◌≤◌, ◌++◌, [], ◌∷◌, map, length, slice_get, Ok, IfOk, IfErr, OnOk, IfSome};
-ghost use Rattle.class_world.specs.Sound.{AllHold, Holds, IsExpression, IsName, IsNode, AreNodes, of_form, of_node_ref, of_option};
+ghost use Rattle.class_world.specs.Sound.{AllHold, Holds, IsExpression, IsName, AreNames, IsNode, AreNodes, of_node_ref, of_option};
 ghost use Rattle.class_world.specs.Claims.{of_eval_task, of_ended, of_step, Leaves};
 ghost use Rattle.class_world.specs.Reading.{Reading, Reads};
 ghost use Rattle.eval_forms.specs.Words.{one_of};
@@ -281,22 +281,22 @@ fn own_of(alloc: Global, form: &Form) -> Result<Own, OutOfMemory>
         Form::Tuple(_) => Ok(Own::Tuple),
         Form::List(_) => Ok(Own::List),
         Form::Dict(_) => Ok(Own::Dict),
-        Form::Func(name, params, rest, body) => {
-            let copy = params.clone()?;
-            Ok(Own::Func(*name, copy, *rest, *body))
+        Form::Func(func) => {
+            let params = func.params.clone()?;
+            Ok(Own::Func(func.name, params, func.rest, func.body))
         }
         Form::Attr(_, name) => Ok(Own::Attr(*name)),
         Form::SetAttr(_, name, _) => Ok(Own::SetAttr(*name)),
         Form::DelAttr(_, name) => Ok(Own::DelAttr(*name)),
         Form::If(_, chosen, other) => Ok(Own::If(*chosen, *other)),
         Form::Seq(_) => Ok(Own::Seq),
-        Form::Call(func, _, _) => Ok(Own::Call(*func)),
+        Form::Call(call) => Ok(Own::Call(call.function)),
         Form::Op(word, _) => Ok(Own::Op(*word)),
         Form::Raise(kind) => Ok(Own::Raise(*kind)),
-        Form::Class(name, bases, keywords, entries) => {
-            let keys = names_of(alloc, keywords)?;
-            let names = names_of(alloc, entries)?;
-            Ok(Own::Class(*name, bases.len(), keys, names))
+        Form::Class(class) => {
+            let keys = names_of(alloc, &class.keywords)?;
+            let names = names_of(alloc, &class.entries)?;
+            Ok(Own::Class(class.name, class.bases.len(), keys, names))
         }
     }
 }
@@ -416,7 +416,7 @@ fn func_step(
     rest: bool,
     body: u64,
 ) -> Result<Step<EvalKept>, OutOfMemory>
-    requires parts { AllHold world.old (of_form (Form.Func name params rest body)) }
+    requires parts { AllHold world.old (IsName name ∷ AreNames params.items ∷ IsExpression body ∷ []) }
     ensures goes { IfOk result (λ step.
         EndsRow (λ t w.
         func_say w (t.text name.0) (map (λ p. t.text p.0) params.items) rest (t.tree body)) world.old world.new step) }
@@ -430,7 +430,8 @@ fn func_step(
         body,
         class: None,
     };
-    let node = world.make_node(class, Payload::Function(function))?;
+    let boxed = Box::new(world.alloc(), function)?;
+    let node = world.make_node(class, Payload::Function(boxed))?;
     Ok(Step::End(Ok(Answer::Value(node))))
 }
 

@@ -21,16 +21,16 @@ pub(crate) fn operand(form: &Form, place: usize) -> Option<u64>
         }
         Form::DelAttr(target, _) => first_of(*target, place),
         Form::If(condition, _, _) => first_of(*condition, place),
-        Form::Call(func, _, _) => first_of(*func, place),
+        Form::Call(call) => first_of(call.function, place),
         Form::Tuple(items) => items.get(place).copied(),
         Form::List(items) => items.get(place).copied(),
         Form::Op(_, operands) => operands.get(place).copied(),
         Form::Seq(items) => items.get(place).copied(),
-        Form::Class(_, bases, keywords, entries) => {
-            if place < bases.len() {
-                Some(bases[place])
+        Form::Class(class) => {
+            if place < class.bases.len() {
+                Some(class.bases[place])
             } else {
-                entry_of_two(keywords, entries, place - bases.len())
+                entry_of_two(&class.keywords, &class.entries, place - class.bases.len())
             }
         }
         _ => None,

@@ -6,7 +6,10 @@ ghost use Rattle.generator.specs.Draws.{after};
 ghost use Rattle.generator.specs.Commands.{name, base, class_command, integer, object_of, sum, set, adder, change, change_command};
 
 use crate::draws::Draws;
-use py_node::{Command, Constant, Expr, OutOfMemory, PyNumberBinaryOp, Word};
+use py_node::{
+    CallParts, ClassParts, Command, Constant, Expr, FuncParts, OutOfMemory, PyNumberBinaryOp,
+    SetAttrParts, Word,
+};
 use std::alloc::{AllocError, Global};
 
 /// How many classes the commands make.
@@ -19,7 +22,13 @@ pub fn class_command(alloc: Global, draws: &mut Draws, i: u64) -> Result<Command
     ensures draws { OnOk result (draws.new ≡ after (if i == 0 then 0 else 1) draws.old) }
 {
     let bases = base(alloc, draws, i)?;
-    let class = Expr::Class(name(alloc, i)?, bases, Vec::new(alloc), Vec::new(alloc));
+    let parts = ClassParts {
+        name: name(alloc, i)?,
+        bases,
+        keywords: Vec::new(alloc),
+        entries: Vec::new(alloc),
+    };
+    let class = Expr::Class(Box::new(alloc, parts)?);
     let expr = Expr::Bind(name(alloc, i)?, Box::new(alloc, class)?);
     Ok(Command { expr })
 }
@@ -78,17 +87,24 @@ fn sum(alloc: Global, first: u64, second: u64) -> Result<Expr, AllocError>
 fn set(alloc: Global, class: u64, attribute: &str, value: Expr) -> Result<Expr, AllocError>
     ensures { IfOk result (λ e. tree_of e ≡ set class attribute.now (tree_of value)) }
 {
-    let target = Box::new(alloc, variable(alloc, class)?)?;
-    let attribute = String::from_str(alloc, attribute)?;
-    Ok(Expr::SetAttr(target, attribute, Box::new(alloc, value)?))
+    let parts = SetAttrParts {
+        object: variable(alloc, class)?,
+        name: String::from_str(alloc, attribute)?,
+        value,
+    };
+    Ok(Expr::SetAttr(Box::new(alloc, parts)?))
 }
 
 // A new object of a class.
 fn object(alloc: Global, class: u64) -> Result<Expr, AllocError>
     ensures { IfOk result (λ e. tree_of e ≡ object_of class) }
 {
-    let callee = Box::new(alloc, variable(alloc, class)?)?;
-    Ok(Expr::Call(callee, Vec::new(alloc), Vec::new(alloc)))
+    let parts = CallParts {
+        function: variable(alloc, class)?,
+        args: Vec::new(alloc),
+        keywords: Vec::new(alloc),
+    };
+    Ok(Expr::Call(Box::new(alloc, parts)?))
 }
 
 // A function of two parameters that gives i.
@@ -100,8 +116,13 @@ fn adder(alloc: Global, i: u64) -> Result<Expr, AllocError>
         String::from_str(alloc, "s")?,
         String::from_str(alloc, "o")?,
     ]?;
-    let name = String::from_str(alloc, "add")?;
-    Ok(Expr::Func(name, params, false, Box::new(alloc, integer(i))?))
+    let parts = FuncParts {
+        name: String::from_str(alloc, "add")?,
+        params,
+        rest: false,
+        body: integer(i),
+    };
+    Ok(Expr::Func(Box::new(alloc, parts)?))
 }
 
 // The variable that a class is bound to.

@@ -38,7 +38,7 @@ fn class(alloc: Global) -> Result<Option<String>, OutOfMemory> {
 // The attribute that the first change of another seed sets.
 fn change(alloc: Global) -> Result<Option<String>, OutOfMemory> {
     match change_command(alloc, &mut Draws::new(3), 0)?.expr {
-        Expr::SetAttr(_, name, _) => Ok(Some(name)),
+        Expr::SetAttr(set) => Ok(Some(Box::into_inner(set).name)),
         _ => Ok(None),
     }
 }

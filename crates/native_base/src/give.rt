@@ -62,7 +62,7 @@ fn size_of(payload: &Payload) -> usize
         Payload::Text(text) => text.len(),
         Payload::Tuple(items) => items.len(),
         Payload::List(items) => items.len(),
-        Payload::Dict(entries) => entries.len(),
+        Payload::Dict(dict) => dict.len(),
         _ => 0,
     }
 }

@@ -14,7 +14,6 @@ use crate::sequences::both;
 use crate::turn::compare;
 use class_world::{Fixed, World};
 use native_containers::entries::values_of;
-use native_containers::keys::value_under;
 use native_containers::take::{Kind, entries};
 use py_node::task::Args;
 use py_node::{Answer, CompareNative, OutOfMemory, PyObjectRef, PyStrInterned, Step};
@@ -85,7 +84,7 @@ fn values_under(
 {
     let mut values = Vec::new(world.alloc());
     for entry in entries {
-        match value_under(world, dict, entry.0) {
+        match world.value_under(dict, entry.0) {
             None => return Ok(None),
             Some(value) => values.push(value)?,
         }

@@ -1,6 +1,6 @@
 -- What is said where a list or a dict changes, by what its new contents are.
-use Rattle.std.proofs.Common.{◌≡◌, true, false, cond, List, length, fold, sym, ap, ◌∙◌}
-use Rattle.std.specs.Prelude.{nat_le}
+use Rattle.std.proofs.Common.{◌≡◌, true, false, cond, List, length, fold, Result, Ok, Err, sym, ap, ◌∙◌}
+use Rattle.std.specs.Prelude.{nat_le, IfErr}
 use Rattle.py_node.specs.declared.refs.PyObjectRef.{PyObjectRef}
 use Rattle.py_node.specs.declared.raised.Cause.TheVariants.{TooLong}
 use Rattle.plain_machine.specs.Dicts.{Entries, with_entry}
@@ -8,7 +8,7 @@ use Rattle.plain_machine.specs.Plain.{PlainWorld, Said, Ends}
 use Rattle.plain_machine.specs.Row.{most_items, fault}
 use Rattle.native_containers.specs.declared.take.Kind.TheVariants as kind
 use Rattle.native_containers.specs.Say.{unless_long, dict_changed, dict_updated}
-use Rattle.native_containers.specs.Take.{entries_at, with_key, with_kind}
+use Rattle.native_containers.specs.Take.{entries_at, with_kind}
 
 -- a container is not too long, or it is
 module _ {A : Type 0} (w : PlainWorld) (xs : List A) (go : Said) where
@@ -18,18 +18,10 @@ module _ {A : Type 0} (w : PlainWorld) (xs : List A) (go : Said) where
   pub long : nat_le (length xs) most_items ≡ false → unless_long w xs go ≡ Ends w (fault TooLong)
   long h = ap (λ b. cond b go (Ends w (fault TooLong))) h
 
-module _ (w : PlainWorld) (d : PyObjectRef) (es new : Entries) (go : PlainWorld → Said) where
-  -- a value under a key
-  pub put-says : (k v : PyObjectRef) → entries_at w d ≡ es → new ≡ with_entry w es (k, v) → ((s : Said) → with_key w k s ≡ s) → with_key w k (dict_changed w d (with_entry w (entries_at w d) (k, v)) go) ≡ dict_changed w d new go
-  put-says k v same made taken =
-      taken _
-      ∙ ap (λ es. dict_changed w d (with_entry w es (k, v)) go) same
-      ∙ ap (λ es. dict_changed w d es go) (sym made)
+-- the entries of another dict, seen from a world that says the same
+pub update-says : (w u : PlainWorld) (d o : PyObjectRef) (new : Entries) (go : PlainWorld → Said) → u ≡ w → new ≡ fold (with_entry w) (entries_at w d) (entries_at w o) → ((s : Said) → with_kind kind.Dict w o s ≡ s) → dict_updated w d o go ≡ dict_changed u d new go
+update-says w u d o new go e made taken = taken _ ∙ (λ i. dict_changed (sym e i) d (sym made i) go)
 
-  -- the entries of another dict
-  pub update-says : (o : PyObjectRef) (more : Entries) → entries_at w d ≡ es → entries_at w o ≡ more → new ≡ fold (with_entry w) es more → ((s : Said) → with_kind kind.Dict w o s ≡ s) → dict_updated w d o go ≡ dict_changed w d new go
-  update-says o more same others made taken =
-      taken _
-      ∙ ap (λ es. dict_changed w d (fold (with_entry w) es (entries_at w o)) go) same
-      ∙ ap (λ ms. dict_changed w d (fold (with_entry w) es ms) go) others
-      ∙ ap (λ es. dict_changed w d es go) (sym made)
+pub err-map : {A E : Type 0} (P Q : E → Type 0) (r : Result A E) → ((x : E) → P x → Q x) → IfErr r P → IfErr r Q
+err-map P Q (Ok a) f h = h
+err-map P Q (Err x) f h = f x h

@@ -1,8 +1,7 @@
--- Loops over keys, over pairs and over keywords, a step at a time.
-use Rattle.std.proofs.Common.{◌≡◌, ℕ, suc, ◌+◌, ◌<◌, ◌≤◌, Bool, true, false, cond, List, [], ◌∷◌, ◌++◌, length, get_or, drop, Option, Some, None, sym, ap, ◌∙◌, arith}
+-- Loops over pairs and over keywords, a step at a time.
+use Rattle.std.proofs.Common.{◌≡◌, ℕ, suc, ◌+◌, ◌<◌, ◌≤◌, Bool, true, false, cond, List, [], ◌∷◌, ◌++◌, length, get_or, drop, sym, ap, ◌∙◌, arith}
 use Rattle.std.proofs.lemmas.List.{drop_all}
 use Rattle.std.proofs.Math.Seq.{drop-cons}
-use Rattle.std.specs.List.{position_from}
 use Rattle.py_node.specs.declared.refs.PyObjectRef.{PyObjectRef}
 use Rattle.py_node.specs.declared.refs.PyStrInterned.{PyStrInterned}
 use Rattle.py_node.specs.declared.raised.Cause.TheVariants.{TooLong}
@@ -20,27 +19,6 @@ use Rattle.native_containers.specs.Say.{ends_none, list_made, names_set, pairs_m
 
 next : (i : ℕ) → suc i ≡ i + 1
 next i = omega arith
-
--- the first key that passes a test
-
-module _ (test : PyObjectRef → Bool) (es : Entries) (i : ℕ) where
-  abbrev from_here : ℕ → Option ℕ
-  from_here n = position_from (λ e. test e.0) n (drop n es)
-
-  at-key : (e : PyObjectRef × PyObjectRef) → i < length es → from_here i ≡ cond (test (get_or es i e).0) (Some i) (position_from (λ e. test e.0) (i + 1) (drop (suc i) es))
-  at-key e l = ap (position_from (λ e. test e.0) i) (drop-cons es i e l)
-
-  pub passes : (e : PyObjectRef × PyObjectRef) → i < length es → test (get_or es i e).0 ≡ true → from_here i ≡ Some i
-  passes e l h = at-key e l ∙ ap (λ b. cond b (Some i) (position_from (λ e. test e.0) (i + 1) (drop (suc i) es))) h
-
-  pub fails : (e : PyObjectRef × PyObjectRef) → i < length es → test (get_or es i e).0 ≡ false → from_here i ≡ from_here (i + 1)
-  fails e l h =
-      at-key e l
-      ∙ ap (λ b. cond b (Some i) (position_from (λ e. test e.0) (i + 1) (drop (suc i) es))) h
-      ∙ ap (λ n. position_from (λ e. test e.0) (i + 1) (drop n es)) (next i)
-
-  pub none-left : length es ≤ i → from_here i ≡ None
-  none-left l = ap (position_from (λ e. test e.0) i) (drop_all i es l)
 
 -- a pair more
 

@@ -1,5 +1,5 @@
 -- What objects hold that are of no kind, and entries and nodes one by one.
-use Rattle.std.proofs.Common.{◌≡◌, ℕ, ◌+◌, ◌<◌, ◌≤◌, List, [], ◌++◌, length, map, get_or, take, take_all, fold, Some, refl, sym, ap, ◌∙◌}
+use Rattle.std.proofs.Common.{◌≡◌, ℕ, ◌+◌, ◌<◌, ◌≤◌, List, [], ◌++◌, length, get_or, take, take_all, fold, Some, refl, sym, ap, ◌∙◌}
 use Rattle.std.proofs.lemmas.List.Elements.{All-append}
 use Rattle.std.proofs.lemmas.List.Sums.{fold_more}
 use Rattle.py_node.specs.declared.refs.PyObjectRef.{PyObjectRef}
@@ -8,10 +8,8 @@ use Rattle.py_node.specs.declared.payload.Payload.TheVariants as payload
 use Rattle.plain_machine.specs.Dicts.{Entries, entries_in, with_entry}
 use Rattle.plain_machine.specs.Plain.{PlainWorld}
 use Rattle.class_world.specs.Held.{Held}
-use Rattle.class_world.specs.Keyed.{of_entries, of_pairs}
 use Rattle.class_world.specs.Reading.{Reading, datum}
-use Rattle.class_world.specs.Sound.{AreNodes, Holds, AllHold}
-use Rattle.class_world.proofs.DictEntries.{get-below}
+use Rattle.class_world.specs.Sound.{AreNodes, Holds}
 use Rattle.class_world.specs.Listed.{items_in}
 
 -- what is no dict has no entries
@@ -65,14 +63,9 @@ pub nodes-append : (w : Held) (rs ss : List PyObjectRef) → Holds w (AreNodes r
 unfolding Holds
 nodes-append w rs ss h k = All-append (λ (r : PyObjectRef). r.0 < length w.nodes) rs ss h k
 
--- the keys of a dict can be keys
-pub keys-can : (w : Held) (es : Entries) → AllHold w (of_entries es) → AllHold w (of_pairs es)
-unfolding Holds
-keys-can w es h = (h.0, (h.1.0, ((λ i d l. h.1.1.0.known i (get_or (map (λ e. e.0) es) i d) (get-below (map (λ e. e.0) es) i d l)), tt)))
-
 -- one entry more, where there were some already
-pub entry-more : (w : PlainWorld) (first es new ps : Entries) (i : ℕ) (d : PyObjectRef × PyObjectRef) → i < length ps → fold (with_entry w) first (take i ps) ≡ es → new ≡ with_entry w es ((get_or ps i d).0, (get_or ps i d).1) → fold (with_entry w) first (take (i + 1) ps) ≡ new
-entry-more w first es new ps i d l h k = fold_more (with_entry w) first ps i d l ∙ ap (λ es. with_entry w es (get_or ps i d)) h ∙ sym k
+pub entry-more : (w now : PlainWorld) (first es new ps : Entries) (i : ℕ) (d : PyObjectRef × PyObjectRef) → now ≡ w → i < length ps → fold (with_entry w) first (take i ps) ≡ es → new ≡ with_entry now es ((get_or ps i d).0, (get_or ps i d).1) → fold (with_entry w) first (take (i + 1) ps) ≡ new
+entry-more w now first es new ps i d e l h k = fold_more (with_entry w) first ps i d l ∙ (λ j. with_entry (sym e j) (h j) (get_or ps i d)) ∙ sym k
 
 pub entries-all : (w : PlainWorld) (first es ps : Entries) (i : ℕ) → length ps ≤ i → fold (with_entry w) first (take i ps) ≡ es → es ≡ fold (with_entry w) first ps
 entries-all w first es ps i l h = sym h ∙ ap (fold (with_entry w) first) (take_all i ps l)

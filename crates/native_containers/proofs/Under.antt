@@ -1,40 +1,43 @@
--- What stands under a key of a dict, by the key's place.
-use Rattle.std.proofs.Common.{◌≡◌, ℕ, get_or, Option, Some, None, ap, ◌∙◌, arith}
-use Rattle.std.specs.Prelude.{position, option_map}
-use Rattle.std.specs.List.{remove}
+-- A key that is taken out of a dict, and how long a dict is with one.
+use Rattle.std.proofs.Common.{◌≡◌, suc, Bool, true, false, ◌∷◌, [], length, Option, Some, None, cond, refl, ap, ◌∙◌, arith, length-append}
+use Rattle.std.specs.Prelude.{is_some}
 use Rattle.py_node.specs.declared.refs.PyObjectRef.{PyObjectRef}
 use Rattle.py_node.specs.declared.raised.Cause.TheVariants.{MissingKey}
 use Rattle.py_node.specs.Attributes.{value_of}
-use Rattle.plain_machine.specs.Dicts.{Entries, is_like, with_entries, without_value_for}
+use Rattle.plain_machine.specs.Dicts.{Entries, is_like, put_under, with_entries, with_entry, with_value_for, without_value_for}
 use Rattle.plain_machine.specs.Plain.{PlainWorld, Ends}
 use Rattle.plain_machine.specs.Row.{fault}
-use Rattle.class_world.proofs.DictEntries.{first-key, no-key, get-below}
 use Rattle.native_containers.specs.Say.{ends_none, key_taken, value_under}
 use Rattle.native_containers.specs.Take.{entries_at}
 
-module _ (w : PlainWorld) (d k : PyObjectRef) (es : Entries) where
-  abbrev pub place : Option ℕ
-  place = position (λ e. is_like w k e.0) es
+module _ (w : PlainWorld) (d k : PyObjectRef) where
+  pub not-taken : is_some (value_under w d k) ≡ false → key_taken w d k (value_under w d k) ≡ Ends w (fault MissingKey)
+  not-taken h = go (value_under w d k) h
+    where
+      go : (o : Option PyObjectRef) → is_some o ≡ false → key_taken w d k o ≡ Ends w (fault MissingKey)
+      go None h = refl
+      go (Some v) h = cc
 
-  pub absent : entries_at w d ≡ es → None ≡ place → value_under w d k ≡ None
-  absent same q = let f = no-key (is_like w k) es q in ap (value_of (is_like w k)) same ∙ f.value
+  pub taken : is_some (value_under w d k) ≡ true → key_taken w d k (value_under w d k) ≡ ends_none (with_entries w d (without_value_for (is_like w k) (entries_at w d)))
+  taken h = go (value_under w d k) h
+    where
+      go : (o : Option PyObjectRef) → is_some o ≡ true → key_taken w d k o ≡ ends_none (with_entries w d (without_value_for (is_like w k) (entries_at w d)))
+      go None h = cc
+      go (Some v) h = refl
 
-  pub present : (n : ℕ) (e : PyObjectRef × PyObjectRef) → entries_at w d ≡ es → Some n ≡ place → value_under w d k ≡ Some (get_or es n e).1
-  present n e same q =
-      let f = first-key (is_like w k) n es q in
-      let here : f.place ≡ n = omega (arith, f.is) in
-      ap (value_of (is_like w k)) same
-      ∙ f.value
-      ∙ ap (option_map (λ (e : PyObjectRef × PyObjectRef). e.1)) (get-below es f.place e f.below)
-      ∙ ap (λ i. Some (get_or es i e).1) here
+-- a value that is written over
+length-over : (test : PyObjectRef → Bool) (v : PyObjectRef) (es : Entries) → length (with_value_for test v es) ≡ length es
+length-over test v [] = refl
+length-over test v (e ∷ es) = go (test e.0) (length-over test v es)
+  where
+    go : (b : Bool) → length (with_value_for test v es) ≡ length es → length (cond b ((e.0, v) ∷ es) (e ∷ with_value_for test v es)) ≡ suc (length es)
+    go true h = refl
+    go false h = ap suc h
 
-  pub not-taken : entries_at w d ≡ es → None ≡ place → key_taken w d k (value_under w d k) ≡ Ends w (fault MissingKey)
-  not-taken same q = ap (key_taken w d k) (absent same q)
+pub length-put : (w : PlainWorld) (es : Entries) (k v old : PyObjectRef) → value_of (is_like w k) es ≡ Some old → length (with_entry w es (k, v)) ≡ length es
+length-put w es k v old h = ap (λ o. length (put_under (is_like w k) (k, v) es o)) h ∙ length-over (is_like w k) v es
 
-  pub taken : (n : ℕ) (e : PyObjectRef × PyObjectRef) → entries_at w d ≡ es → Some n ≡ place → key_taken w d k (value_under w d k) ≡ ends_none (with_entries w d (remove es n))
-  taken n e same q =
-      let f = first-key (is_like w k) n es q in
-      let here : f.place ≡ n = omega (arith, f.is) in
-      ap (key_taken w d k) (present n e same q)
-      ∙ ap (λ es. ends_none (with_entries w d (without_value_for (is_like w k) es))) same
-      ∙ ap (λ es. ends_none (with_entries w d es)) (f.taken ∙ ap (remove es) here)
+pub length-new : (w : PlainWorld) (es : Entries) (k v : PyObjectRef) → value_of (is_like w k) es ≡ None → length (with_entry w es (k, v)) ≡ suc (length es)
+length-new w es k v h =
+    let more = length-append es ((k, v) ∷ []) in
+    ap (λ o. length (put_under (is_like w k) (k, v) es o)) h ∙ omega (arith, more)

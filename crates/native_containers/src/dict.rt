@@ -8,16 +8,16 @@ ghost use Rattle.plain_machine.specs.Plain.{Ends};
 ghost use Rattle.plain_machine.specs.Row.{fault, truth, value};
 ghost use Rattle.class_world.specs.Claims.{of_args, of_ended};
 ghost use Rattle.class_world.specs.Reading.{Reading, bindings};
-ghost use Rattle.class_world.specs.Sound.{AllHold, AreNodes, Holding, Holds, IsNode};
+ghost use Rattle.class_world.specs.Sound.{AllHold, AreNodes, Grows, Holding, Holds, IsNode};
 ghost use Rattle.class_world.specs.Rows.{EndsAs, LeavesEnd};
 ghost use Rattle.native_containers.specs.Say.{counted, dict_changed, dict_say, dict_updated, ends_none, given_or, key_taken, keys_of, list_iterated, list_made, pairs_made, value_under, values_of};
 ghost use Rattle.native_containers.specs.Take.{entries_at, with_default, with_dict_and_key, with_key, with_lone, with_own, with_own_and, with_own_and_two};
 ghost use Rattle.native_containers.specs.declared.take.Kind.TheVariants as kind;
 
-use crate::entries::{copy_entries, keys_of, values_of, with_entry};
+use crate::entries::{keys_of, values_of};
 use crate::init::{init, update_from};
-use crate::keys::{place_like, value_under};
-use crate::made::{change_dict, ends_none, new_list};
+use crate::keys::has_room;
+use crate::made::{ends_none, new_list};
 use crate::pairs::new_pairs;
 use crate::take::{
     Kind, dict_and_key, entries, key_refusal, lone, own, own_and, own_and_two, with_default,
@@ -84,7 +84,7 @@ fn get_item(
     ensures holds { AllHold world.now (of_ended result) }
 {
     let (dict, key) = dict_and_key(world, args, kw)?;
-    match value_under(world, dict, key) {
+    match world.value_under(dict, key) {
         Some(value) => Ok(Answer::Value(value)),
         None => Err(Raised::new(Cause::MissingKey)),
     }
@@ -127,11 +127,11 @@ fn put(
     if let Some(raised) = key_refusal(world, key) {
         return Ok(Err(raised));
     }
-    let entries = with_entry(world, entries(world, dict), key, value)?;
-    match change_dict(world, dict, entries) {
-        Err(raised) => Ok(Err(raised)),
-        Ok(()) => Ok(ends_none(world)),
+    if !has_room(world, dict, key) {
+        return Ok(Err(Raised::new(Cause::TooLong)));
     }
+    world.set_value_under(dict, key, value)?;
+    Ok(ends_none(world))
 }
 
 // Takes a key out, which must be there.
@@ -147,33 +147,23 @@ fn del_item(
 {
     match dict_and_key(world, args, kw) {
         Err(raised) => Ok(Err(raised)),
-        Ok((dict, key)) => take_key(world, dict, key),
+        Ok((dict, key)) => Ok(take_key(world, dict, key)),
     }
 }
 
 // Takes a key out of a dict, with its value.
-fn take_key(
-    world: &mut World,
-    dict: PyObjectRef,
-    key: PyObjectRef,
-) -> Result<Result<Answer, Raised>, OutOfMemory>
+fn take_key(world: &mut World, dict: PyObjectRef, key: PyObjectRef) -> Result<Answer, Raised>
     requires dict { Holds world.old (IsNode dict) }
     requires holding { Holds world.old (Holding dict Dict) }
     requires key { Holds world.old (IsNode key) }
-    ensures ends { IfOk result (λ r. EndsAs (λ t u. key_taken u dict key (value_under u dict key))
-        world.old world.new r) }
-    ensures safe { LeavesEnd world.old world.new result }
+    ensures ends { EndsAs (λ t u. key_taken u dict key (value_under u dict key)) world.old world.new result }
+    ensures grows { Grows world.old world.new }
+    ensures holds { AllHold world.new (of_ended result) }
 {
-    let all = entries(world, dict);
-    match place_like(world, all, key) {
-        None => Ok(Err(Raised::new(Cause::MissingKey))),
-        Some(place) => {
-            let mut rest = copy_entries(world.alloc(), all)?;
-            rest.remove(place);
-            world.set_payload(dict, Payload::Dict(rest));
-            Ok(ends_none(world))
-        }
+    if !world.take_value_under(dict, key) {
+        return Err(Raised::new(Cause::MissingKey));
     }
+    ends_none(world)
 }
 
 // Whether a key is there.
@@ -188,7 +178,7 @@ fn contains(
     ensures holds { AllHold world.now (of_ended result) }
 {
     let (dict, key) = dict_and_key(world, args, kw)?;
-    let is_there = value_under(world, dict, key).is_some();
+    let is_there = world.value_under(dict, key).is_some();
     Ok(Answer::Value(world.truth(is_there)))
 }
 
@@ -299,7 +289,7 @@ fn get(
     if let Some(raised) = key_refusal(world, key) {
         return Err(raised);
     }
-    let value = value_under(world, dict, key);
+    let value = world.value_under(dict, key);
     Ok(Answer::Value(value.unwrap_or(other)))
 }
 

@@ -1,15 +1,17 @@
-//! The entries of dicts: their keys and values, and entries with others.
+//! The entries of dicts: their keys and values, and dicts with the entries of others.
 
-ghost use Rattle.std.specs.Prelude.{◌≡◌, [], ◌∷◌, fold, IfOk};
+ghost use Rattle.std.specs.Prelude.{◌≡◌, fold, IfOk};
 ghost use Rattle.plain_machine.specs.Dicts.{with_entry};
-ghost use Rattle.class_world.specs.Keyed.{of_entries};
-ghost use Rattle.class_world.specs.Reading.{Reading, plain};
-ghost use Rattle.class_world.specs.Sound.{AllHold, CanBeKeys, Holds, IsNode};
+ghost use Rattle.class_world.specs.Keyed.{of_keyed};
+ghost use Rattle.class_world.specs.Reading.{Reading, Reads, plain};
+ghost use Rattle.class_world.specs.Sound.{AllHold, Grows, Holds, IsNode};
 ghost use Rattle.native_containers.specs.Say.{keys_of, values_of};
+ghost use Rattle.native_containers.specs.Take.{entries_at};
 
+use crate::take::entries;
 use class_world::World;
 use py_node::task::Args;
-use py_node::{OutOfMemory, PyObjectRef};
+use py_node::{OutOfMemory, Payload, PyDict, PyObjectRef};
 use std::alloc::Global;
 
 /// Keys with their values.
@@ -41,40 +43,38 @@ pub(crate) fn copy_entries(
     Ok(copy)
 }
 
-/// Entries with a value under a key.
-pub(crate) fn with_entry(
-    world: &World,
-    entries: &[(PyObjectRef, PyObjectRef)],
-    key: PyObjectRef,
-    value: PyObjectRef,
-) -> Result<Entries, OutOfMemory>
-    requires entries { AllHold world.now (of_entries entries.now) }
-    requires key { Holds world.now (IsNode key) }
-    requires can { Holds world.now (CanBeKeys (key ∷ [])) }
-    requires value { Holds world.now (IsNode value) }
-    ensures entries { IfOk result (λ v. (t : Reading) →
-        v.items ≡ with_entry (plain t world.now) entries.now (key, value)) }
-    ensures holds { IfOk result (λ v. AllHold world.now (of_entries v.items)) }
-{
-    let copy = copy_entries(world.alloc(), entries)?;
-    world.with_entry(copy, key, value)
-}
-
-/// Entries with others, one after another.
+/// A dict with the entries of another one, one after another.
 pub(crate) fn with_entries(
-    world: &World,
-    entries: &[(PyObjectRef, PyObjectRef)],
-    more: &[(PyObjectRef, PyObjectRef)],
-) -> Result<Entries, OutOfMemory>
-    requires entries { AllHold world.now (of_entries entries.now) }
-    requires more { AllHold world.now (of_entries more.now) }
-    ensures entries { IfOk result (λ v. (t : Reading) →
-        v.items ≡ fold (with_entry (plain t world.now)) entries.now more.now) }
-    ensures holds { IfOk result (λ v. AllHold world.now (of_entries v.items)) }
+    world: &mut World,
+    dict: PyObjectRef,
+    other: PyObjectRef,
+) -> Result<PyDict, OutOfMemory>
+    requires dict { Holds world.old (IsNode dict) }
+    requires other { Holds world.old (IsNode other) }
+    ensures entries { IfOk result (λ d. (t : Reading) → d.items ≡ fold (with_entry (plain t world.old))
+        (entries_at (plain t world.old) dict) (entries_at (plain t world.old) other)) }
+    ensures holds { IfOk result (λ d. AllHold world.new (of_keyed d)) }
+    ensures same { (t : Reading) → plain t world.new ≡ plain t world.old }
+    ensures reads { (t : Reading) → Reads t world.new → Reads t world.old }
+    ensures grows { Grows world.old world.new }
 {
-    let mut all = copy_entries(world.alloc(), entries)?;
-    for entry in more {
+    let more = copy_entries(world.alloc(), entries(world, other))?;
+    let mut all = copy_dict(world, dict)?;
+    for entry in &more {
         all = world.with_entry(all, entry.0, entry.1)?;
     }
     Ok(all)
+}
+
+// The same keys with the same values.
+fn copy_dict(world: &World, dict: PyObjectRef) -> Result<PyDict, OutOfMemory>
+    requires { Holds world.now (IsNode dict) }
+    ensures entries { IfOk result (λ d. (t : Reading) → entries_at (plain t world.now) dict ≡ d.items) }
+    ensures holds { IfOk result (λ d. AllHold world.now (of_keyed d)) }
+{
+    let alloc = world.alloc();
+    match world.payload(dict) {
+        Payload::Dict(dict) => dict.try_clone(alloc),
+        _ => Ok(PyDict::new(alloc)),
+    }
 }

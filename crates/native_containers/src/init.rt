@@ -13,7 +13,7 @@ ghost use Rattle.native_containers.specs.declared.take.Kind.TheVariants as kind;
 
 use crate::entries::with_entries;
 use crate::made::{change_dict, ends_none};
-use crate::take::{Kind, entries, kind_refusal, own};
+use crate::take::{Kind, kind_refusal, own};
 use class_world::World;
 use class_world::limits::has_place;
 use py_node::{Answer, Cause, OutOfMemory, PyObjectRef, PyStrInterned, Raised};
@@ -79,8 +79,8 @@ pub(crate) fn update_from(
     if let Some(raised) = kind_refusal(world, Kind::Dict, other) {
         return Ok(Err(raised));
     }
-    let entries = with_entries(world, entries(world, dict), entries(world, other))?;
-    Ok(change_dict(world, dict, entries))
+    let all = with_entries(world, dict, other)?;
+    Ok(change_dict(world, dict, all))
 }
 
 // Sets each keyword in a dict, as far as there is room.

@@ -5,7 +5,7 @@ mod dict;
 pub mod entries;
 mod init;
 mod iterator;
-pub mod keys;
+mod keys;
 mod list;
 pub mod made;
 mod pairs;

@@ -4,18 +4,17 @@ ghost use Rattle.std.specs.Prelude.{◌≡◌, IfErr, IfOk, Err};
 ghost use Rattle.py_node.specs.declared.built_in.BuiltIn.TheVariants.{Dict, List};
 ghost use Rattle.plain_machine.specs.Plain.{PlainWorld, Said, Ends};
 ghost use Rattle.class_world.specs.Claims.{of_ended};
-ghost use Rattle.class_world.specs.Keyed.{of_entries};
+ghost use Rattle.class_world.specs.Keyed.{of_keyed};
 ghost use Rattle.class_world.specs.Reading.{Reading, Reads, plain};
 ghost use Rattle.class_world.specs.Sound.{AllHold, AreNodes, Grows, Holding, Holds, IsNode};
 ghost use Rattle.class_world.specs.Rows.{EndsAs, LeavesEnd};
 ghost use Rattle.native_containers.specs.Say.{dict_changed, ends_none, list_changed, list_made, tuple_made};
 
-use crate::entries::Entries;
 use class_world::limits::is_within_limit;
 use class_world::{Fixed, World};
 use native_base::give::new_object;
 use py_node::task::Args;
-use py_node::{Answer, BuiltIn, Cause, OutOfMemory, Payload, PyObjectRef, Raised};
+use py_node::{Answer, BuiltIn, Cause, OutOfMemory, Payload, PyDict, PyObjectRef, Raised};
 
 /// Ends with None.
 pub fn ends_none(world: &World) -> Result<Answer, Raised>
@@ -65,11 +64,11 @@ pub fn change_list(world: &mut World, list: PyObjectRef, items: Args) -> Result<
 pub(crate) fn change_dict(
     world: &mut World,
     dict: PyObjectRef,
-    entries: Entries,
+    entries: PyDict,
 ) -> Result<(), Raised>
     requires dict { Holds world.old (IsNode dict) }
     requires holding { Holds world.old (Holding dict Dict) }
-    requires entries { AllHold world.old (of_entries entries.items) }
+    requires entries { AllHold world.old (of_keyed entries) }
     ensures changed { IfOk result (λ u. (t : Reading) (go : PlainWorld → Said) →
         dict_changed (plain t world.old) dict entries.items go ≡ go (plain t world.new)) }
     ensures refused { IfErr result (λ x. (t : Reading) (go : PlainWorld → Said) →

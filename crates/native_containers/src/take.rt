@@ -65,7 +65,7 @@ pub fn entries(world: &World, object: PyObjectRef) -> &[(PyObjectRef, PyObjectRe
     ensures holds { AllHold world.now (of_entries result.now) }
 {
     match world.payload(object) {
-        Payload::Dict(entries) => entries,
+        Payload::Dict(dict) => dict.entries(),
         _ => &[],
     }
 }

@@ -93,7 +93,7 @@ impl PyMemberDef {
         ensures grows { Grows world.old world.new }
     {
         let (name, doc) = self.names(world)?;
-        Ok(Payload::Member(MemberDescriptor {
+        let member = MemberDescriptor {
             class,
             name,
             kind: self.kind,
@@ -101,7 +101,9 @@ impl PyMemberDef {
             setter: self.setter,
             qualname: None,
             doc,
-        }))
+        };
+        let boxed = Box::new(world.alloc(), member)?;
+        Ok(Payload::Member(boxed))
     }
 }
 

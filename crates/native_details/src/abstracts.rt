@@ -167,7 +167,7 @@ fn own_property(world: &World, args: &[PyObjectRef]) -> Result<(PyObjectRef, PyP
     match args {
         [] => Err(Raised::new(Cause::ArgCount)),
         [o, ..] => match world.payload(*o) {
-            Payload::Property(p) => Ok((*o, *p)),
+            Payload::Property(p) => Ok((*o, **p)),
             _ => Err(Raised::new(Cause::SelfType)),
         },
     }

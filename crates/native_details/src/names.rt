@@ -4,11 +4,10 @@ ghost use Rattle.std.specs.Prelude.{◌≡◌, ◌++◌, ℕ, codes, Option, Ok,
 ghost use Rattle.py_node.specs.declared.refs.PyObjectRef.{PyObjectRef as Object};
 ghost use Rattle.py_node.specs.declared.built_in.BuiltIn.TheVariants as built_in;
 ghost use Rattle.py_node.specs.declared.entry.NativeEntry.TheVariants as entry;
-ghost use Rattle.py_node.specs.declared.payload.Payload.TheVariants as payload;
 ghost use Rattle.class_world.specs.Claims.{of_ended, Leaves};
 ghost use Rattle.class_world.specs.Reading.{Reading, Reads, bindings, plain, spelled, spelled_option};
 ghost use Rattle.class_world.specs.Rows.{EndsAs, LeavesEnd};
-ghost use Rattle.class_world.specs.Sound.{AllHold, AreNodes, Holds, IsName, IsNode, of_payload};
+ghost use Rattle.class_world.specs.Sound.{AllHold, AreNodes, Holds, IsName, IsNode, of_member};
 ghost use Rattle.plain_machine.specs.Plain.{Said, Ends};
 ghost use Rattle.py_node.specs.Tree.{Text};
 ghost use Rattle.native_objects.specs.Takes.{with_own};
@@ -101,7 +100,7 @@ fn named_by(
     ensures safe { LeavesEnd world.old world.new result }
 {
     let member = match world.payload(object) {
-        Payload::Member(member) => *member,
+        Payload::Member(member) => **member,
         _ => return Ok(Ok(Answer::Value(world.fixed(Fixed::None)))),
     };
     match dotted(world, qualname, member.name)? {
@@ -112,7 +111,8 @@ fn named_by(
                 qualname: Some(name),
                 ..member
             };
-            world.set_payload(object, Payload::Member(named));
+            let boxed = Box::new(world.alloc(), named)?;
+            world.set_payload(object, Payload::Member(boxed));
             new_text(world, text)
         }
     }
@@ -175,12 +175,12 @@ fn own_member(
     ensures refused { IfErr result (λ x. (t : Reading) (go : Object → ℕ × Option Text → Said) →
         with_own kept_name (plain t world.now) args.now go ≡ Ends (plain t world.now) (Err x)) }
     ensures node { IfOk result (λ p. Holds world.now (IsNode p.0)) }
-    ensures parts { IfOk result (λ p. AllHold world.now (of_payload (payload.Member p.1))) }
+    ensures parts { IfOk result (λ p. AllHold world.now (of_member p.1)) }
 {
     match args {
         [] => Err(Raised::new(Cause::ArgCount)),
         [o, ..] => match world.payload(*o) {
-            Payload::Member(member) => Ok((*o, *member)),
+            Payload::Member(member) => Ok((*o, **member)),
             _ => Err(Raised::new(Cause::SelfType)),
         },
     }

@@ -9,10 +9,9 @@ use Rattle.py_node.specs.declared.refs.PyObjectRef.{PyObjectRef}
 use Rattle.py_node.specs.declared.refs.PyStrInterned.{PyStrInterned}
 use Rattle.class_world.specs.Held.{Held}
 use Rattle.class_world.specs.Reading.{Reading, bindings, spelled}
-use Rattle.class_world.specs.Sound.{AllHold, AreNodes, Holds, IsName, IsNode, of_binding, of_each, of_node_ref, of_option, of_optional}
+use Rattle.class_world.specs.Sound.{AllHold, AreNodes, Holds, IsName, IsNode, of_binding, of_each, of_node_ref, of_option, of_optional, of_property}
 use Rattle.class_world.proofs.Claims.{all-append, all-first, all-rest}
 use Rattle.native_objects.specs.Descriptors.{bare, or_old, part_set, placed, with_part, with_parts}
-use Rattle.native_objects.specs.Properties.{of_property}
 
 abbrev Bound : Type 0
 Bound = List (PyStrInterned × PyObjectRef)

@@ -2,7 +2,6 @@ pub mod Takes
 pub mod Names
 pub mod Objects
 pub mod Descriptors
-pub mod Properties
 pub mod Makers
 pub mod Attributes
 pub mod Details

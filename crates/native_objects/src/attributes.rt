@@ -16,8 +16,8 @@ use crate::take::lone_class;
 use class_world::World;
 use native_base::give::new_sized;
 use py_node::{
-    Answer, BuiltIn, Cause, Known, OutOfMemory, Payload, PyAttributes, PyObjectRef, PyStrInterned,
-    PyTypeRef, Raised,
+    Answer, BuiltIn, Cause, Known, OutOfMemory, Payload, PyAttributes, PyDict, PyObjectRef,
+    PyStrInterned, PyTypeRef, Raised,
 };
 use std::alloc::Global;
 
@@ -35,7 +35,8 @@ pub(crate) fn class_dict(
 {
     let attrs = world.attributes(class).try_clone(world.alloc())?;
     let entries = key_all(world, &attrs)?;
-    new_sized(world, BuiltIn::Dict, Payload::Dict(entries))
+    let dict = world.entries_from(&entries)?;
+    new_sized(world, BuiltIn::Dict, Payload::Dict(dict))
 }
 
 /// The names of a class's attributes, its own and those that it inherits, as a new list.
@@ -97,9 +98,9 @@ fn new_annotations(
     ensures grows { Grows world.old world.new }
     ensures node { IfOk result (λ r. Holds world.new (IsNode r)) }
 {
-    let entries = Vec::new(world.alloc());
+    let empty = PyDict::new(world.alloc());
     let dicts = world.built_in(BuiltIn::Dict);
-    let dict = world.make_node(dicts, Payload::Dict(entries))?;
+    let dict = world.make_node(dicts, Payload::Dict(empty))?;
     match world.set_attr(class, name, dict) {
         Ok(()) => Ok(dict),
         Err(_) => Err(OutOfMemory),

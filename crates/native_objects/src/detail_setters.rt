@@ -10,8 +10,7 @@ ghost use Rattle.native_objects.specs.DetailSetters.{set_of_property, setter_of_
 use crate::take::{one_or_two, own_property};
 use class_world::{Fixed, World};
 use py_node::{
-    Answer, BuiltIn, Cause, Detail, OutOfMemory, Payload, PyObjectRef, PyProperty, PyStrInterned,
-    Raised,
+    Answer, BuiltIn, Cause, Detail, OutOfMemory, PyObjectRef, PyProperty, PyStrInterned, Raised,
 };
 
 /// What is set of an object of a built-in class.
@@ -72,7 +71,7 @@ fn set_doc(
                 doc: Some(doc),
                 ..parts
             };
-            world.set_payload(object, Payload::Property(parts));
+            world.set_property(object, parts);
             Ok(Answer::Value(world.fixed(Fixed::None)))
         }
     }

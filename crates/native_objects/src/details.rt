@@ -6,10 +6,9 @@ ghost use Rattle.py_node.specs.declared.refs.PyObjectRef.{PyObjectRef as Object}
 ghost use Rattle.class_world.specs.Held.{Held};
 ghost use Rattle.class_world.specs.Reading.{Reading, Reads, bindings, datum, plain, spelled, spelled_option};
 ghost use Rattle.class_world.specs.Rows.{EndsAs, LeavesEnd};
-ghost use Rattle.class_world.specs.Sound.{AllHold, AreNodes, IsClass, IsName, Holds, of_name_ref, of_node_ref, of_option, of_optional, of_payload, of_start};
+ghost use Rattle.class_world.specs.Sound.{AllHold, AreNodes, Holds, IsClass, IsName, of_name_ref, of_node_ref, of_option, of_optional, of_payload, of_property, of_start};
 ghost use Rattle.native_objects.specs.Details.{Part as Read, accessor_part, bounds_part, builtin_method_part, callable_part, class_method_part, doc_part, dotted_text, function_part, getset_part, getter_of_say, in_class_part, kept_part, looked_part, member_part, method_descriptor_part, method_part, name_part, native_function_part, native_part, part_given, part_of, property_part, signature_given, signature_part, slice_part, static_method_part, super_part, whole_text};
 ghost use Rattle.native_objects.specs.DetailParts.{of_part, read_part};
-ghost use Rattle.native_objects.specs.Properties.{of_property};
 ghost use Rattle.native_objects.specs.Takes.{with_own};
 ghost use Rattle.signatures.specs.Signature.{signature_of};
 
@@ -277,7 +276,7 @@ fn property_part(detail: Detail, payload: &Payload) -> Option<Part>
     ensures holds { (w : Held) → AllHold w (of_payload payload.now) → AllHold w (of_option of_part result) }
 {
     match payload {
-        Payload::Property(p) => accessor_part(detail, *p),
+        Payload::Property(p) => accessor_part(detail, **p),
         _ => None,
     }
 }

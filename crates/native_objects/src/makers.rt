@@ -12,8 +12,8 @@ ghost use Rattle.native_objects.specs.Makers.{maker_say, with_heir};
 use crate::take::own_class;
 use class_world::World;
 use py_node::{
-    Answer, BuiltIn, Cause, OutOfMemory, Payload, PyObjectRef, PyProperty, PySuper, PyTypeRef,
-    Raised,
+    Answer, BuiltIn, Cause, OutOfMemory, Payload, PyDict, PyObjectRef, PyProperty, PySuper,
+    PyTypeRef, Raised,
 };
 
 /// A new object of the class that is the first argument: of a built-in class or of one that derives from it.
@@ -89,8 +89,8 @@ fn new_dict(world: &mut World, args: &[PyObjectRef]) -> Result<Result<Answer, Ra
     match heir(world, BuiltIn::Dict, args) {
         Err(raised) => Ok(Err(raised)),
         Ok(class) => {
-            let entries = Vec::new(world.alloc());
-            let node = world.make_node(class, Payload::Dict(entries))?;
+            let dict = PyDict::new(world.alloc());
+            let node = world.make_node(class, Payload::Dict(dict))?;
             Ok(Ok(Answer::Value(node)))
         }
     }
@@ -115,7 +115,8 @@ fn new_property(
                 doc: None,
                 name: None,
             };
-            let node = world.make_node(class, Payload::Property(parts))?;
+            let boxed = Box::new(world.alloc(), parts)?;
+            let node = world.make_node(class, Payload::Property(boxed))?;
             Ok(Ok(Answer::Value(node)))
         }
     }

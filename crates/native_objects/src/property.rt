@@ -6,9 +6,8 @@ ghost use Rattle.py_node.specs.declared.built_in.BuiltIn.TheVariants.{Property};
 ghost use Rattle.class_world.specs.Claims.{of_ended};
 ghost use Rattle.class_world.specs.Reading.{Reading, Reads, bindings, plain, spelled};
 ghost use Rattle.class_world.specs.Rows.{EndsAs, LeavesEnd};
-ghost use Rattle.class_world.specs.Sound.{AllHold, AreNodes, Grows, Holding, IsClass, IsName, IsNode, IsOf, Holds, of_binding, of_each, of_node_ref, of_option};
+ghost use Rattle.class_world.specs.Sound.{AllHold, AreNodes, Grows, Holding, Holds, IsClass, IsName, IsNode, IsOf, of_binding, of_each, of_node_ref, of_option, of_property};
 ghost use Rattle.native_objects.specs.Descriptors.{bare, may_name, or_old, placed, property_init, property_say, property_set_name, unless_given, unless_none, property_part, part_set, with_part, with_parts, without_none};
-ghost use Rattle.native_objects.specs.Properties.{of_property};
 
 use crate::take::own_property;
 use class_world::takes::{three, two};
@@ -64,7 +63,7 @@ fn property_init(
     if !may_name(world, parts.name) {
         return Err(Raised::new(Cause::SelfType));
     }
-    world.set_payload(object, Payload::Property(parts));
+    world.set_property(object, parts);
     Ok(Answer::Value(world.fixed(Fixed::None)))
 }
 
@@ -218,7 +217,7 @@ fn property_set_name(
         name: Some(name),
         ..parts
     };
-    world.set_payload(object, Payload::Property(parts));
+    world.set_property(object, parts);
     Ok(Answer::Value(world.fixed(Fixed::None)))
 }
 
@@ -243,7 +242,8 @@ fn property_part(
         Ok((_, part)) => {
             let parts = with_other(native, bare(parts), part);
             let class = class_of_property(world, object);
-            let node = world.make_node(class, Payload::Property(parts))?;
+            let boxed = Box::new(world.alloc(), parts)?;
+            let node = world.make_node(class, Payload::Property(boxed))?;
             Ok(Ok(Answer::Value(node)))
         }
     }

@@ -8,8 +8,7 @@ ghost use Rattle.plain_machine.specs.Plain.{PlainWorld, Said, Ends};
 ghost use Rattle.py_node.specs.declared.refs.PyObjectRef.{PyObjectRef as Object};
 ghost use Rattle.class_world.specs.Held.{Held};
 ghost use Rattle.class_world.specs.Reading.{Reading, bindings, plain, spelled};
-ghost use Rattle.class_world.specs.Sound.{AllHold, AreNodes, Holding, IsClass, IsName, IsNode, Holds, of_option, of_start};
-ghost use Rattle.native_objects.specs.Properties.{of_property};
+ghost use Rattle.class_world.specs.Sound.{AllHold, AreNodes, Holding, Holds, IsClass, IsName, IsNode, of_option, of_property, of_start};
 ghost use Rattle.native_objects.specs.Takes.{with_class, with_lone_class, with_class_and, with_class_and_given, with_one_or_two, with_own, method_in, member_in, property_in, static_in, super_in};
 
 use class_world::World;
@@ -202,7 +201,7 @@ pub fn own_property(
     match args {
         [] => Err(Raised::new(Cause::ArgCount)),
         [o, ..] => match world.payload(*o) {
-            Payload::Property(p) => Ok((*o, *p)),
+            Payload::Property(p) => Ok((*o, **p)),
             _ => Err(Raised::new(Cause::SelfType)),
         },
     }

@@ -14,7 +14,8 @@ use crate::take::{class_and, lone_class, own_class};
 use class_world::{Fixed, World};
 use native_base::give::{new_object, new_sized};
 use py_node::{
-    Answer, BuiltIn, Cause, OutOfMemory, Payload, PyObjectRef, PyStrInterned, Raised, TypeNative,
+    Answer, BuiltIn, Cause, OutOfMemory, Payload, PyDict, PyObjectRef, PyStrInterned, Raised,
+    TypeNative,
 };
 
 /// A native of `type` that asks no task.
@@ -146,8 +147,8 @@ fn type_prepare(
     if args.len() > 3 {
         return Ok(Err(Raised::new(Cause::ArgCount)));
     }
-    let entries = Vec::new(world.alloc());
-    new_object(world, BuiltIn::Dict, Payload::Dict(entries))
+    let dict = PyDict::new(world.alloc());
+    new_object(world, BuiltIn::Dict, Payload::Dict(dict))
 }
 
 // Whether a class is a subclass without deriving from another: nothing is said of it.

@@ -120,7 +120,7 @@ pub(crate) fn parts_of(world: &World, object: PyObjectRef) -> Result<Args, OutOf
     match world.payload(object) {
         Payload::Tuple(items) => copy_args(alloc, items),
         Payload::List(items) => copy_args(alloc, items),
-        Payload::Dict(entries) => flattened(alloc, entries),
+        Payload::Dict(dict) => flattened(alloc, dict.entries()),
         _ => Ok(Vec::new(alloc)),
     }
 }

@@ -3,14 +3,13 @@ use Rattle.std.specs.Prelude.{◌≡◌, true, List, [], ◌∷◌, Option, Some
 use Rattle.py_node.specs.declared.refs.PyObjectRef.{PyObjectRef}
 use Rattle.py_node.specs.declared.refs.PyStrInterned.{PyStrInterned}
 use Rattle.py_node.specs.declared.payload.Function.{Function}
-use Rattle.py_node.specs.declared.payload.Payload.TheVariants as payload
 use Rattle.py_node.specs.declared.task.Step.{Step}
 use Rattle.plain_machine.specs.Plain.{Datum, PlainWorld, Bindings, DoBody, Said}
 use Rattle.plain_machine.specs.Rows.{fresh}
 use Rattle.class_world.specs.declared.world.World.{World}
-use Rattle.class_world.specs.Reading.{Reading, spelled, datum, bindings}
+use Rattle.class_world.specs.Reading.{Reading, spelled, function_datum, bindings}
 use Rattle.class_world.specs.Rows.{Follows}
-use Rattle.class_world.specs.Sound.{Claim, has_value, of_payload}
+use Rattle.class_world.specs.Sound.{has_value}
 use Rattle.proto_call.specs.declared.CallKept.{CallKept}
 use Rattle.proto_call.specs.Say.{call_job_say, opened, by_keywords, by_place, body_by}
 use Rattle.proto_call.specs.Rows.{call_stands}
@@ -22,11 +21,7 @@ Enters said old new step =
 
 abbrev pub datum_of : Reading → Option Function → Option Datum
 datum_of t None = None
-datum_of t (Some g) = Some (datum t (payload.Function g))
-
--- what is said of a function's numbers
-abbrev pub of_function : Function → List Claim
-of_function g = of_payload (payload.Function g)
+datum_of t (Some g) = Some (function_datum t g)
 
 -- the last of some names, if there are any
 abbrev pub last_in : List PyStrInterned → Option PyStrInterned

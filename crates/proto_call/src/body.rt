@@ -4,17 +4,16 @@ ghost use Rattle.std.specs.Prelude.{◌≡◌, [], ◌∷◌, map, string_bytes,
 ghost use Rattle.py_node.specs.Replies.{started_of};
 ghost use Rattle.plain_machine.specs.Plain.{ATuple};
 ghost use Rattle.plain_machine.specs.World.{datum_at, is_text, with_node, next_node};
-ghost use Rattle.class_world.specs.Reading.{Reading, Reads, spelled, bindings, plain, datum};
-ghost use Rattle.class_world.specs.Sound.{AllHold, AreNames, AreNodes, Grows, HasParams, HasValues, Holds, IsName, IsNode, of_binding, of_each, of_node_ref, of_option};
+ghost use Rattle.class_world.specs.Reading.{Reading, Reads, spelled, bindings, plain, function_datum};
+ghost use Rattle.class_world.specs.Sound.{AllHold, AreNames, AreNodes, Grows, HasParams, HasValues, Holds, IsName, IsNode, of_binding, of_each, of_function, of_node_ref, of_option};
 ghost use Rattle.class_world.specs.Claims.{of_args, LeavesOpen};
 ghost use Rattle.py_node.specs.Attributes.{with_value};
-ghost use Rattle.py_node.specs.declared.payload.Payload.TheVariants as payload;
 ghost use Rattle.py_node.specs.declared.task.CallTask.TheVariants as call;
 ghost use Rattle.proto_call.specs.Say.{but_last, last_of, left_over, rest_fits, value_text, shown, started};
 ghost use Rattle.plain_machine.specs.Known.{the_tuple};
 ghost use Rattle.plain_machine.specs.Args.{filled};
 ghost use Rattle.proto_call.specs.Rows.{Begins, of_call_kept, bodies_of};
-ghost use Rattle.proto_call.specs.Bodies.{Enters, LastFilled, RestFilled, RunsAs, datum_of, last_in, of_function, opened_of, by_keywords_of, by_place_of};
+ghost use Rattle.proto_call.specs.Bodies.{Enters, LastFilled, RestFilled, RunsAs, datum_of, last_in, opened_of, by_keywords_of, by_place_of};
 
 use crate::CallKept;
 use crate::parameters::{all_filled, left_over, single, with_keywords};
@@ -62,8 +61,8 @@ fn function_at(world: &World, node: PyObjectRef) -> Result<Option<Function>, Out
 
 // The same function again.
 fn copy_function(alloc: Global, function: &Function) -> Result<Function, OutOfMemory>
-    ensures same { IfOk result (λ g. (t : Reading) → datum t (payload.Function g) ≡
-        datum t (payload.Function function.now)) }
+    ensures same { IfOk result (λ g. (t : Reading) → function_datum t g ≡
+        function_datum t function.now) }
     ensures params { IfOk result (λ g. g.params.items ≡ function.now.params.items) }
     ensures claims { IfOk result (λ g. of_function g ≡ of_function function.now) }
 {

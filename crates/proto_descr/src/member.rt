@@ -116,7 +116,7 @@ pub fn member_set(
 {
     match world.payload(m) {
         Payload::Member(member) => {
-            let member = *member;
+            let member = **member;
             if world.is_instance(o, member.class) {
                 set_member(world, member, o, value)
             } else {

@@ -1,7 +1,9 @@
 -- An expression with entries stands for the tree that its names and parts say.
 use Rattle.std.proofs.Common.{◌≡◌, List, [], ◌∷◌, map, String, string_bytes, refl, rules, sym, ap, ◌∙◌}
 use Rattle.std.specs.declared.alloc.Global.{Global}
-use Rattle.std.specs.Global.{Box, Vec}
+use Rattle.std.specs.Global.{Box}
+use Rattle.py_node.specs.declared.expr.CallParts.{CallParts}
+use Rattle.py_node.specs.declared.expr.ClassParts.{ClassParts}
 use Rattle.py_node.specs.declared.expr.Expr.{Expr, the_lemmas}
 use Rattle.py_node.specs.declared.expr.Expr.TheViews.{Call, Class}
 use Rattle.py_node.specs.Tree.{Text, Tree, TCall, TClass, Entries, no_entries, entry, entries_of, trees_of, tree_of, part_of}
@@ -20,31 +22,36 @@ same_entries : (gs hs : List (String Global × Expr)) → map part_of gs ≡ map
     → entries_of (map (λ p. (p.0, tree_of p.1)) gs) ≡ entries_of (map (λ p. (p.0, tree_of p.1)) hs)
 same_entries gs hs parts = entries_parts gs ∙ ap entries_by parts ∙ sym (entries_parts hs)
 
-tree_of-Call : (f : Box Expr) (es : Vec Expr) (kw : Vec (String Global × Expr))
-    → tree_of (Call f es kw) ≡ TCall (tree_of f.value) (trees_of (map tree_of es.items)) (entries_of (map (λ p. (p.0, tree_of p.1)) kw.items))
-tree_of-Call f es kw = search (rules, the_lemmas)
+tree_of-Call : (b : Box (CallParts (String Global) Expr))
+    → tree_of (Call b) ≡ TCall (tree_of b.value.function) (trees_of (map tree_of b.value.args.items)) (entries_of (map (λ p. (p.0, tree_of p.1)) b.value.keywords.items))
+tree_of-Call b = search (rules, the_lemmas)
 
-pub same_call : (f g : Box Expr) (es fs : Vec Expr) (kw lw : Vec (String Global × Expr))
-    → tree_of f.value ≡ tree_of g.value → map tree_of es.items ≡ map tree_of fs.items → map part_of kw.items ≡ map part_of lw.items
-    → tree_of (Call f es kw) ≡ tree_of (Call g fs lw)
-same_call f g es fs kw lw called args parts =
-    let keywords = same_entries kw.items lw.items parts in
-    let whole : TCall (tree_of f.value) (trees_of (map tree_of es.items)) _ ≡ TCall (tree_of g.value) (trees_of (map tree_of fs.items)) _ =
+-- a call in a box is that of its parts, which are copies
+pub same_call : (a b : Box (CallParts (String Global) Expr)) (v : CallParts (String Global) Expr) → a.value ≡ v → tree_of v.function ≡ tree_of b.value.function
+    → map tree_of v.args.items ≡ map tree_of b.value.args.items → map part_of v.keywords.items ≡ map part_of b.value.keywords.items
+    → tree_of (Call a) ≡ tree_of (Call b)
+same_call a b v boxed function arguments parts =
+    let called : tree_of a.value.function ≡ tree_of b.value.function = ap (λ (v : CallParts (String Global) Expr). tree_of v.function) boxed ∙ function in
+    let args : map tree_of a.value.args.items ≡ map tree_of b.value.args.items = ap (λ (v : CallParts (String Global) Expr). map tree_of v.args.items) boxed ∙ arguments in
+    let keywords = same_entries a.value.keywords.items b.value.keywords.items (ap (λ (v : CallParts (String Global) Expr). map part_of v.keywords.items) boxed ∙ parts) in
+    let whole : TCall (tree_of a.value.function) (trees_of (map tree_of a.value.args.items)) _ ≡ TCall (tree_of b.value.function) (trees_of (map tree_of b.value.args.items)) _ =
     λ i. TCall (called i) (trees_of (args i)) (keywords i) in
-    tree_of-Call f es kw ∙ whole ∙ sym (tree_of-Call g fs lw)
+    tree_of-Call a ∙ whole ∙ sym (tree_of-Call b)
 
-tree_of-Class : (x : String Global) (es : Vec Expr) (kw fs : Vec (String Global × Expr))
-    → tree_of (Class x es kw fs)
-    ≡ TClass (string_bytes x) (trees_of (map tree_of es.items)) (entries_of (map (λ p. (p.0, tree_of p.1)) kw.items)) (entries_of (map (λ p. (p.0, tree_of p.1)) fs.items))
-tree_of-Class x es kw fs = search (rules, the_lemmas)
+tree_of-Class : (b : Box (ClassParts (String Global) Expr))
+    → tree_of (Class b)
+    ≡ TClass (string_bytes b.value.name) (trees_of (map tree_of b.value.bases.items)) (entries_of (map (λ p. (p.0, tree_of p.1)) b.value.keywords.items)) (entries_of (map (λ p. (p.0, tree_of p.1)) b.value.entries.items))
+tree_of-Class b = search (rules, the_lemmas)
 
-pub same_class : (x y : String Global) (es fs : Vec Expr) (kw lw gs hs : Vec (String Global × Expr))
-    → string_bytes x ≡ string_bytes y → map tree_of es.items ≡ map tree_of fs.items
-    → map part_of kw.items ≡ map part_of lw.items → map part_of gs.items ≡ map part_of hs.items
-    → tree_of (Class x es kw gs) ≡ tree_of (Class y fs lw hs)
-same_class x y es fs kw lw gs hs named bases given parts =
-    let keywords = same_entries kw.items lw.items given in
-    let inside = same_entries gs.items hs.items parts in
-    let whole : TClass (string_bytes x) (trees_of (map tree_of es.items)) _ _ ≡ TClass (string_bytes y) (trees_of (map tree_of fs.items)) _ _ =
+pub same_class : (a b : Box (ClassParts (String Global) Expr)) (v : ClassParts (String Global) Expr) → a.value ≡ v → string_bytes v.name ≡ string_bytes b.value.name
+    → map tree_of v.bases.items ≡ map tree_of b.value.bases.items
+    → map part_of v.keywords.items ≡ map part_of b.value.keywords.items → map part_of v.entries.items ≡ map part_of b.value.entries.items
+    → tree_of (Class a) ≡ tree_of (Class b)
+same_class a b v boxed name above given parts =
+    let named : string_bytes a.value.name ≡ string_bytes b.value.name = ap (λ (v : ClassParts (String Global) Expr). string_bytes v.name) boxed ∙ name in
+    let bases : map tree_of a.value.bases.items ≡ map tree_of b.value.bases.items = ap (λ (v : ClassParts (String Global) Expr). map tree_of v.bases.items) boxed ∙ above in
+    let keywords = same_entries a.value.keywords.items b.value.keywords.items (ap (λ (v : ClassParts (String Global) Expr). map part_of v.keywords.items) boxed ∙ given) in
+    let inside = same_entries a.value.entries.items b.value.entries.items (ap (λ (v : ClassParts (String Global) Expr). map part_of v.entries.items) boxed ∙ parts) in
+    let whole : TClass (string_bytes a.value.name) (trees_of (map tree_of a.value.bases.items)) _ _ ≡ TClass (string_bytes b.value.name) (trees_of (map tree_of b.value.bases.items)) _ _ =
     λ i. TClass (named i) (trees_of (bases i)) (keywords i) (inside i) in
-    tree_of-Class x es kw gs ∙ whole ∙ sym (tree_of-Class y fs lw hs)
+    tree_of-Class a ∙ whole ∙ sym (tree_of-Class b)

@@ -6,3 +6,4 @@ pub mod SlotTables
 pub mod Operators
 pub mod Faults
 pub mod BuiltInTable
+pub mod Dicts

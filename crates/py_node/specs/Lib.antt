@@ -11,3 +11,5 @@ pub mod Texts
 pub mod Known
 pub mod Operators
 pub mod OwnAttrs
+pub mod Dicts
+pub mod Keys

@@ -93,16 +93,17 @@ tree_step (Expr-F.Bind x e) = TBind (string_bytes x) e.value
 tree_step (Expr-F.Tuple es) = TTuple (trees_of es.items)
 tree_step (Expr-F.List es) = TList (trees_of es.items)
 tree_step (Expr-F.Dict ps) = TDict (keyed_of ps.items)
-tree_step (Expr-F.Func x ps rest e) = TFunc (string_bytes x) (texts_of ps.items) rest e.value
+tree_step (Expr-F.Func f) = TFunc (string_bytes f.value.name) (texts_of f.value.params.items) f.value.rest f.value.body
 tree_step (Expr-F.Attr o x) = TAttr o.value (string_bytes x)
-tree_step (Expr-F.SetAttr o x e) = TSetAttr o.value (string_bytes x) e.value
+tree_step (Expr-F.SetAttr s) = TSetAttr s.value.object (string_bytes s.value.name) s.value.value
 tree_step (Expr-F.DelAttr o x) = TDelAttr o.value (string_bytes x)
-tree_step (Expr-F.Call f es kw) = TCall f.value (trees_of es.items) (entries_of kw.items)
+tree_step (Expr-F.Call c) = TCall c.value.function (trees_of c.value.args.items) (entries_of c.value.keywords.items)
 tree_step (Expr-F.Op word es) = TOp word (trees_of es.items)
 tree_step (Expr-F.If c a b) = TIf c.value a.value b.value
 tree_step (Expr-F.Seq es) = TSeq (trees_of es.items)
 tree_step (Expr-F.Raise kind) = TRaise kind
-tree_step (Expr-F.Class x bs kw es) = TClass (string_bytes x) (trees_of bs.items) (entries_of kw.items) (entries_of es.items)
+tree_step (Expr-F.Class k) =
+    TClass (string_bytes k.value.name) (trees_of k.value.bases.items) (entries_of k.value.keywords.items) (entries_of k.value.entries.items)
 
 -- the tree that an expression of the code stands for
 abbrev pub tree_of : Expr → Tree

@@ -4,7 +4,7 @@ ghost use Rattle.std.specs.Prelude.{◌≡◌, map, string_bytes, IfOk};
 ghost use Rattle.py_node.specs.Tree.{literal_of, texts_of, tree_of, part_of, pair_of};
 ghost use Rattle.py_node.specs.Replies.{reply_of, started_of, reply_answer_of};
 
-use crate::expr::{Command, Constant, Expr};
+use crate::expr::{CallParts, ClassParts, Command, Constant, Expr, FuncParts, SetAttrParts};
 use crate::memory::OutOfMemory;
 use crate::reply::{BodyCall, Reply, ReplyAnswer};
 use std::alloc::Global;
@@ -40,28 +40,50 @@ impl Expr {
             Expr::Tuple(items) => Ok(Expr::Tuple(copy_all(alloc, items)?)),
             Expr::List(items) => Ok(Expr::List(copy_all(alloc, items)?)),
             Expr::Dict(pairs) => Ok(Expr::Dict(copy_pairs(alloc, pairs)?)),
-            Expr::Func(name, params, rest, body) => {
-                let name = copy_text(alloc, name)?;
-                let params = copy_texts(alloc, params)?;
-                Ok(Expr::Func(name, params, *rest, copy_box(alloc, body)?))
+            Expr::Func(func) => {
+                let name = copy_text(alloc, &func.name)?;
+                let params = copy_texts(alloc, &func.params)?;
+                let body = func.body.try_clone(alloc)?;
+                let parts = FuncParts {
+                    name,
+                    params,
+                    rest: func.rest,
+                    body,
+                };
+                let boxed = Box::new(alloc, parts)?;
+                Ok(Expr::Func(boxed))
             }
             Expr::Attr(object, name) => {
                 let object = copy_box(alloc, object)?;
                 Ok(Expr::Attr(object, copy_text(alloc, name)?))
             }
-            Expr::SetAttr(object, name, value) => {
-                let object = copy_box(alloc, object)?;
-                let name = copy_text(alloc, name)?;
-                Ok(Expr::SetAttr(object, name, copy_box(alloc, value)?))
+            Expr::SetAttr(set) => {
+                let object = set.object.try_clone(alloc)?;
+                let name = copy_text(alloc, &set.name)?;
+                let value = set.value.try_clone(alloc)?;
+                let parts = SetAttrParts {
+                    object,
+                    name,
+                    value,
+                };
+                let boxed = Box::new(alloc, parts)?;
+                Ok(Expr::SetAttr(boxed))
             }
             Expr::DelAttr(object, name) => {
                 let object = copy_box(alloc, object)?;
                 Ok(Expr::DelAttr(object, copy_text(alloc, name)?))
             }
-            Expr::Call(function, args, keywords) => {
-                let function = copy_box(alloc, function)?;
-                let args = copy_all(alloc, args)?;
-                Ok(Expr::Call(function, args, copy_entries(alloc, keywords)?))
+            Expr::Call(call) => {
+                let function = call.function.try_clone(alloc)?;
+                let args = copy_all(alloc, &call.args)?;
+                let keywords = copy_entries(alloc, &call.keywords)?;
+                let parts = CallParts {
+                    function,
+                    args,
+                    keywords,
+                };
+                let boxed = Box::new(alloc, parts)?;
+                Ok(Expr::Call(boxed))
             }
             Expr::Op(word, operands) => Ok(Expr::Op(*word, copy_all(alloc, operands)?)),
             Expr::If(condition, then, otherwise) => {
@@ -71,11 +93,19 @@ impl Expr {
             }
             Expr::Seq(items) => Ok(Expr::Seq(copy_all(alloc, items)?)),
             Expr::Raise(kind) => Ok(Expr::Raise(*kind)),
-            Expr::Class(name, bases, keywords, entries) => {
-                let name = copy_text(alloc, name)?;
-                let bases = copy_all(alloc, bases)?;
-                let keywords = copy_entries(alloc, keywords)?;
-                Ok(Expr::Class(name, bases, keywords, copy_entries(alloc, entries)?))
+            Expr::Class(class) => {
+                let name = copy_text(alloc, &class.name)?;
+                let bases = copy_all(alloc, &class.bases)?;
+                let keywords = copy_entries(alloc, &class.keywords)?;
+                let entries = copy_entries(alloc, &class.entries)?;
+                let parts = ClassParts {
+                    name,
+                    bases,
+                    keywords,
+                    entries,
+                };
+                let boxed = Box::new(alloc, parts)?;
+                Ok(Expr::Class(boxed))
             }
         }
     }

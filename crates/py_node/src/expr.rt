@@ -77,7 +77,44 @@ pub enum ObjectWord {
     HasAttr,
 }
 
-/// An expression of a script.
+/// The parts of a function. In a script its names are texts and its body is an expression; in the world's store both are numbers.
+#[derive(Drop)]
+pub struct FuncParts<N, E> {
+    pub name: N,
+    pub params: Vec<N>,
+    /// Whether the last parameter takes the rest of the arguments.
+    pub rest: bool,
+    pub body: E,
+}
+
+/// The parts of a call. In a script its names are texts and its parts are expressions; in the world's store all are numbers.
+#[derive(Drop)]
+pub struct CallParts<N, E> {
+    /// What is called.
+    pub function: E,
+    pub args: Vec<E>,
+    pub keywords: Vec<(N, E)>,
+}
+
+/// The parts of a class. In a script its names are texts and its parts are expressions; in the world's store all are numbers.
+#[derive(Drop)]
+pub struct ClassParts<N, E> {
+    pub name: N,
+    pub bases: Vec<E>,
+    pub keywords: Vec<(N, E)>,
+    /// What the body binds, in order.
+    pub entries: Vec<(N, E)>,
+}
+
+/// The parts of an attribute that is set.
+#[derive(Drop)]
+pub struct SetAttrParts<E> {
+    pub object: E,
+    pub name: String,
+    pub value: E,
+}
+
+/// An expression of a script. What is large stands in a box, so that the others are small.
 #[derive(Drop)]
 pub enum Expr {
     Const(Constant),
@@ -87,21 +124,20 @@ pub enum Expr {
     List(Vec<Expr>),
     /// Keys with their values.
     Dict(Vec<(Expr, Expr)>),
-    /// A name, the parameters, whether the last one takes the rest of the arguments, and the body.
-    Func(String, Vec<String>, bool, Box<Expr>),
+    Func(Box<FuncParts<String, Expr>>),
     Attr(Box<Expr>, String),
-    SetAttr(Box<Expr>, String, Box<Expr>),
+    SetAttr(Box<SetAttrParts<Expr>>),
     DelAttr(Box<Expr>, String),
-    /// What is called, the arguments, and the keywords.
-    Call(Box<Expr>, Vec<Expr>, Vec<(String, Expr)>),
+    Call(Box<CallParts<String, Expr>>),
     Op(Word, Vec<Expr>),
     /// A condition, and what is evaluated where it is true and where it isn't.
     If(Box<Expr>, Box<Expr>, Box<Expr>),
     Seq(Vec<Expr>),
     Raise(Kind),
-    /// A name, the bases, the keywords, and the entries of the body.
-    Class(String, Vec<Expr>, Vec<(String, Expr)>, Vec<(String, Expr)>),
+    Class(Box<ClassParts<String, Expr>>),
 }
+
+const _: () = prove!(size_of::<Expr>() == 40);
 
 /// A command: an expression that is evaluated by itself.
 #[derive(Drop)]

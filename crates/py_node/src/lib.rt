@@ -7,9 +7,11 @@ pub mod attrs_of_callables;
 pub mod attrs_of_values;
 pub mod built_in;
 pub mod clone;
+pub mod dict;
 pub mod entry;
 pub mod expr;
 pub mod flags;
+mod key_index;
 pub mod known;
 pub mod members;
 pub mod memory;
@@ -27,13 +29,17 @@ pub mod task;
 pub use attr::Attr;
 pub use attributes::PyAttributes;
 pub use built_in::BuiltIn;
+pub use dict::{PyDict, PyDictKey};
 pub use entry::{
     ArithmeticNative, BitNative, CallableNative, CompareNative, DescriptorNative, Detail,
     DictNative, FixedNative, IntNative, IteratorNative, ListNative, NativeEntry, NumberNative,
     ObjectNative, Property, PropertyNative, SlotEntry, SlotId, StrNative, SuperNative, TupleNative,
     TypeNative, WrapperNative,
 };
-pub use expr::{Command, Constant, Expr, ObjectWord, SequenceWord, Word};
+pub use expr::{
+    CallParts, ClassParts, Command, Constant, Expr, FuncParts, ObjectWord, SequenceWord,
+    SetAttrParts, Word,
+};
 pub use flags::{PyMethodFlags, PyTypeFlags};
 pub use known::Known;
 pub use members::{MemberPlace, PyMembers};

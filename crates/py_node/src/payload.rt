@@ -3,11 +3,14 @@
 ghost use Rattle.std.specs.Prelude.{◌≡◌};
 ghost use Rattle.py_node.specs.Members.{kind_number};
 
+use crate::dict::PyDict;
 use crate::entry::NativeEntry;
+use crate::expr::{CallParts, ClassParts, Constant, FuncParts, Word};
 use crate::members::PyMembers;
+use crate::raised::Kind;
 use crate::refs::{PyObjectRef, PyStrInterned, PyTypeRef};
 
-/// What a node holds beside its class and its dict.
+/// What a node holds beside its class and its dict. What is larger than the others stands in a box, so that nodes are small.
 #[derive(Drop)]
 pub enum Payload {
     /// An object of a class that keeps nothing else, and None and NotImplemented.
@@ -21,8 +24,8 @@ pub enum Payload {
     Tuple(Vec<PyObjectRef>),
     List(Vec<PyObjectRef>),
     /// Keys with their values, in the order in which the keys came.
-    Dict(Vec<(PyObjectRef, PyObjectRef)>),
-    Function(Function),
+    Dict(PyDict),
+    Function(Box<Function>),
     Method(BoundMethod),
     NativeFunction(NativeFunction),
     BuiltinMethod(BuiltinMethod),
@@ -32,12 +35,14 @@ pub enum Payload {
     ClassMethod(PyObjectRef),
     /// The callable that a static method wraps.
     StaticMethod(PyObjectRef),
-    Member(MemberDescriptor),
-    Property(PyProperty),
+    Member(Box<MemberDescriptor>),
+    Property(Box<PyProperty>),
     Super(PySuper),
     Iterator(SequenceIterator),
     Slice(PySlice),
 }
+
+const _: () = prove!(size_of::<Payload>() == 64);
 
 /// A function of a script.
 #[derive(Drop)]
@@ -188,23 +193,27 @@ pub struct Node {
     pub payload: Payload,
 }
 
-/// An expression in the world's store, which names its parts by their numbers there.
+const _: () = prove!(size_of::<Node>() == 112);
+
+/// An expression in the world's store, which names its parts by their numbers there. What is large stands in a box.
 #[derive(Drop)]
 pub enum Form {
-    Const(crate::expr::Constant),
+    Const(Constant),
     Name(PyStrInterned),
     Bind(PyStrInterned, u64),
     Tuple(Vec<u64>),
     List(Vec<u64>),
     Dict(Vec<(u64, u64)>),
-    Func(PyStrInterned, Vec<PyStrInterned>, bool, u64),
+    Func(Box<FuncParts<PyStrInterned, u64>>),
     Attr(u64, PyStrInterned),
     SetAttr(u64, PyStrInterned, u64),
     DelAttr(u64, PyStrInterned),
-    Call(u64, Vec<u64>, Vec<(PyStrInterned, u64)>),
-    Op(crate::expr::Word, Vec<u64>),
+    Call(Box<CallParts<PyStrInterned, u64>>),
+    Op(Word, Vec<u64>),
     If(u64, u64, u64),
     Seq(Vec<u64>),
-    Raise(crate::raised::Kind),
-    Class(PyStrInterned, Vec<u64>, Vec<(PyStrInterned, u64)>, Vec<(PyStrInterned, u64)>),
+    Raise(Kind),
+    Class(Box<ClassParts<PyStrInterned, u64>>),
 }
+
+const _: () = prove!(size_of::<Form>() == 40);

@@ -4,11 +4,15 @@ use Rattle.std.proofs.lemmas.List.{length-map}
 use Rattle.serde_json.specs.Data.{depth, items_depth}
 use Rattle.serde_json.specs.View.{view, items_view}
 use Rattle.serde_json.specs.declared.value.Value.{Value}
+use Rattle.py_node.specs.declared.expr.CallParts.{CallParts}
+use Rattle.py_node.specs.declared.expr.ClassParts.{ClassParts}
 use Rattle.py_node.specs.declared.expr.Expr.{Expr, Call, Class, Op, the_lemmas}
+use Rattle.py_node.specs.declared.expr.Command.{Command}
 use Rattle.py_node.specs.declared.expr.Word.{Word}
 use Rattle.py_node.specs.Tree.{TCall, TClass, TOp, entry, entries_of, trees_of, tree_of, pair_of}
 use Rattle.script_text.specs.Forms.{expr_of, exprs_of, pair_in, pairs_in, entry_of, entries_in, named, named_entries, call, class, operation}
 use Rattle.json_text.proofs.Lists.{onto, turn}
+use Rattle.script_text.specs.Script.{command_trees}
 use Rattle.script_text.specs.Words.{allows}
 use Rattle.script_text.specs.declared.words.Arity.{Arity}
 
@@ -30,6 +34,12 @@ pub exprs-turn : (vs : List Value) (i : ℕ) (v : Value) (found : List Expr) (e 
 unfolding exprs_of
 exprs-turn vs i v found e = turn (λ w. expr_of (view w)) (λ ws. exprs_of (items_view ws)) tree_of (λ w ws. refl) vs i v found e (exprs_of (items_view vs))
 
+pub commands-turn : (vs : List Value) (i : ℕ) (v : Value) (found : List Command) (k : Command) → i < length vs → v ≡ get_or vs i v → expr_of (view v) ≡ Some (tree_of k.expr)
+    → exprs_of (items_view vs) ≡ onto (command_trees found) (exprs_of (items_view (drop i vs)))
+    → exprs_of (items_view vs) ≡ onto (command_trees (found ++ k ∷ [])) (exprs_of (items_view (drop (i + 1) vs)))
+unfolding exprs_of
+commands-turn vs i v found k = turn (λ w. expr_of (view w)) (λ ws. exprs_of (items_view ws)) (λ (k : Command). tree_of k.expr) (λ w ws. refl) vs i v found k (exprs_of (items_view vs))
+
 pub entries-turn : (vs : List Value) (i : ℕ) (v : Value) (found : List (String Global × Expr)) (e : String Global × Expr) → i < length vs → v ≡ get_or vs i v → entry_of (view v) ≡ Some (named e)
     → entries_in (items_view vs) ≡ onto (map named found) (entries_in (items_view (drop i vs)))
     → entries_in (items_view vs) ≡ onto (map named (found ++ e ∷ [])) (entries_in (items_view (drop (i + 1) vs)))
@@ -47,23 +57,23 @@ entries-named [] = refl
 entries-named (f ∷ fs) = ap (entry (string_bytes f.0) (tree_of f.1)) (entries-named fs)
 
 -- a call that was read
-pub call-tree : (callee : Box Expr Global) (args : Vec Expr Global) (keywords : Vec (String Global × Expr) Global)
-    → tree_of (Call callee args keywords) ≡ call (tree_of callee.value) (map tree_of args.items) (map named keywords.items)
-call-tree callee args keywords =
-    let seen : tree_of (Call callee args keywords) ≡ TCall (tree_of callee.value) (trees_of (map tree_of args.items))
-    (entries_of (map (λ (e : String Global × Expr). (e.0, tree_of e.1)) keywords.items)) =
+pub call-tree : (b : Box (CallParts (String Global) Expr) Global)
+    → tree_of (Call b) ≡ call (tree_of b.value.function) (map tree_of b.value.args.items) (map named b.value.keywords.items)
+call-tree b =
+    let seen : tree_of (Call b) ≡ TCall (tree_of b.value.function) (trees_of (map tree_of b.value.args.items))
+    (entries_of (map (λ (e : String Global × Expr). (e.0, tree_of e.1)) b.value.keywords.items)) =
     search (rules, the_lemmas) in
-    seen ∙ ap (TCall (tree_of callee.value) (trees_of (map tree_of args.items))) (entries-named keywords.items)
+    seen ∙ ap (TCall (tree_of b.value.function) (trees_of (map tree_of b.value.args.items))) (entries-named b.value.keywords.items)
 
 -- a class that was read
-pub class-tree : (text : String Global) (bases : Vec Expr Global) (keywords entries : Vec (String Global × Expr) Global)
-    → tree_of (Class text bases keywords entries) ≡ class (string_bytes text) (map tree_of bases.items) (map named entries.items) (map named keywords.items)
-class-tree text bases keywords entries =
-    let seen : tree_of (Class text bases keywords entries) ≡ TClass (string_bytes text) (trees_of (map tree_of bases.items))
-    (entries_of (map (λ (e : String Global × Expr). (e.0, tree_of e.1)) keywords.items)) (entries_of (map (λ (e : String Global × Expr). (e.0, tree_of e.1)) entries.items)) =
+pub class-tree : (b : Box (ClassParts (String Global) Expr) Global)
+    → tree_of (Class b) ≡ class (string_bytes b.value.name) (map tree_of b.value.bases.items) (map named b.value.entries.items) (map named b.value.keywords.items)
+class-tree b =
+    let seen : tree_of (Class b) ≡ TClass (string_bytes b.value.name) (trees_of (map tree_of b.value.bases.items))
+    (entries_of (map (λ (e : String Global × Expr). (e.0, tree_of e.1)) b.value.keywords.items)) (entries_of (map (λ (e : String Global × Expr). (e.0, tree_of e.1)) b.value.entries.items)) =
     search (rules, the_lemmas) in
-    seen ∙ ap (λ ks. TClass (string_bytes text) (trees_of (map tree_of bases.items)) ks (entries_of (map (λ (e : String Global × Expr). (e.0, tree_of e.1)) entries.items))) (entries-named keywords.items)
-    ∙ ap (TClass (string_bytes text) (trees_of (map tree_of bases.items)) (named_entries (map named keywords.items))) (entries-named entries.items)
+    seen ∙ ap (λ ks. TClass (string_bytes b.value.name) (trees_of (map tree_of b.value.bases.items)) ks (entries_of (map (λ (e : String Global × Expr). (e.0, tree_of e.1)) b.value.entries.items))) (entries-named b.value.keywords.items)
+    ∙ ap (TClass (string_bytes b.value.name) (trees_of (map tree_of b.value.bases.items)) (named_entries (map named b.value.keywords.items))) (entries-named b.value.entries.items)
 
 -- an operation that was read: its word is known, and it takes so many operands
 pub op-tree : (row : Word × Arity) (operands : Vec Expr Global) → allows row.1 (length operands.items) ≡ true → operation (Some row) (Some (map tree_of operands.items)) ≡ Some (tree_of (Op row.0 operands))

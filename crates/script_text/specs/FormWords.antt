@@ -8,10 +8,10 @@ use Rattle.script_text.specs.declared.form_words.FormWord.TheVariants as form
 -- the words, and the form that each stands for
 unfoldable pub form_words : List (Text × FormWord)
 form_words =
-    (codes "name", form.Name) ∷ (codes "bind", form.Bind) ∷ (codes "tuple", form.Tuple) ∷ (codes "list", form.List)
-    ∷ (codes "dict", form.Dict) ∷ (codes "func", form.Func) ∷ (codes "func*", form.FuncRest) ∷ (codes "attr", form.Attr)
-    ∷ (codes "setattr", form.SetAttr) ∷ (codes "delattr", form.DelAttr) ∷ (codes "call", form.Call) ∷ (codes "op", form.Op)
-    ∷ (codes "if", form.If) ∷ (codes "seq", form.Seq) ∷ (codes "raise", form.Raise) ∷ (codes "class", form.Class) ∷ []
+    (codes "name", form.Name) ∷ (codes "op", form.Op) ∷ (codes "attr", form.Attr) ∷ (codes "call", form.Call)
+    ∷ (codes "seq", form.Seq) ∷ (codes "bind", form.Bind) ∷ (codes "setattr", form.SetAttr) ∷ (codes "tuple", form.Tuple)
+    ∷ (codes "list", form.List) ∷ (codes "dict", form.Dict) ∷ (codes "func", form.Func) ∷ (codes "func*", form.FuncRest)
+    ∷ (codes "delattr", form.DelAttr) ∷ (codes "if", form.If) ∷ (codes "raise", form.Raise) ∷ (codes "class", form.Class) ∷ []
 
 -- the form that a text stands for
 abbrev pub form_named : Text → Option FormWord

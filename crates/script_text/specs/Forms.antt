@@ -107,19 +107,19 @@ unfoldable mutual
   array_of no_items = None
   array_of (item head ds) = option_and_then (λ word.
       if bytes_eq word (codes "name") then name_of ds
+      else (if bytes_eq word (codes "op") then op_of ds
+      else (if bytes_eq word (codes "attr") then attr_of ds
+      else (if bytes_eq word (codes "call") then call_of ds
+      else (if bytes_eq word (codes "seq") then option_map seq (exprs_of ds)
       else (if bytes_eq word (codes "bind") then bind_of ds
+      else (if bytes_eq word (codes "setattr") then setattr_of ds
       else (if bytes_eq word (codes "tuple") then option_map tuple (exprs_of ds)
       else (if bytes_eq word (codes "list") then option_map list (exprs_of ds)
       else (if bytes_eq word (codes "dict") then option_map dict (pairs_in ds)
       else (if bytes_eq word (codes "func") then func_of false ds
       else (if bytes_eq word (codes "func*") then func_of true ds
-      else (if bytes_eq word (codes "attr") then attr_of ds
-      else (if bytes_eq word (codes "setattr") then setattr_of ds
       else (if bytes_eq word (codes "delattr") then delattr_of ds
-      else (if bytes_eq word (codes "call") then call_of ds
-      else (if bytes_eq word (codes "op") then op_of ds
       else (if bytes_eq word (codes "if") then if_of ds
-      else (if bytes_eq word (codes "seq") then option_map seq (exprs_of ds)
       else (if bytes_eq word (codes "raise") then raise_of ds
       else (if bytes_eq word (codes "class") then class_of ds
       else None)))))))))))))))) (as_str head)

@@ -30,22 +30,22 @@ pub(crate) enum FormWord {
     Class,
 }
 
-/// The words, and the form that each stands for.
+/// The words, and the form that each stands for: first those that stand most often in scripts.
 pub(crate) const FORMS: [(&str, FormWord); 16] = [
     ("name", FormWord::Name),
+    ("op", FormWord::Op),
+    ("attr", FormWord::Attr),
+    ("call", FormWord::Call),
+    ("seq", FormWord::Seq),
     ("bind", FormWord::Bind),
+    ("setattr", FormWord::SetAttr),
     ("tuple", FormWord::Tuple),
     ("list", FormWord::List),
     ("dict", FormWord::Dict),
     ("func", FormWord::Func),
     ("func*", FormWord::FuncRest),
-    ("attr", FormWord::Attr),
-    ("setattr", FormWord::SetAttr),
     ("delattr", FormWord::DelAttr),
-    ("call", FormWord::Call),
-    ("op", FormWord::Op),
     ("if", FormWord::If),
-    ("seq", FormWord::Seq),
     ("raise", FormWord::Raise),
     ("class", FormWord::Class),
 ];

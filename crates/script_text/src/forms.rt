@@ -11,7 +11,7 @@ use crate::form_parts::{Many, Parts, Single, pair_items, parts_of};
 use crate::words::read_kind;
 use json_text::Unread;
 use json_text::texts::{read_text, read_texts};
-use py_node::{Constant, Expr};
+use py_node::{CallParts, ClassParts, Constant, Expr, FuncParts, SetAttrParts};
 use serde_json::Value;
 use std::alloc::{AllocError, Global};
 use std::collections::BTreeSet;
@@ -137,7 +137,7 @@ fn read_parts(alloc: Global, parts: Parts<'_>) -> Result<Expr, Unread>
             let bases = read_exprs(alloc, base_list)?;
             let entries = read_entries(alloc, entry_list)?;
             let keywords = read_entries(alloc, keyword_list)?;
-            Ok(class_of(text, bases, keywords, entries))
+            class_of(alloc, text, bases, keywords, entries)
         }
     }
 }
@@ -175,7 +175,13 @@ fn single_of(alloc: Global, single: Single<'_>, expr: Expr) -> Result<Expr, Unre
         Single::Func(rest, name, params) => {
             let text = read_text(alloc, name)?;
             let texts = read_params(alloc, rest, params)?;
-            Ok(Expr::Func(text, texts, rest, Box::new(alloc, expr)?))
+            let parts = FuncParts {
+                name: text,
+                params: texts,
+                rest,
+                body: expr,
+            };
+            Ok(Expr::Func(Box::new(alloc, parts)?))
         }
         Single::Attr(name) => {
             let text = read_text(alloc, name)?;
@@ -193,7 +199,12 @@ fn set_attr_of(alloc: Global, target: Expr, name: String, expr: Expr) -> Result<
     ensures ok { IfOk result (λ e. tree_of e ≡ TSetAttr (tree_of target) (string_bytes name) (tree_of expr)) }
     ensures shape { result ≢ Err Unread.Shape }
 {
-    Ok(Expr::SetAttr(Box::new(alloc, target)?, name, Box::new(alloc, expr)?))
+    let parts = SetAttrParts {
+        object: target,
+        name,
+        value: expr,
+    };
+    Ok(Expr::SetAttr(Box::new(alloc, parts)?))
 }
 
 // A choice between two expressions.
@@ -238,20 +249,33 @@ fn call_of(
         tree_of e ≡ call (tree_of function) (map tree_of args.items) (map named keywords.items)) }
     ensures shape { result ≢ Err Unread.Shape }
 {
-    Ok(Expr::Call(Box::new(alloc, function)?, args, keywords))
+    let parts = CallParts {
+        function,
+        args,
+        keywords,
+    };
+    Ok(Expr::Call(Box::new(alloc, parts)?))
 }
 
 // A class.
 fn class_of(
+    alloc: Global,
     name: String,
     bases: Vec<Expr>,
     keywords: Vec<(String, Expr)>,
     entries: Vec<(String, Expr)>,
-) -> Expr
-    ensures { tree_of result ≡ class (string_bytes name) (map tree_of bases.items) (map named entries.items)
-        (map named keywords.items) }
+) -> Result<Expr, Unread>
+    ensures ok { IfOk result (λ e. tree_of e ≡ class (string_bytes name) (map tree_of bases.items)
+        (map named entries.items) (map named keywords.items)) }
+    ensures shape { result ≢ Err Unread.Shape }
 {
-    Expr::Class(name, bases, keywords, entries)
+    let parts = ClassParts {
+        name,
+        bases,
+        keywords,
+        entries,
+    };
+    Ok(Expr::Class(Box::new(alloc, parts)?))
 }
 
 /// The expressions that values spell.

@@ -1,16 +1,16 @@
 //! The commands of a script.
 
-ghost use Rattle.std.specs.Prelude.{◌≡◌, IfOk, map};
+ghost use Rattle.std.specs.Prelude.{◌≡◌, Some, None, Err, IfOk};
 ghost use Rattle.serde_json.specs.View.{view, items_view};
-ghost use Rattle.py_node.specs.Tree.{tree_of};
 ghost use Rattle.json_text.specs.declared.error.ScriptError.{ScriptError as Refusal};
+ghost use Rattle.script_text.specs.Forms.{exprs_of};
 ghost use Rattle.script_text.specs.Script.{script_of, commands_of, commands_in, command_trees};
 
-use crate::forms::read_exprs;
-use json_text::{ScriptError, ScriptFault, read_json};
-use py_node::{Command, Expr};
+use crate::forms::read_expr;
+use json_text::{ScriptError, ScriptFault, Unread, read_json};
+use py_node::Command;
 use serde_json::Value;
-use std::alloc::{AllocError, Global};
+use std::alloc::Global;
 
 /// Reads a script: exactly the commands that the bytes spell.
 #[tactic(auto, unfolding(crate::specs::Script::script_of, crate::specs::Script::told_by))]
@@ -42,18 +42,21 @@ fn read_items(alloc: Global, items: &[Value]) -> Result<Vec<Command>, ScriptFaul
     let Some(_) = items.split_first() else {
         return Err(ScriptFault::Script(ScriptError::NoCommand));
     };
-    let exprs = read_exprs(alloc, items)?;
-    let commands = as_commands(alloc, exprs)?;
+    let commands = read_each(alloc, items)?;
     Ok(commands)
 }
 
-/// Each expression is a command.
-pub(crate) fn as_commands(alloc: Global, exprs: Vec<Expr>) -> Result<Vec<Command>, AllocError>
-    ensures { IfOk result (λ v. command_trees v.items ≡ map tree_of exprs.items) }
+/// The commands that values spell: each expression is one.
+#[tactic(auto, unfolding(crate::specs::Forms::exprs_of))]
+pub(crate) fn read_each(alloc: Global, items: &[Value]) -> Result<Vec<Command>, Unread>
+    ensures ok { IfOk result (λ v. exprs_of (items_view items.now) ≡ Some (command_trees v.items)) }
+    ensures shape { result ≡ Err Unread.Shape → exprs_of (items_view items.now) ≡ None }
 {
-    let mut commands = Vec::with_capacity(alloc, exprs.len())?;
-    for expr in exprs {
-        commands.push(Command { expr })?;
+    let mut commands = Vec::with_capacity(alloc, items.len())?;
+    for item in items {
+        commands.push(Command {
+            expr: read_expr(alloc, item)?,
+        })?;
     }
     Ok(commands)
 }

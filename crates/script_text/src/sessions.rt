@@ -9,8 +9,7 @@ ghost use Rattle.script_text.specs.Script.{command_trees};
 ghost use Rattle.script_text.specs.Sessions.{sessions_of, sessions_by, sessions_in, lists_in, lacks_command, any_empty, is_empty_array, session_trees};
 
 use crate::form_parts::list_items;
-use crate::forms::read_exprs;
-use crate::read::as_commands;
+use crate::read::read_each;
 use json_text::{ScriptError, ScriptFault, Unread, read_json};
 use py_node::Command;
 use serde_json::Value;
@@ -85,8 +84,7 @@ fn read_list(alloc: Global, value: &Value) -> Result<Vec<Command>, Unread>
     ensures few { IfOk result (λ v. vec_len v < TOO_MANY) }
 {
     let values = list_items(value)?;
-    let exprs = read_exprs(alloc, values)?;
-    let commands = as_commands(alloc, exprs)?;
+    let commands = read_each(alloc, values)?;
     few_enough(commands)
 }
 

@@ -7,7 +7,7 @@ ghost use Rattle.class_world.specs.Sound.{IsExpression, Holds, Grows};
 ghost use Rattle.world_text.specs.Store.{Adds, HasName, HasNames, HasTree, HasTrees, HasPairs, HasEntries, HasForm};
 
 use class_world::World;
-use py_node::{Constant, Expr, Form, OutOfMemory, PyStrInterned};
+use py_node::{CallParts, ClassParts, Constant, Expr, Form, FuncParts, OutOfMemory, PyStrInterned};
 
 /// Puts an expression into the store, and answers its number there.
 pub fn add_expr(world: &mut World, expr: &Expr) -> Result<u64, OutOfMemory>
@@ -59,21 +59,28 @@ fn form_of(world: &mut World, expr: &Expr) -> Result<Form, OutOfMemory>
             let pairs = store_pairs(world, pairs)?;
             Ok(Form::Dict(pairs))
         }
-        Expr::Func(name, params, rest, body) => {
-            let name = name_of(world, name)?;
-            let params = names_of(world, params)?;
-            let body = store(world, body)?;
-            Ok(Form::Func(name, params, *rest, body))
+        Expr::Func(func) => {
+            let name = name_of(world, &func.name)?;
+            let params = names_of(world, &func.params)?;
+            let body = store(world, &func.body)?;
+            let parts = FuncParts {
+                name,
+                params,
+                rest: func.rest,
+                body,
+            };
+            let boxed = Box::new(world.alloc(), parts)?;
+            Ok(Form::Func(boxed))
         }
         Expr::Attr(target, name) => {
             let target = store(world, target)?;
             let name = name_of(world, name)?;
             Ok(Form::Attr(target, name))
         }
-        Expr::SetAttr(target, name, value) => {
-            let target = store(world, target)?;
-            let name = name_of(world, name)?;
-            let value = store(world, value)?;
+        Expr::SetAttr(set) => {
+            let target = store(world, &set.object)?;
+            let name = name_of(world, &set.name)?;
+            let value = store(world, &set.value)?;
             Ok(Form::SetAttr(target, name, value))
         }
         Expr::DelAttr(target, name) => {
@@ -81,11 +88,17 @@ fn form_of(world: &mut World, expr: &Expr) -> Result<Form, OutOfMemory>
             let name = name_of(world, name)?;
             Ok(Form::DelAttr(target, name))
         }
-        Expr::Call(func, args, keywords) => {
-            let func = store(world, func)?;
-            let args = store_each(world, args)?;
-            let keywords = store_entries(world, keywords)?;
-            Ok(Form::Call(func, args, keywords))
+        Expr::Call(call) => {
+            let function = store(world, &call.function)?;
+            let args = store_each(world, &call.args)?;
+            let keywords = store_entries(world, &call.keywords)?;
+            let parts = CallParts {
+                function,
+                args,
+                keywords,
+            };
+            let boxed = Box::new(world.alloc(), parts)?;
+            Ok(Form::Call(boxed))
         }
         Expr::Op(word, operands) => {
             let operands = store_each(world, operands)?;
@@ -102,12 +115,19 @@ fn form_of(world: &mut World, expr: &Expr) -> Result<Form, OutOfMemory>
             Ok(Form::Seq(items))
         }
         Expr::Raise(kind) => Ok(Form::Raise(*kind)),
-        Expr::Class(name, bases, keywords, entries) => {
-            let name = name_of(world, name)?;
-            let bases = store_each(world, bases)?;
-            let keywords = store_entries(world, keywords)?;
-            let entries = store_entries(world, entries)?;
-            Ok(Form::Class(name, bases, keywords, entries))
+        Expr::Class(class) => {
+            let name = name_of(world, &class.name)?;
+            let bases = store_each(world, &class.bases)?;
+            let keywords = store_entries(world, &class.keywords)?;
+            let entries = store_entries(world, &class.entries)?;
+            let parts = ClassParts {
+                name,
+                bases,
+                keywords,
+                entries,
+            };
+            let boxed = Box::new(world.alloc(), parts)?;
+            Ok(Form::Class(boxed))
         }
     }
 }

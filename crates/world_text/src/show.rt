@@ -86,8 +86,8 @@ fn show_payload(
         Payload::List(items) if is(class, BuiltIn::List) => {
             list_of(alloc, item_texts(world, depth, items)?)
         }
-        Payload::Dict(entries) if is(class, BuiltIn::Dict) => {
-            dict_of(alloc, entry_texts(world, depth, entries)?)
+        Payload::Dict(dict) if is(class, BuiltIn::Dict) => {
+            dict_of(alloc, entry_texts(world, depth, dict.entries())?)
         }
         Payload::Class(named) => show_class(world, *named),
         _ => show_plain(world, class),

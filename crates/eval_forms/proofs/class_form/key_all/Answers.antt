@@ -42,7 +42,8 @@ loop-i-preserved c =
       (λ t r. spelled-next t (plain t old) (plain t new) ps es c.loop-i.i e key e.1 c.loop-i.invariant.3 c.at.ensures (k.made t (k.reads t r)) (k.number t) (c.loop-i.invariant.4 t (k.reads t r))),
     )
 
-pub returns-clause-keys : goal.returns-clause-keys
-returns-clause-keys c =
+pub returns-clause-holds : goal.returns-clause-holds
+returns-clause-holds c =
     let r = c.readable.ensures in
-    keys-differ r.0 c.loop-i.world c.loop-i.pairs.items c.args.entries.now (c.loop-i.invariant.4 r.0 r.1) c.len-i-end.ensures.distinct
+    let apart = keys-differ r.0 c.loop-i.world c.loop-i.pairs.items c.args.entries.now (c.loop-i.invariant.4 r.0 r.1) c.len-i-end.ensures.distinct in
+    (c.loop-i.invariant.2.0, (c.loop-i.invariant.2.1, (apart, tt)))

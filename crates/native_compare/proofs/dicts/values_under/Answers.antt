@@ -1,8 +1,7 @@
-use Rattle.std.proofs.Common.{◌∙◌, sym, arith}
+use Rattle.std.proofs.Common.{◌∙◌}
 use Rattle.class_world.specs.Reading.{plain}
 use Rattle.class_world.proofs.Claims.{no-nodes, more-nodes}
-use Rattle.class_world.proofs.KeyEntries.{pair-holds}
-use Rattle.native_containers.proofs.Payloads.{keys-can}
+use Rattle.class_world.proofs.KeyEntries.{pair-holds, keys-can}
 use Rattle.native_compare.proofs.Values.{value-more, values-first}
 use Rattle.native_compare.proofs.dicts.values_under.Goals as goal
 

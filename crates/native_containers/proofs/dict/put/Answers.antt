@@ -1,13 +1,21 @@
-use Rattle.std.proofs.Common.{◌∙◌}
+use Rattle.std.proofs.Common.{Err, sym, ap, ◌∙◌}
+use Rattle.plain_machine.specs.Dicts.{with_entries, with_entry}
+use Rattle.plain_machine.specs.Plain.{Ends}
 use Rattle.class_world.specs.Reading.{plain}
 use Rattle.native_containers.specs.Say.{ends_none}
-use Rattle.native_containers.proofs.Changed.{put-says}
+use Rattle.native_containers.specs.Take.{entries_at}
+use Rattle.native_containers.proofs.Changed.{long, short}
 use Rattle.native_containers.proofs.dict.put.Goals as goal
 
-pub returns-in-Err-clause-ends : goal.returns-in-Err-clause-ends
-returns-in-Err-clause-ends c = λ t q.
-    (c.in-Err.ensures.reads t q, put-says (plain t c.args.world.now) c.args.dict c.entries.result.now c.in_ok-entries.entries.items ends_none c.args.key c.args.value (c.entries.ensures.same t) (c.in_ok-entries.ensures.entries t) (c.in_default.ensures.taken t) ∙ c.in-Err.ensures.refused t ends_none)
+pub returns-then-not-has_room-clause-ends : goal.returns-then-not-has_room-clause-ends
+returns-then-not-has_room-clause-ends c = λ t q.
+    let u = plain t c.args.world.now in
+    let es = with_entry u (entries_at u c.args.dict) (c.args.key, c.args.value) in
+    (q, c.in_default.ensures.taken t _ ∙ long u es (ends_none (with_entries u c.args.dict es)) (c.has_room.ensures t c.args.value ∙ c.if-not-has_room.true) ∙ ap (λ x. Ends u (Err x)) (sym c.new.ensures))
 
-pub returns-in-Ok-clause-ends : goal.returns-in-Ok-clause-ends
-returns-in-Ok-clause-ends c = λ t q.
-    (c.in-Ok.ensures.reads t q, put-says (plain t c.args.world.now) c.args.dict c.entries.result.now c.in_ok-entries.entries.items ends_none c.args.key c.args.value (c.entries.ensures.same t) (c.in_ok-entries.ensures.entries t) (c.in_default.ensures.taken t) ∙ c.in-Ok.ensures.changed t ends_none ∙ (c.ends_none.ensures.ends t q).1)
+pub returns-clause-ends : goal.returns-clause-ends
+returns-clause-ends c = λ t q.
+    let u = plain t c.args.world.now in
+    let es = with_entry u (entries_at u c.args.dict) (c.args.key, c.args.value) in
+    let set = c.in_ok-set_value_under.ensures in
+    (set.reads t q, c.in_default.ensures.taken t _ ∙ short u es (ends_none (with_entries u c.args.dict es)) (c.has_room.ensures t c.args.value ∙ c.if-not-has_room.false) ∙ ap ends_none (sym (set.set t)) ∙ (c.ends_none.ensures.ends t q).1)

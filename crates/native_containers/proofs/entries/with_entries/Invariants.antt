@@ -1,12 +1,16 @@
 use Rattle.std.proofs.Common.{◌≡◌, take, fold}
 use Rattle.plain_machine.specs.Dicts.{with_entry}
-use Rattle.class_world.specs.Keyed.{of_entries}
-use Rattle.class_world.specs.Reading.{Reading, plain}
-use Rattle.class_world.specs.Sound.{AllHold}
+use Rattle.class_world.specs.Keyed.{of_keyed}
+use Rattle.class_world.specs.Reading.{Reading, Reads, plain}
+use Rattle.class_world.specs.Sound.{AllHold, Grows}
+use Rattle.native_containers.specs.Take.{entries_at}
 use Rattle.native_containers.proofs.entries.with_entries.Given as goal
 
 abbrev pub invariant-loop-entry : goal.invariant-loop-entry
 invariant-loop-entry l = record {
-  entries : (t : Reading) → fold (with_entry (plain t l.world)) l.entries (take l.entry-index l.more) ≡ l.all.items;
-  holds : AllHold l.world (of_entries l.all.items);
+  entries : (t : Reading) → fold (with_entry (plain t l.fn.world)) (entries_at (plain t l.fn.world) l.fn.dict) (take l.entry-index l.entry-items) ≡ l.all.items;
+  holds : AllHold l.world (of_keyed l.all);
+  same : (t : Reading) → plain t l.world ≡ plain t l.fn.world;
+  reads : (t : Reading) → Reads t l.world → Reads t l.fn.world;
+  grows : Grows l.fn.world l.world;
 }

@@ -4,12 +4,11 @@ use Rattle.class_world.specs.Reading.{plain}
 use Rattle.class_world.specs.Sound.{AllHold, AreNodes}
 use Rattle.class_world.proofs.Claims.{no-nodes, more-nodes, all-grow}
 use Rattle.class_world.proofs.Growth.{grows-itself, grows-on}
-use Rattle.class_world.proofs.KeyEntries.{pair-holds}
+use Rattle.class_world.proofs.KeyEntries.{pair-holds, keys-can}
 use Rattle.native_containers.specs.Say.{list_made, pairs_made}
 use Rattle.native_containers.specs.Take.{entries_at}
 use Rattle.native_containers.proofs.Ends.{then-if}
 use Rattle.native_containers.proofs.Loops.{pair-more, pairs-all}
-use Rattle.native_containers.proofs.Payloads.{keys-can}
 use Rattle.native_containers.proofs.pairs.new_pairs.Goals as goal
 
 pub loop-entry-init : goal.loop-entry-init

@@ -1,6 +1,5 @@
 use Rattle.std.proofs.Common.{subst, sym}
-use Rattle.class_world.specs.Sound.{AllHold}
-use Rattle.native_objects.specs.Properties.{of_property}
+use Rattle.class_world.specs.Sound.{AllHold, of_property}
 use Rattle.native_objects.proofs.Parts.{placed-hold, name-holds}
 use Rattle.native_objects.proofs.property.property_init.Goals as goal
 
@@ -14,5 +13,5 @@ may_name-requires c =
     let w = c.args.world.now in
     name-holds w c.without_none-parts.result (c.without_none-parts.ensures.holds w c.in-Some.ensures.holds)
 
-pub set_payload-requires-clause-payload : goal.set_payload-requires-clause-payload
-set_payload-requires-clause-payload c = c.without_none-parts.ensures.holds c.args.world.now c.in-Some.ensures.holds
+pub set_property-requires-clause-parts : goal.set_property-requires-clause-parts
+set_property-requires-clause-parts c = c.without_none-parts.ensures.holds c.args.world.now c.in-Some.ensures.holds

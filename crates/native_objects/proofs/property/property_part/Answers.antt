@@ -1,7 +1,6 @@
 use Rattle.std.proofs.Common.{subst, sym, ap, ◌∙◌}
-use Rattle.class_world.specs.Sound.{AllHold}
+use Rattle.class_world.specs.Sound.{AllHold, of_property}
 use Rattle.native_objects.specs.Descriptors.{part_set}
-use Rattle.native_objects.specs.Properties.{of_property}
 use Rattle.native_objects.proofs.Parts.{set-holds}
 use Rattle.native_objects.proofs.property.property_part.Goals as goal
 

@@ -1,8 +1,7 @@
 use Rattle.std.proofs.Common.{◌≡◌, drop, Some}
 use Rattle.class_world.specs.Reading.{Reading, Reads, bindings}
-use Rattle.class_world.specs.Sound.{AllHold}
+use Rattle.class_world.specs.Sound.{AllHold, of_property}
 use Rattle.native_objects.specs.Descriptors.{with_parts}
-use Rattle.native_objects.specs.Properties.{of_property}
 use Rattle.native_objects.proofs.property.with_parts.Given as goal
 
 abbrev pub invariant-loop-pair : goal.invariant-loop-pair

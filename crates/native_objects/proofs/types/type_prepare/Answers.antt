@@ -1,6 +1,7 @@
 use Rattle.std.proofs.Common.{◌≡◌, [], true, cond, length, sym, ap, ◌∙◌, rules}
 use Rattle.std.specs.Prelude.{nat_le}
 use Rattle.py_node.specs.BuiltIns.{place_of}
+use Rattle.py_node.specs.Dicts.{PlainDict}
 use Rattle.py_node.specs.declared.payload.Payload.TheVariants as payload
 use Rattle.py_node.specs.declared.raised.Cause.TheVariants.{ArgCount}
 use Rattle.plain_machine.specs.Known.{the_dict}
@@ -14,7 +15,7 @@ use Rattle.native_objects.proofs.Ended.{ends-after}
 use Rattle.native_objects.proofs.types.type_prepare.Goals as goal
 
 pub new_object-requires-clause-holds : goal.new_object-requires-clause-holds
-new_object-requires-clause-holds c = rw c.new-entries.ensures.items (none-hold _)
+new_object-requires-clause-holds c = rw c.new-dict.ensures (none-hold _)
 
 pub returns-clause-ends : goal.returns-clause-ends
 unfolding place_of
@@ -22,8 +23,8 @@ returns-clause-ends c =
     let w = c.args.world.now in
     let args = c.args.args.now in
     let few : nat_le (length args) 3 ≡ true = search rules in
-    ends-after (λ t u. type_prepare u args) (λ t u. object_made u the_dict (datum t (payload.Dict c.new-entries.result))) w c.new_object.new.world c.new_object.result (λ t r.
+    ends-after (λ t u. type_prepare u args) (λ t u. object_made u the_dict (datum t (payload.Dict c.new-dict.result))) w c.new_object.new.world c.new_object.result (λ t r.
     let u = plain t w in
     c.in_default.ensures.given t (λ k. with_name_and_bases u args (object_made u the_dict (ADict [])))
     ∙ ap (λ b. cond b (object_made u the_dict (ADict [])) (Ends u (fault ArgCount))) few
-    ∙ ap (λ es. object_made u the_dict (ADict es)) (sym c.new-entries.ensures.items)) c.new_object.ensures.ends
+    ∙ ap (λ (d : PlainDict). object_made u the_dict (ADict d.items)) (sym c.new-dict.ensures)) c.new_object.ensures.ends

@@ -1,5 +1,10 @@
+use Rattle.std.proofs.Common.{ap, ◌∙◌, map, string_bytes}
+use Rattle.py_node.specs.Tree.{tree_of}
+use Rattle.script_text.specs.Forms.{class, named}
 use Rattle.script_text.proofs.Lists.{class-tree}
 use Rattle.script_text.proofs.forms.class_of.Goals as goal
 
-pub returns : goal.returns
-returns c = class-tree c.args.name c.args.bases c.args.keywords c.args.entries
+pub returns-clause-ok : goal.returns-clause-ok
+returns-clause-ok c =
+    class-tree c.in_ok-new.field-0
+    ∙ ap (λ v. class (string_bytes v.name) (map tree_of v.bases.items) (map named v.entries.items) (map named v.keywords.items)) c.in_ok-new.ensures.ok

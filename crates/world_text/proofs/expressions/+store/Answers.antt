@@ -1,3 +1,10 @@
+use Rattle.std.proofs.Common.{ℕ, ap, String}
+use Rattle.std.specs.declared.alloc.Global.{Global}
+use Rattle.py_node.specs.declared.refs.PyStrInterned.{PyStrInterned}
+use Rattle.py_node.specs.declared.expr.FuncParts.{FuncParts}
+use Rattle.py_node.specs.declared.expr.CallParts.{CallParts}
+use Rattle.py_node.specs.declared.expr.ClassParts.{ClassParts}
+use Rattle.py_node.specs.declared.expr.Expr.{Expr}
 use Rattle.world_text.proofs.Adding.{adds-itself, adds-on, tree-as, name-stays, names-stay, tree-stays, trees-stay, pairs-stay, entries-stay, stored, no-tree, no-pair, no-entry, trees-next, pairs-next, entries-next}
 use Rattle.world_text.proofs.Forms.{call-form, class-form, attr-form, bind-form, del_attr-form, dict-form, func-form, if-form, list-form, op-form, seq-form, set_attr-form, tuple-form}
 use Rattle.world_text.proofs.expressions.+store.Goals as goal
@@ -46,23 +53,26 @@ store_entries-loop-name-preserved t c =
       entries = rw c.in_ok-push.ensures.items (entries-next c.deref-name-items.result.now c.loop-name.name-index c.loop-name-item.result c.loop-name-test.true c.loop-name-item.is (entries-stay value (entries-stay name c.loop-name.invariant.entries)) (name-stays value c.in_ok-name.ensures.name) c.in_ok-number.ensures.tree);
     }
 
-pub form_of-returns-in_ok-keywords-in-Call-clause-form : goal.form_of-returns-in_ok-keywords-in-Call-clause-form
-form_of-returns-in_ok-keywords-in-Call-clause-form t c =
+pub form_of-returns-in_ok-boxed-in-Call-clause-form : goal.form_of-returns-in_ok-boxed-in-Call-clause-form
+form_of-returns-in_ok-boxed-in-Call-clause-form t c =
+    let b = c.in_ok-boxed-in-Call in
     let k = c.in-Call in
     let args = c.store_each-in-Call.ensures.adds in
     let keywords = c.store_entries.ensures.adds in
-    let func = tree-as c.in_ok-func-in-Call.ensures.tree c.deref-in-Call.ensures in
-    call-form k.func k.args k.keywords k.is (tree-stays keywords (tree-stays args func)) (trees-stay keywords c.in_ok-args-in-Call.ensures.trees) c.in_ok-keywords-in-Call.ensures.entries
+    let parts : CallParts PyStrInterned ℕ = record { function = c.in_ok-function-in-Call.function; args = c.in_ok-args-in-Call.args; keywords = c.in_ok-keywords-in-Call.keywords } in
+    call-form b.boxed parts k.call b.ensures.ok k.is c.deref-in-Call.ensures c.deref-in-Call-2.ensures c.deref-in-Call-3.ensures (tree-stays keywords (tree-stays args c.in_ok-function-in-Call.ensures.tree)) (trees-stay keywords c.in_ok-args-in-Call.ensures.trees) c.in_ok-keywords-in-Call.ensures.entries
 
-pub form_of-returns-in_ok-entries-in-Class-clause-form : goal.form_of-returns-in_ok-entries-in-Class-clause-form
-form_of-returns-in_ok-entries-in-Class-clause-form t c =
+pub form_of-returns-in_ok-boxed-in-Class-clause-form : goal.form_of-returns-in_ok-boxed-in-Class-clause-form
+form_of-returns-in_ok-boxed-in-Class-clause-form t c =
+    let b = c.in_ok-boxed-in-Class in
     let k = c.in-Class in
     let bases = c.store_each-in-Class.ensures.adds in
     let keywords = c.store_entries-in-Class.ensures.adds in
     let entries = c.store_entries-in-Class-2.ensures.adds in
     let name = name-stays entries (name-stays keywords (name-stays bases c.in_ok-name-in-Class.ensures.name)) in
     let read = trees-stay entries (trees-stay keywords c.in_ok-bases-in-Class.ensures.trees) in
-    class-form k.name k.bases k.keywords k.entries k.is name read (entries-stay entries c.in_ok-keywords-in-Class.ensures.entries) c.in_ok-entries-in-Class.ensures.entries
+    let parts : ClassParts PyStrInterned ℕ = record { name = c.in_ok-name-in-Class.name; bases = c.in_ok-bases-in-Class.bases; keywords = c.in_ok-keywords-in-Class.keywords; entries = c.in_ok-entries-in-Class.entries } in
+    class-form b.boxed parts k.class b.ensures.ok k.is c.deref-in-Class.ensures c.deref-in-Class-2.ensures c.deref-in-Class-3.ensures c.deref-in-Class-4.ensures name read (entries-stay entries c.in_ok-keywords-in-Class.ensures.entries) c.in_ok-entries-in-Class.ensures.entries
 
 pub form_of-returns-in_ok-value-in-Bind-clause-form : goal.form_of-returns-in_ok-value-in-Bind-clause-form
 form_of-returns-in_ok-value-in-Bind-clause-form t c =
@@ -84,10 +94,12 @@ form_of-returns-in_ok-pairs-in-Dict-clause-form t c =
     let k = c.in-Dict in
     dict-form k.pairs k.is c.in_ok-pairs-in-Dict.ensures.pairs
 
-pub form_of-returns-in_ok-body-in-Func-clause-form : goal.form_of-returns-in_ok-body-in-Func-clause-form
-form_of-returns-in_ok-body-in-Func-clause-form t c =
+pub form_of-returns-in_ok-boxed-in-Func-clause-form : goal.form_of-returns-in_ok-boxed-in-Func-clause-form
+form_of-returns-in_ok-boxed-in-Func-clause-form t c =
+    let b = c.in_ok-boxed-in-Func in
     let k = c.in-Func in
-    func-form k.name k.params k.rest k.body k.is (name-stays c.store-in-Func.ensures.adds (name-stays c.names_of.ensures.adds c.in_ok-name-in-Func.ensures.name)) (names-stay c.store-in-Func.ensures.adds c.in_ok-params-in-Func.ensures.names) (tree-as c.in_ok-body-in-Func.ensures.tree c.deref-in-Func.ensures)
+    let parts : FuncParts PyStrInterned ℕ = record { name = c.in_ok-name-in-Func.name; params = c.in_ok-params-in-Func.params; rest = c.deref-in-Func-4.result.now.rest; body = c.in_ok-body-in-Func.body } in
+    func-form b.boxed parts k.func b.ensures.ok k.is c.deref-in-Func.ensures c.deref-in-Func-2.ensures c.deref-in-Func-3.ensures (ap (λ (v : FuncParts (String Global) Expr). v.rest) c.deref-in-Func-4.ensures) (name-stays c.store-in-Func.ensures.adds (name-stays c.names_of.ensures.adds c.in_ok-name-in-Func.ensures.name)) (names-stay c.store-in-Func.ensures.adds c.in_ok-params-in-Func.ensures.names) c.in_ok-body-in-Func.ensures.tree
 
 pub form_of-returns-in_ok-name-in-Attr-clause-form : goal.form_of-returns-in_ok-name-in-Attr-clause-form
 form_of-returns-in_ok-name-in-Attr-clause-form t c =
@@ -97,7 +109,7 @@ form_of-returns-in_ok-name-in-Attr-clause-form t c =
 pub form_of-returns-in_ok-value-in-SetAttr-clause-form : goal.form_of-returns-in_ok-value-in-SetAttr-clause-form
 form_of-returns-in_ok-value-in-SetAttr-clause-form t c =
     let k = c.in-SetAttr in
-    set_attr-form k.target k.name k.value k.is (tree-stays c.store-in-SetAttr-2.ensures.adds (tree-stays c.name_of-in-SetAttr.ensures.adds (tree-as c.in_ok-target-in-SetAttr.ensures.tree c.deref-in-SetAttr.ensures))) (name-stays c.store-in-SetAttr-2.ensures.adds c.in_ok-name-in-SetAttr.ensures.name) (tree-as c.in_ok-value-in-SetAttr.ensures.tree c.deref-in-SetAttr-2.ensures)
+    set_attr-form c.in_ok-target-in-SetAttr.target c.in_ok-name-in-SetAttr.name c.in_ok-value-in-SetAttr.value k.set k.is c.deref-in-SetAttr.ensures c.deref-in-SetAttr-2.ensures c.deref-in-SetAttr-3.ensures (tree-stays c.store-in-SetAttr-2.ensures.adds (tree-stays c.name_of-in-SetAttr.ensures.adds c.in_ok-target-in-SetAttr.ensures.tree)) (name-stays c.store-in-SetAttr-2.ensures.adds c.in_ok-name-in-SetAttr.ensures.name) c.in_ok-value-in-SetAttr.ensures.tree
 
 pub form_of-returns-in_ok-name-in-DelAttr-clause-form : goal.form_of-returns-in_ok-name-in-DelAttr-clause-form
 form_of-returns-in_ok-name-in-DelAttr-clause-form t c =
@@ -132,8 +144,11 @@ form_of-returns-in_err-params-in-Func-clause-adds t c = adds-on c.name_of-in-Fun
 pub form_of-returns-in_err-body-in-Func-clause-adds : goal.form_of-returns-in_err-body-in-Func-clause-adds
 form_of-returns-in_err-body-in-Func-clause-adds t c = adds-on (adds-on c.name_of-in-Func.ensures.adds c.names_of.ensures.adds) c.store-in-Func.ensures.adds
 
-pub form_of-returns-in_ok-body-in-Func-clause-adds : goal.form_of-returns-in_ok-body-in-Func-clause-adds
-form_of-returns-in_ok-body-in-Func-clause-adds t c = adds-on (adds-on c.name_of-in-Func.ensures.adds c.names_of.ensures.adds) c.store-in-Func.ensures.adds
+pub form_of-returns-in_err-boxed-in-Func-clause-adds : goal.form_of-returns-in_err-boxed-in-Func-clause-adds
+form_of-returns-in_err-boxed-in-Func-clause-adds t c = adds-on (adds-on c.name_of-in-Func.ensures.adds c.names_of.ensures.adds) c.store-in-Func.ensures.adds
+
+pub form_of-returns-in_ok-boxed-in-Func-clause-adds : goal.form_of-returns-in_ok-boxed-in-Func-clause-adds
+form_of-returns-in_ok-boxed-in-Func-clause-adds t c = adds-on (adds-on c.name_of-in-Func.ensures.adds c.names_of.ensures.adds) c.store-in-Func.ensures.adds
 
 pub form_of-returns-in_err-name-in-Attr-clause-adds : goal.form_of-returns-in_err-name-in-Attr-clause-adds
 form_of-returns-in_err-name-in-Attr-clause-adds t c = adds-on c.store-in-Attr.ensures.adds c.name_of-in-Attr.ensures.adds
@@ -162,8 +177,11 @@ form_of-returns-in_err-args-in-Call-clause-adds t c = adds-on c.store-in-Call.en
 pub form_of-returns-in_err-keywords-in-Call-clause-adds : goal.form_of-returns-in_err-keywords-in-Call-clause-adds
 form_of-returns-in_err-keywords-in-Call-clause-adds t c = adds-on (adds-on c.store-in-Call.ensures.adds c.store_each-in-Call.ensures.adds) c.store_entries.ensures.adds
 
-pub form_of-returns-in_ok-keywords-in-Call-clause-adds : goal.form_of-returns-in_ok-keywords-in-Call-clause-adds
-form_of-returns-in_ok-keywords-in-Call-clause-adds t c = adds-on (adds-on c.store-in-Call.ensures.adds c.store_each-in-Call.ensures.adds) c.store_entries.ensures.adds
+pub form_of-returns-in_err-boxed-in-Call-clause-adds : goal.form_of-returns-in_err-boxed-in-Call-clause-adds
+form_of-returns-in_err-boxed-in-Call-clause-adds t c = adds-on (adds-on c.store-in-Call.ensures.adds c.store_each-in-Call.ensures.adds) c.store_entries.ensures.adds
+
+pub form_of-returns-in_ok-boxed-in-Call-clause-adds : goal.form_of-returns-in_ok-boxed-in-Call-clause-adds
+form_of-returns-in_ok-boxed-in-Call-clause-adds t c = adds-on (adds-on c.store-in-Call.ensures.adds c.store_each-in-Call.ensures.adds) c.store_entries.ensures.adds
 
 pub form_of-returns-in_err-then-in-If-clause-adds : goal.form_of-returns-in_err-then-in-If-clause-adds
 form_of-returns-in_err-then-in-If-clause-adds t c = adds-on c.store-in-If.ensures.adds c.store-in-If-2.ensures.adds
@@ -183,8 +201,11 @@ form_of-returns-in_err-keywords-in-Class-clause-adds t c = adds-on (adds-on c.na
 pub form_of-returns-in_err-entries-in-Class-clause-adds : goal.form_of-returns-in_err-entries-in-Class-clause-adds
 form_of-returns-in_err-entries-in-Class-clause-adds t c = adds-on (adds-on (adds-on c.name_of-in-Class.ensures.adds c.store_each-in-Class.ensures.adds) c.store_entries-in-Class.ensures.adds) c.store_entries-in-Class-2.ensures.adds
 
-pub form_of-returns-in_ok-entries-in-Class-clause-adds : goal.form_of-returns-in_ok-entries-in-Class-clause-adds
-form_of-returns-in_ok-entries-in-Class-clause-adds t c = adds-on (adds-on (adds-on c.name_of-in-Class.ensures.adds c.store_each-in-Class.ensures.adds) c.store_entries-in-Class.ensures.adds) c.store_entries-in-Class-2.ensures.adds
+pub form_of-returns-in_err-boxed-in-Class-clause-adds : goal.form_of-returns-in_err-boxed-in-Class-clause-adds
+form_of-returns-in_err-boxed-in-Class-clause-adds t c = adds-on (adds-on (adds-on c.name_of-in-Class.ensures.adds c.store_each-in-Class.ensures.adds) c.store_entries-in-Class.ensures.adds) c.store_entries-in-Class-2.ensures.adds
+
+pub form_of-returns-in_ok-boxed-in-Class-clause-adds : goal.form_of-returns-in_ok-boxed-in-Class-clause-adds
+form_of-returns-in_ok-boxed-in-Class-clause-adds t c = adds-on (adds-on (adds-on c.name_of-in-Class.ensures.adds c.store_each-in-Class.ensures.adds) c.store_entries-in-Class.ensures.adds) c.store_entries-in-Class-2.ensures.adds
 
 pub store_each-returns-in_err-store-clause-adds : goal.store_each-returns-in_err-store-clause-adds
 store_each-returns-in_err-store-clause-adds t c = adds-on c.loop-expr.invariant.adds c.store.ensures.adds

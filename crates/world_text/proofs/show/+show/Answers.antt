@@ -73,7 +73,7 @@ show_payload-returns-in_ok-entry_texts-in-Dict t c =
     let test = c.if-is-5.ensures in
     let f = λ (s : String Global) (e : string_bytes s ≡ or_dots dict_text (texts_of c.in_ok-entry_texts-in-Dict.field-0)) (t : Reading).
     let u = plain t w in
-    let texts = c.in_ok-entry_texts-in-Dict.ensures t ∙ ap (λ (xs : List (PyObjectRef × PyObjectRef)). inside c.args.depth (λ n. item_texts (entry_text (text_within n u)) xs)) c.deref-in-Dict.ensures.value in
-    dict-text u c.args.depth c.args.class.0 (string_bytes s) (texts_of c.in_ok-entry_texts-in-Dict.field-0) k.entries.items test e texts
+    let texts = c.in_ok-entry_texts-in-Dict.ensures t ∙ ap (λ (xs : List (PyObjectRef × PyObjectRef)). inside c.args.depth (λ n. item_texts (entry_text (text_within n u)) xs)) c.entries.ensures.entries in
+    dict-text u c.args.depth c.args.class.0 (string_bytes s) (texts_of c.in_ok-entry_texts-in-Dict.field-0) k.dict.items test e texts
     ∙ sym (ap (λ (p : Payload). datum_text (containers c.args.depth u) u c.args.class.0 (datum t p)) k.is) in
     ok-map _ _ c.dict_of.result f c.dict_of.ensures

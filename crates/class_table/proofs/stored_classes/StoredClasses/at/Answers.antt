@@ -1,6 +1,5 @@
 use Rattle.std.proofs.Common.{◌≡◌, List, [], get_or, sym, ap, ◌∙◌, arith}
 use Rattle.std.proofs.lemmas.List.{get_or_default}
-use Rattle.class_table.specs.Keys.{numbers}
 use Rattle.class_table.specs.Stored.{StoredClass}
 use Rattle.class_table.specs.Lines.{with_line}
 use Rattle.class_table.proofs.Lined.{inside-of, with-lines-at}
@@ -11,14 +10,8 @@ index-requires c =
     let inside = inside-of c.self.inside.classes.items c.args.self.now c.self.inside.lines c.args.place c.self.view_is c.self.invariant c.requires in
     omega (arith, inside)
 
-pub at-requires : goal.at-requires
-at-requires c =
-    let inside = inside-of c.self.inside.classes.items c.args.self.now c.self.inside.lines c.args.place c.self.view_is c.self.invariant c.requires in
-    let count = c.self.invariant in
-    omega (arith, inside, count)
-
-pub near-requires : goal.near-requires
-near-requires c =
+pub invariant_of-result : goal.invariant_of-result
+invariant_of-result c =
     let inside = inside-of c.self.inside.classes.items c.args.self.now c.self.inside.lines c.args.place c.self.view_is c.self.invariant c.requires in
     let count = c.self.invariant in
     omega (arith, inside, count)
@@ -29,11 +22,10 @@ returns c =
     let ls = c.self.inside.lines in
     let at = c.args.place in
     let k = c.index.result.now in
-    let line = numbers c.at.result.now in
+    let line = get_or ls at [] in
     let x = with_line k line in
     let inside = inside-of ks c.args.self.now ls at c.self.view_is c.self.invariant c.requires in
     let own : k ≡ get_or ks at x = c.index.ensures ∙ get_or_default ks at k x inside in
     ap (λ (z : StoredClass). with_line z line) own
-    ∙ ap (with_line (get_or ks at x)) (c.at.ensures [])
     ∙ sym (with-lines-at ks ls at x [] inside c.self.invariant)
     ∙ ap (λ (ys : List StoredClass). get_or ys at x) c.self.view_is

@@ -1,4 +1,4 @@
-use Rattle.std.proofs.Common.{◌≡◌, sym, ap, ◌∙◌, ◌∷◌, ◌++◌, [], map, subst}
+use Rattle.std.proofs.Common.{◌≡◌, refl, sym, ap, ◌∙◌, ◌∷◌, ◌++◌, [], map, subst}
 use Rattle.std.proofs.lemmas.Result.{on_ok_weaker}
 use Rattle.plain_machine.specs.Plain.{AText}
 use Rattle.plain_machine.specs.Known.{the_str}
@@ -6,9 +6,9 @@ use Rattle.plain_machine.specs.World.{with_node, next_node}
 use Rattle.plain_machine.specs.Dicts.{with_entries}
 use Rattle.class_world.specs.Keyed.{held_entries, held_text, is_held_key}
 use Rattle.class_world.specs.Reading.{plain}
-use Rattle.class_world.specs.Sound.{Holds, KeysDiffer}
+use Rattle.class_world.specs.Sound.{Holds, IsName, KeysDiffer}
 use Rattle.class_world.proofs.DictEntries.{no-key}
-use Rattle.class_world.proofs.DictReads.{text-read, entries-stay, new-key-differs}
+use Rattle.class_world.proofs.DictReads.{text-read, entries-stay, new-key-differs, new-key-read}
 use Rattle.class_world.proofs.world.World.add_value.Goals as goal
 
 pub push_entry-requires-clause-differs : goal.push_entry-requires-clause-differs
@@ -16,14 +16,26 @@ push_entry-requires-clause-differs c =
     let old = c.args.self.now in
     let m = c.make_node.new.self in
     let t = c.readable.ensures.0 in
-    let r = c.readable.ensures.1 in
+    let r = c.in_ok-key.ensures.reads t c.readable.ensures.1 in
     let x = held_text old c.args.name in
     let text = c.in_ok-text.ensures t r ∙ text-read t old c.args.name r c.requires.name in
     let made : plain t m ≡ with_node (plain t old) the_str (AText x) = c.in_ok-key.ensures.made t ∙ (λ i. with_node (plain t old) (c.class_of_texts-class.ensures.place i) (AText (text i))) in
     let number = c.in_ok-key.ensures.number t ∙ ap (next_node (plain t old)) c.class_of_texts-class.ensures.place in
     let none = no-key (is_held_key old.nodes x) (held_entries old.nodes c.args.dict) (sym c.requires.absent) in
-    let differs = new-key-differs t old m x made (held_entries old.nodes c.args.dict) c.in_ok-key.key c.args.value number none c.requires.entries c.in_ok-key.ensures.grows in
+    let differs = new-key-differs t old m x made (held_entries old.nodes c.args.dict) c.in_ok-key.key c.args.value number none c.requires.entries.1 c.in_ok-key.ensures.grows in
     subst (λ es. Holds m (KeysDiffer (map (λ e. e.0) (es ++ (c.in_ok-key.key, c.args.value) ∷ [])))) (sym (entries-stay t old m x made c.args.dict c.requires.dict)) differs
+
+pub push_entry-requires-clause-read : goal.push_entry-requires-clause-read
+push_entry-requires-clause-read c =
+    let old = c.args.self.now in
+    let m = c.make_node.new.self in
+    let t = c.readable.ensures.0 in
+    let r = c.in_ok-key.ensures.reads t c.readable.ensures.1 in
+    let x = t.text c.args.name.0 in
+    let text = c.in_ok-text.ensures t r in
+    let made : plain t m ≡ with_node (plain t old) the_str (AText x) = c.in_ok-key.ensures.made t ∙ (λ i. with_node (plain t old) (c.class_of_texts-class.ensures.place i) (AText (text i))) in
+    let number = c.in_ok-key.ensures.number t ∙ ap (next_node (plain t old)) c.class_of_texts-class.ensures.place in
+    new-key-read t old m x made c.args.name c.in_ok-key.key c.readable.ensures.1 (c.in_ok-key.ensures.grows.still (IsName c.args.name) c.requires.name) refl number
 
 pub returns-clause-added : goal.returns-clause-added
 returns-clause-added c =

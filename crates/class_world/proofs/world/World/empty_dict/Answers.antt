@@ -1,11 +1,11 @@
-use Rattle.std.proofs.Common.{refl, sym, ap, arith, subst}
+use Rattle.std.proofs.Common.{refl, sym, ap, subst}
 use Rattle.class_world.specs.Added.{AreEmpty}
 use Rattle.class_world.specs.Held.{Held}
 use Rattle.class_world.specs.Sound.{Holds, IsClass}
 use Rattle.class_world.specs.contracts.world.World.{the_view}
 use Rattle.class_world.proofs.Claims.{opened-one}
+use Rattle.class_world.proofs.DictChanges.{none-hold}
 use Rattle.class_world.proofs.SamePlaces.{empty-hold}
-use Rattle.class_world.proofs.SoundWorld.{no-keys-differ}
 use Rattle.class_world.proofs.world.World.empty_dict.Goals as goal
 
 pub empty_places-requires : goal.empty_places-requires
@@ -16,7 +16,7 @@ pub returns-clause-empty : goal.returns-clause-empty
 returns-clause-empty c =
     let class = c.class_of_dicts-class.result in
     let ms = c.in_ok-members.members in
-    (c.class_of_dicts-class.ensures.place, refl, subst (λ (u : Held). AreEmpty u.classes class.0 ms) c.self.view_is c.in_ok-members.ensures, c.new.ensures.items)
+    (c.class_of_dicts-class.ensures.place, refl, subst (λ (u : Held). AreEmpty u.classes class.0 ms) c.self.view_is c.in_ok-members.ensures, c.new.ensures)
 
 pub returns-clause-holds : goal.returns-clause-holds
 unfolding Holds
@@ -25,4 +25,4 @@ returns-clause-holds c =
     let class = c.class_of_dicts-class.result in
     let ms = c.in_ok-members.members in
     let members = empty-hold now (the_view c.self.inside).classes class.0 ms (sym (ap (λ (u : Held). u.classes) c.self.view_is)) c.in_ok-members.ensures in
-    rw c.new.ensures.items (c.class_of_dicts-class.ensures.class, (c.class_of_dicts-class.ensures.of, (members, (c.class_of_dicts-class.ensures.none, ((λ i d l. absurd (omega arith)), ((λ i d l. absurd (omega arith)), (no-keys-differ now, tt)))))))
+    rw c.new.ensures (c.class_of_dicts-class.ensures.class, (c.class_of_dicts-class.ensures.of, (members, (c.class_of_dicts-class.ensures.none, none-hold now))))

@@ -1,9 +1,10 @@
-use Rattle.std.proofs.Common.{sym, ap, ◌∙◌, subst}
+use Rattle.std.proofs.Common.{sym, ap, ◌∙◌}
+use Rattle.py_node.specs.Dicts.{PlainDict}
 use Rattle.class_world.specs.contracts.world.World.{the_view}
-use Rattle.class_world.specs.Keyed.{entries_of, of_entries}
-use Rattle.class_world.specs.Sound.{Holds, AllHold, IsNode}
+use Rattle.class_world.specs.Keyed.{dict_in}
+use Rattle.class_world.specs.Sound.{Holds, IsNode}
 use Rattle.class_world.proofs.Claims.{got, opened-one}
-use Rattle.class_world.proofs.DictChanges.{entries-seen, held-hold, no-entries}
+use Rattle.class_world.proofs.DictChanges.{dict-seen, held-hold, no-dict}
 use Rattle.class_world.proofs.world.World.entries.Goals as goal
 
 pub index-requires : goal.index-requires
@@ -16,7 +17,7 @@ returns-in-Dict-clause-same c =
     let w = the_view c.self.inside in
     let here = opened-one w c.args.self.now (IsNode c.args.dict) c.self.view_is c.requires in
     let e = got w.nodes c.args.dict.0 c.index.result.now here c.index.ensures in
-    entries-seen w c.args.self.now c.args.dict c.index.result.now c.self.view_is e ∙ ap entries_of c.in-Dict.is ∙ sym c.deref.ensures.value
+    ap (λ (d : PlainDict). d.items) (dict-seen w c.args.self.now c.args.dict c.index.result.now c.self.view_is e ∙ ap dict_in c.in-Dict.is) ∙ sym c.entries.ensures.entries
 
 pub returns-in-Dict-clause-holds : goal.returns-in-Dict-clause-holds
 unfolding Holds
@@ -24,8 +25,7 @@ returns-in-Dict-clause-holds c =
     let w = the_view c.self.inside in
     let here = opened-one w c.args.self.now (IsNode c.args.dict) c.self.view_is c.requires in
     let e = got w.nodes c.args.dict.0 c.index.result.now here c.index.ensures in
-    let same = entries-seen w c.args.self.now c.args.dict c.index.result.now c.self.view_is e ∙ ap entries_of c.in-Dict.is ∙ sym c.deref.ensures.value in
-    subst (λ es. AllHold c.args.self.now (of_entries es)) same (held-hold w c.args.self.now c.args.dict c.index.result.now c.self.view_is e c.self.invariant)
+    held-hold w c.args.self.now c.args.dict c.index.result.now c.self.view_is e c.self.invariant
 
 pub returns-in_default-clause-same : goal.returns-in_default-clause-same
 unfolding Holds
@@ -33,7 +33,7 @@ returns-in_default-clause-same c =
     let w = the_view c.self.inside in
     let here = opened-one w c.args.self.now (IsNode c.args.dict) c.self.view_is c.requires in
     let e = got w.nodes c.args.dict.0 c.index.result.now here c.index.ensures in
-    entries-seen w c.args.self.now c.args.dict c.index.result.now c.self.view_is e ∙ no-entries c.index.result.now.payload c.in_default.not-Dict
+    ap (λ (d : PlainDict). d.items) (dict-seen w c.args.self.now c.args.dict c.index.result.now c.self.view_is e ∙ no-dict c.index.result.now.payload c.in_default.not-Dict)
 
 pub returns-in_default-clause-holds : goal.returns-in_default-clause-holds
 unfolding Holds
@@ -41,5 +41,4 @@ returns-in_default-clause-holds c =
     let w = the_view c.self.inside in
     let here = opened-one w c.args.self.now (IsNode c.args.dict) c.self.view_is c.requires in
     let e = got w.nodes c.args.dict.0 c.index.result.now here c.index.ensures in
-    let same = entries-seen w c.args.self.now c.args.dict c.index.result.now c.self.view_is e ∙ no-entries c.index.result.now.payload c.in_default.not-Dict in
-    subst (λ es. AllHold c.args.self.now (of_entries es)) same (held-hold w c.args.self.now c.args.dict c.index.result.now c.self.view_is e c.self.invariant)
+    held-hold w c.args.self.now c.args.dict c.index.result.now c.self.view_is e c.self.invariant

@@ -1,12 +1,15 @@
 use Rattle.std.proofs.Common.{◌≡◌, take}
 use Rattle.plain_machine.specs.Dicts.{entries_from}
-use Rattle.class_world.specs.Keyed.{of_entries}
-use Rattle.class_world.specs.Reading.{Reading, plain}
-use Rattle.class_world.specs.Sound.{AllHold}
+use Rattle.class_world.specs.Keyed.{of_keyed}
+use Rattle.class_world.specs.Reading.{Reading, Reads, plain}
+use Rattle.class_world.specs.Sound.{AllHold, Grows}
 use Rattle.class_world.proofs.world.World.entries_from.Given as goal
 
 abbrev pub invariant-loop-pair : goal.invariant-loop-pair
 invariant-loop-pair l = record {
-  entries : (t : Reading) → l.entries.items ≡ entries_from (plain t l.self) (take l.pair-index l.pairs);
-  holds : AllHold l.self (of_entries l.entries.items);
+  entries : (t : Reading) → l.dict.items ≡ entries_from (plain t l.fn.self) (take l.pair-index l.pairs);
+  holds : AllHold l.self (of_keyed l.dict);
+  same : (t : Reading) → plain t l.self ≡ plain t l.fn.self;
+  reads : (t : Reading) → Reads t l.self → Reads t l.fn.self;
+  grows : Grows l.fn.self l.self;
 }

@@ -1,8 +1,9 @@
-use Rattle.class_world.specs.contracts.world.World.{the_view}
-use Rattle.class_world.specs.Sound.{Holds, IsName}
-use Rattle.class_world.proofs.Claims.{opened-one}
+use Rattle.std.proofs.Common.{◌∙◌}
+use Rattle.class_world.specs.Keyed.{held_dict}
+use Rattle.class_world.proofs.KeyEntries.{named-place}
 use Rattle.class_world.proofs.world.World.place_in.Goals as goal
 
-pub text-requires : goal.text-requires
-unfolding Holds
-text-requires c = opened-one (the_view c.self.inside) c.args.self.now (IsName c.args.name) c.self.view_is c.requires.name
+pub returns-clause-first : goal.returns-clause-first
+returns-clause-first c =
+    let now = c.args.self.now in
+    c.place_of.ensures.first ∙ named-place now (held_dict now.nodes c.args.dict) c.args.name c.place_of.ensures.distinct c.requires.name c.place_of.ensures.holds

@@ -1,7 +1,8 @@
 use Rattle.std.proofs.Common.{sym, ap, ◌∙◌}
+use Rattle.py_node.specs.Dicts.{PlainDict, dict_put, put_at}
 use Rattle.plain_machine.specs.Dicts.{with_entries}
 use Rattle.class_world.specs.contracts.world.World.{the_view}
-use Rattle.class_world.specs.Keyed.{entries_of, put_at}
+use Rattle.class_world.specs.Keyed.{dict_in}
 use Rattle.class_world.specs.Reading.{plain}
 use Rattle.class_world.specs.Sound.{IsNode}
 use Rattle.class_world.proofs.Claims.{opened-one}
@@ -14,19 +15,19 @@ invariant_of-self c =
     let w = the_view c.self.inside in
     let n = c.index_mut.result.now in
     let d = dict-there w c.args.self.now c.args.dict n c.self.view_is c.self.invariant c.requires.dict c.requires.holding c.index_mut.ensures.value in
-    other-sound w c.args.dict n c.put_value.new.node (put_at (entries_of n.payload) c.args.place c.args.value) d.below c.index_mut.ensures.value d.home c.put_value.ensures (put-hold w (entries_of n.payload) c.args.place c.args.value d.holds (opened-one w c.args.self.now (IsNode c.args.value) c.self.view_is c.requires.value)) c.self.invariant
+    other-sound w c.args.dict n c.put_value.new.node (dict_put (dict_in n.payload) c.args.place c.args.value) d.below c.index_mut.ensures.value d.home c.put_value.ensures (put-hold w (dict_in n.payload) c.args.place c.args.value d.holds (opened-one w c.args.self.now (IsNode c.args.value) c.self.view_is c.requires.value)) c.self.invariant
 
 pub returns-clause-put : goal.returns-clause-put
 returns-clause-put c = λ t.
     let w = the_view c.self.inside in
     let n = c.index_mut.result.now in
     let d = dict-there w c.args.self.now c.args.dict n c.self.view_is c.self.invariant c.requires.dict c.requires.holding c.index_mut.ensures.value in
-    other-read w c.args.dict n c.put_value.new.node (put_at (entries_of n.payload) c.args.place c.args.value) c.args.self.now c.self.view_is d.below c.index_mut.ensures.value c.put_value.ensures t
-    ∙ ap (λ es. with_entries (plain t c.args.self.now) c.args.dict (put_at es c.args.place c.args.value)) (sym d.same)
+    other-read w c.args.dict n c.put_value.new.node (dict_put (dict_in n.payload) c.args.place c.args.value) c.args.self.now c.self.view_is d.below c.index_mut.ensures.value c.put_value.ensures t
+    ∙ ap (λ (d : PlainDict). with_entries (plain t c.args.self.now) c.args.dict (put_at d.items c.args.place c.args.value)) (sym d.same)
 
 pub returns-clause-grows : goal.returns-clause-grows
 returns-clause-grows c =
     let w = the_view c.self.inside in
     let n = c.index_mut.result.now in
     let d = dict-there w c.args.self.now c.args.dict n c.self.view_is c.self.invariant c.requires.dict c.requires.holding c.index_mut.ensures.value in
-    grows-seen w _ _ c.self.view_is (other-grows w c.args.dict n c.put_value.new.node (put_at (entries_of n.payload) c.args.place c.args.value) c.index_mut.ensures.value d.home c.put_value.ensures)
+    grows-seen w _ _ c.self.view_is (other-grows w c.args.dict n c.put_value.new.node (dict_put (dict_in n.payload) c.args.place c.args.value) c.index_mut.ensures.value d.home c.put_value.ensures)

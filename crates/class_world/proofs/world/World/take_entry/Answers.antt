@@ -1,8 +1,9 @@
 use Rattle.std.proofs.Common.{sym, ap, ◌∙◌}
 use Rattle.std.specs.List.{remove}
+use Rattle.py_node.specs.Dicts.{PlainDict, dict_removed}
 use Rattle.plain_machine.specs.Dicts.{with_entries}
 use Rattle.class_world.specs.contracts.world.World.{the_view}
-use Rattle.class_world.specs.Keyed.{entries_of}
+use Rattle.class_world.specs.Keyed.{dict_in}
 use Rattle.class_world.specs.Reading.{plain}
 use Rattle.class_world.proofs.Growth.{grows-seen}
 use Rattle.class_world.proofs.DictChanges.{dict-there, other-grows, other-sound, other-read, removed-hold}
@@ -13,19 +14,19 @@ invariant_of-self c =
     let w = the_view c.self.inside in
     let n = c.index_mut.result.now in
     let d = dict-there w c.args.self.now c.args.dict n c.self.view_is c.self.invariant c.requires.dict c.requires.holding c.index_mut.ensures.value in
-    other-sound w c.args.dict n c.take_entry.new.node (remove (entries_of n.payload) c.args.place) d.below c.index_mut.ensures.value d.home c.take_entry.ensures (removed-hold w (entries_of n.payload) c.args.place d.holds) c.self.invariant
+    other-sound w c.args.dict n c.take_entry.new.node (dict_removed (dict_in n.payload) c.args.place) d.below c.index_mut.ensures.value d.home c.take_entry.ensures (removed-hold w (dict_in n.payload) c.args.place d.holds) c.self.invariant
 
 pub returns-clause-taken : goal.returns-clause-taken
 returns-clause-taken c = λ t.
     let w = the_view c.self.inside in
     let n = c.index_mut.result.now in
     let d = dict-there w c.args.self.now c.args.dict n c.self.view_is c.self.invariant c.requires.dict c.requires.holding c.index_mut.ensures.value in
-    other-read w c.args.dict n c.take_entry.new.node (remove (entries_of n.payload) c.args.place) c.args.self.now c.self.view_is d.below c.index_mut.ensures.value c.take_entry.ensures t
-    ∙ ap (λ es. with_entries (plain t c.args.self.now) c.args.dict (remove es c.args.place)) (sym d.same)
+    other-read w c.args.dict n c.take_entry.new.node (dict_removed (dict_in n.payload) c.args.place) c.args.self.now c.self.view_is d.below c.index_mut.ensures.value c.take_entry.ensures t
+    ∙ ap (λ (d : PlainDict). with_entries (plain t c.args.self.now) c.args.dict (remove d.items c.args.place)) (sym d.same)
 
 pub returns-clause-grows : goal.returns-clause-grows
 returns-clause-grows c =
     let w = the_view c.self.inside in
     let n = c.index_mut.result.now in
     let d = dict-there w c.args.self.now c.args.dict n c.self.view_is c.self.invariant c.requires.dict c.requires.holding c.index_mut.ensures.value in
-    grows-seen w _ _ c.self.view_is (other-grows w c.args.dict n c.take_entry.new.node (remove (entries_of n.payload) c.args.place) c.index_mut.ensures.value d.home c.take_entry.ensures)
+    grows-seen w _ _ c.self.view_is (other-grows w c.args.dict n c.take_entry.new.node (dict_removed (dict_in n.payload) c.args.place) c.index_mut.ensures.value d.home c.take_entry.ensures)

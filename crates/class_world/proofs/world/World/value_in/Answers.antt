@@ -2,6 +2,7 @@ use Rattle.std.proofs.Common.{◌≡◌, ◌<◌, Some, length, map, get_or, ap,
 use Rattle.std.specs.Prelude.{option_map}
 use Rattle.plain_machine.specs.Dicts.{Entries}
 use Rattle.class_world.specs.Keyed.{is_held_key, held_entries, held_text}
+use Rattle.class_world.specs.Sound.{AreNodes, Holds}
 use Rattle.class_world.proofs.Claims.{got-map, node-in}
 use Rattle.class_world.proofs.DictEntries.{first-key, get-below}
 use Rattle.class_world.proofs.DictReads.{none-named, first-named, no-value, first-value}
@@ -34,4 +35,4 @@ returns-in-Some-clause-node c =
     let l = subst (λ es. f.place < length es) c.entries.ensures.same f.below in
     let below : n < length es = omega (arith, l, same) in
     let e = get_or es n (record { 0 = 0 }, record { 0 = 0 }) in
-    node-in now (map (λ e. e.1) es) n e.1 c.entries.ensures.holds.1.0 (got-map (λ e. e.1) es n e (get-below es n (record { 0 = 0 }, record { 0 = 0 }) below))
+    node-in now (map (λ e. e.1) es) n e.1 (subst (λ es. Holds now (AreNodes (map (λ e. e.1) es))) c.entries.ensures.same c.entries.ensures.holds.1.1.0) (got-map (λ e. e.1) es n e (get-below es n (record { 0 = 0 }, record { 0 = 0 }) below))

@@ -1,32 +1,53 @@
-use Rattle.std.proofs.Common.{ap, sym, ◌∙◌}
-use Rattle.std.specs.Prelude.{position}
-use Rattle.class_world.proofs.KeyEntries.{likes, put-entry, put-entry-holds, push-entry, push-entry-holds}
+use Rattle.std.proofs.Common.{◌∷◌, [], sym, ap, subst, ◌∙◌}
+use Rattle.py_node.specs.Dicts.{PlainDict}
+use Rattle.plain_machine.specs.Dicts.{with_entry}
+use Rattle.class_world.specs.Keyed.{of_keyed}
+use Rattle.class_world.specs.Sound.{AllHold, CanBeKeys, IsNode}
+use Rattle.class_world.proofs.Claims.{all-grow}
+use Rattle.class_world.proofs.DictChanges.{put-hold, pushed-hold}
+use Rattle.class_world.proofs.KeyEntries.{put-entry, push-differs, push-entry, stored-place}
 use Rattle.class_world.proofs.world.World.with_entry.Goals as goal
 
 pub returns-in-Some-clause-entries : goal.returns-in-Some-clause-entries
-returns-in-Some-clause-entries c =
-    let w = c.args.self.now in
-    let es = c.args.entries.items in
-    let first = sym c.in-Some.is ∙ c.place_like.ensures ∙ ap (position (λ e. likes w es c.args.key c.args.value e.0)) c.deref.ensures.value in
-    put-entry w es c.args.key c.args.value c.in-Some.place first c.index.result.now c.index.ensures
+returns-in-Some-clause-entries c = λ t.
+    let m = c.intern_key.new.self in
+    let d = c.args.dict in
+    let k = c.args.key in
+    let v = c.args.value in
+    let here = all-grow c.args.self.now m c.in_ok-stored.ensures.grows (of_keyed d) c.requires.dict in
+    let first = sym c.in-Some.is ∙ c.place_of.ensures.first ∙ stored-place m d c.in_ok-stored.stored k v c.distinct.ensures here c.in_ok-stored.ensures.read in
+    ap (λ (d : PlainDict). d.items) c.put.ensures
+    ∙ put-entry m d.items k v c.in-Some.place first t
+    ∙ ap (λ u. with_entry u d.items (k, v)) (c.in_ok-stored.ensures.same t)
 
 pub returns-in-Some-clause-holds : goal.returns-in-Some-clause-holds
 returns-in-Some-clause-holds c =
-    let w = c.args.self.now in
-    let es = c.args.entries.items in
-    let first = sym c.in-Some.is ∙ c.place_like.ensures ∙ ap (position (λ e. likes w es c.args.key c.args.value e.0)) c.deref.ensures.value in
-    put-entry-holds w es c.args.key c.args.value c.in-Some.place first c.index.result.now c.index.ensures c.requires.entries c.requires.value
+    let m = c.intern_key.new.self in
+    let d = c.args.dict in
+    let grows = c.in_ok-stored.ensures.grows in
+    let here = all-grow c.args.self.now m grows (of_keyed d) c.requires.dict in
+    subst (λ d. AllHold m (of_keyed d)) (sym c.put.ensures) (put-hold m d c.in-Some.place c.args.value here (grows.still (IsNode c.args.value) c.requires.value))
 
 pub returns-in_ok-push-in-None-clause-entries : goal.returns-in_ok-push-in-None-clause-entries
 returns-in_ok-push-in-None-clause-entries c = λ t.
-    let w = c.args.self.now in
-    let es = c.args.entries.items in
-    let none = sym c.in-None.is ∙ c.place_like.ensures ∙ ap (position (λ e. likes w es c.args.key c.args.value e.0)) c.deref.ensures.value in
-    c.in_ok-push-in-None.ensures.items ∙ push-entry w es c.args.key c.args.value none t
+    let m = c.intern_key.new.self in
+    let d = c.args.dict in
+    let k = c.args.key in
+    let v = c.args.value in
+    let here = all-grow c.args.self.now m c.in_ok-stored.ensures.grows (of_keyed d) c.requires.dict in
+    let none = sym c.in-None.is ∙ c.place_of.ensures.first ∙ stored-place m d c.in_ok-stored.stored k v c.distinct.ensures here c.in_ok-stored.ensures.read in
+    ap (λ (d : PlainDict). d.items) c.in_ok-push-in-None.ensures.ok
+    ∙ push-entry m d.items k v none t
+    ∙ ap (λ u. with_entry u d.items (k, v)) (c.in_ok-stored.ensures.same t)
 
 pub returns-in_ok-push-in-None-clause-holds : goal.returns-in_ok-push-in-None-clause-holds
 returns-in_ok-push-in-None-clause-holds c =
-    let w = c.args.self.now in
-    let es = c.args.entries.items in
-    let none = sym c.in-None.is ∙ c.place_like.ensures ∙ ap (position (λ e. likes w es c.args.key c.args.value e.0)) c.deref.ensures.value in
-    rw c.in_ok-push-in-None.ensures.items (push-entry-holds w es c.args.key c.args.value none c.requires.entries c.requires.node c.requires.key c.requires.value)
+    let m = c.intern_key.new.self in
+    let d = c.args.dict in
+    let k = c.args.key in
+    let v = c.args.value in
+    let grows = c.in_ok-stored.ensures.grows in
+    let here = all-grow c.args.self.now m grows (of_keyed d) c.requires.dict in
+    let none = sym c.in-None.is ∙ c.place_of.ensures.first ∙ stored-place m d c.in_ok-stored.stored k v c.distinct.ensures here c.in_ok-stored.ensures.read in
+    let differs = push-differs m d.items k v none here.1 (grows.still (CanBeKeys (k ∷ [])) c.requires.key) in
+    subst (λ d. AllHold m (of_keyed d)) (sym c.in_ok-push-in-None.ensures.ok) (pushed-hold m d c.in_ok-stored.stored k v here c.in_ok-stored.ensures.read (grows.still (IsNode k) c.requires.node) (grows.still (IsNode v) c.requires.value) differs)

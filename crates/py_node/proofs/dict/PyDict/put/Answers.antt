@@ -1,0 +1,12 @@
+use Rattle.std.proofs.Common.{◌<◌, length, sym, ap, ◌∙◌, subst}
+use Rattle.py_node.specs.Dicts.{PlainDict, dict_put}
+use Rattle.py_node.proofs.Dicts.{put-is}
+use Rattle.py_node.proofs.dict.PyDict.put.Goals as goal
+
+pub returns : goal.returns
+returns c =
+    let v = c.self.view_is in
+    let l = subst (λ (d : PlainDict). c.args.place < length d.items) (sym v) c.requires in
+    let items = put-is c.self.inside.entries.items c.args.place c.index.result.now c.args.value l c.index.ensures in
+    ap (λ es. record { keys = c.self.inside.index; items = es }) items
+    ∙ ap (λ (d : PlainDict). dict_put d c.args.place c.args.value) v

@@ -1,0 +1,21 @@
+use Rattle.std.proofs.Common.{◌≡◌, refl, ◌∙◌, None}
+use Rattle.std.specs.Prelude.{position}
+use Rattle.py_node.specs.declared.dict.PyDictKey.{PyDictKey}
+use Rattle.py_node.specs.declared.dict.PyDictKey.TheVariants.{Number, Text}
+use Rattle.py_node.specs.Dicts.{is_same_key}
+use Rattle.py_node.specs.contracts.dict.PyDictKeyPartialEq.TheImpl.{eq-value}
+use Rattle.py_node.proofs.Dicts.{key-added}
+use Rattle.py_node.proofs.key_index.add_key.Goals as goal
+
+-- keys are compared as they are
+alike : (a b : PyDictKey) → eq-value.it a b ≡ is_same_key a b
+alike (Number n) (Number m) = refl
+alike (Number n) (Text y) = refl
+alike (Text x) (Number m) = refl
+alike (Text x) (Text y) = refl
+
+pub returns-clause-ok : goal.returns-clause-ok
+returns-clause-ok c =
+    let ks = c.args.keys.now.keys in
+    let none : position (eq-value.it c.args.key) ks ≡ None = (λ i. position (λ k. alike c.args.key k i) ks) ∙ c.requires in
+    c.in_ok-insert.ensures.keys ∙ key-added eq-value.it ks c.args.key none
