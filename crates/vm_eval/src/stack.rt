@@ -1,7 +1,7 @@
 //! The stack of frames: one turn at a time, until a task is answered or its units are used up.
 
-ghost use Rattle.std.specs.Prelude.{◌≡◌, ◌<◌, ◌≤◌, ℕ, [], ◌∷◌, ◌++◌, IfOk, OnErr, OnOk, vec_capacity};
-ghost use Rattle.class_world.specs.Sound.{AllHold, Lasts, of_each};
+ghost use Rattle.std.specs.Prelude.{◌≡◌, ◌≤◌, [], ◌∷◌, ◌++◌, IfOk, OnOk, vec_capacity};
+ghost use Rattle.class_world.specs.Sound.{AllHold, Lasts};
 ghost use Rattle.class_world.specs.Claims.{of_task, of_protocol_task, of_ended, of_step, left_open, LeavesOpen};
 ghost use Rattle.eval_forms.specs.Rows.{of_eval_kept};
 ghost use Rattle.proto_attr.specs.Rows.{of_attribute_kept};
@@ -16,7 +16,7 @@ ghost use Rattle.proto_items.specs.Rows.{of_items_kept};
 ghost use Rattle.proto_object.specs.Rows.{of_object_kept};
 ghost use Rattle.natives.specs.Rows.{of_natives_kept};
 ghost use Rattle.vm_eval.specs.Say.{Begins, Resumes, step_among, of_kept, bodies_in};
-ghost use Rattle.vm_eval.specs.Stack.{Answers, Reaches, Keeps, RunsAbove, AsDeep, EndsDeep, turns_left, of_turn, of_end};
+ghost use Rattle.vm_eval.specs.Stack.{Answers, Reaches, AsDeep, EndsDeep, of_end};
 
 use crate::look_ahead;
 use crate::protocols::{Branch, branch_of};
@@ -38,6 +38,9 @@ use py_node::{Answer, Cause, OutOfMemory, Raised, Step, Task};
 
 // No task stands so deep.
 pub(crate) const DEPTH: usize = 1000;
+
+// So many frames can stand below a task.
+const BELOW: usize = 999;
 
 /// What a row keeps while it waits for an answer.
 #[derive(Drop)]
@@ -339,58 +342,6 @@ fn of_native(step: Step<NativesKept>) -> Step<Kept>
     }
 }
 
-/// Where a turn of the machine leads.
-#[derive(Drop)]
-pub enum Turn {
-    On(Step<Kept>),
-    Finished(Result<Answer, Raised>),
-    OutOfUnits,
-}
-
-// One turn: an answer goes to the frame on top, or an asked task begins above it.
-fn take_turn(
-    world: &mut World,
-    stack: &mut Vec<Kept>,
-    left: &mut u64,
-    step: Step<Kept>,
-) -> Result<Turn, OutOfMemory>
-    requires stack { AllHold world.old (of_each of_kept stack.old.items) }
-    requires step { AllHold world.old (of_step of_kept step) }
-    ensures turned { IfOk result (λ turn.
-        Keeps world.old stack.old.items left.old step world.new stack.new.items left.new turn) }
-    ensures falls { IfOk result (λ turn.
-        turns_left left.new stack.new.items turn < turns_left left.old stack.old.items (Turn.On step)) }
-    ensures lasts { Lasts world.old world.new }
-    ensures bodies { IfOk result (λ turn. (n : ℕ) → RunsAbove n world.old stack.old.items (Turn.On step) →
-        RunsAbove n world.new stack.new.items turn) }
-    ensures stack { IfOk result (λ turn. AllHold world.new (of_each of_kept stack.new.items)) }
-    ensures holds { IfOk result (λ turn. AllHold world.new (of_turn turn)) }
-    ensures room { vec_capacity stack.old ≤ vec_capacity stack.new }
-{
-    match step {
-        Step::End(answer) => match stack.pop() {
-            None => Ok(Turn::Finished(answer)),
-            Some(kept) => {
-                let next = resume(world, kept, answer)?;
-                Ok(Turn::On(next))
-            }
-        },
-        Step::Ask(task, kept) => {
-            if *left == 0 {
-                return Ok(Turn::OutOfUnits);
-            }
-            *left -= 1;
-            push(stack, kept)?;
-            if stack.len() < DEPTH {
-                let next = begin(world, task)?;
-                Ok(Turn::On(next))
-            } else {
-                Ok(Turn::On(Step::raise(Cause::DepthLimit)))
-            }
-        }
-    }
-}
-
 // One more frame.
 fn push(stack: &mut Vec<Kept>, kept: Kept) -> Result<(), OutOfMemory>
     ensures pushed { OnOk result (stack.new.items ≡ stack.old.items ++ kept ∷ []) }
@@ -424,7 +375,8 @@ pub(crate) fn drive(
     }
 }
 
-// The turns of a task, on a stack that is empty.
+// The turns of a task, on a stack that is empty: an answer goes to the frame on top, or an asked task begins above it. Where
+// a task ends with its first step, the row that asked goes on at once, and needs no frame.
 fn take_turns(
     world: &mut World,
     stack: &mut Vec<Kept>,
@@ -442,10 +394,29 @@ fn take_turns(
     let mut left = units;
     let mut step = begin(world, task)?;
     'turns: loop {
-        match take_turn(world, stack, &mut left, step)? {
-            Turn::On(next) => step = next,
-            Turn::Finished(answer) => return Ok(End::Over(answer)),
-            Turn::OutOfUnits => return Ok(End::NoUnits),
+        match step {
+            Step::End(answer) => match stack.pop() {
+                None => return Ok(End::Over(answer)),
+                Some(kept) => step = resume(world, kept, answer)?,
+            },
+            Step::Ask(asked, kept) => {
+                if left == 0 {
+                    return Ok(End::NoUnits);
+                }
+                left -= 1;
+                if stack.len() < BELOW {
+                    match begin(world, asked)? {
+                        Step::End(answer) => step = resume(world, kept, answer)?,
+                        Step::Ask(next, above) => {
+                            push(stack, kept)?;
+                            step = Step::Ask(next, above);
+                        }
+                    }
+                } else {
+                    push(stack, kept)?;
+                    step = Step::raise(Cause::DepthLimit);
+                }
+            }
         }
     }
 }
