@@ -66,6 +66,11 @@ pub record IsOnItsWay (task : Task) (first : World) (units : ℕ) (w : World) (s
   pub frames : AllHold w (of_each of_kept stack)
   pub claims : AllHold w (of_step of_kept step)
 
+-- where a row asked with a unit left, the machine stays on its way to the same
+abbrev pub GoesOn : Task → Kept → World → List Kept → World → List Kept → Step Kept → Type 0
+GoesOn asked kept old stack new stack' next =
+    (task : Task) (first : World) (units left : ℕ) → IsOnItsWay task first units old stack (suc left) (Ask asked kept) → IsOnItsWay task first units new stack' left next
+
 -- as many bodies run as before
 abbrev pub AsDeep : Held → Held → Type 0
 AsDeep old new = length new.scopes ≡ length old.scopes

@@ -1,6 +1,6 @@
 //! The stack of frames: one turn at a time, until a task is answered or its units are used up.
 
-ghost use Rattle.std.specs.Prelude.{◌≡◌, ◌≤◌, [], ◌∷◌, ◌++◌, IfOk, OnOk, vec_capacity};
+ghost use Rattle.std.specs.Prelude.{◌≡◌, ◌≤◌, suc, [], ◌∷◌, ◌++◌, length, IfOk, OnOk, vec_capacity};
 ghost use Rattle.class_world.specs.Sound.{AllHold, Lasts};
 ghost use Rattle.class_world.specs.Claims.{of_task, of_protocol_task, of_ended, of_step, left_open, LeavesOpen};
 ghost use Rattle.eval_forms.specs.Rows.{of_eval_kept};
@@ -16,7 +16,7 @@ ghost use Rattle.proto_items.specs.Rows.{of_items_kept};
 ghost use Rattle.proto_object.specs.Rows.{of_object_kept};
 ghost use Rattle.natives.specs.Rows.{of_natives_kept};
 ghost use Rattle.vm_eval.specs.Say.{Begins, Resumes, step_among, of_kept, bodies_in};
-ghost use Rattle.vm_eval.specs.Stack.{Answers, Reaches, AsDeep, EndsDeep, of_end};
+ghost use Rattle.vm_eval.specs.Stack.{Answers, Reaches, GoesOn, AsDeep, EndsDeep, of_end};
 
 use crate::look_ahead;
 use crate::protocols::{Branch, branch_of};
@@ -351,6 +351,38 @@ fn push(stack: &mut Vec<Kept>, kept: Kept) -> Result<(), OutOfMemory>
     Ok(())
 }
 
+// The next step where a row asks, on a stack of its frame and those below: an asked task begins above it. Where the task ends with
+// its first step, the row goes on at once, and needs no frame.
+fn ask(
+    world: &mut World,
+    stack: &mut Vec<Kept>,
+    asked: Task,
+    kept: Kept,
+) -> Result<Step<Kept>, OutOfMemory>
+    requires { AllHold world.old (of_step of_kept (Step.Ask asked kept)) }
+    ensures way { IfOk result (λ next. GoesOn asked kept world.old stack.old.items world.new stack.new.items next) }
+    ensures lasts { Lasts world.old world.new }
+    ensures grows { OnOk result (length stack.new.items ≤ suc (length stack.old.items)) }
+    ensures room { vec_capacity stack.old ≤ vec_capacity stack.new }
+{
+    if stack.len() < BELOW {
+        let first = begin(world, asked)?;
+        match first {
+            Step::End(answer) => {
+                let next = resume(world, kept, answer)?;
+                Ok(next)
+            }
+            Step::Ask(task, above) => {
+                push(stack, kept)?;
+                Ok(Step::Ask(task, above))
+            }
+        }
+    } else {
+        push(stack, kept)?;
+        Ok(Step::raise(Cause::DepthLimit))
+    }
+}
+
 // How a task ends that may use so many units, on a stack that is empty. As many bodies run as before.
 pub(crate) fn drive(
     world: &mut World,
@@ -394,7 +426,8 @@ fn take_turns(
     let mut left = units;
     let mut step = begin(world, task)?;
     'turns: loop {
-        match step {
+        let now = step;
+        match now {
             Step::End(answer) => match stack.pop() {
                 None => return Ok(End::Over(answer)),
                 Some(kept) => step = resume(world, kept, answer)?,
@@ -404,18 +437,7 @@ fn take_turns(
                     return Ok(End::NoUnits);
                 }
                 left -= 1;
-                if stack.len() < BELOW {
-                    match begin(world, asked)? {
-                        Step::End(answer) => step = resume(world, kept, answer)?,
-                        Step::Ask(next, above) => {
-                            push(stack, kept)?;
-                            step = Step::Ask(next, above);
-                        }
-                    }
-                } else {
-                    push(stack, kept)?;
-                    step = Step::raise(Cause::DepthLimit);
-                }
+                step = ask(world, stack, asked, kept)?;
             }
         }
     }
