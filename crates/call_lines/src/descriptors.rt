@@ -2,7 +2,7 @@
 
 use crate::definitions::upper;
 use crate::payloads::{told_node, told_payload};
-use accessors::{PyClassMethod, PyMethodDescriptor, PyStaticMethod};
+use native_defs::accessors::{PyClassMethod, PyMethodDescriptor, PyStaticMethod};
 use class_world::{Fixed, World};
 use native_defs::{PyMemberDef, new_member};
 use py_node::{

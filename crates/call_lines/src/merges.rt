@@ -1,7 +1,7 @@
 //! The order of classes over their bases.
 
-use mro_merge::MroFault;
-use mro_merge::laws::{linearise_mro, resolve_mro};
+use class_table::mro_merge::MroFault;
+use class_table::mro_merge::laws::{linearise_mro, resolve_mro};
 use py_node::PyTypeRef;
 use std::alloc::Global;
 use table_lines::Table;
@@ -13,8 +13,8 @@ const FIRST: PyTypeRef = PyTypeRef(1);
 const SECOND: PyTypeRef = PyTypeRef(2);
 
 pub fn put(table: &mut Table, alloc: Global) {
-    table.put("mro_merge::linearise_mro", linearised(alloc));
-    table.put("mro_merge::resolve_mro", resolved(alloc));
+    table.put("class_table::mro_merge::linearise_mro", linearised(alloc));
+    table.put("class_table::mro_merge::resolve_mro", resolved(alloc));
 }
 
 // Two branches over one root.

@@ -5,8 +5,8 @@ use outside::read_all::read_all;
 use outside::write_all::write_all;
 use outside::{MemorySink, MemorySource, QuietSink, StdSink, StdSource};
 use py_node::{BodyCall, Cause, Kind, OutOfMemory, PyObjectRef, Raised, Reply, ReplyAnswer};
-use reply_text::class::push_class_lines;
-use reply_text::escape::{escaped_string, quoted_string};
+use script_text::reply_text::class::push_class_lines;
+use script_text::reply_text::escape::{escaped_string, quoted_string};
 use script_text::{read_script, read_sessions, write_replies};
 use std::alloc::Global;
 use std::io::sink;
@@ -18,13 +18,13 @@ pub fn put(table: &mut Table, alloc: Global) {
     table.put("script_text::read_script", script(alloc));
     table.put("script_text::read_sessions", sessions(alloc));
     table.put_bytes("script_text::write_replies", replies(alloc));
-    table.put_bytes("reply_text::push_class_lines", class_lines(alloc));
+    table.put_bytes("script_text::reply_text::push_class_lines", class_lines(alloc));
     table.put_text(
-        "reply_text::escaped_string",
+        "script_text::reply_text::escaped_string",
         escaped_string(alloc, "a\n\"\\\u{1}\u{1f}é\r\u{7f}"),
     );
     table.put_text(
-        "reply_text::quoted_string",
+        "script_text::reply_text::quoted_string",
         quoted_string(alloc, "say \"é\""),
     );
     table.put_bytes("outside::read_all", bytes_in(alloc));

@@ -5,3 +5,4 @@ pub mod EachBase
 pub mod Telling
 pub mod Descriptors
 pub mod Places
+pub mod OfTypeNatives

@@ -32,7 +32,8 @@ use Rattle.class_world.specs.Rows.{EndsAs, Steps, Goes}
 use Rattle.class_world.specs.Sound.{IsNode, AreNodes, Holds}
 use Rattle.class_world.proofs.Claims.{node-in}
 use Rattle.class_make.specs.declared.ClassKept.{ClassKept}
-use Rattle.class_make.specs.Say.{Entries, class_job_say, by_bases, by_classes, by_one, by_parts, by_winner, called_with, classes_of, dict_of, from_three, has_null, namespace, on_bases, on_layout, one_of, text_of, three_of, tuple_of, type_by, type_call, type_new, type_new_of, with_namespace, winner}
+use Rattle.class_make.specs.Say.{Entries, class_job_say, by_bases, by_classes, by_one, by_parts, by_winner, called_with, classes_of, dict_of, from_three, namespace, on_bases, on_layout, one_of, text_of, three_of, tuple_of, type_by, type_call, type_new, type_new_of, with_namespace, winner}
+use Rattle.row_kit.specs.Questions.{has_null}
 use Rattle.class_make.specs.Rows.{Bound, Makes, Types, class_stands}
 
 -- the bases: allowed together, or not

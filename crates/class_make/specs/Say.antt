@@ -29,8 +29,9 @@ use Rattle.plain_machine.specs.World.{ref, is_text, datum_at, class_at, text_key
 use Rattle.plain_machine.specs.Objects.{type_object, class_number, special_at, nearest_built_in, with_definer}
 use Rattle.plain_machine.specs.Known.{the_object, the_type, the_str, the_tuple, the_list, the_function, the_getset, the_class_method}
 use Rattle.plain_machine.specs.Takes.{with_two, with_three, with_text, native_end}
-use Rattle.native_objects.specs.Objects.{type_native_say}
+use Rattle.class_make.specs.TypeNatives.{type_native_say}
 use Rattle.plain_machine.specs.Row.{Row, start, ask, noting, read_names, read_objects, pass, end, value, fault, none, is_attribute_error, on_value, on_done}
+use Rattle.row_kit.specs.Questions.{has_null}
 
 -- the entries of a dict
 abbrev pub Entries : Type 0
@@ -323,10 +324,6 @@ by_classes w meta name bs (Ok cs) es args kw = by_winner w meta (winner w meta b
 abbrev pub by_bases : PlainWorld → ℕ → Text → List PyObjectRef → Entries → List PyObjectRef → Bindings → Said
 by_bases w meta name [] es args kw = on_bases w meta name (the_object ∷ []) es kw
 by_bases w meta name (b ∷ bs) es args kw = by_classes w meta name (b ∷ bs) (classes_of w (b ∷ bs)) es args kw
-
-abbrev pub has_null : Text → Bool
-has_null [] = false
-has_null (b ∷ bs) = eqb b 0 || has_null bs
 
 abbrev pub tuple_of : Option Datum → Option (List PyObjectRef)
 tuple_of (Some (ATuple rs)) = Some rs

@@ -17,6 +17,7 @@ mod namespace;
 mod slots;
 mod tell;
 mod type_attributes;
+mod type_natives;
 mod type_new;
 
 use crate::hook::{bound, called};

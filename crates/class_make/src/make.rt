@@ -5,19 +5,19 @@ ghost use Rattle.py_node.specs.declared.built_in.BuiltIn.TheVariants.{TypeType};
 ghost use Rattle.class_world.specs.Claims.{of_class_task, of_args, of_ended, of_step, Leaves};
 ghost use Rattle.class_world.specs.Reading.{bindings};
 ghost use Rattle.class_world.specs.Sound.{IsNode, AreNodes, IsClass, IsOf, Holds, AllHold};
-ghost use Rattle.class_make.specs.Say.{by_one, by_parts, from_three, has_null, one_of, three_of};
+ghost use Rattle.class_make.specs.Say.{by_one, by_parts, from_three, one_of, three_of};
+ghost use Rattle.row_kit.specs.Questions.{has_null};
 ghost use Rattle.plain_machine.specs.Known.{the_type};
 ghost use Rattle.class_make.specs.Rows.{Begins, Resumes, Makes, of_class_kept};
 ghost use Rattle.py_node.specs.declared.task.ClassTask.TheVariants as class_task;
 
+use class_world::World;
 use crate::ClassKept;
 use crate::bases::by_bases;
 use crate::namespace::{Entries, dict_at, text_at, tuple_at};
-use class_world::World;
+use py_node::{Answer, BuiltIn, Cause, Kind, OutOfMemory, PyObjectRef, PyStrInterned, PyTypeRef, Raised, Step};
 use py_node::task::{Args, Keywords};
-use py_node::{
-    Answer, BuiltIn, Cause, Kind, OutOfMemory, PyObjectRef, PyStrInterned, PyTypeRef, Raised, Step,
-};
+use row_kit::questions::has_null;
 
 /// Three arguments.
 type Three = (PyObjectRef, (PyObjectRef, PyObjectRef));
@@ -167,19 +167,6 @@ fn by_parts(
         }
         _ => Ok(Step::raise(Cause::TypeArgTypes)),
     }
-}
-
-// Whether a name has a null character.
-fn has_null(name: &str) -> bool
-    ensures { result ≡ has_null name.now }
-{
-    let bytes = name.as_bytes();
-    for byte in bytes {
-        if *byte == 0 {
-            return true;
-        }
-    }
-    false
 }
 
 /// A base that is no class and names others is refused, and so is one that does not.

@@ -38,7 +38,7 @@ pub(crate) fn type_native(
         TypeNative::DelAttr => type_del_attr(world, args, kw),
         TypeNative::Call => type_call(world, args, kw),
         native => {
-            let answer = native_objects::type_native(world, native, &args, &kw)?;
+            let answer = crate::type_natives::type_native(world, native, &args, &kw)?;
             Ok(Step::End(answer))
         }
     }

@@ -10,7 +10,7 @@ use Rattle.py_node.specs.declared.refs.PyTypeRef.{PyTypeRef}
 use Rattle.py_node.specs.Attributes.{with_value}
 use Rattle.class_model.specs.Class.{Classes, class_at}
 use Rattle.class_model.specs.Collect.{with_values, attrs_of, attributes_along}
-use Rattle.mro_merge.specs.Lists.{rows}
+use Rattle.class_table.specs.MroMerge.Lists.{rows}
 use Rattle.class_table.specs.Keys.{numbers}
 use Rattle.class_table.specs.Given.{AreGiven}
 

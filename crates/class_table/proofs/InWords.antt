@@ -16,7 +16,7 @@ use Rattle.class_model.proofs.Rule.{all_some-map}
 use Rattle.class_model.proofs.Lines.{all_some-some, lines-below}
 use Rattle.class_model.proofs.Failing.{breaks-to, breaks-from}
 use Rattle.class_model.proofs.OneBase.{least_order-no_base}
-use Rattle.mro_merge.proofs.Precedence.{broken-none}
+use Rattle.class_table.proofs.MroMerge.Precedence.{broken-none}
 use Rattle.class_table.specs.declared.fault.ClassFault.{ClassFault}
 use Rattle.class_table.specs.declared.fault.ClassFault.TheVariants.{Refused, RefusedAt, OutOfMemory}
 use Rattle.class_table.specs.Refused.{refusal, WithMemory, IsEarly, is_base_at, most_derived, are_apart, refused_base, refused_after, refused_layout, refused_lines, refused_order, refused_bases}

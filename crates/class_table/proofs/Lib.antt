@@ -42,3 +42,5 @@ pub mod LastParts
 pub mod Cached
 pub mod Lined
 pub mod Written
+pub mod MroMerge
+pub mod ClassLog

@@ -14,12 +14,12 @@ use Rattle.class_model.proofs.Tests.{Decides-distinct}
 use Rattle.class_model.proofs.Arranged.{least_order-order}
 use Rattle.class_model.proofs.Rule.{lin-begins, lin-distinct}
 use Rattle.class_model.proofs.Lines.{all_some-some, subsequence-distinct, lines-below}
-use Rattle.mro_merge.specs.declared.fault.MroFault.{MroFault}
-use Rattle.mro_merge.specs.declared.fault.MroFault.TheVariants as merge
-use Rattle.mro_merge.specs.Faults as faults
-use Rattle.mro_merge.specs.Merge.{AreLinesOf, IsApart, IsFirstRepeat, IsBrokenPrecedence, IsOrderConflict, IsRest, HasNoOrder}
-use Rattle.mro_merge.specs.Faults.{OnRefusal, Tells}
-use Rattle.mro_merge.proofs.Repeats.{repeat-differs}
+use Rattle.class_table.specs.declared.mro_merge.fault.MroFault.{MroFault}
+use Rattle.class_table.specs.declared.mro_merge.fault.MroFault.TheVariants as merge
+use Rattle.class_table.specs.MroMerge.Faults as faults
+use Rattle.class_table.specs.MroMerge.Merge.{AreLinesOf, IsApart, IsFirstRepeat, IsBrokenPrecedence, IsOrderConflict, IsRest, HasNoOrder}
+use Rattle.class_table.specs.MroMerge.Faults.{OnRefusal, Tells}
+use Rattle.class_table.proofs.MroMerge.Repeats.{repeat-differs}
 use Rattle.class_table.specs.Keys.{numbers}
 use Rattle.class_table.specs.Refused.{refusal, WithMemory, refused_lines, refused_order}
 use Rattle.class_table.specs.Inherit.{Follows, fault_of}

@@ -14,7 +14,7 @@ use Rattle.class_model.proofs.Linear.{all_some-has, all_some-holds}
 use Rattle.class_model.proofs.Rule.{lin-rule, lin-begins, lin-bases, lin-member}
 use Rattle.class_model.proofs.Changed.{lin-by}
 use Rattle.class_model.proofs.Lines.{all_some-some, bases-distinct, keeps-members}
-use Rattle.mro_merge.specs.Merge.{IsApart, IsRest, HasNoOrder}
+use Rattle.class_table.specs.MroMerge.Merge.{IsApart, IsRest, HasNoOrder}
 use Rattle.class_table.specs.Stored.{StoredClass, class_of, classes_of}
 use Rattle.class_table.specs.Coherent.{IsCoherent}
 use Rattle.class_table.specs.Refused.{AreThere}

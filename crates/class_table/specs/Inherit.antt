@@ -3,8 +3,8 @@ use Rattle.std.specs.Prelude.{◌≡◌, ℕ, ◌≤◌, Bool, false, cond, List
 use Rattle.py_node.specs.declared.raised.Cause.{Cause}
 use Rattle.py_node.specs.declared.raised.Cause.TheVariants as causes
 use Rattle.py_node.specs.declared.refs.PyTypeRef.{PyTypeRef}
-use Rattle.mro_merge.specs.declared.fault.MroFault.{MroFault}
-use Rattle.mro_merge.specs.declared.fault.MroFault.TheVariants as merge
+use Rattle.class_table.specs.declared.mro_merge.fault.MroFault.{MroFault}
+use Rattle.class_table.specs.declared.mro_merge.fault.MroFault.TheVariants as merge
 use Rattle.class_model.specs.Order.{least_order, all_some}
 use Rattle.class_model.specs.Class.{Classes, class_at, lin, is_sub}
 use Rattle.class_model.specs.Numbers.{limit}

@@ -24,3 +24,5 @@ pub mod Renewed
 pub mod Probe
 pub mod Settle
 pub mod Affected
+pub mod MroMerge
+pub mod ClassLog

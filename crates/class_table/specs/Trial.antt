@@ -9,7 +9,7 @@ use Rattle.py_node.specs.declared.raised.Cause.{Cause}
 use Rattle.class_model.specs.Order.{has, all_some}
 use Rattle.class_model.specs.Class.{Classes, bases_of, lin}
 use Rattle.class_model.specs.Change.{with_bases, order_cause}
-use Rattle.mro_merge.specs.Lists.{rows}
+use Rattle.class_table.specs.MroMerge.Lists.{rows}
 use Rattle.class_table.specs.Keys.{numbers}
 use Rattle.class_table.specs.Stored.{StoredClass, classes_of}
 use Rattle.class_table.specs.declared.descendants.Ranked.{Ranked}

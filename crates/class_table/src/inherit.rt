@@ -4,7 +4,7 @@ ghost use Rattle.std.specs.Prelude.{◌≡◌, ◌≤◌, true, length, Some, ma
 ghost use Rattle.class_model.specs.Class.{class_at, is_class, lin};
 ghost use Rattle.class_model.specs.Numbers.{is_ascending, limit};
 ghost use Rattle.class_model.specs.Layout.{solid, best_of};
-ghost use Rattle.mro_merge.specs.Lists.{rows};
+ghost use Rattle.class_table.specs.MroMerge.Lists.{rows};
 ghost use Rattle.class_table.specs.Keys.{numbers, number_of};
 ghost use Rattle.class_table.specs.Stored.{classes_of};
 ghost use Rattle.class_table.specs.Coherent.{IsCoherent};
@@ -15,7 +15,7 @@ ghost use Rattle.class_table.specs.Inherit.{is_under, better_of, next_best, best
 use crate::fault::{ClassFault, merge_fault};
 use crate::place::{find, find_place, stored_at};
 use crate::stored_classes::StoredClasses;
-use mro_merge::laws::resolve_mro;
+use crate::mro_merge::laws::resolve_mro;
 use py_node::{Cause, OutOfMemory, PyTypeFlags, PyTypeRef};
 use std::alloc::Global;
 

@@ -3,9 +3,9 @@ use Rattle.std.proofs.Common.{◌≡◌, ℕ, suc, ◌+◌, ◌<◌, ◌≤◌, 
 use Rattle.std.proofs.lemmas.Grind.{common_steps}
 use Rattle.std.proofs.lemmas.List.{length-map, get_or-map}
 use Rattle.std.proofs.Math.Seq.{drop-cons}
-use Rattle.class_log.specs.declared.change.ClassChange.{ClassChange}
-use Rattle.class_log.specs.Change.{Change, change_of}
-use Rattle.class_log.specs.Following.{BeginsWith}
+use Rattle.class_table.specs.declared.class_log.change.ClassChange.{ClassChange}
+use Rattle.class_table.specs.ClassLog.Change.{Change, change_of}
+use Rattle.class_table.specs.ClassLog.Following.{BeginsWith}
 use Rattle.class_view.specs.declared.rule.View.{View}
 use Rattle.class_view.specs.Rule.{Shows}
 use Rattle.class_view.specs.Posted.{Posted, posted}

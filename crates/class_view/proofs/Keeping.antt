@@ -4,9 +4,9 @@ use mathlib.Core.Option.{some}
 use lib.ListN.{get_elem?}
 use Rattle.left_right.specs.Register.{Admits, TurnsAt, Forks, Merges}
 use Rattle.atomic_table.proofs.Lists.{at_set, at_snoc}
-use Rattle.class_log.specs.Change.{Change}
+use Rattle.class_table.specs.ClassLog.Change.{Change}
 use Rattle.class_view.specs.declared.rule.View.{View}
-use Rattle.class_log.specs.Following.{BeginsWith}
+use Rattle.class_table.specs.ClassLog.Following.{BeginsWith}
 use Rattle.class_view.specs.Rule.{Keeps, Shows, newcomer}
 
 pub begins_self : {A : Type 0} (xs : List A) → BeginsWith xs xs

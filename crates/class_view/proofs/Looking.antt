@@ -2,9 +2,9 @@
 use Rattle.std.proofs.Common.{◌≡◌, List, sym, subst, Option, Some, Result, Ok, Err, IfOk}
 use Rattle.left_right.specs.Sides.{view}
 use Rattle.left_right.specs.declared.reader.Reader.{Reader}
-use Rattle.class_log.specs.Change.{Change}
+use Rattle.class_table.specs.ClassLog.Change.{Change}
 use Rattle.class_view.specs.declared.rule.View.{View}
-use Rattle.class_log.specs.Following.{BeginsWith}
+use Rattle.class_table.specs.ClassLog.Following.{BeginsWith}
 use Rattle.class_view.specs.Lists.{Follows}
 use Rattle.class_view.specs.Known.{knows_of}
 use Rattle.class_view.proofs.Keeping.{begins_self, begins_more}

@@ -2,8 +2,8 @@
 use Rattle.std.specs.Prelude.{◌≡◌, ℕ, List, []}
 use mathlib.Core.Option.{some}
 use lib.ListN.{get_elem?}
-use Rattle.class_log.specs.Change.{Change}
-use Rattle.class_log.specs.Following.{BeginsWith}
+use Rattle.class_table.specs.ClassLog.Change.{Change}
+use Rattle.class_table.specs.ClassLog.Following.{BeginsWith}
 use Rattle.class_view.specs.declared.rule.View.{View}
 
 -- the published list begins with what each has seen

@@ -2,8 +2,8 @@
 
 ghost use Rattle.std.specs.Prelude.{◌≡◌, ℕ, ◌<◌, ◌≤◌, List, IfOk, OnErr};
 ghost use Rattle.std.specs.Fn.{FnOnceReturnsAt};
-ghost use Rattle.class_log.specs.Change.{Change};
-ghost use Rattle.class_log.specs.Shown.{shown};
+ghost use Rattle.class_table.specs.ClassLog.Change.{Change};
+ghost use Rattle.class_table.specs.ClassLog.Shown.{shown};
 ghost use Rattle.class_view.specs.Lists.{Follows, IsKept};
 
 use class_table::ClassTable;

@@ -4,15 +4,15 @@ ghost use Rattle.std.specs.Prelude.{◌≡◌, ◌<◌, ◌≤◌, ◌^◌, ◌+
 ghost use Rattle.left_right.specs.Sides.{view as known_of};
 ghost use Rattle.class_table.specs.Rebase.{told};
 ghost use Rattle.class_table.specs.Refused.{WithMemory};
-ghost use Rattle.class_log.specs.Change.{change_of};
-ghost use Rattle.class_log.specs.Shown.{shown};
-ghost use Rattle.class_log.specs.Refused.{IsFit, refused};
-ghost use Rattle.class_log.specs.Following.{BeginsWith, CanFollow};
+ghost use Rattle.class_table.specs.ClassLog.Change.{change_of};
+ghost use Rattle.class_table.specs.ClassLog.Shown.{shown};
+ghost use Rattle.class_table.specs.ClassLog.Refused.{IsFit, refused};
+ghost use Rattle.class_table.specs.ClassLog.Following.{BeginsWith, CanFollow};
 
 use crate::copy::Posting;
 use crate::rule::{Looker, Notes, Publisher, Sees};
 use crate::writer::Told;
-use class_log::{ClassChange, Replica};
+use class_table::class_log::{ClassChange, Replica};
 use class_table::ClassFault;
 use left_right::writer::Writer;
 use py_node::OutOfMemory;

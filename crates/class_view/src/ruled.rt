@@ -3,8 +3,8 @@
 ghost use Rattle.std.specs.Prelude.{◌≡◌, ◌≤◌, List, IfOk, OnErr, IfSome, is_some};
 ghost use Rattle.std.specs.Fn.{FnOnceReturnsAt};
 ghost use Rattle.left_right.specs.Sides.{view};
-ghost use Rattle.class_log.specs.Shown.{shown};
-ghost use Rattle.class_log.specs.Following.{BeginsWith};
+ghost use Rattle.class_table.specs.ClassLog.Shown.{shown};
+ghost use Rattle.class_table.specs.ClassLog.Following.{BeginsWith};
 ghost use Rattle.class_view.specs.Lists.{IsKept};
 ghost use Rattle.class_view.specs.Known.{knows_of};
 

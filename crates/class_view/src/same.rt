@@ -2,10 +2,10 @@
 
 ghost use Rattle.std.specs.Prelude.{◌≡◌, IsTrue, map};
 ghost use Rattle.class_table.specs.Keys.{numbers, slot_names};
-ghost use Rattle.class_log.specs.Change.{change_of, made_of, Make, SetOwn, DelOwn, SetBases};
-ghost use Rattle.class_log.specs.Following.{BeginsWith};
+ghost use Rattle.class_table.specs.ClassLog.Change.{change_of, made_of, Make, SetOwn, DelOwn, SetBases};
+ghost use Rattle.class_table.specs.ClassLog.Following.{BeginsWith};
 
-use class_log::{ClassChange, Replica};
+use class_table::class_log::{ClassChange, Replica};
 use py_node::{PyAttributes, PyObjectRef, PyStrInterned, PyTypeFlags, PyTypeRef};
 
 fn is_same_name(a: PyStrInterned, b: PyStrInterned) -> bool

@@ -12,8 +12,8 @@ use Rattle.class_model.proofs.PlaceOffsets.{layout-same}
 use Rattle.plain_machine.specs.World.{is_text}
 use Rattle.plain_machine.specs.Change.{SetName, apply, without_own_attr}
 use Rattle.plain_machine.proofs.Offsets.{offset-kept}
-use Rattle.class_log.specs.Change.{Change}
-use Rattle.class_log.specs.Following.{Keeps}
+use Rattle.class_table.specs.ClassLog.Change.{Change}
+use Rattle.class_table.specs.ClassLog.Following.{Keeps}
 use Rattle.class_world.specs.Held.{Held}
 use Rattle.class_world.specs.Reading.{Reading, Reads, spelled, plain}
 use Rattle.class_world.specs.Sound.{AllHold, SoundWith, Sound, of_binding, of_class, of_dict, of_each, of_node}

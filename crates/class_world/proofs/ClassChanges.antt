@@ -20,9 +20,9 @@ use Rattle.class_model.proofs.PlaceOffsets.{layout-same}
 use Rattle.class_table.specs.Refused.{AreThere}
 use Rattle.class_table.specs.Keys.{numbers}
 use Rattle.plain_machine.specs.World.{is_text, with_own_attr, with_new_class}
-use Rattle.class_log.specs.Change.{Change}
-use Rattle.class_log.specs.Following.{Keeps}
-use Rattle.class_log.specs.Logged.{IsLogged}
+use Rattle.class_table.specs.ClassLog.Change.{Change}
+use Rattle.class_table.specs.ClassLog.Following.{Keeps}
+use Rattle.class_table.specs.ClassLog.Logged.{IsLogged}
 use Rattle.class_world.specs.Added.{AreEmpty}
 use Rattle.class_world.specs.Held.{Held}
 use Rattle.class_world.specs.Reading.{Reading, spelled, node_of, plain}

@@ -11,7 +11,7 @@ use Rattle.py_node.specs.declared.payload.Payload.{Payload}
 use Rattle.py_node.specs.declared.payload.Payload.TheVariants as payload
 use Rattle.plain_machine.specs.Plain.{AFunction, Node}
 use Rattle.plain_machine.specs.Objects.{or_class, defined_by, with_datum_in, with_definer}
-use Rattle.class_log.proofs.Logged.{keeps-itself}
+use Rattle.class_table.proofs.ClassLog.Logged.{keeps-itself}
 use Rattle.class_world.specs.Held.{Held}
 use Rattle.class_world.specs.Reading.{Reading, spelled, datum, node_of, plain}
 use Rattle.class_world.specs.Sound.{Claim, IsClass, IsOf, GetsDict, class_in, held_class, Holds, AllHold, Grows, Sound, of_option, of_class_ref, of_dict_ref, of_payload, of_node, of_each}

@@ -14,7 +14,7 @@ use Rattle.py_node.specs.Dicts.{PlainDict, empty_dict, put_at, dict_put, dict_pu
 use Rattle.plain_machine.specs.Plain.{ADict, Node}
 use Rattle.plain_machine.specs.Objects.{with_datum_in}
 use Rattle.plain_machine.specs.Dicts.{Entries, with_entries}
-use Rattle.class_log.proofs.Logged.{keeps-itself}
+use Rattle.class_table.proofs.ClassLog.Logged.{keeps-itself}
 use Rattle.class_world.specs.Held.{Held}
 use Rattle.class_world.specs.Keyed.{dict_in, held_dict, dict_at, of_entries, of_keyed, IsDict, HasOther}
 use Rattle.class_world.specs.Reading.{Reading, places_of, datum, node_of, plain}

@@ -26,9 +26,9 @@ use Rattle.std.specs.List.{AllByRecursion}
 use Rattle.py_node.specs.declared.payload.Node.{Node}
 use Rattle.py_node.specs.declared.payload.Payload.{Payload}
 use Rattle.py_node.specs.declared.payload.Form.{Form}
-use Rattle.class_log.specs.Change.{Change}
-use Rattle.class_log.specs.Following.{Keeps}
-use Rattle.class_log.proofs.Logged.{keeps-itself, keeps-on}
+use Rattle.class_table.specs.ClassLog.Change.{Change}
+use Rattle.class_table.specs.ClassLog.Following.{Keeps}
+use Rattle.class_table.proofs.ClassLog.Logged.{keeps-itself, keeps-on}
 use Rattle.class_world.specs.Held.{Held}
 use Rattle.class_world.specs.Sound.{Claim, IsNode, AreNodes, IsExpression, AreExpressions, IsName, AreNames, IsClass, IsOf, Holding, Standing, CanBeKeys, KeysDiffer, KeysRead, HasForm, HasParams, HasValues, AreMembers, IsOffset, HasFlags, GetsDict, OfStatic, class_ref_at, flags_at, StandsThere, params_in, held_params, AreFilled, home_of, home_at, key_in, held_key, read_key, AreRead, class_in, held_class, Holds, Lasts, Grows}
 use Rattle.class_world.proofs.Claims.{get-pushed}

@@ -12,9 +12,9 @@ use Rattle.class_model.specs.Layout.{best_of}
 use Rattle.class_model.specs.Sound.{AreSound}
 use Rattle.class_table.specs.Refused.{AreThere}
 use Rattle.plain_machine.specs.World.{ref, with_new_class}
-use Rattle.class_log.specs.Change.{Change}
-use Rattle.class_log.specs.Following.{Keeps}
-use Rattle.class_log.specs.Logged.{IsLogged}
+use Rattle.class_table.specs.ClassLog.Change.{Change}
+use Rattle.class_table.specs.ClassLog.Following.{Keeps}
+use Rattle.class_table.specs.ClassLog.Logged.{IsLogged}
 use Rattle.class_world.specs.Held.{Held}
 use Rattle.class_world.specs.NewHeap.{HasClassNode}
 use Rattle.class_world.specs.Reading.{Reading, Reads, node_of, spelled, plain}

@@ -26,8 +26,8 @@ use Rattle.class_table.proofs.KeptLayouts.{layout-passed}
 use Rattle.class_table.proofs.Renames.{layout-alike}
 use Rattle.plain_machine.specs.Change.{SetBases, apply}
 use Rattle.plain_machine.proofs.Offsets.{offset-agrees}
-use Rattle.class_log.specs.Change.{Change}
-use Rattle.class_log.specs.Following.{Keeps}
+use Rattle.class_table.specs.ClassLog.Change.{Change}
+use Rattle.class_table.specs.ClassLog.Following.{Keeps}
 use Rattle.class_world.specs.Held.{Held}
 use Rattle.class_world.specs.Reading.{Reading, spelled, plain}
 use Rattle.class_world.specs.Sound.{AllHold, SoundWith, Sound, of_class, of_each, of_node}

@@ -9,7 +9,7 @@ use Rattle.plain_machine.specs.Change.{with_object_changed}
 use Rattle.py_node.specs.declared.refs.PyStrInterned.{PyStrInterned}
 use Rattle.class_model.specs.Class.{Classes, class_at}
 use Rattle.class_model.specs.Slot.{is_heap_at}
-use Rattle.class_log.proofs.Logged.{keeps-itself}
+use Rattle.class_table.proofs.ClassLog.Logged.{keeps-itself}
 use Rattle.class_world.specs.Held.{Held}
 use Rattle.class_world.specs.Reading.{Reading, node_of, plain}
 use Rattle.class_world.specs.Sound.{class_in, AllHold, Grows, Sound, of_node}

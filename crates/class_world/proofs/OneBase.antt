@@ -12,7 +12,7 @@ use Rattle.py_node.specs.Tree.{Text}
 use Rattle.class_model.specs.Class.{Class, is_class}
 use Rattle.class_table.specs.Refused.{is_base_at}
 use Rattle.class_table.specs.OneBase.{refused_single, says_so, static_flags}
-use Rattle.class_log.specs.Logged.{IsGivenTo, IsGiven}
+use Rattle.class_table.specs.ClassLog.Logged.{IsGivenTo, IsGiven}
 use Rattle.class_world.specs.Held.{Held}
 use Rattle.class_world.specs.Reading.{Reading, plain}
 use Rattle.class_world.specs.Sound.{Holds, IsClass, AreNames, flags_at, is_marked_heap}

@@ -24,7 +24,7 @@ use Rattle.class_model.proofs.Names.{place-first}
 use Rattle.class_model.proofs.Sound.{has_dict-renamed}
 use Rattle.class_table.specs.OneBase.{says_so}
 use Rattle.class_table.specs.Start.{Numbered, value_number, number_past, with_own, with_all_own, with_each_own, start_classes}
-use Rattle.class_log.proofs.Logged.{keeps-itself, logged-first}
+use Rattle.class_table.proofs.ClassLog.Logged.{keeps-itself, logged-first}
 use Rattle.plain_machine.specs.Plain.{PlainWorld}
 use Rattle.plain_machine.specs.Sound.{holds_as}
 use Rattle.plain_machine.specs.Start.{attr_class, attr_datum, is_made, with_attr, with_attrs, bare, start}

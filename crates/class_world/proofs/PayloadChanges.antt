@@ -12,7 +12,7 @@ use Rattle.py_node.specs.declared.refs.PyStrInterned.{PyStrInterned}
 use Rattle.class_model.specs.Class.{Classes}
 use Rattle.plain_machine.specs.Plain.{AProperty, Node}
 use Rattle.plain_machine.specs.Objects.{with_datum_in, with_datum}
-use Rattle.class_log.proofs.Logged.{keeps-itself}
+use Rattle.class_table.proofs.ClassLog.Logged.{keeps-itself}
 use Rattle.class_world.specs.Held.{Held}
 use Rattle.class_world.specs.Reading.{Reading, datum, node_of, plain}
 use Rattle.class_world.specs.Sound.{IsNode, IsOf, GetsDict, Holding, home_of, is_lasting, class_in, with_payload, Holds, AllHold, Grows, Sound, of_option, of_dict_ref, of_payload, of_property, of_node}

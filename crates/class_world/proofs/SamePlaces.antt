@@ -11,7 +11,7 @@ use Rattle.class_model.specs.Layout.{place_count}
 use Rattle.class_model.specs.Offset.{offset_of}
 use Rattle.class_model.proofs.PlaceOffsets.{along-there, offset-alike}
 use Rattle.plain_machine.specs.Plain.{Node, no_members}
-use Rattle.class_log.specs.Change.{Change}
+use Rattle.class_table.specs.ClassLog.Change.{Change}
 use Rattle.class_world.specs.Added.{AreEmpty}
 use Rattle.class_world.specs.Held.{Held}
 use Rattle.class_world.specs.Reading.{Reading, places_of, datum, node_of, spelled, plain}

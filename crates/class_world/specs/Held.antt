@@ -7,7 +7,7 @@ use Rattle.py_node.specs.declared.payload.Form.{Form}
 use Rattle.py_node.specs.Replies.{Started}
 use Rattle.class_model.specs.Class.{Class}
 use Rattle.class_table.specs.Start.{Numbered}
-use Rattle.class_log.specs.Change.{Change}
+use Rattle.class_table.specs.ClassLog.Change.{Change}
 use Rattle.class_world.specs.declared.scope.Scope.{Scope}
 
 -- the tables of names and of expressions, the nodes, the classes, the variables, the scopes of running bodies, the bodies that were started, and the changes of classes that were accepted, in order

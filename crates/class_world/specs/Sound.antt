@@ -27,8 +27,8 @@ use Rattle.class_model.specs.Slot.{is_heap_at}
 use Rattle.plain_machine.specs.Known.{the_dict, the_none_type}
 use Rattle.plain_machine.specs.Row.{none}
 use Rattle.plain_machine.specs.Sound.{holds_as, held_by, is_offset, read_offset, set_offset, Key, NumberKey, TextKey, AreKeys}
-use Rattle.class_log.specs.Following.{Keeps}
-use Rattle.class_log.specs.Logged.{IsLogged}
+use Rattle.class_table.specs.ClassLog.Following.{Keeps}
+use Rattle.class_table.specs.ClassLog.Logged.{IsLogged}
 use Rattle.class_world.specs.declared.scope.Scope.{Scope}
 use Rattle.class_world.specs.Held.{Held}
 use Rattle.class_world.specs.Tables.{AreBelow}

@@ -9,7 +9,7 @@ ghost use Rattle.class_table.specs.Keys.{numbers};
 ghost use Rattle.class_table.specs.Refused.{WithMemory};
 ghost use Rattle.class_table.specs.Settle.{line_places};
 ghost use Rattle.class_table.specs.Rebase.{refused_change, refused_rebase, told, IsToldFirst};
-ghost use Rattle.class_log.specs.Change.{SetBases as SetBasesChange};
+ghost use Rattle.class_table.specs.ClassLog.Change.{SetBases as SetBasesChange};
 ghost use Rattle.plain_machine.specs.Change.{SetBases, SetName, apply};
 ghost use Rattle.class_world.specs.Reading.{Reading, Reads, plain};
 ghost use Rattle.class_world.specs.Sound.{IsClass, Holds, AllHold, Grows, of_class_ref, of_each};

@@ -11,8 +11,8 @@ ghost use Rattle.class_model.specs.Numbers.{limit};
 ghost use Rattle.class_model.specs.Dict.{heap_class};
 ghost use Rattle.class_table.specs.Keys.{numbers, table_keys, slot_names};
 ghost use Rattle.class_table.specs.Refused.{refusal, WithMemory, IsEarly, AreThere, refused_attr, refused_layout, refused_bases, NamesNoClass};
-ghost use Rattle.class_log.specs.Change.{SetOwn};
-ghost use Rattle.class_log.specs.Logged.{IsLogged, made_by_script};
+ghost use Rattle.class_table.specs.ClassLog.Change.{SetOwn};
+ghost use Rattle.class_table.specs.ClassLog.Logged.{IsLogged, made_by_script};
 ghost use Rattle.plain_machine.specs.Objects.{with_definer};
 ghost use Rattle.plain_machine.specs.World.{ref, text_keys, datum_at, with_new_class, with_own_attr};
 ghost use Rattle.class_world.specs.NewHeap.{HasClassNode, class_node, holds_text, qualified, refused_name, refused_heap, slot_texts, of_slots};
@@ -22,7 +22,7 @@ ghost use Rattle.class_world.specs.Sound.{IsNode, IsClass, IsOf, IsName, Holds, 
 use crate::definer::define;
 use crate::places::empty_places;
 use crate::world::World;
-use class_log::ClassLog;
+use class_table::class_log::ClassLog;
 use class_table::{ClassFault, ClassTable};
 use py_node::{
     Cause, Known, Node, OutOfMemory, Payload, PyAttributes, PyMembers, PyObjectRef, PyStrInterned,

@@ -10,7 +10,7 @@ ghost use Rattle.class_model.specs.Numbers.{limit};
 ghost use Rattle.class_table.specs.Refused.{refusal, refused_attr, NamesNoClass};
 ghost use Rattle.class_model.specs.Dict.{gives_dict, has_dict as class_has_dict, heap_class};
 ghost use Rattle.class_table.specs.OneBase.{refused_single, single_class, says_so, static_flags};
-ghost use Rattle.class_log.specs.Logged.{IsLogged, IsGiven, made_single};
+ghost use Rattle.class_table.specs.ClassLog.Logged.{IsLogged, IsGiven, made_single};
 ghost use Rattle.py_node.specs.BuiltIns.{heap_flags};
 ghost use Rattle.plain_machine.specs.Known.{the_type, the_dict};
 ghost use Rattle.plain_machine.specs.World.{ref, text_keys, has_dict, with_new_class, with_own_attr};
@@ -21,7 +21,7 @@ ghost use Rattle.class_world.specs.Sound.{IsNode, IsClass, IsOf, Holds, AllHold,
 use crate::heap::push_class_node;
 use crate::places::empty_places;
 use crate::world::World;
-use class_log::ClassLog;
+use class_table::class_log::ClassLog;
 use class_table::one_base::flags_of_static;
 use class_table::{ClassFault, ClassTable};
 use py_node::{BuiltIn, Cause, Node, PyAttributes, PyObjectRef, PyTypeFlags, PyTypeRef};

@@ -3,7 +3,7 @@
 ghost use Rattle.std.specs.Prelude.{◌≡◌, ◌++◌, ◌∷◌, [], true, false, is_some, Ok, IfOk, OnOk, OnErr};
 ghost use Rattle.class_model.specs.Class.{class_at as class_numbered, own_of};
 ghost use Rattle.class_table.specs.Refused.{refusal, refused_attr, NamesNoClass};
-ghost use Rattle.class_log.specs.Change.{DelOwn};
+ghost use Rattle.class_table.specs.ClassLog.Change.{DelOwn};
 ghost use Rattle.plain_machine.specs.Change.{without_own_attr};
 ghost use Rattle.plain_machine.specs.World.{is_text};
 ghost use Rattle.class_world.specs.Reading.{Reading, Reads, plain};

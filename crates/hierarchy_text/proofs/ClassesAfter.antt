@@ -8,8 +8,8 @@ use Rattle.serde_json.specs.Find.{as_str}
 use Rattle.serde_json.specs.View.{view, items_view}
 use Rattle.serde_json.specs.declared.value.Value.{Value}
 use Rattle.py_node.specs.Tree.{Text}
-use Rattle.json_text.specs.Texts.{of_two, texts_in}
-use Rattle.json_text.proofs.Lists.{onto, onto-found}
+use Rattle.script_text.specs.JsonText.Texts.{of_two, texts_in}
+use Rattle.script_text.proofs.JsonText.Lists.{onto, onto-found}
 use Rattle.order_check.specs.declared.hierarchy.Entry.{Entry}
 use Rattle.hierarchy_text.specs.Spelled.{Named, PlainClass, and_after, class_after, classes_after, first_class, key_of, keyed, keys_of, named, named_of, or_first, plain_class, with_first}
 use Rattle.hierarchy_text.specs.Items.{base_key, base_keys, class_at}

@@ -7,9 +7,9 @@ use Rattle.std.proofs.lemmas.List.{length-append}
 use Rattle.std.proofs.lemmas.Option.{slice_get_within}
 use Rattle.serde_json.specs.Data.{Data, null, boolean, number, string, array, object, Items, no_items, item}
 use Rattle.py_node.specs.Tree.{Text}
-use Rattle.json_text.specs.Texts.{of_two}
-use Rattle.json_text.specs.declared.error.ScriptFault.{ScriptFault}
-use Rattle.json_text.specs.declared.error.ScriptError.TheVariants.{Shape}
+use Rattle.script_text.specs.JsonText.Texts.{of_two}
+use Rattle.script_text.specs.declared.json_text.error.ScriptFault.{ScriptFault}
+use Rattle.script_text.specs.declared.json_text.error.ScriptError.TheVariants.{Shape}
 use Rattle.class_model.specs.Order.{Includes, Distinct}
 use Rattle.order_check.specs.declared.hierarchy.Entry.{Entry}
 use Rattle.order_check.specs.declared.hierarchy.Hierarchy.{Hierarchy}

@@ -2,3 +2,4 @@ pub mod Errors
 pub mod Keys
 pub mod ClassesAfter
 pub mod InOrder
+pub mod ReportText

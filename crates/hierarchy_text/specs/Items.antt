@@ -4,7 +4,7 @@ use Rattle.std.specs.Borrow.{Bor}
 use Rattle.serde_json.specs.Data.{Data, Items, no_items, item}
 use Rattle.serde_json.specs.Find.{as_str}
 use Rattle.py_node.specs.Tree.{Text}
-use Rattle.json_text.specs.Texts.{of_two}
+use Rattle.script_text.specs.JsonText.Texts.{of_two}
 use Rattle.hierarchy_text.specs.Spelled.{PlainClass, key_of, named_of, class_after}
 
 -- the names that the code lends

@@ -4,10 +4,10 @@ use Rattle.std.specs.List.{position}
 use Rattle.serde_json.specs.Data.{Data, null, boolean, number, string, array, object, Items, no_items, item}
 use Rattle.serde_json.specs.Find.{as_str}
 use Rattle.py_node.specs.Tree.{Text}
-use Rattle.json_text.specs.declared.error.ScriptError.{ScriptError}
-use Rattle.json_text.specs.declared.error.ScriptError.TheVariants.{NoCommand, Shape}
-use Rattle.json_text.specs.Json.{json_of}
-use Rattle.json_text.specs.Texts.{of_two, texts_in}
+use Rattle.script_text.specs.declared.json_text.error.ScriptError.{ScriptError}
+use Rattle.script_text.specs.declared.json_text.error.ScriptError.TheVariants.{NoCommand, Shape}
+use Rattle.script_text.specs.JsonText.Json.{json_of}
+use Rattle.script_text.specs.JsonText.Texts.{of_two, texts_in}
 use Rattle.order_check.specs.declared.hierarchy.Entry.{Entry}
 
 -- a class as it is spelled: its name, and its bases by their names

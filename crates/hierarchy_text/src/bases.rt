@@ -6,7 +6,7 @@ ghost use Rattle.hierarchy_text.specs.Spelled.{or_first};
 ghost use Rattle.hierarchy_text.specs.Items.{texts, base_key, base_keys};
 
 use indexmap::IndexSet;
-use json_text::Unread;
+use script_text::json_text::Unread;
 use serde_json::Value;
 use std::alloc::{AllocError, Global};
 

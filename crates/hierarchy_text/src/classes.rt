@@ -8,7 +8,7 @@ ghost use Rattle.hierarchy_text.specs.Items.{texts, class_at};
 use crate::bases::read_bases;
 use crate::parts::class_parts;
 use indexmap::IndexSet;
-use json_text::Unread;
+use script_text::json_text::Unread;
 use order_check::{Entry, Hierarchy};
 use serde_json::Value;
 use std::alloc::{AllocError, Global};

@@ -5,5 +5,6 @@ mod bases;
 mod classes;
 mod parts;
 pub mod read;
+pub mod report_text;
 
 pub use read::read_hierarchy;

@@ -3,11 +3,11 @@
 ghost use Rattle.std.specs.Prelude.{◌≡◌, None, IfOk, IfErr, option_map};
 ghost use Rattle.serde_json.specs.Data.{array};
 ghost use Rattle.serde_json.specs.View.{view, items_view};
-ghost use Rattle.json_text.specs.Texts.{texts_in};
+ghost use Rattle.script_text.specs.JsonText.Texts.{texts_in};
 ghost use Rattle.hierarchy_text.specs.Spelled.{names_of, named, named_of};
 
-use json_text::Unread;
-use json_text::items::two;
+use script_text::json_text::Unread;
+use script_text::json_text::items::two;
 use serde_json::Value;
 
 // The items of an array.

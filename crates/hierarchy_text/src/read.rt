@@ -2,12 +2,12 @@
 
 ghost use Rattle.std.specs.Prelude.{◌≡◌, IfOk, Ok, Err, map};
 ghost use Rattle.serde_json.specs.View.{view, items_view};
-ghost use Rattle.json_text.specs.declared.error.ScriptError.{ScriptError as Refusal};
+ghost use Rattle.script_text.specs.declared.json_text.error.ScriptError.{ScriptError as Refusal};
 ghost use Rattle.order_check.specs.Hierarchy.{IsInOrder};
 ghost use Rattle.hierarchy_text.specs.Spelled.{hierarchy_of, classes_in, classes_of, plain_class};
 
 use crate::classes::read_classes;
-use json_text::{ScriptError, ScriptFault, read_json};
+use script_text::json_text::{ScriptError, ScriptFault, read_json};
 use order_check::Hierarchy;
 use serde_json::Value;
 use std::alloc::Global;

@@ -5,8 +5,8 @@ ghost use Rattle.class_world.specs.Sound.{AllHold, of_class_ref, of_each};
 
 use class_table::ClassFault;
 use class_world::{Fixed, World};
-use mro_merge::MroFault;
-use mro_merge::laws::linearise_mro;
+use class_table::mro_merge::MroFault;
+use class_table::mro_merge::laws::linearise_mro;
 use py_node::{BuiltIn, Cause, Known, OutOfMemory, PyAttributes, PyTypeFlags, PyTypeRef};
 use std::test::Fail;
 

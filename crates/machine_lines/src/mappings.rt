@@ -6,7 +6,7 @@ ghost use Rattle.class_world.specs.Sound.{AllHold, Holds, IsNode, of_node_ref};
 
 use crate::asking::{UNITS, done, object, shown};
 use class_world::args::alone;
-use protocols::{PyCallable, PyMapping, PyNumber, PySequence};
+use vm_calls::protocols::{PyCallable, PyMapping, PyNumber, PySequence};
 use py_node::{PyObjectRef, PyResult};
 use std::alloc::Global;
 use table_lines::{NoValue, Table};

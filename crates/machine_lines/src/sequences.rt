@@ -5,7 +5,7 @@ ghost use Rattle.vm_eval.specs.Asks.{of_done};
 ghost use Rattle.class_world.specs.Sound.{AllHold, Holds, IsNode, of_node_ref};
 
 use crate::asking::{UNITS, done, object, shown};
-use protocols::PySequence;
+use vm_calls::protocols::PySequence;
 use py_node::{PyObjectRef, PyResult};
 use table_lines::{NoValue, Table};
 use vm_calls::sequence::{

@@ -4,3 +4,5 @@ pub mod Ends
 pub mod Under
 pub mod Changed
 pub mod Filled
+pub mod NativeTexts
+pub mod NativeCompare

@@ -1,3 +1,4 @@
 pub mod Take
-pub mod Asking
 pub mod Say
+pub mod NativeTexts
+pub mod NativeCompare

@@ -1,5 +1,5 @@
 -- What the natives of tuples, lists, dicts and iterators say that ask no task.
-use Rattle.std.specs.Prelude.{pos, Bool, cond, nat_le, is_some, length, map, fold, List, [], ◌∷◌, ◌++◌, Option, Some, None, Ok}
+use Rattle.std.specs.Prelude.{pos, cond, is_some, length, fold, List, [], ◌∷◌, ◌++◌, Option, Some, None}
 use Rattle.py_node.specs.declared.refs.PyObjectRef.{PyObjectRef}
 use Rattle.py_node.specs.declared.raised.Cause.TheVariants.{ArgCount, ConcatType, MissingKey, TooLong}
 use Rattle.py_node.specs.declared.entry.TupleNative.{TupleNative}
@@ -11,33 +11,23 @@ use Rattle.py_node.specs.declared.entry.DictNative.TheVariants as dict
 use Rattle.py_node.specs.declared.entry.IteratorNative.{IteratorNative}
 use Rattle.py_node.specs.declared.entry.IteratorNative.TheVariants as iterator
 use Rattle.py_node.specs.Attributes.{value_of}
-use Rattle.py_node.specs.Tree.{Text}
 use Rattle.plain_machine.specs.Dicts.{Entries, has_place, is_like, with_entry, with_entries, with_value_in, without_value_for}
-use Rattle.plain_machine.specs.Known.{the_tuple, the_list}
-use Rattle.plain_machine.specs.Objects.{with_datum}
-use Rattle.plain_machine.specs.Plain.{ATuple, AList, PlainWorld, Bindings, Ended, Said, Ends}
-use Rattle.plain_machine.specs.Row.{value, none, truth, most_items, fault, elsewhere}
+use Rattle.plain_machine.specs.Known.{the_list}
+use Rattle.plain_machine.specs.Plain.{AList, PlainWorld, Bindings, Ended, Said, Ends}
+use Rattle.plain_machine.specs.Row.{value, truth, fault, elsewhere}
 use Rattle.plain_machine.specs.World.{datum_at, with_node, next_node}
-use Rattle.native_base.specs.Say.{object_made, number_told, iterator_made}
-use Rattle.native_containers.specs.declared.take.Kind.{Kind}
-use Rattle.native_containers.specs.declared.take.Kind.TheVariants as kind
-use Rattle.native_containers.specs.Take.{is_of, items_at, entries_at, with_kind, with_own, with_lone, with_own_and, with_own_and_two, with_key, with_dict_and_key, with_default}
-
--- a container of more items than most would be too long
-abbrev pub unless_long : {A : Type 0} → PlainWorld → List A → Said → Said
-unless_long w xs go = cond (nat_le (length xs) most_items) go (Ends w (fault TooLong))
+use Rattle.row_kit.specs.Say.{number_told, iterator_made}
+use Rattle.row_kit.specs.declared.take_containers.Kind.{Kind}
+use Rattle.row_kit.specs.declared.take_containers.Kind.TheVariants as kind
+use Rattle.row_kit.specs.TakeContainers.{is_of, items_at, entries_at, with_kind, with_own, with_lone, with_own_and, with_own_and_two}
+use Rattle.native_containers.specs.Take.{with_key, with_dict_and_key, with_default}
+use Rattle.row_kit.specs.GiveContainers.{unless_long, tuple_made, list_made, list_changed, ends_none, keys_of, values_of, pairs_made}
 
 -- how many there are
 abbrev pub counted : {A : Type 0} → PlainWorld → List A → Said
 counted w xs = number_told w (pos (length xs))
 
 -- tuples and lists
-
-abbrev pub tuple_made : PlainWorld → List PyObjectRef → Said
-tuple_made w rs = object_made w the_tuple (ATuple rs)
-
-abbrev pub list_made : PlainWorld → List PyObjectRef → Said
-list_made w rs = object_made w the_list (AList rs)
 
 -- only objects of one kind are joined
 abbrev pub with_like : Kind → PlainWorld → PyObjectRef → Said → Said
@@ -53,10 +43,6 @@ tuple_say w tuple.Length args kw = with_lone kind.Tuple w args kw (λ o. counted
 tuple_say w tuple.Iter args kw = with_lone kind.Tuple w args kw (iterator_made w)
 tuple_say w tuple.Add args kw = with_joined kind.Tuple w args kw (tuple_made w)
 tuple_say w _ args kw = Ends w elsewhere
-
--- a list with other items
-abbrev pub list_changed : PlainWorld → PyObjectRef → List PyObjectRef → Said
-list_changed w o rs = unless_long w rs (Ends (with_datum w o (AList rs)) (value none))
 
 abbrev pub list_say : PlainWorld → ListNative → List PyObjectRef → Bindings → Said
 list_say w list.Length args kw = with_lone kind.List w args kw (λ o. counted w (items_at w o))
@@ -80,29 +66,14 @@ given_or w None other = Ends w other
 abbrev pub dict_changed : PlainWorld → PyObjectRef → Entries → (PlainWorld → Said) → Said
 dict_changed w d es go = unless_long w es (go (with_entries w d es))
 
-abbrev pub ends_none : PlainWorld → Said
-ends_none w = Ends w (value none)
-
 -- the key that is there is taken out, with its value
 abbrev pub key_taken : PlainWorld → PyObjectRef → PyObjectRef → Option PyObjectRef → Said
 key_taken w d k (Some old) = ends_none (with_entries w d (without_value_for (is_like w k) (entries_at w d)))
 key_taken w d k None = Ends w (fault MissingKey)
 
-abbrev pub keys_of : Entries → List PyObjectRef
-keys_of es = map (λ e. e.0) es
-
-abbrev pub values_of : Entries → List PyObjectRef
-values_of es = map (λ e. e.1) es
-
 -- an iterator over a new list
 abbrev pub list_iterated : PlainWorld → List PyObjectRef → Said
 list_iterated w rs = iterator_made (with_node w the_list (AList rs)) (next_node w the_list)
-
--- a new tuple for each key with its value, one after another, and then a new list of these
-abbrev pub pairs_made : PlainWorld → List PyObjectRef → Entries → Said
-pairs_made w rs [] = list_made w rs
-pairs_made w rs (e ∷ es) =
-    pairs_made (with_node w the_tuple (ATuple (e.0 ∷ e.1 ∷ []))) (rs ++ next_node w the_tuple ∷ []) es
 
 -- each key of another dict gets its value there
 abbrev pub dict_updated : PlainWorld → PyObjectRef → PyObjectRef → (PlainWorld → Said) → Said

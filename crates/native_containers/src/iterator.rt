@@ -7,9 +7,9 @@ ghost use Rattle.class_world.specs.Sound.{AllHold, AreNodes, Holds};
 ghost use Rattle.class_world.specs.Rows.{EndsAs};
 ghost use Rattle.native_containers.specs.Say.{iterator_say};
 
-use crate::take::{Kind, lone};
 use class_world::World;
 use py_node::{Answer, Cause, IteratorNative, PyObjectRef, PyStrInterned, Raised};
+use row_kit::take_containers::{Kind, lone};
 
 /// A native of iterators.
 pub fn iterator_native(

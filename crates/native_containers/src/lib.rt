@@ -8,16 +8,13 @@ mod iterator;
 mod keys;
 mod list;
 pub mod made;
-mod pairs;
+pub mod native_compare;
+pub mod native_texts;
 mod sequence;
 pub mod take;
 mod tuple;
 
 pub use dict::dict_native;
-pub use entries::{keys_of, values_of};
 pub use iterator::iterator_native;
 pub use list::list_native;
-pub use made::new_list;
-pub use pairs::new_pairs;
-pub use take::items;
 pub use tuple::tuple_native;

@@ -5,16 +5,17 @@ ghost use Rattle.py_node.specs.declared.built_in.BuiltIn.TheVariants.{List};
 ghost use Rattle.class_world.specs.Reading.{Reading, bindings};
 ghost use Rattle.class_world.specs.Sound.{AreNodes, Holding, Holds, IsNode};
 ghost use Rattle.class_world.specs.Rows.{EndsAs, LeavesEnd};
-ghost use Rattle.native_containers.specs.Say.{list_changed, list_made, list_say, with_joined};
-ghost use Rattle.native_containers.specs.Take.{items_at, with_own_and};
-ghost use Rattle.native_containers.specs.declared.take.Kind.TheVariants as kind;
+ghost use Rattle.row_kit.specs.GiveContainers.{list_changed, list_made};
+ghost use Rattle.native_containers.specs.Say.{list_say, with_joined};
+ghost use Rattle.row_kit.specs.TakeContainers.{items_at, with_own_and};
+ghost use Rattle.row_kit.specs.declared.take_containers.Kind.TheVariants as kind;
 
-use crate::made::{ends_none, new_list};
-use crate::sequence::{iter, joined, length};
-use crate::take::{Kind, items, own_and};
 use class_world::World;
 use class_world::limits::is_within_limit;
+use crate::sequence::{iter, joined, length};
 use py_node::{Answer, Cause, ListNative, OutOfMemory, PyObjectRef, PyStrInterned, Raised};
+use row_kit::give_containers::{ends_none, new_list};
+use row_kit::take_containers::{Kind, items, own_and};
 
 /// A native of lists.
 pub fn list_native(

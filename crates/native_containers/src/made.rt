@@ -1,64 +1,16 @@
 //! New tuples and lists, and lists and dicts that change.
 
 ghost use Rattle.std.specs.Prelude.{◌≡◌, IfErr, IfOk, Err};
-ghost use Rattle.py_node.specs.declared.built_in.BuiltIn.TheVariants.{Dict, List};
+ghost use Rattle.py_node.specs.declared.built_in.BuiltIn.TheVariants.{Dict};
 ghost use Rattle.plain_machine.specs.Plain.{PlainWorld, Said, Ends};
-ghost use Rattle.class_world.specs.Claims.{of_ended};
 ghost use Rattle.class_world.specs.Keyed.{of_keyed};
 ghost use Rattle.class_world.specs.Reading.{Reading, Reads, plain};
-ghost use Rattle.class_world.specs.Sound.{AllHold, AreNodes, Grows, Holding, Holds, IsNode};
-ghost use Rattle.class_world.specs.Rows.{EndsAs, LeavesEnd};
-ghost use Rattle.native_containers.specs.Say.{dict_changed, ends_none, list_changed, list_made, tuple_made};
+ghost use Rattle.class_world.specs.Sound.{AllHold, Grows, Holding, Holds, IsNode};
+ghost use Rattle.native_containers.specs.Say.{dict_changed};
 
+use class_world::World;
 use class_world::limits::is_within_limit;
-use class_world::{Fixed, World};
-use native_base::give::new_object;
-use py_node::task::Args;
-use py_node::{Answer, BuiltIn, Cause, OutOfMemory, Payload, PyDict, PyObjectRef, Raised};
-
-/// Ends with None.
-pub fn ends_none(world: &World) -> Result<Answer, Raised>
-    ensures ends { EndsAs (λ t u. ends_none u) world.now world.now result }
-    ensures holds { AllHold world.now (of_ended result) }
-{
-    Ok(Answer::Value(world.fixed(Fixed::None)))
-}
-
-/// Ends with a new tuple.
-#[tactic(auto, unfolding(py_node::specs::BuiltIns::place_of))]
-pub fn new_tuple(world: &mut World, items: Args) -> Result<Result<Answer, Raised>, OutOfMemory>
-    requires { Holds world.old (AreNodes items.items) }
-    ensures ends { IfOk result (λ r. EndsAs (λ t u. tuple_made u items.items) world.old world.new r) }
-    ensures safe { LeavesEnd world.old world.new result }
-{
-    new_object(world, BuiltIn::Tuple, Payload::Tuple(items))
-}
-
-/// Ends with a new list.
-#[tactic(auto, unfolding(py_node::specs::BuiltIns::place_of))]
-pub fn new_list(world: &mut World, items: Args) -> Result<Result<Answer, Raised>, OutOfMemory>
-    requires { Holds world.old (AreNodes items.items) }
-    ensures ends { IfOk result (λ r. EndsAs (λ t u. list_made u items.items) world.old world.new r) }
-    ensures safe { LeavesEnd world.old world.new result }
-{
-    new_object(world, BuiltIn::List, Payload::List(items))
-}
-
-/// Gives a list other items, and ends with None, unless they are too many.
-pub fn change_list(world: &mut World, list: PyObjectRef, items: Args) -> Result<Answer, Raised>
-    requires list { Holds world.old (IsNode list) }
-    requires holding { Holds world.old (Holding list List) }
-    requires items { Holds world.old (AreNodes items.items) }
-    ensures ends { EndsAs (λ t u. list_changed u list items.items) world.old world.new result }
-    ensures grows { Grows world.old world.new }
-    ensures holds { AllHold world.new (of_ended result) }
-{
-    if !is_within_limit(items.len()) {
-        return Err(Raised::new(Cause::TooLong));
-    }
-    world.set_payload(list, Payload::List(items));
-    ends_none(world)
-}
+use py_node::{Cause, Payload, PyDict, PyObjectRef, Raised};
 
 /// Gives a dict other entries, unless they are too many. Then the dict stays as it is.
 pub(crate) fn change_dict(

@@ -1,6 +1,7 @@
 //! Definitions of native methods: what they are as objects, and how the objects are made.
 #![tactic(auto, using(class_world::proofs::Items::item_holds))]
 
+pub mod accessors;
 pub mod build;
 pub mod def;
 pub mod extend;
@@ -10,4 +11,4 @@ pub mod payloads;
 pub use def::PyMethodDef;
 pub use extend::extend_methods;
 pub use member::{PyMemberDef, new_member};
-pub use signatures::get_text_signature_from_internal_doc;
+pub use row_kit::signatures::get_text_signature_from_internal_doc;

@@ -11,10 +11,10 @@ use Rattle.plain_machine.specs.Row.{most_items}
 use Rattle.class_world.specs.declared.world.World.{World}
 use Rattle.class_world.specs.Reading.{Reading, Reads, plain}
 use Rattle.class_world.specs.Rows.{EndsAs}
-use Rattle.native_containers.specs.Say.{list_changed, unless_long}
-use Rattle.native_containers.specs.Take.{items_at}
-use Rattle.native_containers.proofs.Changed.{short}
-use Rattle.native_containers.proofs.Ends.{then-ends}
+use Rattle.row_kit.specs.GiveContainers.{list_changed, unless_long}
+use Rattle.row_kit.specs.TakeContainers.{items_at}
+use Rattle.row_kit.proofs.ContainersChanged.{short}
+use Rattle.row_kit.proofs.ContainersEnds.{then-ends}
 use Rattle.native_items.specs.Items.{placed}
 use Rattle.native_items.specs.Places.{place_at}
 

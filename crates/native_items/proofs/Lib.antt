@@ -6,3 +6,4 @@ pub mod Natives
 pub mod Iterating
 pub mod Ranges
 pub mod InPlace
+pub mod NativeParts

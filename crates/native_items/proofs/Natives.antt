@@ -2,8 +2,8 @@
 use Rattle.std.proofs.Common.{◌≡◌, [], List, ap, sym}
 use Rattle.py_node.specs.declared.refs.PyObjectRef.{PyObjectRef}
 use Rattle.plain_machine.specs.Plain.{PlainWorld, Bindings, ToNative}
-use Rattle.native_containers.specs.declared.take.Kind.{Kind}
-use Rattle.native_containers.specs.Take.{with_own_and}
+use Rattle.row_kit.specs.declared.take_containers.Kind.{Kind}
+use Rattle.row_kit.specs.TakeContainers.{with_own_and}
 use Rattle.native_items.specs.declared.get.Sequence.{Sequence}
 use Rattle.native_items.specs.declared.get.Sequence.TheVariants as sequence
 use Rattle.native_items.specs.Items.{get_item, look_for}

@@ -16,7 +16,7 @@ use Rattle.plain_machine.specs.World.{ref}
 use Rattle.class_world.specs.declared.world.World.{World}
 use Rattle.class_world.specs.Reading.{Reading, plain}
 use Rattle.class_world.specs.Rows.{Steps}
-use Rattle.native_containers.specs.Take.{items_at}
+use Rattle.row_kit.specs.TakeContainers.{items_at}
 use Rattle.native_items.specs.declared.get.Sequence.{Sequence}
 use Rattle.native_items.specs.declared.get.Sequence.TheVariants as sequence
 use Rattle.native_items.specs.declared.ItemKept.TheVariants.{Searching}

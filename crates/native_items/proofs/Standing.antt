@@ -13,7 +13,7 @@ use Rattle.class_world.specs.Reading.{Reading}
 use Rattle.native_items.specs.declared.get.Sequence.{Sequence}
 use Rattle.native_items.specs.declared.get.Sequence.TheVariants as sequence
 use Rattle.native_items.specs.declared.ItemKept.TheVariants.{Getting, Setting, Deleting, Extending}
-use Rattle.proto_base.specs.Entered.{is_plain}
+use Rattle.row_kit.specs.ProtoBase.Entered.{is_plain}
 use Rattle.native_items.specs.Places.{slice_at}
 use Rattle.native_items.specs.Items.{del_asked, del_item, del_rest, extend, extend_rest, get_item, index_asked, is_number, item_asked, item_got, set_asked, set_item, set_rest, stood}
 use Rattle.native_items.specs.Rows.{getter_of, item_stands, items_stood, stood_told}

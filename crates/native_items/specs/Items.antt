@@ -9,16 +9,16 @@ use Rattle.plain_machine.specs.Objects.{with_datum}
 use Rattle.plain_machine.specs.Plain.{AList, PlainWorld, Bindings, DoIdEq, DoIndex, DoCollect, ToCompare, ToProtocol, AsObjects, Ended, Answered, ReadObjects, Told, Said, Asks, Ends}
 use Rattle.plain_machine.specs.Row.{Row, pass, value, truth, fault, read_objects, on_value}
 use Rattle.plain_machine.specs.World.{datum_at, number_of}
-use Rattle.native_base.specs.Say.{text_made}
-use Rattle.native_containers.specs.declared.take.Kind.{Kind}
-use Rattle.native_containers.specs.declared.take.Kind.TheVariants as kind
-use Rattle.native_containers.specs.Take.{items_at}
-use Rattle.native_containers.specs.Say.{unless_long, tuple_made, list_made, list_changed}
-use Rattle.native_texts.specs.Say.{text_of, or_no_text, with_text_and}
-use Rattle.proto_base.specs.Each.{on_objects, any_of}
-use Rattle.proto_base.specs.Entered.{is_plain}
+use Rattle.row_kit.specs.Say.{text_made}
+use Rattle.row_kit.specs.declared.take_containers.Kind.{Kind}
+use Rattle.row_kit.specs.declared.take_containers.Kind.TheVariants as kind
+use Rattle.row_kit.specs.TakeContainers.{items_at}
+use Rattle.row_kit.specs.GiveContainers.{unless_long, tuple_made, list_made, list_changed}
+use Rattle.row_kit.specs.TakeTexts.{text_of, or_no_text, with_text_and}
+use Rattle.row_kit.specs.ProtoBase.Each.{on_objects, any_of}
+use Rattle.row_kit.specs.ProtoBase.Entered.{is_plain}
 use Rattle.native_items.specs.Places.{part, place_at, put_part, slice_at}
-use Rattle.native_containers.specs.Asking.{as_said, argument, taking_two, taking_three}
+use Rattle.row_kit.specs.Asking.{as_said, argument, taking_two, taking_three}
 
 -- goes on with the place among so many items that an object leads to
 abbrev pub placed : PlainWorld → Option ℕ → (ℕ → Said) → Said

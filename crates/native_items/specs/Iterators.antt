@@ -14,8 +14,8 @@ use Rattle.plain_machine.specs.Objects.{with_datum}
 use Rattle.plain_machine.specs.Plain.{Datum, AnIterator, ANumber, AText, ATuple, AList, PlainWorld, Bindings, DoSpecial, ToAttribute, AsValue, Ended, Said, Ends}
 use Rattle.plain_machine.specs.Row.{Row, start, pass, end, value, fault}
 use Rattle.plain_machine.specs.World.{datum_at, with_node, next_node}
-use Rattle.native_containers.specs.declared.take.Kind.TheVariants as kind
-use Rattle.native_containers.specs.Asking.{taking_one}
+use Rattle.row_kit.specs.declared.take_containers.Kind.TheVariants as kind
+use Rattle.row_kit.specs.Asking.{taking_one}
 use Rattle.native_items.specs.declared.next.Found.{Found}
 use Rattle.native_items.specs.declared.next.Found.TheVariants.{Nothing, Item, Character, Unknown}
 

@@ -3,3 +3,4 @@ pub mod Items
 pub mod Iterators
 pub mod Say
 pub mod Rows
+pub mod NativeParts

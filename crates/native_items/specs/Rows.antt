@@ -27,10 +27,10 @@ use Rattle.class_world.specs.Reading.{Reading, bindings, task_of}
 use Rattle.class_world.specs.Rows as rows
 use Rattle.class_world.specs.Rows.{Group, Goes, Follows}
 use Rattle.class_world.specs.Sound.{Claim, IsNode, AreNodes, Holding}
-use Rattle.native_containers.specs.declared.take.Kind.{Kind}
-use Rattle.native_containers.specs.declared.take.Kind.TheVariants as kind
-use Rattle.native_containers.specs.Say.{tuple_made, list_made}
-use Rattle.native_containers.specs.Take.{items_at}
+use Rattle.row_kit.specs.declared.take_containers.Kind.{Kind}
+use Rattle.row_kit.specs.declared.take_containers.Kind.TheVariants as kind
+use Rattle.row_kit.specs.GiveContainers.{tuple_made, list_made}
+use Rattle.row_kit.specs.TakeContainers.{items_at}
 use Rattle.native_items.specs.declared.get.Sequence.{Sequence}
 use Rattle.native_items.specs.declared.get.Sequence.TheVariants as sequence
 use Rattle.native_items.specs.declared.next.Found.{Found}

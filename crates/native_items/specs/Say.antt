@@ -9,7 +9,7 @@ use Rattle.py_node.specs.declared.entry.NativeEntry.{NativeEntry}
 use Rattle.py_node.specs.declared.entry.NativeEntry.TheVariants.{OfStr, OfTuple, OfList, OfIterator}
 use Rattle.plain_machine.specs.Plain.{PlainWorld, PlainTask, ToNative, Bindings}
 use Rattle.plain_machine.specs.Row.{Row, end, elsewhere}
-use Rattle.native_containers.specs.declared.take.Kind.TheVariants as kind
+use Rattle.row_kit.specs.declared.take_containers.Kind.TheVariants as kind
 use Rattle.native_items.specs.Items.{tuple_get_item, list_get_item, str_get_item, list_set_item, list_del_item, contains, list_extend}
 use Rattle.native_items.specs.Iterators.{iterator_next}
 

@@ -8,22 +8,22 @@ ghost use Rattle.class_world.specs.Claims.{of_ended, Leaves};
 ghost use Rattle.class_world.specs.Reading.{ended_of};
 ghost use Rattle.class_world.specs.Rows.{EndsAs, LeavesEnd};
 ghost use Rattle.class_world.specs.Sound.{AllHold, AreNodes, Grows, Holding, Holds, IsNode};
-ghost use Rattle.native_containers.specs.Say.{list_changed};
-ghost use Rattle.native_containers.specs.Take.{items_at};
+ghost use Rattle.row_kit.specs.GiveContainers.{list_changed};
+ghost use Rattle.row_kit.specs.TakeContainers.{items_at};
 ghost use Rattle.native_items.specs.Items.{del_item, del_rest, placed};
 ghost use Rattle.native_items.specs.Places.{place_at};
 ghost use Rattle.native_items.specs.Rows.{Does, Enters, items_stood, of_item_kept, of_stood};
 
+use class_world::World;
+use class_world::limits::is_within_limit;
 use crate::ItemKept;
 use crate::places::{place_at, replace_part, slice_of};
 use crate::stood::stood;
-use class_world::World;
-use class_world::limits::is_within_limit;
-use native_containers::made::{change_list, ends_none};
-use native_containers::take::{Kind, items, own_and};
+use py_node::{Answer, Cause, OutOfMemory, PyObjectRef, PyStrInterned, Raised, Step, Task};
 use py_node::protocol::ProtocolTask;
 use py_node::task::Args;
-use py_node::{Answer, Cause, OutOfMemory, PyObjectRef, PyStrInterned, Raised, Step, Task};
+use row_kit::give_containers::{change_list, ends_none};
+use row_kit::take_containers::{Kind, items, own_and};
 
 /// An item of a list is taken out, or a part of it.
 pub(crate) fn delete_item(

@@ -8,21 +8,19 @@ ghost use Rattle.class_world.specs.Claims.{of_ended, Leaves};
 ghost use Rattle.class_world.specs.Reading.{ended_of};
 ghost use Rattle.class_world.specs.Rows.{EndsAs, LeavesEnd};
 ghost use Rattle.class_world.specs.Sound.{AllHold, AreNodes, Holding, Holds, IsNode};
-ghost use Rattle.native_containers.specs.Take.{items_at};
+ghost use Rattle.row_kit.specs.TakeContainers.{items_at};
 ghost use Rattle.native_items.specs.Items.{extend, extend_rest, list_extended};
 ghost use Rattle.native_items.specs.Rows.{Does, Enters, items_stood, of_item_kept, of_stood};
 
-use crate::ItemKept;
-use crate::stood::stood;
 use class_world::World;
 use class_world::limits::is_within_limit;
-use native_containers::take::{Kind, items, own_and};
-use proto_base::is_plain;
+use crate::ItemKept;
+use crate::stood::stood;
+use row_kit::proto_base::is_plain;
+use py_node::{Answer, Cause, OutOfMemory, Payload, PyObjectRef, PyStrInterned, Raised, Step, Task};
 use py_node::protocol::ProtocolTask;
 use py_node::task::Args;
-use py_node::{
-    Answer, Cause, OutOfMemory, Payload, PyObjectRef, PyStrInterned, Raised, Step, Task,
-};
+use row_kit::take_containers::{Kind, items, own_and};
 
 /// A list gets the items of an iteration after its own, and is the answer.
 pub(crate) fn extend_list(

@@ -13,6 +13,7 @@ mod characters;
 mod delete;
 mod extend;
 mod get;
+pub mod native_parts;
 mod next;
 mod places;
 mod search;

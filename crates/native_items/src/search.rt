@@ -7,13 +7,13 @@ ghost use Rattle.native_items.specs.declared.ItemKept.TheVariants.{Searching};
 ghost use Rattle.native_items.specs.Items.{look_for};
 ghost use Rattle.native_items.specs.Rows.{Does, Enters, Resumes, next_asked, of_item_kept, searcher_of};
 
-use crate::ItemKept;
-use crate::get::{Sequence, kind_of};
 use class_world::World;
 use class_world::args::copy_args;
-use native_containers::take::{items, own_and};
-use py_node::task::Args;
+use crate::ItemKept;
+use crate::get::{Sequence, kind_of};
 use py_node::{Answer, CompareTask, OutOfMemory, PyObjectRef, PyStrInterned, Raised, Step, Task};
+use py_node::task::Args;
+use row_kit::take_containers::{items, own_and};
 
 /// Whether an item is an object, or equal to it.
 pub(crate) fn contains(

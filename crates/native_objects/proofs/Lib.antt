@@ -1,10 +1,7 @@
 pub mod Ended
-pub mod Listed
 pub mod Held
 pub mod Parts
-pub mod Named
 pub mod Bases
-pub mod Keyed
 pub mod Owned
 pub mod Followed
 pub mod Setting

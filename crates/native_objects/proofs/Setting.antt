@@ -13,7 +13,8 @@ use Rattle.plain_machine.specs.Plain.{Bindings, PlainWorld, Said, Ends}
 use Rattle.plain_machine.specs.Row.{fault}
 use Rattle.plain_machine.specs.Takes.{with_one, with_two}
 use Rattle.native_objects.specs.Setters.{class_written, on_heap, setter_say}
-use Rattle.native_objects.specs.Takes.{there_or, with_class_and_given, with_one_or_two}
+use Rattle.row_kit.specs.TakeClasses.{there_or}
+use Rattle.native_objects.specs.Takes.{with_class_and_given, with_one_or_two}
 
 -- the object with a value, or alone
 pub two-given : (u : PlainWorld) (args : List PyObjectRef) (kw : Bindings) (go : PyObjectRef → Option PyObjectRef → Said) → length args ≡ 2 → with_one_or_two u args kw go ≡ with_two u args kw (λ o a. go o (Some a))

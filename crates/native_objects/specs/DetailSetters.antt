@@ -10,7 +10,8 @@ use Rattle.plain_machine.specs.Plain.{AProperty, PlainWorld, Bindings, Said, End
 use Rattle.plain_machine.specs.Objects.{with_datum}
 use Rattle.plain_machine.specs.Row.{value, none, elsewhere}
 use Rattle.native_objects.specs.Setters.{with_given}
-use Rattle.native_objects.specs.Takes.{property_in, with_one_or_two, with_own}
+use Rattle.row_kit.specs.TakeClasses.{property_in, with_own}
+use Rattle.native_objects.specs.Takes.{with_one_or_two}
 
 -- a property gets another text for readers, which may be any object
 abbrev pub with_doc : PlainWorld → PyObjectRef → PyProperty → PyObjectRef → Said

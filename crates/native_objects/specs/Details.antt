@@ -13,9 +13,9 @@ use Rattle.plain_machine.specs.World.{ref}
 use Rattle.plain_machine.specs.ClassText.{name_at, whole_name_at}
 use Rattle.plain_machine.specs.Row.{value, none, elsewhere}
 use Rattle.plain_machine.specs.Takes.{with_one}
-use Rattle.native_base.specs.Say.{in_length, text_made}
-use Rattle.signatures.specs.Signature.{signature_of}
-use Rattle.native_objects.specs.Takes.{with_own}
+use Rattle.row_kit.specs.Say.{in_length, text_made}
+use Rattle.row_kit.specs.OfSignatures.Signature.{signature_of}
+use Rattle.row_kit.specs.TakeClasses.{with_own}
 
 -- a part of what an object holds: a name, what the objects of a class have under a name, told with what the class is called or with its whole name, a class, an object that may be absent, the signature that a text for readers gives for a name, or what is told by another task
 pub data Part : Type 0 where

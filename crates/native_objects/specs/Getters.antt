@@ -18,12 +18,11 @@ use Rattle.plain_machine.specs.Dicts.{dict_of}
 use Rattle.plain_machine.specs.Objects.{class_number, type_object}
 use Rattle.plain_machine.specs.Row.{value, none, fault}
 use Rattle.plain_machine.specs.Takes.{with_one}
-use Rattle.native_base.specs.Say.{in_length, int_made, text_made, sized_made}
+use Rattle.row_kit.specs.Say.{in_length, int_made, text_made, sized_made}
 use Rattle.native_objects.specs.Attributes.{annotations, class_dict}
 use Rattle.native_objects.specs.Details.{or_none}
-use Rattle.native_objects.specs.Takes.{with_lone_class}
-use Rattle.native_objects.specs.Names.{builtins, given}
-use Rattle.native_objects.specs.Objects.{or_nothing}
+use Rattle.row_kit.specs.TakeClasses.{with_lone_class}
+use Rattle.row_kit.specs.ClassNames.{builtins, given, or_nothing}
 
 -- what a class is given itself, or else a new text
 abbrev pub given_or : PlainWorld → Option PyObjectRef → Text → Said

@@ -1,6 +1,4 @@
 pub mod Takes
-pub mod Names
-pub mod Objects
 pub mod Descriptors
 pub mod Makers
 pub mod Attributes

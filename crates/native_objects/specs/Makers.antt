@@ -1,24 +1,14 @@
 -- What makes the objects of built-in classes and asks no task.
-use Rattle.std.specs.Prelude.{ℕ, cond, eqb, List, [], ◌∷◌, Option, Some, None}
+use Rattle.std.specs.Prelude.{List, [], None}
 use Rattle.py_node.specs.declared.refs.PyObjectRef.{PyObjectRef}
 use Rattle.py_node.specs.declared.built_in.BuiltIn.{BuiltIn}
 use Rattle.py_node.specs.declared.built_in.BuiltIn.TheVariants as built_in
-use Rattle.py_node.specs.declared.raised.Cause.TheVariants.{CannotCreate, UnsafeNew}
-use Rattle.py_node.specs.BuiltIns.{place_of}
+use Rattle.py_node.specs.declared.raised.Cause.TheVariants.{CannotCreate}
 use Rattle.plain_machine.specs.Plain.{ADict, AList, AProperty, ASuper, PlainWorld, Said, Ends}
 use Rattle.plain_machine.specs.Known.{the_object}
-use Rattle.plain_machine.specs.Objects.{nearest_built_in}
 use Rattle.plain_machine.specs.Row.{fault, elsewhere}
-use Rattle.native_base.specs.Say.{object_made}
-use Rattle.native_objects.specs.Takes.{with_class}
-
-abbrev pub safe_for : PlainWorld → ℕ → Option ℕ → Said → Said
-safe_for w b None go = Ends w (fault UnsafeNew)
-safe_for w b (Some c) go = cond (eqb c b) go (Ends w (fault UnsafeNew))
-
--- a class whose objects are those of this built-in class. Other arguments count for nothing
-abbrev pub with_heir : PlainWorld → BuiltIn → List PyObjectRef → (ℕ → Said) → Said
-with_heir w b args go = with_class w args (λ c. safe_for w (place_of b) (nearest_built_in w.classes c) (go c))
+use Rattle.row_kit.specs.Say.{object_made}
+use Rattle.row_kit.specs.TakeClasses.{with_heir}
 
 -- new objects are empty, and a new `super` is one of `object` that is bound to nothing. Those that ask for what they are made of are made elsewhere; other classes make none
 abbrev pub maker_say : PlainWorld → BuiltIn → List PyObjectRef → Said

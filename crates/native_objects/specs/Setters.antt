@@ -18,8 +18,10 @@ use Rattle.plain_machine.specs.Change.{Change, SetOwn, SetBases, SetName, SetCla
 use Rattle.plain_machine.specs.Dicts.{dict_of}
 use Rattle.plain_machine.specs.Objects.{class_number}
 use Rattle.plain_machine.specs.Row.{value, none, fault}
-use Rattle.native_objects.specs.Names.{has_null, text_of}
-use Rattle.native_objects.specs.Takes.{there_or, with_class_and_given, with_one_or_two}
+use Rattle.row_kit.specs.Questions.{has_null}
+use Rattle.row_kit.specs.ClassNames.{text_of}
+use Rattle.row_kit.specs.TakeClasses.{there_or}
+use Rattle.native_objects.specs.Takes.{with_class_and_given, with_one_or_two}
 
 -- the world is changed, and the setter answers None
 abbrev pub changes : PlainWorld → Change → Said

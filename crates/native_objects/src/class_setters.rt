@@ -1,24 +1,26 @@
 //! The names, the module and the annotations that are set of a class.
 
-ghost use Rattle.std.specs.Prelude.{◌≡◌, Err, Some, IfErr, IfOk, IfSome, is_some, string_bytes, true};
+ghost use Rattle.std.specs.Prelude.{◌≡◌, Err, Some, IfErr, IfOk, IfSome, is_some, true};
 ghost use Rattle.py_node.specs.declared.refs.PyObjectRef.{PyObjectRef as Object};
 ghost use Rattle.py_node.specs.declared.entry.Property.TheVariants as property;
 ghost use Rattle.py_node.specs.Known.{known_text};
 ghost use Rattle.class_model.specs.Class.{class_at as class_numbered};
 ghost use Rattle.class_model.specs.Slot.{is_heap_at};
-ghost use Rattle.plain_machine.specs.Change.{SetName, SetOwn};
+ghost use Rattle.plain_machine.specs.Change.{SetOwn};
 ghost use Rattle.plain_machine.specs.Plain.{Said, Ends};
 ghost use Rattle.plain_machine.specs.World.{datum_at};
 ghost use Rattle.class_world.specs.Reading.{Reading, plain};
 ghost use Rattle.class_world.specs.Rows.{EndsAs, LeavesEnd};
 ghost use Rattle.class_world.specs.Sound.{IsClass, IsNode, Holds};
-ghost use Rattle.native_objects.specs.Names.{has_null, text_of};
+ghost use Rattle.row_kit.specs.Questions.{has_null};
+ghost use Rattle.row_kit.specs.ClassNames.{text_of};
 ghost use Rattle.native_objects.specs.Setters.{changes, class_written, on_heap, renamed, set_name, set_qualname, take_own, with_heap_value};
 
-use crate::names::text_of;
 use class_table::ClassFault;
 use class_world::{Fixed, World};
 use py_node::{Answer, Cause, Known, OutOfMemory, Payload, PyObjectRef, PyTypeRef, Raised};
+use row_kit::class_names::text_of;
+use row_kit::questions::has_null;
 
 /// What a class that a script made is given, or why it is refused: nothing is taken out.
 pub(crate) fn heap_value(
@@ -84,19 +86,6 @@ fn renamed(
     }
     world.set_name(class, name)?;
     Ok(Ok(Answer::Value(world.fixed(Fixed::None))))
-}
-
-/// Whether a name has a null character.
-pub fn has_null(name: &str) -> bool
-    ensures { result ≡ has_null name.now }
-{
-    let bytes = name.as_bytes();
-    for byte in bytes {
-        if *byte == 0 {
-            return true;
-        }
-    }
-    false
 }
 
 /// The name of a class within its module, which is kept as it is given.

@@ -9,17 +9,14 @@ ghost use Rattle.class_world.specs.Rows.{EndsAs, LeavesEnd};
 ghost use Rattle.class_world.specs.Sound.{AllHold, AreNodes, Holds, IsClass, IsName, of_name_ref, of_node_ref, of_option, of_optional, of_payload, of_property, of_start};
 ghost use Rattle.native_objects.specs.Details.{Part as Read, accessor_part, bounds_part, builtin_method_part, callable_part, class_method_part, doc_part, dotted_text, function_part, getset_part, getter_of_say, in_class_part, kept_part, looked_part, member_part, method_descriptor_part, method_part, name_part, native_function_part, native_part, part_given, part_of, property_part, signature_given, signature_part, slice_part, static_method_part, super_part, whole_text};
 ghost use Rattle.native_objects.specs.DetailParts.{of_part, read_part};
-ghost use Rattle.native_objects.specs.Takes.{with_own};
-ghost use Rattle.signatures.specs.Signature.{signature_of};
+ghost use Rattle.row_kit.specs.TakeClasses.{with_own};
+ghost use Rattle.row_kit.specs.OfSignatures.Signature.{signature_of};
 
-use crate::names::limited_text;
-use class_world::takes::one;
 use class_world::{Fixed, World};
-use py_node::{
-    Answer, BuiltIn, Cause, Detail, OutOfMemory, Payload, PyObjectRef, PyProperty, PySlice,
-    PyStrInterned, PySuper, PyTypeRef, Raised,
-};
-use signatures::get_text_signature_from_internal_doc;
+use class_world::takes::one;
+use py_node::{Answer, BuiltIn, Cause, Detail, OutOfMemory, Payload, PyObjectRef, PyProperty, PySlice, PyStrInterned, PySuper, PyTypeRef, Raised};
+use row_kit::class_names::limited_text;
+use row_kit::signatures::get_text_signature_from_internal_doc;
 
 /// A part of what an object holds.
 #[derive(Clone, Copy)]

@@ -12,17 +12,14 @@ ghost use Rattle.class_world.specs.Sound.{AllHold, AreNodes, IsClass, IsNode, Ho
 ghost use Rattle.native_objects.specs.Details.{or_none};
 ghost use Rattle.native_objects.specs.Getters.{class_read, dict_or_fault, getter_say};
 
-use crate::attributes::{annotations, class_dict};
-use crate::lists::class_nodes;
-use crate::names::{given, limited_text};
-use crate::take::lone_class;
-use class_world::takes::one;
 use class_world::{Fixed, World};
-use native_base::give::{new_int, new_sized};
-use py_node::{
-    Answer, BuiltIn, Cause, Known, OutOfMemory, Payload, Property, PyObjectRef, PyStrInterned,
-    PyTypeRef, Raised,
-};
+use class_world::takes::one;
+use crate::attributes::{annotations, class_dict};
+use py_node::{Answer, BuiltIn, Cause, Known, OutOfMemory, Payload, Property, PyObjectRef, PyStrInterned, PyTypeRef, Raised};
+use row_kit::class_names::{given, limited_text};
+use row_kit::class_nodes::class_nodes;
+use row_kit::give::{new_int, new_sized};
+use row_kit::take_classes::lone_class;
 
 /// What is read of any object, or of a class.
 pub fn getter_native(

@@ -1,20 +1,14 @@
 //! What makes the objects of built-in classes.
 
-ghost use Rattle.std.specs.Prelude.{◌≡◌, ℕ, Ok, Err, IfErr, IfOk};
+ghost use Rattle.std.specs.Prelude.{◌≡◌, Ok, Err, IfOk};
 ghost use Rattle.py_node.specs.Faults.{raised};
-ghost use Rattle.plain_machine.specs.Plain.{Said, Ends};
-ghost use Rattle.plain_machine.specs.Sound.{holds_as};
-ghost use Rattle.class_world.specs.Reading.{Reading, plain};
 ghost use Rattle.class_world.specs.Rows.{EndsAs, LeavesEnd};
-ghost use Rattle.class_world.specs.Sound.{AreNodes, IsClass, IsOf, Holds};
-ghost use Rattle.native_objects.specs.Makers.{maker_say, with_heir};
+ghost use Rattle.class_world.specs.Sound.{AreNodes, Holds};
+ghost use Rattle.native_objects.specs.Makers.{maker_say};
 
-use crate::take::own_class;
 use class_world::World;
-use py_node::{
-    Answer, BuiltIn, Cause, OutOfMemory, Payload, PyDict, PyObjectRef, PyProperty, PySuper,
-    PyTypeRef, Raised,
-};
+use py_node::{Answer, BuiltIn, Cause, OutOfMemory, Payload, PyDict, PyObjectRef, PyProperty, PySuper, Raised};
+use row_kit::take_classes::heir;
 
 /// A new object of the class that is the first argument: of a built-in class or of one that derives from it.
 pub fn maker_native(
@@ -45,23 +39,6 @@ fn elsewhere() -> Result<Result<Answer, Raised>, OutOfMemory>
     ensures { result ≡ Ok (Err (raised Cause.SelfType)) }
 {
     Ok(Err(Raised::new(Cause::SelfType)))
-}
-
-/// The class that is the first argument, where its objects are those of a built-in class, or why it is refused.
-pub fn heir(world: &World, built_in: BuiltIn, args: &[PyObjectRef]) -> Result<PyTypeRef, Raised>
-    requires { Holds world.now (AreNodes args.now) }
-    ensures given { IfOk result (λ c. (t : Reading) (go : ℕ → Said) →
-        with_heir (plain t world.now) built_in args.now go ≡ go c.0) }
-    ensures refused { IfErr result (λ x. (t : Reading) (go : ℕ → Said) →
-        with_heir (plain t world.now) built_in args.now go ≡ Ends (plain t world.now) (Err x)) }
-    ensures class { IfOk result (λ c. Holds world.now (IsClass c.0)) }
-    ensures of { IfOk result (λ c. Holds world.now (IsOf c.0 (holds_as built_in))) }
-{
-    let class = own_class(world, args)?;
-    match world.nearest_built_in(class) {
-        Some(nearest) if nearest.0 == built_in.class().0 => Ok(class),
-        _ => Err(Raised::new(Cause::UnsafeNew)),
-    }
 }
 
 // A new list, which is empty.

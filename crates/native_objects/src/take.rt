@@ -9,66 +9,13 @@ ghost use Rattle.py_node.specs.declared.refs.PyObjectRef.{PyObjectRef as Object}
 ghost use Rattle.class_world.specs.Held.{Held};
 ghost use Rattle.class_world.specs.Reading.{Reading, bindings, plain, spelled};
 ghost use Rattle.class_world.specs.Sound.{AllHold, AreNodes, Holding, Holds, IsClass, IsName, IsNode, of_option, of_property, of_start};
-ghost use Rattle.native_objects.specs.Takes.{with_class, with_lone_class, with_class_and, with_class_and_given, with_one_or_two, with_own, method_in, member_in, property_in, static_in, super_in};
+ghost use Rattle.native_objects.specs.Takes.{with_class_and_given, with_one_or_two, method_in, member_in, static_in, super_in};
+ghost use Rattle.row_kit.specs.TakeClasses.{with_own, property_in};
 
 use class_world::World;
 use class_world::takes::{one, two};
 use py_node::{Cause, Payload, PyObjectRef, PyProperty, PyStrInterned, PySuper, PyTypeRef, Raised};
-
-/// The class that the first argument is, or why it is refused.
-pub(crate) fn own_class(world: &World, args: &[PyObjectRef]) -> Result<PyTypeRef, Raised>
-    requires { Holds world.now (AreNodes args.now) }
-    ensures given { IfOk result (λ c. (t : Reading) (go : ℕ → Said) →
-        with_class (plain t world.now) args.now go ≡ go c.0) }
-    ensures refused { IfErr result (λ x. (t : Reading) (go : ℕ → Said) →
-        with_class (plain t world.now) args.now go ≡ Ends (plain t world.now) (Err x)) }
-    ensures class { IfOk result (λ c. Holds world.now (IsClass c.0)) }
-{
-    match args {
-        [] => Err(Raised::new(Cause::ArgCount)),
-        [o, ..] => match world.class_number(*o) {
-            None => Err(Raised::new(Cause::SelfType)),
-            Some(class) => Ok(class),
-        },
-    }
-}
-
-/// The class that the only argument is, or why the arguments are refused.
-pub(crate) fn lone_class(
-    world: &World,
-    args: &[PyObjectRef],
-    kw: &[(PyStrInterned, PyObjectRef)],
-) -> Result<PyTypeRef, Raised>
-    requires { Holds world.now (AreNodes args.now) }
-    ensures given { IfOk result (λ c. (t : Reading) (go : ℕ → Said) →
-        with_lone_class (plain t world.now) args.now (bindings t kw.now) go ≡ go c.0) }
-    ensures refused { IfErr result (λ x. (t : Reading) (go : ℕ → Said) →
-        with_lone_class (plain t world.now) args.now (bindings t kw.now) go ≡ Ends (plain t world.now) (Err x)) }
-    ensures class { IfOk result (λ c. Holds world.now (IsClass c.0)) }
-{
-    let class = own_class(world, args)?;
-    let _object = one(args, kw)?;
-    Ok(class)
-}
-
-/// The class that the first argument is, and the second argument, or why the arguments are refused.
-pub(crate) fn class_and(
-    world: &World,
-    args: &[PyObjectRef],
-    kw: &[(PyStrInterned, PyObjectRef)],
-) -> Result<(PyTypeRef, PyObjectRef), Raised>
-    requires { Holds world.now (AreNodes args.now) }
-    ensures given { IfOk result (λ p. (t : Reading) (go : ℕ → Object → Said) →
-        with_class_and (plain t world.now) args.now (bindings t kw.now) go ≡ go p.0.0 p.1) }
-    ensures refused { IfErr result (λ x. (t : Reading) (go : ℕ → Object → Said) →
-        with_class_and (plain t world.now) args.now (bindings t kw.now) go ≡ Ends (plain t world.now) (Err x)) }
-    ensures class { IfOk result (λ p. Holds world.now (IsClass p.0.0)) }
-    ensures node { IfOk result (λ p. Holds world.now (IsNode p.1)) }
-{
-    let class = own_class(world, args)?;
-    let (_, other) = two(args, kw)?;
-    Ok((class, other))
-}
+use row_kit::take_classes::own_class;
 
 /// The only argument, or the first one with a second, or why the arguments are refused.
 pub(crate) fn one_or_two(

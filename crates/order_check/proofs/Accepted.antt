@@ -4,7 +4,7 @@ use Rattle.std.specs.Prelude.{◌↔◌, option_map, option_and_then, slice_get}
 use Rattle.class_model.specs.Order.{least_order, all_some, Includes}
 use Rattle.class_model.specs.Class.{bases_of}
 use Rattle.class_model.proofs.Rule.{lin-rule}
-use Rattle.mro_merge.proofs.Steps.{least_order-merged, merged-empty}
+use Rattle.class_table.proofs.MroMerge.Steps.{least_order-merged, merged-empty}
 use Rattle.order_check.specs.declared.hierarchy.Entry.{Entry}
 use Rattle.order_check.specs.declared.report.Line.{Line}
 use Rattle.order_check.specs.declared.report.Line.TheVariants.{Order, Cycle, Without}

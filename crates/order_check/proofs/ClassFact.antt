@@ -2,7 +2,7 @@
 use Rattle.std.proofs.Common.{◌≡◌, ℕ, List, [], ◌∷◌, ◌++◌, inl, inr, refl, sym, ap, subst}
 use Rattle.std.specs.List.{flat_map}
 use Rattle.class_model.specs.Order.{Includes, Subsequence}
-use Rattle.mro_merge.specs.Merge.{IsMerge}
+use Rattle.class_table.specs.MroMerge.Merge.{IsMerge}
 use Rattle.order_check.specs.Cycle.{HasNoCycle}
 use Rattle.class_model.specs.Order.{members_of, IsOrder}
 use Rattle.order_check.specs.Orders.{lists_of, HasOrder, IsOrderedOrCyclic}

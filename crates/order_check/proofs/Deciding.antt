@@ -9,8 +9,8 @@ use Rattle.class_model.proofs.Linear.{all_some-holds}
 use Rattle.class_model.proofs.Lines.{all_some-some}
 use Rattle.class_model.proofs.Rule.{all_some-map, lin-rule}
 use Rattle.class_model.proofs.Tests.{Decides-distinct}
-use Rattle.mro_merge.specs.Merge.{IsApart}
-use Rattle.mro_merge.proofs.Steps.{least_order-merged}
+use Rattle.class_table.specs.MroMerge.Merge.{IsApart}
+use Rattle.class_table.proofs.MroMerge.Steps.{least_order-merged}
 use Rattle.order_check.specs.declared.hierarchy.Entry.{Entry}
 use Rattle.order_check.specs.declared.report.Pair.{Pair}
 use Rattle.order_check.specs.Cycle.{is_before_in, are_chained, first_or, IsCycle, BeginsWithLeast}

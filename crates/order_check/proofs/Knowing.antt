@@ -4,7 +4,7 @@ use Rattle.std.specs.Prelude.{option_map, option_and_then}
 use Rattle.std.proofs.lemmas.Bool.{eqb-true}
 use Rattle.class_model.specs.Order.{least_order, all_some, linear, Includes, Distinct, BeginsWith}
 use Rattle.class_model.specs.Class.{bases_of}
-use Rattle.mro_merge.specs.Merge.{AreLinesOf, IsApart}
+use Rattle.class_table.specs.MroMerge.Merge.{AreLinesOf, IsApart}
 use Rattle.order_check.specs.declared.hierarchy.Entry.{Entry}
 use Rattle.order_check.specs.Hierarchy.{classes, keys_of, order_in, AreKeyed, all_orders}
 use Rattle.order_check.specs.Known.{known_in, over, step, AreKnown, IsClosedAt, IsClosedTo}

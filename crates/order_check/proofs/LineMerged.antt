@@ -3,11 +3,11 @@ use Rattle.std.proofs.Common.{◌≡◌, ℕ, Bool, true, false, cond, not, ◌&
 use Rattle.std.specs.Prelude.{option_map, ◌↔◌}
 use Rattle.std.proofs.lemmas.Bool.{eq-eqb, ne_eqb, eqb-true, cases_eq, and_parts, false≢true}
 use Rattle.class_model.specs.Order.{has, without, Includes}
-use Rattle.mro_merge.specs.Steps.{first_free, are_empty, struck, merged, past}
+use Rattle.class_table.specs.MroMerge.Steps.{first_free, are_empty, struck, merged, past}
 use Rattle.order_check.specs.Line.{rest, is_same, is_led}
 use Rattle.class_model.proofs.Held.{Includes-left, Includes-right, Includes-sides}
 use Rattle.class_model.proofs.Tests.{Decides-has}
-use Rattle.mro_merge.proofs.Steps.{merged-empty, merged-stuck, merged-step}
+use Rattle.class_table.proofs.MroMerge.Steps.{merged-empty, merged-stuck, merged-step}
 
 empty-none : (all ls : List (List ℕ)) → are_empty ls ≡ true → first_free all ls ≡ None
 empty-none all [] e = refl

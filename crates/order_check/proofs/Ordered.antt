@@ -1,7 +1,7 @@
 -- Lists with a merge have no cycle.
 use Rattle.std.proofs.Common.{ℕ, List, [], ◌∷◌, inl, inr, refl, sym, ◌∙◌}
 use Rattle.class_model.specs.Order.{Includes, Distinct, Subsequence}
-use Rattle.mro_merge.specs.Merge.{IsMerge}
+use Rattle.class_table.specs.MroMerge.Merge.{IsMerge}
 use Rattle.order_check.specs.Cycle.{Before, BeforeIn, IsChain, IsCycle, HasMerge, HasNoCycle}
 use Rattle.class_model.proofs.Held.{Includes-equal, Subsequence-holds}
 

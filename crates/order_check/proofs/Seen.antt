@@ -3,7 +3,7 @@ use Rattle.std.proofs.Common.{◌≡◌, ℕ, ◌+◌, ◌<◌, Bool, true, fals
 use Rattle.std.proofs.lemmas.List.{drop_more}
 use Rattle.std.proofs.lemmas.Bool.{cases_eq, ne_eqb}
 use Rattle.class_model.specs.Order.{has}
-use Rattle.mro_merge.specs.Steps.{past, first_free}
+use Rattle.class_table.specs.MroMerge.Steps.{past, first_free}
 use Rattle.class_model.specs.Class.{past_first}
 use Rattle.order_check.specs.Line.{rest, is_same, is_led}
 

@@ -3,7 +3,7 @@ use Rattle.std.proofs.Common.{◌≡◌, ℕ, ◌<◌, ◌≤◌, List, [], ◌�
 use Rattle.std.specs.Global.{Vec}
 use Rattle.class_model.specs.Order.{least_order}
 use Rattle.class_model.proofs.OneBase.{least_order-one_base}
-use Rattle.mro_merge.specs.Merge.{AreLinesOf, IsApart}
+use Rattle.class_table.specs.MroMerge.Merge.{AreLinesOf, IsApart}
 use Rattle.order_check.specs.Lists.{rows}
 
 least_order-single : (c : ℕ) (bases line : List ℕ) → AreLinesOf bases (line ∷ []) → IsApart c (line ∷ []) → least_order c bases (line ∷ []) ≡ Some (c ∷ line)

@@ -9,7 +9,7 @@ use Rattle.class_model.proofs.Arranged.{least_order-none}
 use Rattle.class_model.proofs.Depth.{linear-known}
 use Rattle.class_model.proofs.Linear.{all_some-has}
 use Rattle.class_model.proofs.Rule.{all_some-map, lin-rule, lin-held}
-use Rattle.mro_merge.specs.Merge.{IsApart}
+use Rattle.class_table.specs.MroMerge.Merge.{IsApart}
 use Rattle.order_check.specs.declared.hierarchy.Entry.{Entry}
 use Rattle.order_check.specs.declared.report.Pair.{Pair}
 use Rattle.order_check.specs.Cycle.{HasNoCycle, IsAnswer}

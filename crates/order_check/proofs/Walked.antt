@@ -2,8 +2,8 @@
 use Rattle.std.proofs.Common.{◌≡◌, ℕ, zero, suc, ◌+◌, ◌≤◌, Bool, true, false, cond, eqb, List, [], ◌∷◌, length, None, inl, inr, refl, sym, subst, arith}
 use Rattle.std.proofs.lemmas.Bool.{eqb-true, eqb-false, both_ways}
 use Rattle.class_model.specs.Order.{has, Includes, Distinct}
-use Rattle.mro_merge.specs.Merge.{heads}
-use Rattle.mro_merge.specs.Steps.{first_free}
+use Rattle.class_table.specs.MroMerge.Merge.{heads}
+use Rattle.class_table.specs.MroMerge.Steps.{first_free}
 use Rattle.order_check.specs.Cycle.{BeforeIn, IsChain, IsCycle}
 use Rattle.order_check.specs.Found.{holder, up_to, walk}
 use Rattle.class_model.proofs.Held.{Includes-equal, distinct-fewer}

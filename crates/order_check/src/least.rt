@@ -2,12 +2,12 @@
 
 ghost use Rattle.std.specs.Prelude.{◌≡◌, ◌∷◌, IfOk, option_map};
 ghost use Rattle.class_model.specs.Order.{least_order};
-ghost use Rattle.mro_merge.specs.Lists.{numbers, rows as class_rows};
-ghost use Rattle.mro_merge.specs.Merge.{AreLinesOf, IsApart};
+ghost use Rattle.class_table.specs.MroMerge.Lists.{numbers, rows as class_rows};
+ghost use Rattle.class_table.specs.MroMerge.Merge.{AreLinesOf, IsApart};
 ghost use Rattle.order_check.specs.Lists.{rows};
 
-use mro_merge::MroFault;
-use mro_merge::laws::resolve_mro;
+use class_table::mro_merge::MroFault;
+use class_table::mro_merge::laws::resolve_mro;
 use py_node::{OutOfMemory, PyTypeRef};
 use std::alloc::Global;
 

@@ -2,7 +2,7 @@
 
 ghost use Rattle.std.specs.Prelude.{◌≡◌, ◌↔◌, [], true, Some};
 ghost use Rattle.class_model.specs.Change.{stands_past};
-ghost use Rattle.mro_merge.specs.Steps.{past, first_free, are_empty, merged};
+ghost use Rattle.class_table.specs.MroMerge.Steps.{past, first_free, are_empty, merged};
 ghost use Rattle.order_check.specs.Hierarchy.{AreKeyed};
 ghost use Rattle.order_check.specs.Line.{rest, free_first, is_led};
 ghost use Rattle.order_check.specs.Told.{told_in, lists_told};

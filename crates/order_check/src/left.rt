@@ -4,7 +4,7 @@ ghost use Rattle.std.specs.Prelude.{◌≡◌, IfOk};
 ghost use Rattle.class_model.specs.Order.{has, without};
 ghost use Rattle.class_model.specs.Class.{past_first};
 ghost use Rattle.class_model.specs.Change.{stands_past};
-ghost use Rattle.mro_merge.specs.Steps.{first_free, struck};
+ghost use Rattle.class_table.specs.MroMerge.Steps.{first_free, struck};
 ghost use Rattle.order_check.specs.Lists.{rows};
 ghost use Rattle.order_check.specs.Found.{left};
 

@@ -3,7 +3,7 @@
 ghost use Rattle.std.specs.Prelude.{◌≡◌};
 ghost use Rattle.class_model.specs.Order.{has};
 ghost use Rattle.class_model.specs.Class.{past_first};
-ghost use Rattle.mro_merge.specs.Steps.{past};
+ghost use Rattle.class_table.specs.MroMerge.Steps.{past};
 ghost use Rattle.order_check.specs.Line.{first_of};
 
 use crate::left::has;

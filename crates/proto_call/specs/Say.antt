@@ -24,8 +24,8 @@ use Rattle.plain_machine.specs.Takes.{with_one, with_two, with_three, with_text,
 use Rattle.plain_machine.specs.Known.{the_object, the_type, the_tuple}
 use Rattle.plain_machine.specs.Native.{native_task}
 use Rattle.plain_machine.specs.Show.{show}
-use Rattle.native_base.specs.Called.{call_native}
-use Rattle.native_objects.specs.Objects.{object_native_say}
+use Rattle.row_kit.specs.Called.{call_native}
+use Rattle.proto_call.specs.ObjectNatives.{object_native_say}
 use Rattle.plain_machine.specs.Row.{Row, start, fork, ask, pass, end, value, done, fault, elsewhere, none, truth, is_not_implemented, on_value, on_truth, on_done, most_items}
 
 abbrev pub is_empty : {A : Type 0} → List A → Bool

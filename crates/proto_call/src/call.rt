@@ -9,7 +9,7 @@ ghost use Rattle.proto_call.specs.Rows.{Begins, LeavesNone};
 use crate::CallKept;
 use crate::asked::special;
 use class_world::World;
-use native_base::called::native_call;
+use row_kit::called::native_call;
 use py_node::task::{Args, Keywords};
 use py_node::{Cause, Known, OutOfMemory, PyObjectRef, SlotEntry, SlotId, Step};
 

@@ -15,7 +15,7 @@ use crate::CallKept;
 use class_world::World;
 use class_world::args::{copy_args, copy_keywords};
 use class_world::natives::native_task;
-use native_base::called::bound;
+use row_kit::called::bound;
 use py_node::task::{Args, Keywords};
 use py_node::{
     Answer, BuiltIn, CallTask, Cause, Known, OutOfMemory, PyObjectRef, PyStrInterned, PyTypeRef,

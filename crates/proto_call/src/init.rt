@@ -10,7 +10,7 @@ use crate::CallKept;
 use crate::asked::special;
 use class_world::natives::native_task;
 use class_world::{Fixed, World};
-use native_base::called::bound;
+use row_kit::called::bound;
 use py_node::task::{Args, Keywords};
 use py_node::{Answer, Cause, Known, OutOfMemory, PyObjectRef, SlotEntry, SlotId, Step};
 

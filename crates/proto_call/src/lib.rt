@@ -13,7 +13,7 @@ use crate::init::{begin_init, resume_init};
 use crate::object::{begin_object, native_end};
 use crate::texts::equal_given;
 use class_world::World;
-use native_base::give::as_object;
+use row_kit::give::as_object;
 use py_node::task::{Args, Keywords};
 use py_node::{Answer, CallTask, OutOfMemory, PyObjectRef, PyTypeRef, Raised, Step};
 
@@ -23,6 +23,7 @@ mod call;
 mod create;
 mod init;
 mod object;
+mod object_natives;
 mod parameters;
 mod texts;
 

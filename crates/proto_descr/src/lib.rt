@@ -12,6 +12,8 @@ ghost use Rattle.proto_descr.specs.Rows.{Begins, Resumes, of_descriptor_kept};
 
 mod descriptor;
 mod member;
+pub mod native_calls;
+pub mod native_details;
 mod property;
 mod setting;
 mod super_get;
@@ -22,7 +24,7 @@ mod wrapped;
 use class_world::World;
 pub use descriptor::{bind_function, bind_native};
 pub use member::{member_get, member_set};
-use native_base::give::as_object;
+use row_kit::give::as_object;
 pub use property::{property_get, property_set};
 use py_node::{Answer, DescriptorTask, OutOfMemory, PyObjectRef, PyTypeRef, Raised, Step};
 pub use setting::getset_set;

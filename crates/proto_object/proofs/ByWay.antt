@@ -17,9 +17,9 @@ use Rattle.plain_machine.specs.Row.{noting}
 use Rattle.class_world.specs.declared.world.World.{World}
 use Rattle.class_world.specs.Reading.{Reading, Reads, plain, task_of}
 use Rattle.class_world.specs.Rows.{Steps}
-use Rattle.native_containers.specs.Take.{items_at}
-use Rattle.proto_base.specs.Each.{says, any_of}
-use Rattle.proto_base.specs.Entered.{is_exactly}
+use Rattle.row_kit.specs.TakeContainers.{items_at}
+use Rattle.row_kit.specs.ProtoBase.Each.{says, any_of}
+use Rattle.row_kit.specs.ProtoBase.Entered.{is_exactly}
 use Rattle.proto_object.specs.declared.ObjectKept.{ObjectKept}
 use Rattle.proto_object.specs.declared.ObjectKept.TheVariants.{AfterCheck, Each, Pass}
 use Rattle.proto_object.specs.declared.turns.Turn.TheVariants.{InstanceOf, SubclassOf}

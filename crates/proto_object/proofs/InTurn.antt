@@ -16,7 +16,7 @@ use Rattle.class_world.specs.Rows.{Steps}
 use Rattle.class_world.specs.Held.{Held}
 use Rattle.class_world.specs.Sound.{AllHold, AreNodes, IsNode, Holds}
 use Rattle.class_world.specs.Claims.{of_object_task}
-use Rattle.proto_base.specs.Each.{says, any_of}
+use Rattle.row_kit.specs.ProtoBase.Each.{says, any_of}
 use Rattle.proto_object.specs.declared.ObjectKept.{ObjectKept}
 use Rattle.proto_object.specs.declared.ObjectKept.TheVariants.{AfterOwn, Each}
 use Rattle.proto_object.specs.declared.turns.Turn.{Turn}

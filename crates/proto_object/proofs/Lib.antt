@@ -1,3 +1,6 @@
 pub mod InTurn
 pub mod ByWay
 pub mod Named
+pub mod ProtoNumber
+pub mod ProtoItems
+pub mod ProtoIter

@@ -1,6 +1,6 @@
 -- The names of attributes, and the keys that are none of them.
 use Rattle.std.proofs.Common.{◌≡◌, ℕ, zero, suc, ◌+◌, ◌<◌, Bool, true, false, cond, not, List, [], ◌∷◌, ◌++◌, length, filter, drop, get_or, Option, Some, None, refl, sym, ap, ◌∙◌, subst, arith, append_assoc}
-use Rattle.std.specs.Prelude.{eqb, slice_get, is_some}
+use Rattle.std.specs.Prelude.{eqb, slice_get, is_some, Result}
 use Rattle.std.proofs.lemmas.Slice.Eq.{bytes_eq-Decides}
 use Rattle.std.proofs.lemmas.Bool.{eq-eqb, eqb-true}
 use Rattle.py_node.specs.declared.refs.PyObjectRef.{PyObjectRef}
@@ -17,14 +17,13 @@ use Rattle.class_model.specs.Collect.{all_attributes}
 use Rattle.plain_machine.specs.Dicts.{dict_of, is_text_datum}
 use Rattle.plain_machine.specs.Plain.{Datum, AText, PlainWorld, DoDir, Said}
 use Rattle.plain_machine.specs.World.{is_text, class_at, datum_at}
-use Rattle.std.specs.Prelude.{Result}
 use Rattle.class_world.specs.Held.{Held}
 use Rattle.class_world.specs.declared.world.World.{World}
 use Rattle.class_world.specs.Reading.{Reading, Reads, bindings, datum, plain}
 use Rattle.class_world.specs.Rows.{EndsAs, Steps}
 use Rattle.class_world.specs.Sound.{IsNode, AreNodes, AllHold, Holds, of_binding, of_each}
 use Rattle.class_world.proofs.Claims.{more-nodes}
-use Rattle.native_objects.specs.Attributes.{keyed, or_no_attributes}
+use Rattle.row_kit.specs.ClassAttributes.{keyed, or_no_attributes}
 use Rattle.proto_object.specs.Texts.{attributes_for, dir_by, has_name, names_made, other_keys, own_keys}
 use Rattle.proto_object.specs.Say.{object_job_say}
 use Rattle.proto_object.specs.Rows.{Begins, object_stands}

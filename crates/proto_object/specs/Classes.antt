@@ -11,9 +11,9 @@ use Rattle.plain_machine.specs.Objects.{class_number, is_instance, special_at}
 use Rattle.plain_machine.specs.Plain.{Datum, ATuple, PlainWorld, DoGetAttr, DoSpecial, DoIsTrue, DoIsInstance, DoInst, DoIsSubclass, DoSub, DoAbsSub, PlainTask, ToAttribute, ToProtocol, ToObject, AsValue, Ended, ReadObjects, Chose, Said, Asks, Ends}
 use Rattle.plain_machine.specs.Row.{Row, start, fork, ask, pass, end, none, fault, is_attribute_error, on_value, choose, read_objects}
 use Rattle.plain_machine.specs.World.{datum_at}
-use Rattle.native_containers.specs.Take.{items_at}
-use Rattle.proto_base.specs.Each.{says, any_of}
-use Rattle.proto_base.specs.Entered.{is_exactly}
+use Rattle.row_kit.specs.TakeContainers.{items_at}
+use Rattle.row_kit.specs.ProtoBase.Each.{says, any_of}
+use Rattle.row_kit.specs.ProtoBase.Entered.{is_exactly}
 
 abbrev pub attribute : PyObjectRef → Known → PlainTask
 attribute o x = ToAttribute (DoGetAttr o (known_text x))

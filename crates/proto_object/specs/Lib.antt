@@ -2,3 +2,6 @@ pub mod Texts
 pub mod Classes
 pub mod Say
 pub mod Rows
+pub mod ProtoNumber
+pub mod ProtoItems
+pub mod ProtoIter

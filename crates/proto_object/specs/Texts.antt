@@ -17,14 +17,14 @@ use Rattle.plain_machine.specs.Objects.{special_at}
 use Rattle.plain_machine.specs.Plain.{AList, PlainWorld, Bindings, DoSpecial, DoStr, ToAttribute, ToObject, AsValue, Ended, Said, Ends}
 use Rattle.plain_machine.specs.Row.{Row, start, pass, end, value, none, fault, on_value}
 use Rattle.plain_machine.specs.World.{is_text, class_at, datum_at, number_of, slot_at}
-use Rattle.native_base.specs.Say.{sized_made}
-use Rattle.native_containers.specs.Take.{entries_at}
-use Rattle.native_containers.specs.Say.{keys_of}
-use Rattle.native_numbers.specs.Numbers.{number_hash}
-use Rattle.native_objects.specs.Attributes.{keyed, or_no_attributes}
-use Rattle.native_texts.specs.Say.{text_of}
-use Rattle.proto_base.specs.Each.{number}
-use Rattle.proto_base.specs.Entered.{entered, is_exactly}
+use Rattle.row_kit.specs.Say.{sized_made}
+use Rattle.row_kit.specs.TakeContainers.{entries_at}
+use Rattle.row_kit.specs.GiveContainers.{keys_of}
+use Rattle.row_kit.specs.IntValues.{number_hash}
+use Rattle.row_kit.specs.ClassAttributes.{keyed, or_no_attributes}
+use Rattle.row_kit.specs.TakeTexts.{text_of}
+use Rattle.row_kit.specs.ProtoBase.Each.{number}
+use Rattle.row_kit.specs.ProtoBase.Entered.{entered, is_exactly}
 
 -- a hash is that of the class's entry, unless the class says by None, or by the mark of its slot, that there is none
 abbrev pub is_none : Option PyObjectRef → Bool

@@ -3,7 +3,7 @@ use Rattle.std.proofs.Common.{◌≡◌, cond, Option, Some, None, sym, ap, ◌�
 use Rattle.std.specs.Prelude.{ℤ, ◌+ℤ◌, SomeIff}
 use Rattle.std.specs.Int.{w128}
 use Rattle.std.specs.Int.RustNames.{FitsSigned}
-use Rattle.native_base.proofs.Fits.{fits-true, fits-false}
+use Rattle.row_kit.proofs.Fits.{fits-true, fits-false}
 use Rattle.proto_ops.specs.Say.{total}
 
 pub total-is : (x y : ℤ) (o : Option ℤ) → SomeIff o (FitsSigned w128 (x +ℤ y)) (x +ℤ y) → o ≡ total x y

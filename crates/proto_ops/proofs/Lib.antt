@@ -1,3 +1,6 @@
 pub mod Entered
 pub mod Fits
 pub mod Times
+pub mod ProtoCompare
+pub mod NativeNumbers
+pub mod NativeRepeats

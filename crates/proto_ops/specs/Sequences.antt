@@ -12,7 +12,7 @@ use Rattle.plain_machine.specs.World.{slot_at, with_node, next_node}
 use Rattle.plain_machine.specs.Known.{the_int}
 use Rattle.plain_machine.specs.Native.{native_task}
 use Rattle.plain_machine.specs.Row.{Row, start, fork, ask, pass, end, fault, or_else}
-use Rattle.native_base.specs.Repeats.{on_count}
+use Rattle.row_kit.specs.Repeats.{on_count}
 
 -- joining
 

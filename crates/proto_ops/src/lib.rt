@@ -12,27 +12,22 @@ mod binary;
 mod enter;
 mod int;
 mod joins;
+pub mod native_numbers;
+pub mod native_repeats;
 mod powers;
+pub mod proto_compare;
 mod repeats;
 
-use binary::{
-    begin_binary, begin_binop1, begin_inplace, begin_inplace_op1, begin_unary, next_candidate,
-    plain_operator,
-};
-use class_world::{Fixed, World};
+use binary::{begin_binary, begin_binop1, begin_inplace, begin_inplace_op1, begin_unary, next_candidate, plain_operator};
+use class_world::World;
 use enter::{begin_enter, begin_enter_power};
 use int::begin_int;
 use joins::{begin_add, begin_concat, begin_inplace_add, begin_inplace_concat, inplace_join, join};
-use native_repeats::native_repeat;
+use crate::native_repeats::native_repeat;
 use powers::{Tried, begin_inplace_power, begin_power, plain_power, power_last, power_next};
-use py_node::{
-    Answer, Cause, OperatorTask, OutOfMemory, PyNumberBinaryOp, PyObjectRef, Raised, SlotEntry,
-    Step,
-};
-use repeats::{
-    begin_inplace_mul, begin_inplace_repeat, begin_mul, begin_repeat, inplace_repeat_one,
-    inplace_times, repeat_one, times,
-};
+use py_node::{Answer, Cause, OperatorTask, OutOfMemory, PyNumberBinaryOp, PyObjectRef, Raised, SlotEntry, Step};
+use repeats::{begin_inplace_mul, begin_inplace_repeat, begin_mul, begin_repeat, inplace_repeat_one, inplace_times, repeat_one, times};
+use row_kit::questions::is_not_implemented;
 
 /// What is done where what was asked is not for its operands.
 #[derive(Drop)]
@@ -147,13 +142,6 @@ fn is_unserved(answer: &Result<Answer, Raised>) -> bool
         Ok(Answer::Value(object)) => is_not_implemented(*object),
         _ => false,
     }
-}
-
-// Whether an object is NotImplemented.
-fn is_not_implemented(object: PyObjectRef) -> bool
-    ensures { result ≡ is_not_implemented object }
-{
-    object.0 == Fixed::NotImplemented.node().0
 }
 
 // What is done where what was asked is not for its operands.

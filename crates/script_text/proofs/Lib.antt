@@ -4,3 +4,5 @@ pub mod Found
 pub mod Told
 pub mod Nones
 pub mod Rows
+pub mod JsonText
+pub mod ReplyText

@@ -11,7 +11,7 @@ use Rattle.py_node.specs.declared.expr.Command.{Command}
 use Rattle.py_node.specs.declared.expr.Word.{Word}
 use Rattle.py_node.specs.Tree.{TCall, TClass, TOp, entry, entries_of, trees_of, tree_of, pair_of}
 use Rattle.script_text.specs.Forms.{expr_of, exprs_of, pair_in, pairs_in, entry_of, entries_in, named, named_entries, call, class, operation}
-use Rattle.json_text.proofs.Lists.{onto, turn}
+use Rattle.script_text.proofs.JsonText.Lists.{onto, turn}
 use Rattle.script_text.specs.Script.{command_trees}
 use Rattle.script_text.specs.Words.{allows}
 use Rattle.script_text.specs.declared.words.Arity.{Arity}

@@ -6,7 +6,7 @@ use Rattle.script_text.specs.declared.form_parts.Single.TheVariants as single
 use Rattle.script_text.specs.declared.form_parts.Many.{Many}
 use Rattle.script_text.specs.declared.form_parts.Many.TheVariants as many
 use Rattle.script_text.specs.Forms.{of_three, of_four}
-use Rattle.json_text.specs.Texts.{of_two}
+use Rattle.script_text.specs.JsonText.Texts.{of_two}
 use Rattle.script_text.specs.FormParts.{single_tree, many_tree}
 
 two-second : {A B C : Type 0} (f : A → B → C) (a : Option A) → of_two f a None ≡ None

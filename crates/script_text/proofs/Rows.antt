@@ -6,8 +6,8 @@ use Rattle.serde_json.specs.Data.{array}
 use Rattle.serde_json.specs.View.{view, items_view}
 use Rattle.serde_json.specs.declared.value.Value.{Value}
 use Rattle.py_node.specs.declared.expr.Command.{Command}
-use Rattle.json_text.specs.declared.error.ScriptError.TheVariants.{NoCommand, Shape}
-use Rattle.json_text.proofs.Lists.{onto, turn}
+use Rattle.script_text.specs.declared.json_text.error.ScriptError.TheVariants.{NoCommand, Shape}
+use Rattle.script_text.proofs.JsonText.Lists.{onto, turn}
 use Rattle.script_text.specs.Forms.{list_of}
 use Rattle.script_text.specs.Script.{command_trees}
 use Rattle.script_text.specs.Sessions.{are_few, count_in, lacks_command, lists_in, is_empty_array, sessions_in}

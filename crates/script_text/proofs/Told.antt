@@ -5,7 +5,7 @@ use Rattle.std.specs.List.{find}
 use Rattle.serde_json.specs.Data.{Data, Items, no_items, item}
 use Rattle.serde_json.specs.Find.{as_str}
 use Rattle.py_node.specs.Tree.{Text, Tree}
-use Rattle.json_text.specs.declared.items.Unread.{Unread}
+use Rattle.script_text.specs.declared.json_text.items.Unread.{Unread}
 use Rattle.script_text.specs.declared.form_words.FormWord.{FormWord}
 use Rattle.script_text.specs.Forms.{array_of}
 use Rattle.script_text.specs.FormWords.{form_named, form_words}

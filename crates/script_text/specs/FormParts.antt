@@ -12,7 +12,7 @@ use Rattle.script_text.specs.declared.form_parts.Many.{Many}
 use Rattle.script_text.specs.declared.form_parts.Many.TheVariants as many
 use Rattle.script_text.specs.declared.form_parts.Parts.{Parts}
 use Rattle.script_text.specs.declared.form_parts.Parts.TheVariants as parts
-use Rattle.json_text.specs.Texts.{of_two}
+use Rattle.script_text.specs.JsonText.Texts.{of_two}
 use Rattle.script_text.specs.Forms.{of_three, of_four, kind_named, params_of, operation, tuple, list, seq, dict, func, call, class, expr_of, exprs_of, pairs_in, entries_in, name_of, bind_of, func_of, attr_of, setattr_of, delattr_of, call_of, op_of, if_of, raise_of, class_of}
 
 -- what a form spells of what it takes

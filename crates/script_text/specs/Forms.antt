@@ -8,7 +8,7 @@ use Rattle.py_node.specs.declared.expr.Expr.{Expr}
 use Rattle.py_node.specs.declared.expr.Word.{Word}
 use Rattle.py_node.specs.declared.raised.Kind.{Kind}
 use Rattle.py_node.specs.declared.raised.TheConstants.{KINDS}
-use Rattle.json_text.specs.Texts.{of_two, texts_in}
+use Rattle.script_text.specs.JsonText.Texts.{of_two, texts_in}
 use Rattle.script_text.specs.declared.words.Arity.{Arity}
 use Rattle.script_text.specs.Words.{allows, operation_of}
 use Rattle.py_node.specs.Tree.{Text, LNone, LFalse, LTrue, LInt, LText, Tree, TConst, TName, TBind, TTuple, TList, TDict, TFunc, TAttr, TSetAttr, TDelAttr, TCall, TOp, TIf, TSeq, TRaise, TClass, Entries, no_entries, entry, keyed_of, trees_of, tree_of}

@@ -4,3 +4,4 @@ pub mod FormWords
 pub mod FormParts
 pub mod Script
 pub mod Sessions
+pub mod JsonText

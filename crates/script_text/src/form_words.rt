@@ -6,7 +6,7 @@ ghost use Rattle.serde_json.specs.Find.{as_str};
 ghost use Rattle.serde_json.specs.View.{view};
 ghost use Rattle.script_text.specs.FormWords.{form_named, form_words};
 
-use json_text::Unread;
+use crate::json_text::Unread;
 use serde_json::Value;
 
 /// What an array spells, by the word that it begins with.

@@ -7,7 +7,7 @@ ghost use Rattle.serde_json.specs.View.{view};
 ghost use Rattle.script_text.specs.Forms.{kind_named, kinds};
 ghost use Rattle.script_text.specs.Words.{allows, operation_of, word_of, words};
 
-use json_text::Unread;
+use crate::json_text::Unread;
 use py_node::raised::KINDS;
 use py_node::{
     Kind, ObjectWord, PyComparisonOp, PyNumberBinaryOp, PyNumberUnaryOp, SequenceWord, Word,

@@ -2,7 +2,7 @@
 use Rattle.std.proofs.Common.{◌≡◌, ℕ, List, refl}
 use Rattle.outside.specs.declared.words.Question.{Question}
 use Rattle.outside.specs.declared.words.Question.TheVariants.{Run, Share, Check}
-use Rattle.json_text.specs.declared.error.ScriptError.{ScriptError as Refusal}
+use Rattle.script_text.specs.declared.json_text.error.ScriptError.{ScriptError as Refusal}
 use Rattle.serve.specs.declared.status.Status.{Status as End}
 use Rattle.serve.specs.declared.status.Status.TheVariants.{Done, Usage, Script, ReadFault, WriteFault, OutOfMemory, TooLarge}
 use Rattle.serve.specs.Headline.{IsSpelled, IsRefused}

@@ -6,16 +6,16 @@ use Rattle.py_node.specs.Tree.{Text, Tree}
 use Rattle.plain_machine.specs.Lines.{replies_text}
 use Rattle.script_text.specs.Script.{script_of}
 use Rattle.script_text.specs.Sessions.{sessions_of}
-use Rattle.json_text.specs.declared.error.ScriptError.{ScriptError as Refusal}
+use Rattle.script_text.specs.declared.json_text.error.ScriptError.{ScriptError as Refusal}
 use Rattle.plain_machine.specs.Answer.{Run, plain_run}
 use Rattle.plain_machine.specs.ClassText.{classes_text}
 use Rattle.plain_machine.specs.Start.{start}
 use Rattle.hierarchy_text.specs.Spelled.{PlainClass, hierarchy_of}
-use Rattle.report_text.specs.PlainReport.{plain_report}
+use Rattle.hierarchy_text.specs.ReportText.PlainReport.{plain_report}
 use Rattle.vm_eval.specs.Say.{say}
 use Rattle.shared_vm.specs.Journal.{PlainEntry, Legal}
-use Rattle.shared_run.specs.Mix.{Mix}
-use Rattle.shared_run.specs.JournalText.{journal_text}
+use Rattle.shared_vm.specs.SharedRun.Mix.{Mix}
+use Rattle.shared_vm.specs.SharedRun.JournalText.{journal_text}
 use Rattle.generator.specs.Commands.{generated}
 use Rattle.generator.specs.Summary.{summary}
 

@@ -3,7 +3,7 @@
 ghost use Rattle.std.specs.Prelude.{◌≡◌, ◌<◌, ◌≤◌, ◌+◌, ◌^◌, [], ◌++◌, ℕ, List, length, take, drop, Some, IfOk, Err};
 ghost use Rattle.std.specs.Option.{ForSome};
 ghost use Rattle.outside.specs.Count.{Rose};
-ghost use Rattle.json_text.specs.declared.error.ScriptError.{ScriptError as Refusal};
+ghost use Rattle.script_text.specs.declared.json_text.error.ScriptError.{ScriptError as Refusal};
 ghost use Rattle.serve.specs.Headline.{IsAnswer, IsRefused, IsRoomFor, IsSpelled};
 ghost use Rattle.serve.specs.Status.{HasReadAll, IsDoneOrPoor};
 
@@ -11,7 +11,7 @@ use crate::checking::check_text;
 use crate::script::script_text;
 use crate::sessions::sessions_text;
 use crate::status::Status;
-use json_text::ScriptFault;
+use script_text::json_text::ScriptFault;
 use outside::read_all::read_all;
 use outside::words::Question;
 use outside::write_all::write_all;

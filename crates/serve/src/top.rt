@@ -6,7 +6,7 @@ ghost use Rattle.outside.specs.Count.{Rose};
 ghost use Rattle.outside.specs.Words.{job_in};
 ghost use Rattle.outside.specs.declared.words.Generation.{Generation};
 ghost use Rattle.outside.specs.declared.words.Question.{Question};
-ghost use Rattle.json_text.specs.declared.error.ScriptError.{ScriptError as Refusal};
+ghost use Rattle.script_text.specs.declared.json_text.error.ScriptError.{ScriptError as Refusal};
 ghost use Rattle.serve.specs.Headline.{IsAnswer, IsRefused, IsRoomFor, IsSpelled, generation_text};
 ghost use Rattle.serve.specs.Status.{HasReadAll, IsDoneOrPoor, IsWriteEnd};
 

@@ -2,3 +2,4 @@ mod Journals
 mod Steps
 pub mod Histories
 mod Working
+pub mod SharedRun

@@ -2,3 +2,4 @@ pub mod Journal
 pub mod Book
 pub mod Turns
 pub mod Work
+pub mod SharedRun

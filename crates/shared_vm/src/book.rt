@@ -2,7 +2,7 @@
 
 ghost use Rattle.std.specs.Prelude.{◌≡◌, ◌++◌, ◌∷◌, [], length, IfOk, OnErr, IfSome, Option, true, false};
 ghost use Rattle.py_node.specs.Tree.{tree_of};
-ghost use Rattle.class_log.specs.Following.{Keeps};
+ghost use Rattle.class_table.specs.ClassLog.Following.{Keeps};
 ghost use Rattle.shared_vm.specs.declared.entry.Entry.{Entry};
 ghost use Rattle.shared_vm.specs.Book.{Adds, IsNameOf, IsOf, IsTrue, Stepped, Tells};
 

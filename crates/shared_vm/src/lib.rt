@@ -14,6 +14,7 @@ mod gate;
 mod number;
 mod session;
 mod shared;
+pub mod shared_run;
 mod single;
 
 pub use book::Book;

@@ -3,9 +3,9 @@ use Rattle.std.specs.Prelude.{◌≡◌, ℕ, true, false, List, length, None, R
 use Rattle.seat_lock.specs.declared.history.Turn.{Turn}
 use Rattle.seat_lock.specs.History.{turns_by}
 use Rattle.seat_lock.specs.Known.{Known}
-use Rattle.class_log.specs.Change.{Change}
-use Rattle.class_log.specs.Logged.{AreSameButForNames}
-use Rattle.class_log.specs.Shown.{shown}
+use Rattle.class_table.specs.ClassLog.Change.{Change}
+use Rattle.class_table.specs.ClassLog.Logged.{AreSameButForNames}
+use Rattle.class_table.specs.ClassLog.Shown.{shown}
 use Rattle.class_view.specs.declared.writer.Told.{Told}
 use Rattle.vm_eval.specs.State.{State}
 use Rattle.shared_vm.specs.declared.entry.Entry.{Entry}

@@ -2,10 +2,10 @@
 use Rattle.std.specs.Prelude.{◌≡◌, ℕ, ◌+◌, true, false, List, length, Result, Ok, Err}
 use Rattle.left_right.specs.Sides.{view as known_of}
 use Rattle.seat_lock.specs.declared.history.Turn.{Turn}
-use Rattle.class_log.specs.Change.{Change}
-use Rattle.class_log.specs.Following.{BeginsWith}
-use Rattle.class_log.specs.Logged.{AreSameButForNames}
-use Rattle.class_log.specs.Shown.{shown}
+use Rattle.class_table.specs.ClassLog.Change.{Change}
+use Rattle.class_table.specs.ClassLog.Following.{BeginsWith}
+use Rattle.class_table.specs.ClassLog.Logged.{AreSameButForNames}
+use Rattle.class_table.specs.ClassLog.Shown.{shown}
 use Rattle.class_view.specs.declared.writer.Told.{Told}
 use Rattle.class_view.specs.Posted.{Posted, posted}
 use Rattle.shared_vm.specs.declared.entry.Entry.{Entry}

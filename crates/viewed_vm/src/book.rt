@@ -2,14 +2,14 @@
 
 ghost use Rattle.std.specs.Prelude.{◌≡◌, ◌<◌, ◌+◌, ◌^◌, [], length, map, vec_len, IfOk, OnOk, true, false};
 ghost use Rattle.py_node.specs.Tree.{tree_of};
-ghost use Rattle.class_log.specs.Change.{change_of};
-ghost use Rattle.class_log.specs.Following.{BeginsWith, CanFollow};
+ghost use Rattle.class_table.specs.ClassLog.Change.{change_of};
+ghost use Rattle.class_table.specs.ClassLog.Following.{BeginsWith, CanFollow};
 ghost use Rattle.class_view.specs.Posted.{posted};
 ghost use Rattle.shared_vm.specs.Book.{IsNameOf, IsTrue, Stepped};
 ghost use Rattle.viewed_vm.specs.Viewed.{IsTold, Publishes};
 
-use class_log::ClassChange;
-use class_log::laws::a_log_can_be_followed;
+use class_table::class_log::ClassChange;
+use class_table::class_log::laws::a_log_can_be_followed;
 use class_view::{ClassReader, ClassView, ClassWriter, RuledPane, Told};
 use py_node::{Command, OutOfMemory, PyStrInterned};
 use seat_lock::Turns;

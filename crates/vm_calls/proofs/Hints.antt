@@ -7,7 +7,7 @@ use Rattle.py_node.specs.declared.task.Answer.{Answer}
 use Rattle.py_node.specs.BuiltIns.{fixed_false, fixed_true}
 use Rattle.plain_machine.specs.Row.{truth}
 use Rattle.plain_machine.specs.World.{ref}
-use Rattle.answer_kinds.specs.Kinds.{is_truth_value}
+use Rattle.vm_calls.specs.AnswerKinds.Kinds.{is_truth_value}
 use Rattle.vm_calls.specs.Answers.{IsHint, IsHintOr}
 
 -- a hint, or what stands for it

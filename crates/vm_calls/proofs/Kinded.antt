@@ -8,8 +8,8 @@ use Rattle.plain_machine.specs.Plain.{PlainWorld, PlainAnswer, ProtocolJob, DoIs
 use Rattle.plain_machine.specs.World.{without_calls}
 use Rattle.class_world.specs.Held.{Held}
 use Rattle.class_world.specs.Reading.{Reading, IsReadable, plain, task_of, answer_of}
-use Rattle.answer_kinds.specs.Kinds.{IsOfKind}
-use Rattle.answer_kinds.specs.Rows.{protocol_row, GoesByRows, AnswersAreOfTheirKinds}
+use Rattle.vm_calls.specs.AnswerKinds.Kinds.{IsOfKind}
+use Rattle.vm_calls.specs.AnswerKinds.Rows.{protocol_row, GoesByRows, AnswersAreOfTheirKinds}
 use Rattle.vm_eval.specs.Asks.{Asked, unnoted}
 use Rattle.vm_eval.specs.Say.{say}
 

@@ -27,10 +27,10 @@ use Rattle.plain_machine.specs.Dicts.{own_value}
 use Rattle.plain_machine.proofs.Follow.{reach-is}
 use Rattle.proto_attr.specs.Say.{attribute_say, find, load, load_by, load_fast, load_found}
 use Rattle.proto_call.specs.Say.{call_job_say}
-use Rattle.attribute_laws.specs.Methods as methods
-use Rattle.answer_kinds.specs.Kinds as kinds
-use Rattle.answer_kinds.specs.Kinds.{is_of, kind_of, IsOfKind}
-use Rattle.answer_kinds.specs.Rows.{AnswersAreOfTheirKinds}
+use Rattle.vm_calls.specs.AttributeLaws.Methods as methods
+use Rattle.vm_calls.specs.AnswerKinds.Kinds as kinds
+use Rattle.vm_calls.specs.AnswerKinds.Kinds.{is_of, kind_of, IsOfKind}
+use Rattle.vm_calls.specs.AnswerKinds.Rows.{AnswersAreOfTheirKinds}
 use Rattle.class_world.specs.Reading.{Reading, plain, answer_of, bindings, spelled}
 use Rattle.vm_eval.specs.Asks.{ending_in, unnoted}
 use Rattle.vm_eval.specs.Say.{say}

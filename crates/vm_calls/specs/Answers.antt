@@ -8,7 +8,7 @@ use Rattle.py_node.specs.declared.task.PyMethod.{PyMethod}
 use Rattle.py_node.specs.declared.task.Task.{Task}
 use Rattle.plain_machine.specs.Row.{truth}
 use Rattle.class_world.specs.Reading.{Reading, task_of, answer_of}
-use Rattle.answer_kinds.specs.Kinds.{Kind, is_of, IsOfKind}
+use Rattle.vm_calls.specs.AnswerKinds.Kinds.{Kind, is_of, IsOfKind}
 
 -- an answer of a kind
 abbrev pub Of : Kind → Answer → Type 0

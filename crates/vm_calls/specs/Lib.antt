@@ -4,3 +4,7 @@ pub mod Told
 pub mod Tests
 pub mod Views
 pub mod Values
+pub mod SlotTables
+pub mod OfProtocols
+pub mod AttributeLaws
+pub mod AnswerKinds

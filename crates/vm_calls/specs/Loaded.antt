@@ -13,7 +13,7 @@ use Rattle.plain_machine.specs.Known.{the_method}
 use Rattle.plain_machine.specs.Plain.{AMethod}
 use Rattle.plain_machine.specs.World.{class_at, datum_at, with_node, next_node}
 use Rattle.class_world.specs.Reading.{Reading, Reads, plain}
-use Rattle.attribute_laws.specs.Methods.{IsKnown, method_class, method_made}
+use Rattle.vm_calls.specs.AttributeLaws.Methods.{IsKnown, method_class, method_made}
 use Rattle.vm_eval.specs.State.{State}
 use Rattle.vm_calls.specs.Told.{TellsMethod, TellsObject}
 

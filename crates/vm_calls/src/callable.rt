@@ -6,7 +6,7 @@ ghost use Rattle.class_world.specs.Sound.{AllHold, IsNode};
 ghost use Rattle.vm_calls.specs.Told.{TellsObject};
 
 use crate::calls;
-use protocols::PyCallable;
+use crate::protocols::PyCallable;
 use py_node::task::{Args, Keywords};
 use py_node::{CallTask, PyObjectRef, PyResult, Task};
 use vm_eval::{RunFault, VirtualMachine};

@@ -7,7 +7,7 @@ ghost use Rattle.vm_calls.specs.Views.{ToldIf, item_task, lacks, missing_item};
 
 use crate::asked::{ask, lacking};
 use crate::lengths::{length_by, length_opt_by};
-use protocols::PyMapping;
+use crate::protocols::PyMapping;
 use py_node::{Cause, ProtocolTask, PyObjectRef, PyResult, Task};
 use vm_eval::{RunFault, VirtualMachine};
 

@@ -6,7 +6,7 @@ ghost use Rattle.class_world.specs.Sound.{AllHold, IsNode};
 ghost use Rattle.vm_calls.specs.Told.{TellsObjectWhere};
 
 use crate::asked::{ask_some, none_told};
-use protocols::PyNumber;
+use crate::protocols::PyNumber;
 use py_node::{ProtocolTask, PyObjectRef, PyResult, SlotId, Task};
 use vm_eval::{RunFault, VirtualMachine};
 

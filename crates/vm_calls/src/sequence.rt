@@ -11,7 +11,7 @@ ghost use Rattle.vm_calls.specs.Views.{TellsItems, TellsMadeOf, ToldIf, ToldWith
 use crate::asked::{ask, lacking};
 use crate::lengths::{length_by, length_opt_by};
 use crate::made::{Made, items, made_of_items, new_number};
-use protocols::PySequence;
+use crate::protocols::PySequence;
 use py_node::{Cause, OperatorTask, ProtocolTask, PyObjectRef, PyResult, Task};
 use vm_eval::{RunFault, VirtualMachine};
 

@@ -22,26 +22,26 @@ use Rattle.class_make.specs.Say.{class_job_say}
 use Rattle.class_make.specs.Rows.{class_stands}
 use Rattle.proto_ops.specs.Say.{operator_say}
 use Rattle.proto_ops.specs.Rows.{operator_stands}
-use Rattle.proto_compare.specs.Say.{compare_job_say}
-use Rattle.proto_compare.specs.Rows.{compare_stands}
-use Rattle.proto_number.specs.Say.{number_job_say}
-use Rattle.proto_number.specs.declared.NumberKept.{NumberKept}
-use Rattle.proto_number.specs.declared.NumberKept.TheVariants.{Pass, AfterBool, AfterLength, AfterIndex, AfterInt, AfterTruncate, AfterIndexOf, AfterLen, Measured, Expected, Called}
-use Rattle.proto_number.specs.Rows.{number_stands}
-use Rattle.proto_iter.specs.Say.{iter_job_say}
-use Rattle.proto_iter.specs.declared.IterKept.{IterKept}
-use Rattle.proto_iter.specs.declared.IterKept.TheVariants as iter
-use Rattle.proto_iter.specs.declared.seek.Search.{Search}
-use Rattle.proto_iter.specs.declared.seek.Search.TheVariants as search
-use Rattle.proto_iter.specs.Rows.{iter_stands, search_job}
-use Rattle.proto_items.specs.Say.{items_job_say}
-use Rattle.proto_items.specs.declared.ItemsKept.{ItemsKept}
-use Rattle.proto_items.specs.declared.ItemsKept.TheVariants as items
-use Rattle.proto_items.specs.Rows.{items_stands}
+use Rattle.proto_ops.specs.ProtoCompare.Say.{compare_job_say}
+use Rattle.proto_ops.specs.ProtoCompare.Rows.{compare_stands}
+use Rattle.proto_object.specs.ProtoNumber.Say.{number_job_say}
+use Rattle.proto_object.specs.declared.proto_number.NumberKept.{NumberKept}
+use Rattle.proto_object.specs.declared.proto_number.NumberKept.TheVariants.{Pass, AfterBool, AfterLength, AfterIndex, AfterInt, AfterTruncate, AfterIndexOf, AfterLen, Measured, Expected, Called}
+use Rattle.proto_object.specs.ProtoNumber.Rows.{number_stands}
+use Rattle.proto_object.specs.ProtoIter.Say.{iter_job_say}
+use Rattle.proto_object.specs.declared.proto_iter.IterKept.{IterKept}
+use Rattle.proto_object.specs.declared.proto_iter.IterKept.TheVariants as iter
+use Rattle.proto_object.specs.declared.proto_iter.seek.Search.{Search}
+use Rattle.proto_object.specs.declared.proto_iter.seek.Search.TheVariants as search
+use Rattle.proto_object.specs.ProtoIter.Rows.{iter_stands, search_job}
+use Rattle.proto_object.specs.ProtoItems.Say.{items_job_say}
+use Rattle.proto_object.specs.declared.proto_items.ItemsKept.{ItemsKept}
+use Rattle.proto_object.specs.declared.proto_items.ItemsKept.TheVariants as items
+use Rattle.proto_object.specs.ProtoItems.Rows.{items_stands}
 use Rattle.proto_object.specs.Say.{object_job_say}
 use Rattle.proto_object.specs.Rows.{object_stands}
-use Rattle.natives.specs.Say.{native_job_say}
-use Rattle.natives.specs.Rows.{natives_stands}
+use Rattle.vm_eval.specs.OfNatives.Say.{native_job_say}
+use Rattle.vm_eval.specs.OfNatives.Rows.{natives_stands}
 use Rattle.vm_eval.specs.declared.stack.Kept.{Kept}
 use Rattle.vm_eval.specs.declared.stack.Kept.TheVariants.{ForEval, ForAttribute, ForDescriptor, ForCall, ForClass, ForOperator, ForCompare, ForNumber, ForIteration, ForItems, ForObject, ForNative}
 use Rattle.vm_eval.specs.declared.protocols.Branch.{Branch}

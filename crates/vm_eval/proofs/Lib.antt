@@ -2,3 +2,4 @@ pub mod Groups
 pub mod Turns
 pub mod Commands
 pub mod Rests
+pub mod OfNatives

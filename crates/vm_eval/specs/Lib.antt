@@ -4,3 +4,4 @@ pub mod Runs
 pub mod State
 pub mod Asks
 pub mod Makers
+pub mod OfNatives

@@ -14,8 +14,8 @@ ghost use Rattle.class_table.specs.OneBase.{refused_single, single_class, says_s
 ghost use Rattle.class_table.specs.Settle.{line_places};
 ghost use Rattle.class_table.specs.Rebase.{refused_change, refused_rebase, told, IsToldFirst};
 ghost use Rattle.class_table.specs.Refused.{refusal, WithMemory, IsEarly, refused_attr, NamesNoClass};
-ghost use Rattle.class_log.specs.Change.{SetOwn, DelOwn, SetBases as SetBasesChange};
-ghost use Rattle.class_log.specs.Logged.{made_by_script, made_single};
+ghost use Rattle.class_table.specs.ClassLog.Change.{SetOwn, DelOwn, SetBases as SetBasesChange};
+ghost use Rattle.class_table.specs.ClassLog.Logged.{made_by_script, made_single};
 ghost use Rattle.py_node.specs.BuiltIns.{heap_flags};
 ghost use Rattle.plain_machine.specs.Change.{SetBases, apply, without_own_attr};
 ghost use Rattle.plain_machine.specs.Known.{the_type};

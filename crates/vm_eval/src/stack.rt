@@ -9,12 +9,12 @@ ghost use Rattle.proto_descr.specs.Rows.{of_descriptor_kept};
 ghost use Rattle.proto_call.specs.Rows.{of_call_kept, bodies_of};
 ghost use Rattle.class_make.specs.Rows.{of_class_kept};
 ghost use Rattle.proto_ops.specs.Rows.{of_operator_kept};
-ghost use Rattle.proto_compare.specs.Rows.{of_compare_kept};
-ghost use Rattle.proto_number.specs.Rows.{of_number_kept};
-ghost use Rattle.proto_iter.specs.Rows.{of_iter_kept};
-ghost use Rattle.proto_items.specs.Rows.{of_items_kept};
+ghost use Rattle.proto_ops.specs.ProtoCompare.Rows.{of_compare_kept};
+ghost use Rattle.proto_object.specs.ProtoNumber.Rows.{of_number_kept};
+ghost use Rattle.proto_object.specs.ProtoIter.Rows.{of_iter_kept};
+ghost use Rattle.proto_object.specs.ProtoItems.Rows.{of_items_kept};
 ghost use Rattle.proto_object.specs.Rows.{of_object_kept};
-ghost use Rattle.natives.specs.Rows.{of_natives_kept};
+ghost use Rattle.vm_eval.specs.OfNatives.Rows.{of_natives_kept};
 ghost use Rattle.vm_eval.specs.Say.{Begins, Resumes, step_among, of_kept, bodies_in};
 ghost use Rattle.vm_eval.specs.Stack.{Answers, Reaches, Keeps, RunsAbove, AsDeep, EndsDeep, turns_left, of_turn, of_end};
 
@@ -23,14 +23,14 @@ use crate::protocols::{Branch, branch_of};
 use class_make::ClassKept;
 use class_world::World;
 use eval_forms::EvalKept;
-use natives::NativesKept;
+use crate::natives::NativesKept;
 use proto_attr::AttributeKept;
 use proto_call::CallKept;
-use proto_compare::CompareKept;
+use proto_ops::proto_compare::CompareKept;
 use proto_descr::DescriptorKept;
-use proto_items::ItemsKept;
-use proto_iter::IterKept;
-use proto_number::NumberKept;
+use proto_object::proto_items::ItemsKept;
+use proto_object::proto_iter::IterKept;
+use proto_object::proto_number::NumberKept;
 use proto_object::ObjectKept;
 use proto_ops::OperatorKept;
 use py_node::protocol::ProtocolTask;
@@ -95,7 +95,7 @@ fn begin(world: &mut World, task: Task) -> Result<Step<Kept>, OutOfMemory>
             Ok(of_operator(step))
         }
         Task::Compare(task) => {
-            let step = proto_compare::begin(world, task)?;
+            let step = proto_ops::proto_compare::begin(world, task)?;
             Ok(of_compare(step))
         }
         Task::Protocol(task) => begin_protocol(world, task),
@@ -104,7 +104,7 @@ fn begin(world: &mut World, task: Task) -> Result<Step<Kept>, OutOfMemory>
             Ok(of_object(step))
         }
         Task::Native(entry, args, kw) => {
-            let step = natives::begin(world, entry, args, kw)?;
+            let step = crate::natives::begin(world, entry, args, kw)?;
             Ok(of_native(step))
         }
     }
@@ -118,15 +118,15 @@ fn begin_protocol(world: &mut World, task: ProtocolTask) -> Result<Step<Kept>, O
 {
     match branch_of(&task) {
         Branch::Numbers => {
-            let step = proto_number::begin(world, task)?;
+            let step = proto_object::proto_number::begin(world, task)?;
             Ok(of_number(step))
         }
         Branch::Iterations => {
-            let step = proto_iter::begin(world, task)?;
+            let step = proto_object::proto_iter::begin(world, task)?;
             Ok(of_iteration(step))
         }
         Branch::Items => {
-            let step = proto_items::begin(world, task)?;
+            let step = proto_object::proto_items::begin(world, task)?;
             Ok(of_items(step))
         }
     }
@@ -169,19 +169,19 @@ fn resume(
             Ok(of_operator(step))
         }
         Kept::ForCompare(kept) => {
-            let step = proto_compare::resume(world, kept, answer)?;
+            let step = proto_ops::proto_compare::resume(world, kept, answer)?;
             Ok(of_compare(step))
         }
         Kept::ForNumber(kept) => {
-            let step = proto_number::resume(world, kept, answer)?;
+            let step = proto_object::proto_number::resume(world, kept, answer)?;
             Ok(of_number(step))
         }
         Kept::ForIteration(kept) => {
-            let step = proto_iter::resume(world, kept, answer)?;
+            let step = proto_object::proto_iter::resume(world, kept, answer)?;
             Ok(of_iteration(step))
         }
         Kept::ForItems(kept) => {
-            let step = proto_items::resume(world, kept, answer)?;
+            let step = proto_object::proto_items::resume(world, kept, answer)?;
             Ok(of_items(step))
         }
         Kept::ForObject(kept) => {
@@ -189,7 +189,7 @@ fn resume(
             Ok(of_object(step))
         }
         Kept::ForNative(kept) => {
-            let step = natives::resume(world, kept, answer)?;
+            let step = crate::natives::resume(world, kept, answer)?;
             Ok(of_native(step))
         }
     }

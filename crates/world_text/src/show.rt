@@ -12,7 +12,7 @@ ghost use Rattle.world_text.specs.Inside.{texts_of, inside, or_dots};
 use class_world::World;
 use class_world::built_ins::{FALSE, NONE, NOT_IMPLEMENTED, TRUE};
 use py_node::{BuiltIn, OutOfMemory, Payload, PyObjectRef, PyTypeRef};
-use reply_text::escape::{escaped_string, quoted_string};
+use script_text::reply_text::escape::{escaped_string, quoted_string};
 use std::alloc::Global;
 
 // How many containers deep are shown, and how many items of each.

@@ -1,7 +1,8 @@
 use Rattle.std.proofs.Common.{◌∙◌, ap, sym, string_bytes}
 use Rattle.std.specs.Prelude.{option_map}
 use Rattle.class_world.specs.Reading.{plain, bindings}
-use Rattle.class_make.specs.Say.{by_bases, by_parts, has_null}
+use Rattle.class_make.specs.Say.{by_bases, by_parts}
+use Rattle.row_kit.specs.Questions.{has_null}
 use Rattle.class_make.proofs.Making.{goes-from}
 use Rattle.class_make.proofs.Parts.{parts-go}
 use Rattle.class_make.proofs.make.by_parts.Goals as goal

@@ -2,7 +2,7 @@ use Rattle.std.proofs.Common.{◌≡◌, List, map, get_or, Some, sym, ap, ◌�
 use Rattle.std.specs.Global.{Vec}
 use Rattle.py_node.specs.declared.refs.PyTypeRef.{PyTypeRef}
 use Rattle.class_model.specs.Class.{lin}
-use Rattle.mro_merge.specs.Lists.{rows}
+use Rattle.class_table.specs.MroMerge.Lists.{rows}
 use Rattle.class_table.specs.Keys.{numbers}
 use Rattle.class_table.specs.Stored.{classes_of}
 use Rattle.class_table.proofs.Along.{held-at}

@@ -1,7 +1,7 @@
 use Rattle.std.proofs.Common.{List, map, Some, sym, ap, ◌∙◌}
 use Rattle.std.specs.Global.{Vec}
 use Rattle.py_node.specs.declared.refs.PyTypeRef.{PyTypeRef}
-use Rattle.mro_merge.specs.Lists.{rows}
+use Rattle.class_table.specs.MroMerge.Lists.{rows}
 use Rattle.class_table.specs.Keys.{numbers}
 use Rattle.class_model.specs.Class.{lin}
 use Rattle.class_model.specs.Change.{with_bases}

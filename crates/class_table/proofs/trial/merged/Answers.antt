@@ -1,8 +1,8 @@
 use Rattle.std.proofs.Common.{◌∷◌, Some, refl, sym, ap, ◌∙◌}
 use Rattle.py_node.specs.declared.raised.Cause.TheVariants as causes
 use Rattle.class_model.specs.Change.{with_bases}
-use Rattle.mro_merge.specs.Lists.{rows}
-use Rattle.mro_merge.proofs.Repeats.{repeat-differs}
+use Rattle.class_table.specs.MroMerge.Lists.{rows}
+use Rattle.class_table.proofs.MroMerge.Repeats.{repeat-differs}
 use Rattle.class_table.specs.Keys.{numbers}
 use Rattle.class_table.specs.Stored.{classes_of}
 use Rattle.class_table.proofs.Orders.{lines-of}

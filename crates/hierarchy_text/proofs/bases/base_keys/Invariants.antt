@@ -1,6 +1,6 @@
 use Rattle.std.proofs.Common.{◌≡◌, drop}
 use Rattle.serde_json.specs.View.{items_view}
-use Rattle.json_text.proofs.Lists.{onto}
+use Rattle.script_text.proofs.JsonText.Lists.{onto}
 use Rattle.hierarchy_text.specs.Items.{texts, base_keys}
 use Rattle.hierarchy_text.proofs.bases.base_keys.Given as goal
 

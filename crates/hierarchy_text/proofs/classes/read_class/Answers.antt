@@ -1,6 +1,6 @@
 use Rattle.std.proofs.Common.{◌≡◌, Some, Err, option_map, string_bytes, arith}
 use Rattle.serde_json.specs.View.{view, items_view}
-use Rattle.json_text.specs.declared.items.Unread.TheVariants.{Shape}
+use Rattle.script_text.specs.declared.json_text.items.Unread.TheVariants.{Shape}
 use Rattle.hierarchy_text.specs.Spelled.{or_first}
 use Rattle.hierarchy_text.specs.Items.{texts, base_keys}
 use Rattle.hierarchy_text.proofs.ClassesAfter.{class-new, class-old, class-without}

@@ -1,6 +1,6 @@
 use Rattle.std.proofs.Common.{◌≡◌, [], ◌∷◌, codes, drop, map, option_map}
 use Rattle.serde_json.specs.View.{items_view}
-use Rattle.json_text.proofs.Lists.{onto}
+use Rattle.script_text.proofs.JsonText.Lists.{onto}
 use Rattle.hierarchy_text.specs.Spelled.{classes_after, plain_class, with_first}
 use Rattle.hierarchy_text.specs.Items.{texts}
 use Rattle.hierarchy_text.proofs.classes.read_classes.Given as goal

@@ -6,8 +6,8 @@ use Rattle.class_world.specs.Reading.{Reading, datum, plain}
 use Rattle.class_world.specs.Sound.{AllHold, of_payload}
 use Rattle.class_world.proofs.DictChanges.{none-hold}
 use Rattle.class_world.proofs.Stored.{ok-map}
-use Rattle.native_containers.specs.Take.{entries_at}
-use Rattle.native_containers.proofs.Payloads.{no-entries}
+use Rattle.row_kit.specs.TakeContainers.{entries_at}
+use Rattle.row_kit.proofs.ContainersPayloads.{no-entries}
 use Rattle.native_containers.proofs.entries.copy_dict.Goals as goal
 
 pub returns-in-Dict-clause-entries : goal.returns-in-Dict-clause-entries

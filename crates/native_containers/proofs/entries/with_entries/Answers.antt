@@ -6,7 +6,7 @@ use Rattle.class_world.specs.Sound.{AllHold}
 use Rattle.class_world.proofs.Claims.{all-grow}
 use Rattle.class_world.proofs.Growth.{grows-itself, grows-on}
 use Rattle.class_world.proofs.KeyEntries.{keys-can, pair-holds}
-use Rattle.native_containers.specs.Take.{entries_at}
+use Rattle.row_kit.specs.TakeContainers.{entries_at}
 use Rattle.native_containers.proofs.Payloads.{entry-more, entries-all}
 use Rattle.native_containers.proofs.entries.with_entries.Goals as goal
 

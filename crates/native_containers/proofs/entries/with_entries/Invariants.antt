@@ -3,7 +3,7 @@ use Rattle.plain_machine.specs.Dicts.{with_entry}
 use Rattle.class_world.specs.Keyed.{of_keyed}
 use Rattle.class_world.specs.Reading.{Reading, Reads, plain}
 use Rattle.class_world.specs.Sound.{AllHold, Grows}
-use Rattle.native_containers.specs.Take.{entries_at}
+use Rattle.row_kit.specs.TakeContainers.{entries_at}
 use Rattle.native_containers.proofs.entries.with_entries.Given as goal
 
 abbrev pub invariant-loop-entry : goal.invariant-loop-entry

@@ -3,7 +3,7 @@ use Rattle.std.specs.Prelude.{nat_le}
 use Rattle.plain_machine.specs.Dicts.{Entries}
 use Rattle.plain_machine.specs.Row.{most_items}
 use Rattle.class_world.specs.Reading.{plain}
-use Rattle.native_containers.specs.Take.{entries_at}
+use Rattle.row_kit.specs.TakeContainers.{entries_at}
 use Rattle.native_containers.proofs.Under.{length-new, length-put}
 use Rattle.native_containers.proofs.keys.has_room.Goals as goal
 

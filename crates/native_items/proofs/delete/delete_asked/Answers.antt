@@ -9,8 +9,8 @@ use Rattle.class_world.specs.Reading.{plain}
 use Rattle.class_world.specs.Sound.{AreNodes, Holds}
 use Rattle.class_world.proofs.Claims.{no-nodes}
 use Rattle.native_items.specs.declared.ItemKept.TheVariants.{Deleting}
-use Rattle.native_containers.specs.Say.{list_changed}
-use Rattle.native_containers.specs.Take.{items_at}
+use Rattle.row_kit.specs.GiveContainers.{list_changed}
+use Rattle.row_kit.specs.TakeContainers.{items_at}
 use Rattle.native_items.specs.Items.{del_asked, del_item}
 use Rattle.native_items.specs.Places.{put_part}
 use Rattle.native_items.specs.Rows.{stood_told}

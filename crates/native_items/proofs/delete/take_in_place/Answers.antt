@@ -2,8 +2,8 @@ use Rattle.std.proofs.Common.{◌-◌, length, sym, ◌∙◌}
 use Rattle.std.specs.List.{remove}
 use Rattle.plain_machine.specs.Row.{none, value}
 use Rattle.class_world.specs.Reading.{plain}
-use Rattle.native_containers.specs.Say.{list_changed}
-use Rattle.native_containers.specs.Take.{items_at}
+use Rattle.row_kit.specs.GiveContainers.{list_changed}
+use Rattle.row_kit.specs.TakeContainers.{items_at}
 use Rattle.native_items.specs.Items.{placed}
 use Rattle.native_items.specs.Places.{place_at}
 use Rattle.native_items.proofs.InPlace.{fewer-by-one, items-changed, leads-to}

@@ -2,7 +2,7 @@ use Rattle.std.proofs.Common.{[], refl}
 use Rattle.py_node.specs.declared.entry.IteratorNative.TheVariants.{Next}
 use Rattle.py_node.specs.declared.entry.NativeEntry.TheVariants.{OfIterator}
 use Rattle.class_world.specs.Reading.{plain}
-use Rattle.native_containers.specs.declared.take.Kind.TheVariants.{Iterator}
+use Rattle.row_kit.specs.declared.take_containers.Kind.TheVariants.{Iterator}
 use Rattle.native_items.specs.Iterators.{next_item}
 use Rattle.native_items.specs.Say.{item_job_say}
 use Rattle.native_items.proofs.Steps.{refused-enters, one-enters}

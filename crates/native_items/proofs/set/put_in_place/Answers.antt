@@ -3,8 +3,8 @@ use Rattle.std.proofs.lemmas.List.{length-set}
 use Rattle.std.specs.Prelude.{slice_set}
 use Rattle.plain_machine.specs.Row.{none, value}
 use Rattle.class_world.specs.Reading.{plain}
-use Rattle.native_containers.specs.Say.{list_changed}
-use Rattle.native_containers.specs.Take.{items_at}
+use Rattle.row_kit.specs.GiveContainers.{list_changed}
+use Rattle.row_kit.specs.TakeContainers.{items_at}
 use Rattle.native_items.specs.Items.{placed}
 use Rattle.native_items.specs.Places.{place_at}
 use Rattle.native_items.proofs.InPlace.{items-changed, leads-to}

@@ -2,7 +2,7 @@ use Rattle.std.proofs.Common.{[], refl}
 use Rattle.py_node.specs.declared.entry.ListNative.TheVariants.{SetItem}
 use Rattle.py_node.specs.declared.entry.NativeEntry.TheVariants.{OfList}
 use Rattle.class_world.specs.Reading.{plain}
-use Rattle.native_containers.specs.declared.take.Kind.TheVariants.{List}
+use Rattle.row_kit.specs.declared.take_containers.Kind.TheVariants.{List}
 use Rattle.native_items.specs.Items.{set_item}
 use Rattle.native_items.specs.Say.{item_job_say}
 use Rattle.native_items.proofs.Steps.{refused-enters, three-enters}

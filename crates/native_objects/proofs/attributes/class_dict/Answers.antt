@@ -9,9 +9,10 @@ use Rattle.class_world.specs.Reading.{bindings, datum, plain}
 use Rattle.class_world.specs.Sound.{AllHold, of_binding, of_each}
 use Rattle.class_world.proofs.Growth.{grows-on}
 use Rattle.class_world.proofs.KeyEntries.{entries-themselves, keys-can}
-use Rattle.native_base.specs.Say.{sized_made}
-use Rattle.native_objects.specs.Attributes.{class_dict, dict_made, keyed}
-use Rattle.native_objects.proofs.Ended.{ends-then}
+use Rattle.row_kit.specs.Say.{sized_made}
+use Rattle.native_objects.specs.Attributes.{class_dict, dict_made}
+use Rattle.row_kit.specs.ClassAttributes.{keyed}
+use Rattle.row_kit.proofs.ObjectsEnded.{ends-then}
 use Rattle.native_objects.proofs.Owned.{attrs-there}
 use Rattle.native_objects.proofs.attributes.class_dict.Goals as goal
 

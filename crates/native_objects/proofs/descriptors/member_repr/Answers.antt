@@ -2,9 +2,9 @@ use Rattle.std.proofs.Common.{sym, ap, ◌∙◌}
 use Rattle.std.specs.Prelude.{string_bytes}
 use Rattle.plain_machine.specs.Takes.{with_one}
 use Rattle.class_world.specs.Reading.{plain, bindings, spelled}
-use Rattle.native_base.specs.Say.{in_length, text_made}
+use Rattle.row_kit.specs.Say.{in_length, text_made}
 use Rattle.native_objects.specs.Descriptors.{member_repr, member_text}
-use Rattle.native_objects.proofs.Ended.{ends-after}
+use Rattle.row_kit.proofs.ObjectsEnded.{ends-after}
 use Rattle.native_objects.proofs.descriptors.member_repr.Goals as goal
 
 pub returns-clause-ends : goal.returns-clause-ends

@@ -3,7 +3,7 @@ use Rattle.plain_machine.specs.Takes.{with_one}
 use Rattle.class_world.specs.Reading.{plain, bindings}
 use Rattle.native_objects.specs.Details.{getter_of_say, part_given}
 use Rattle.native_objects.specs.DetailParts.{read_part}
-use Rattle.native_objects.proofs.Ended.{ends-after}
+use Rattle.row_kit.proofs.ObjectsEnded.{ends-after}
 use Rattle.native_objects.proofs.details.getter_of_native.Goals as goal
 
 pub returns-clause-ends : goal.returns-clause-ends

@@ -7,10 +7,10 @@ use Rattle.plain_machine.specs.Known.{the_tuple}
 use Rattle.plain_machine.specs.Plain.{ATuple}
 use Rattle.class_world.specs.Sound.{Holds}
 use Rattle.class_world.specs.Reading.{plain, datum}
-use Rattle.native_base.specs.Say.{sized_made}
+use Rattle.row_kit.specs.Say.{sized_made}
 use Rattle.native_objects.specs.Getters.{class_read, tuple_made}
 use Rattle.native_objects.proofs.Bases.{bases-seen}
-use Rattle.native_objects.proofs.Ended.{ends-after}
+use Rattle.row_kit.proofs.ObjectsEnded.{ends-after}
 use Rattle.native_objects.proofs.getters.bases.Goals as goal
 
 pub bases-requires : goal.bases-requires

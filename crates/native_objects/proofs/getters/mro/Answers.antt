@@ -9,9 +9,9 @@ use Rattle.plain_machine.specs.Plain.{ATuple}
 use Rattle.class_world.specs.Sound.{Holds}
 use Rattle.class_world.specs.Reading.{plain, datum}
 use Rattle.class_world.proofs.OfClasses.{line-seen}
-use Rattle.native_base.specs.Say.{sized_made}
+use Rattle.row_kit.specs.Say.{sized_made}
 use Rattle.native_objects.specs.Getters.{class_read, tuple_made}
-use Rattle.native_objects.proofs.Ended.{ends-after}
+use Rattle.row_kit.proofs.ObjectsEnded.{ends-after}
 use Rattle.native_objects.proofs.getters.mro.Goals as goal
 
 pub mro-requires : goal.mro-requires

@@ -4,7 +4,7 @@ use Rattle.py_node.specs.declared.built_in.BuiltIn.TheVariants as built_in
 use Rattle.plain_machine.specs.Known.{the_object}
 use Rattle.plain_machine.specs.Plain.{ASuper}
 use Rattle.class_world.specs.Reading.{plain}
-use Rattle.native_base.specs.Say.{object_made}
+use Rattle.row_kit.specs.Say.{object_made}
 use Rattle.native_objects.specs.Makers.{maker_say}
 use Rattle.native_objects.proofs.Ended.{ends-made}
 use Rattle.native_objects.proofs.makers.new_super.Goals as goal

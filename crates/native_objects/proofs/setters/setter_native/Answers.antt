@@ -2,7 +2,7 @@ use Rattle.std.proofs.Common.{◌∙◌}
 use Rattle.class_world.specs.Reading.{bindings, plain}
 use Rattle.class_world.proofs.Growth.{grows-itself}
 use Rattle.native_objects.specs.Setters.{class_written, setter_say}
-use Rattle.native_objects.proofs.Ended.{ends-after}
+use Rattle.row_kit.proofs.ObjectsEnded.{ends-after}
 use Rattle.native_objects.proofs.Setting.{set-of-classes}
 use Rattle.native_objects.proofs.setters.setter_native.Goals as goal
 

@@ -1,5 +1,5 @@
 use Rattle.std.proofs.Common.{◌≡◌, drop}
-use Rattle.mro_merge.specs.Merge.{heads}
+use Rattle.class_table.specs.MroMerge.Merge.{heads}
 use Rattle.order_check.specs.Lists.{rows}
 use Rattle.order_check.proofs.cycles.found_in.Given as goal
 

@@ -1,5 +1,5 @@
 use Rattle.std.proofs.Common.{◌≡◌, drop}
-use Rattle.mro_merge.specs.Steps.{first_free}
+use Rattle.class_table.specs.MroMerge.Steps.{first_free}
 use Rattle.order_check.specs.Line.{rest}
 use Rattle.order_check.specs.Told.{told_in, lists_past, lists_told}
 use Rattle.order_check.proofs.led.first_free_left.Given as goal

@@ -1,5 +1,5 @@
 use Rattle.std.proofs.Common.{◌≡◌, drop}
-use Rattle.mro_merge.specs.Steps.{first_free}
+use Rattle.class_table.specs.MroMerge.Steps.{first_free}
 use Rattle.order_check.specs.Lists.{rows}
 use Rattle.order_check.proofs.left.first_free.Given as goal
 

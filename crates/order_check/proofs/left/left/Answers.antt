@@ -1,9 +1,9 @@
 use Rattle.std.proofs.Common.{◌≡◌, ℕ, List, sym, ap, ◌∙◌}
 use Rattle.std.specs.Global.{Vec}
-use Rattle.mro_merge.specs.Steps.{first_free}
+use Rattle.class_table.specs.MroMerge.Steps.{first_free}
 use Rattle.order_check.specs.Lists.{rows}
 use Rattle.order_check.specs.Found.{left}
-use Rattle.mro_merge.proofs.Steps.{struck-fewer}
+use Rattle.class_table.proofs.MroMerge.Steps.{struck-fewer}
 use Rattle.order_check.proofs.Stepped.{left-end, left-step}
 use Rattle.order_check.proofs.left.left.Goals as goal
 

@@ -1,5 +1,5 @@
 use Rattle.std.proofs.Common.{◌≡◌, drop}
-use Rattle.mro_merge.specs.Steps.{past}
+use Rattle.class_table.specs.MroMerge.Steps.{past}
 use Rattle.order_check.specs.Line.{first_of}
 use Rattle.order_check.proofs.line.first_left.Given as goal
 

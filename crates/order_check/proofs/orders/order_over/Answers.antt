@@ -2,7 +2,7 @@ use Rattle.std.proofs.Common.{ℕ, List, sym, ap, subst}
 use Rattle.std.specs.Prelude.{option_and_then}
 use Rattle.std.specs.Global.{Vec}
 use Rattle.class_model.specs.Order.{least_order}
-use Rattle.mro_merge.specs.Merge.{AreLinesOf, IsApart}
+use Rattle.class_table.specs.MroMerge.Merge.{AreLinesOf, IsApart}
 use Rattle.order_check.specs.Lists.{rows}
 use Rattle.order_check.specs.Hierarchy.{orders}
 use Rattle.order_check.specs.Known.{known_in}

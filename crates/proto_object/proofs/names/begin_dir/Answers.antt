@@ -1,6 +1,6 @@
 use Rattle.std.proofs.Common.{[], ap, sym, ◌∙◌}
 use Rattle.class_world.specs.Reading.{bindings, plain}
-use Rattle.native_objects.specs.Attributes.{keyed}
+use Rattle.row_kit.specs.ClassAttributes.{keyed}
 use Rattle.proto_object.specs.Texts.{names_made, other_keys}
 use Rattle.proto_object.proofs.Named.{dir-ends, dir-said}
 use Rattle.proto_object.proofs.names.begin_dir.Goals as goal

@@ -6,11 +6,11 @@ use Rattle.plain_machine.specs.Plain.{AList}
 use Rattle.class_world.specs.Reading.{bindings, datum, plain}
 use Rattle.class_world.specs.Sound.{AreNodes, Holds}
 use Rattle.class_world.proofs.Growth.{grows-on}
-use Rattle.native_base.specs.Say.{sized_made}
-use Rattle.native_containers.specs.Say.{keys_of}
-use Rattle.native_containers.proofs.Payloads.{nodes-append}
-use Rattle.native_objects.specs.Attributes.{keyed}
-use Rattle.native_objects.proofs.Ended.{ends-then}
+use Rattle.row_kit.specs.Say.{sized_made}
+use Rattle.row_kit.specs.GiveContainers.{keys_of}
+use Rattle.row_kit.proofs.ContainersPayloads.{nodes-append}
+use Rattle.row_kit.specs.ClassAttributes.{keyed}
+use Rattle.row_kit.proofs.ObjectsEnded.{ends-then}
 use Rattle.proto_object.specs.Texts.{names_made}
 use Rattle.proto_object.proofs.names.new_names.Goals as goal
 

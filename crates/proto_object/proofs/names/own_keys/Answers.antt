@@ -1,7 +1,7 @@
 use Rattle.std.proofs.Common.{ap, sym, subst, ◌∙◌}
 use Rattle.class_world.specs.Reading.{plain}
 use Rattle.class_world.specs.Sound.{AreNodes, Holds}
-use Rattle.native_containers.specs.Say.{keys_of}
+use Rattle.row_kit.specs.GiveContainers.{keys_of}
 use Rattle.class_world.proofs.Claims.{no-nodes}
 use Rattle.proto_object.specs.Texts.{own_keys}
 use Rattle.proto_object.proofs.names.own_keys.Goals as goal

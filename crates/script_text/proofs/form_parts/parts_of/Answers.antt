@@ -2,7 +2,7 @@ use Rattle.std.proofs.Common.{◌≡◌, ◌∷◌, [], Ok, ok_or, ap, ◌∙◌
 use Rattle.std.specs.Prelude.{Err, option_and_then}
 use Rattle.serde_json.specs.Find.{as_str}
 use Rattle.serde_json.specs.View.{view, items_view}
-use Rattle.json_text.specs.declared.items.Unread.TheVariants.{Shape}
+use Rattle.script_text.specs.declared.json_text.items.Unread.TheVariants.{Shape}
 use Rattle.script_text.specs.Forms.{array_of}
 use Rattle.script_text.specs.FormParts.{formed}
 use Rattle.script_text.specs.FormWords.{form_named}

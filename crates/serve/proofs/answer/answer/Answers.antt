@@ -1,5 +1,5 @@
 use Rattle.std.proofs.Common.{◌≡◌, Err}
-use Rattle.json_text.specs.declared.error.ScriptFault.TheVariants.{Script}
+use Rattle.script_text.specs.declared.json_text.error.ScriptFault.TheVariants.{Script}
 use Rattle.serve.proofs.Answered.{spelled-not_refused}
 use Rattle.serve.proofs.answer.answer.Goals as goal
 

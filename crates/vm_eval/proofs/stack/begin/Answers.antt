@@ -13,12 +13,12 @@ use Rattle.class_make.specs.Say.{class_job_say}
 use Rattle.class_make.specs.Rows.{class_stands, of_class_kept}
 use Rattle.proto_ops.specs.Say.{operator_say}
 use Rattle.proto_ops.specs.Rows.{operator_stands, of_operator_kept}
-use Rattle.proto_compare.specs.Say.{compare_job_say}
-use Rattle.proto_compare.specs.Rows.{compare_stands, of_compare_kept}
+use Rattle.proto_ops.specs.ProtoCompare.Say.{compare_job_say}
+use Rattle.proto_ops.specs.ProtoCompare.Rows.{compare_stands, of_compare_kept}
 use Rattle.proto_object.specs.Say.{object_job_say}
 use Rattle.proto_object.specs.Rows.{object_stands, of_object_kept}
-use Rattle.natives.specs.Say.{native_job_say}
-use Rattle.natives.specs.Rows.{native_job, natives_stands, of_natives_kept}
+use Rattle.vm_eval.specs.OfNatives.Say.{native_job_say}
+use Rattle.vm_eval.specs.OfNatives.Rows.{native_job, natives_stands, of_natives_kept}
 use Rattle.plain_machine.specs.Plain.{ToEval, ToAttribute, ToDescriptor, ToCall, ToClass, ToOperator, ToCompare, ToObject}
 use Rattle.vm_eval.specs.declared.stack.Kept.TheVariants.{ForEval, ForAttribute, ForDescriptor, ForCall, ForClass, ForOperator, ForCompare, ForObject, ForNative}
 use Rattle.vm_eval.specs.Say.{of_kept, bodies_in, to_native}

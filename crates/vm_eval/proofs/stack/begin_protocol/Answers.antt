@@ -1,12 +1,12 @@
 use Rattle.std.proofs.Common.{refl, sym, ◌∙◌}
 use Rattle.class_world.specs.Reading.{protocol_job}
 use Rattle.class_world.proofs.Leaves.{leaves-among}
-use Rattle.proto_number.specs.Say.{number_job_say}
-use Rattle.proto_number.specs.Rows.{number_stands, of_number_kept}
-use Rattle.proto_iter.specs.Say.{iter_job_say}
-use Rattle.proto_iter.specs.Rows.{iter_stands, of_iter_kept}
-use Rattle.proto_items.specs.Say.{items_job_say}
-use Rattle.proto_items.specs.Rows.{items_stands, of_items_kept}
+use Rattle.proto_object.specs.ProtoNumber.Say.{number_job_say}
+use Rattle.proto_object.specs.ProtoNumber.Rows.{number_stands, of_number_kept}
+use Rattle.proto_object.specs.ProtoIter.Say.{iter_job_say}
+use Rattle.proto_object.specs.ProtoIter.Rows.{iter_stands, of_iter_kept}
+use Rattle.proto_object.specs.ProtoItems.Say.{items_job_say}
+use Rattle.proto_object.specs.ProtoItems.Rows.{items_stands, of_items_kept}
 use Rattle.plain_machine.specs.Plain.{ToProtocol}
 use Rattle.vm_eval.specs.declared.protocols.Branch.TheVariants as branch
 use Rattle.vm_eval.specs.declared.stack.Kept.TheVariants.{ForNumber, ForIteration, ForItems}

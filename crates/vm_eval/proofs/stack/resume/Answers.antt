@@ -12,18 +12,18 @@ use Rattle.class_make.specs.Say.{class_job_say}
 use Rattle.class_make.specs.Rows.{class_stands, of_class_kept}
 use Rattle.proto_ops.specs.Say.{operator_say}
 use Rattle.proto_ops.specs.Rows.{operator_stands, of_operator_kept}
-use Rattle.proto_compare.specs.Say.{compare_job_say}
-use Rattle.proto_compare.specs.Rows.{compare_stands, of_compare_kept}
-use Rattle.proto_number.specs.Say.{number_job_say}
-use Rattle.proto_number.specs.Rows.{number_stands, of_number_kept}
-use Rattle.proto_iter.specs.Say.{iter_job_say}
-use Rattle.proto_iter.specs.Rows.{iter_stands, of_iter_kept}
-use Rattle.proto_items.specs.Say.{items_job_say}
-use Rattle.proto_items.specs.Rows.{items_stands, of_items_kept}
+use Rattle.proto_ops.specs.ProtoCompare.Say.{compare_job_say}
+use Rattle.proto_ops.specs.ProtoCompare.Rows.{compare_stands, of_compare_kept}
+use Rattle.proto_object.specs.ProtoNumber.Say.{number_job_say}
+use Rattle.proto_object.specs.ProtoNumber.Rows.{number_stands, of_number_kept}
+use Rattle.proto_object.specs.ProtoIter.Say.{iter_job_say}
+use Rattle.proto_object.specs.ProtoIter.Rows.{iter_stands, of_iter_kept}
+use Rattle.proto_object.specs.ProtoItems.Say.{items_job_say}
+use Rattle.proto_object.specs.ProtoItems.Rows.{items_stands, of_items_kept}
 use Rattle.proto_object.specs.Say.{object_job_say}
 use Rattle.proto_object.specs.Rows.{object_stands, of_object_kept}
-use Rattle.natives.specs.Say.{native_job_say}
-use Rattle.natives.specs.Rows.{natives_stands, of_natives_kept}
+use Rattle.vm_eval.specs.OfNatives.Say.{native_job_say}
+use Rattle.vm_eval.specs.OfNatives.Rows.{natives_stands, of_natives_kept}
 use Rattle.plain_machine.specs.Plain.{ToEval, ToAttribute, ToDescriptor, ToCall, ToClass, ToOperator, ToCompare, ToProtocol, ToObject}
 use Rattle.vm_eval.specs.declared.stack.Kept.TheVariants.{ForEval, ForAttribute, ForDescriptor, ForCall, ForClass, ForOperator, ForCompare, ForNumber, ForIteration, ForItems, ForObject, ForNative}
 use Rattle.vm_eval.specs.declared.protocols.Branch.TheVariants as branch

@@ -2,7 +2,7 @@ use Rattle.std.proofs.Common.{ap, ◌∙◌, ◌++◌, List, ℕ, arith}
 use Rattle.std.specs.List.{flat_map}
 use Rattle.class_model.specs.Numbers.{numbers_of}
 use Rattle.class_table.specs.Keys.{table_keys}
-use Rattle.reply_text.proofs.Members.{written_more}
+use Rattle.script_text.proofs.ReplyText.Members.{written_more}
 use Rattle.plain_machine.specs.ClassText.{heap_text}
 use Rattle.world_text.proofs.ClassText.{text-next, all-taken}
 use Rattle.world_text.proofs.class_lines.push_each.Goals as goal

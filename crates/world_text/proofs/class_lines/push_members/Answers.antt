@@ -1,7 +1,7 @@
 use Rattle.std.proofs.Common.{ap, arith}
 use Rattle.std.proofs.lemmas.Bool.Decides.{nat_tests}
 use Rattle.py_node.specs.declared.refs.PyTypeRef.{PyTypeRef}
-use Rattle.reply_text.proofs.Members.{member_more, written_more}
+use Rattle.script_text.proofs.ReplyText.Members.{member_more, written_more}
 use Rattle.class_table.proofs.Along.{held-at}
 use Rattle.plain_machine.specs.World.{or_empty}
 use Rattle.plain_machine.specs.ClassText.{name_at}

@@ -7,8 +7,8 @@ use Rattle.class_model.specs.Dict.{any_has_dict, heap_class, slots_bring}
 use Rattle.class_table.specs.Keys.{numbers, table_keys, slot_names}
 use Rattle.class_table.specs.Refused.{refused_bases, refusal, WithMemory}
 use Rattle.plain_machine.specs.World.{with_new_class}
-use Rattle.class_log.specs.Logged.{made_by_script}
-use Rattle.class_log.proofs.Logged.{keeps-more}
+use Rattle.class_table.specs.ClassLog.Logged.{made_by_script}
+use Rattle.class_table.proofs.ClassLog.Logged.{keeps-more}
 use Rattle.class_world.specs.Held.{Held}
 use Rattle.class_world.specs.contracts.world.World.{the_view}
 use Rattle.class_world.specs.NewHeap.{of_slots}

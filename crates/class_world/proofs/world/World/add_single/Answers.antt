@@ -7,8 +7,8 @@ use Rattle.class_table.specs.OneBase.{single_class, refused_single, says_so}
 use Rattle.class_table.specs.Refused.{refusal}
 use Rattle.class_table.proofs.Bests.{found}
 use Rattle.class_table.proofs.Heaps.{only-best}
-use Rattle.class_log.specs.Logged.{made_single}
-use Rattle.class_log.proofs.Logged.{keeps-more}
+use Rattle.class_table.specs.ClassLog.Logged.{made_single}
+use Rattle.class_table.proofs.ClassLog.Logged.{keeps-more}
 use Rattle.class_world.specs.Held.{Held}
 use Rattle.class_world.specs.contracts.world.World.{the_view}
 use Rattle.class_world.specs.Sound.{IsClass, IsOf, Holds, of_binding, of_each}

@@ -1,6 +1,6 @@
 use Rattle.std.proofs.Common.{◌≡◌, List, sym, ap, ◌∙◌, subst}
-use Rattle.class_log.specs.Change.{Change}
-use Rattle.class_log.specs.Logged.{IsLogged}
+use Rattle.class_table.specs.ClassLog.Change.{Change}
+use Rattle.class_table.specs.ClassLog.Logged.{IsLogged}
 use Rattle.class_world.specs.Held.{Held}
 use Rattle.class_world.specs.contracts.world.World.{the_view}
 use Rattle.class_world.proofs.world.World.class_log.Goals as goal

@@ -1,6 +1,6 @@
 use Rattle.std.proofs.Common.{◌≡◌, ◌++◌, ◌∷◌, [], true, Ok, sym, subst, ◌∙◌, refl}
-use Rattle.class_log.specs.Change.{DelOwn}
-use Rattle.class_log.proofs.Logged.{keeps-taken}
+use Rattle.class_table.specs.ClassLog.Change.{DelOwn}
+use Rattle.class_table.proofs.ClassLog.Logged.{keeps-taken}
 use Rattle.class_world.specs.Held.{Held}
 use Rattle.class_world.specs.contracts.world.World.{the_view}
 use Rattle.class_world.specs.Sound.{Holds, IsClass}

@@ -1,6 +1,6 @@
 use Rattle.std.proofs.Common.{◌≡◌, ◌++◌, ◌∷◌, [], OnOk, sym, subst, ◌∙◌}
-use Rattle.class_log.specs.Change.{SetOwn}
-use Rattle.class_log.proofs.Logged.{keeps-more}
+use Rattle.class_table.specs.ClassLog.Change.{SetOwn}
+use Rattle.class_table.proofs.ClassLog.Logged.{keeps-more}
 use Rattle.class_world.specs.Held.{Held}
 use Rattle.class_world.specs.contracts.world.World.{the_view}
 use Rattle.class_world.specs.Sound.{Holds, IsClass, IsName, IsNode}

@@ -1,10 +1,10 @@
 use Rattle.std.proofs.Common.{◌≡◌, ◌++◌, ◌∷◌, [], OnOk, ◌+◌, ◌*◌, ◌≤◌, length, subst}
 use Rattle.class_model.specs.Change.{with_bases}
-use Rattle.class_log.specs.Change.{SetBases}
+use Rattle.class_table.specs.ClassLog.Change.{SetBases}
 use Rattle.class_table.specs.Descendants.{descendants}
 use Rattle.class_table.specs.Keys.{numbers}
 use Rattle.class_table.specs.Settle.{line_places}
-use Rattle.class_log.proofs.Logged.{keeps-more}
+use Rattle.class_table.proofs.ClassLog.Logged.{keeps-more}
 use Rattle.class_world.specs.Held.{Held}
 use Rattle.class_world.specs.contracts.world.World.{the_view}
 use Rattle.class_world.specs.Reading.{Reads}

@@ -1,5 +1,5 @@
 use Rattle.std.proofs.Common.{refl, ap}
-use Rattle.class_log.proofs.Logged.{keeps-itself, named-logged}
+use Rattle.class_table.proofs.ClassLog.Logged.{keeps-itself, named-logged}
 use Rattle.class_world.specs.Held.{Held}
 use Rattle.class_world.specs.contracts.world.World.{the_view}
 use Rattle.class_world.specs.Sound.{IsClass}

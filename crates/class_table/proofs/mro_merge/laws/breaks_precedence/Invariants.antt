@@ -1,0 +1,9 @@
+use Rattle.std.proofs.Common.{◌≡◌, drop}
+use Rattle.class_model.specs.Change.{breaks_precedence}
+use Rattle.class_table.specs.MroMerge.Lists.{rows}
+use Rattle.class_table.specs.MroMerge.Merge.{heads}
+use Rattle.class_table.proofs.mro_merge.laws.breaks_precedence.Given as goal
+
+abbrev pub invariant-loop-i : goal.invariant-loop-i
+invariant-loop-i l =
+    breaks_precedence (heads (rows (drop l.i l.lists))) (rows (drop l.i l.lists)) ≡ breaks_precedence (heads (rows l.lists)) (rows l.lists)

@@ -1,0 +1,12 @@
+use Rattle.std.proofs.Common.{◌≡◌, ◌++◌, length}
+use Rattle.std.specs.Prelude.{option_map}
+use Rattle.class_table.specs.MroMerge.Lists.{numbers, rows}
+use Rattle.class_table.specs.MroMerge.Merge.{members}
+use Rattle.class_table.specs.MroMerge.Steps.{merged}
+use Rattle.class_table.proofs.mro_merge.merge.merge.Given as goal
+
+abbrev pub invariant-loop-lists : goal.invariant-loop-lists
+invariant-loop-lists l = merged (rows l.fn.lists.items) ≡ option_map (λ xs. numbers l.line.items ++ xs) (merged (rows l.lists.items))
+
+abbrev pub decreases-loop-lists : goal.decreases-loop-lists
+decreases-loop-lists l = length (members (rows l.lists.items))

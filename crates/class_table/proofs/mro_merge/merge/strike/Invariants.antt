@@ -1,0 +1,7 @@
+use Rattle.std.proofs.Common.{◌≡◌, ◌++◌, map, take, drop}
+use Rattle.class_model.specs.Order.{without}
+use Rattle.class_table.specs.MroMerge.Lists.{rows}
+use Rattle.class_table.proofs.mro_merge.merge.strike.Given as goal
+
+abbrev pub invariant-loop-i : goal.invariant-loop-i
+invariant-loop-i l = rows l.lists.items ≡ map (without l.class.0) (take l.i (rows l.fn.lists.items)) ++ drop l.i (rows l.fn.lists.items)

@@ -1,0 +1,16 @@
+use Rattle.std.proofs.Common.{◌≡◌, ◌∙◌, length, refl, sym, ap, arith}
+use Rattle.native_containers.specs.declared.native_compare.ComparedKept.{ComparedKept}
+use Rattle.native_containers.specs.NativeCompare.Containers.{turns_of}
+use Rattle.native_containers.proofs.NativeCompare.Turns.{compares-turns}
+use Rattle.native_containers.proofs.native_compare.turn.compare.Goals as goal
+
+pub returns-in-Each-clause-goes : goal.returns-in-Each-clause-goes
+returns-in-Each-clause-goes c =
+    let a = c.args in
+    let k : ComparedKept = record { way = c.in-Each.way; last = c.in-Each.last; first = a.first; second = a.second; next = 0 } in
+    let h = c.len.ensures in
+    let g = c.len-2.ensures in
+    let first : length a.first.items ≡ c.len.result = omega (arith, h) in
+    let second : length a.second.items ≡ c.len-2.result = omega (arith, g) in
+    let is = ap (λ n. turns_of a.native n (length a.second.items)) first ∙ ap (λ m. turns_of a.native c.len.result m) second ∙ sym c.turns_of.ensures ∙ c.in-Each.is in
+    compares-turns a.native k a.world.now c.ask_next.result is refl c.ask_next.ensures.goes

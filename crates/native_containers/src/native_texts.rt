@@ -1,0 +1,10 @@
+//! The natives of texts that ask no task.
+#![tactic(auto, using(class_world::proofs::Items::item_holds))]
+
+mod compare;
+mod of_bytes;
+pub mod take;
+mod text;
+
+pub use compare::compare_text;
+pub use text::text_native;

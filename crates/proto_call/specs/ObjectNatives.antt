@@ -1,0 +1,66 @@
+-- The natives of `object` that ask no task.
+use Rattle.std.specs.Prelude.{ℕ, false, ◌++◌, codes, Option, Some, None, Result, true, cond, eqb, List, [], ◌∷◌}
+use Rattle.std.specs.Fmt.{digits}
+use Rattle.py_node.specs.declared.raised.Raised.{Raised as Fault}
+use Rattle.py_node.specs.declared.raised.Cause.TheVariants.{QualnameType, ArgCount}
+use Rattle.py_node.specs.Tree.{Text}
+use Rattle.plain_machine.specs.Plain.{PlainWorld, Bindings, Said, Ends}
+use Rattle.plain_machine.specs.ClassText.{name_at}
+use Rattle.plain_machine.specs.Row.{fault, value, truth, not_implemented, elsewhere}
+use Rattle.row_kit.specs.Say.{in_length, number_told, text_made}
+use Rattle.row_kit.specs.ClassNames.{qualname, module_of, in_module}
+use Rattle.std.specs.Int.{w64, cast_signed}
+use Rattle.py_node.specs.declared.refs.PyObjectRef.{PyObjectRef}
+use Rattle.py_node.specs.declared.entry.ObjectNative.{ObjectNative}
+use Rattle.py_node.specs.declared.entry.ObjectNative.TheVariants as object
+use Rattle.plain_machine.specs.World.{class_at}
+use Rattle.plain_machine.specs.Takes.{with_one, with_two}
+
+-- the text of an object without one of its own: its class, whose qualified name must be a text, and its number
+abbrev pub text_from : Option Text → Option Text → Text → ℕ → Result Text Fault
+text_from None m x n = fault QualnameType
+text_from (Some q) m x n = in_length (codes "<" ++ in_module m q x ++ codes " object at 0x" ++ digits 16 false n ++ codes ">")
+
+abbrev pub object_text : PlainWorld → ℕ → ℕ → Result Text Fault
+object_text w c n = text_from (qualname w c) (module_of w c) (name_at w.classes c) n
+
+abbrev pub repr_of : PlainWorld → PyObjectRef → Option ℕ → Said
+repr_of w o None = Ends w elsewhere
+repr_of w o (Some c) = text_made w (object_text w c o.0)
+
+-- the same object is equal; of others the native says nothing
+abbrev pub same_or_none : PlainWorld → PyObjectRef → PyObjectRef → Said
+same_or_none w a b = Ends w (value (cond (eqb a.0 b.0) (truth true) not_implemented))
+
+-- there must be an object, and whatever else there is counts for nothing
+abbrev pub unless_none : PlainWorld → List PyObjectRef → Said → Said
+unless_none w [] go = Ends w (fault ArgCount)
+unless_none w (o ∷ args) go = go
+
+-- two objects of which nothing is said
+abbrev pub says_nothing : PlainWorld → List PyObjectRef → Bindings → Said
+says_nothing w args kw = with_two w args kw (λ a b. Ends w (value not_implemented))
+
+abbrev pub object_repr : PlainWorld → List PyObjectRef → Bindings → Said
+object_repr w args kw = with_one w args kw (λ o. repr_of w o (class_at w o))
+
+-- an object's hash is its number, of 64 bits with their sign
+abbrev pub object_hash : PlainWorld → List PyObjectRef → Bindings → Said
+object_hash w args kw = with_one w args kw (λ o. number_told w (cast_signed w64 o.0))
+
+abbrev pub object_eq : PlainWorld → List PyObjectRef → Bindings → Said
+object_eq w args kw = with_two w args kw (same_or_none w)
+
+abbrev pub object_subclass_hook : PlainWorld → List PyObjectRef → Said
+object_subclass_hook w args = unless_none w args (Ends w (value not_implemented))
+
+abbrev pub object_native_say : PlainWorld → ObjectNative → List PyObjectRef → Bindings → Said
+object_native_say w object.Repr args kw = object_repr w args kw
+object_native_say w object.Hash args kw = object_hash w args kw
+object_native_say w object.Eq args kw = object_eq w args kw
+object_native_say w object.Lt args kw = says_nothing w args kw
+object_native_say w object.Le args kw = says_nothing w args kw
+object_native_say w object.Ge args kw = says_nothing w args kw
+object_native_say w object.Gt args kw = says_nothing w args kw
+object_native_say w object.SubclassHook args kw = object_subclass_hook w args
+object_native_say w _ args kw = Ends w elsewhere

@@ -1,0 +1,20 @@
+use Rattle.std.proofs.Common.{◌≡◌, subst}
+use Rattle.std.specs.Prelude.{ℤ}
+use Rattle.std.proofs.Math.Facts.{to_z-of_z}
+use Rattle.py_node.specs.declared.refs.PyObjectRef.{PyObjectRef}
+use Rattle.plain_machine.specs.Plain.{PlainWorld, Said}
+use Rattle.class_world.specs.Reading.{plain}
+use Rattle.proto_object.specs.ProtoItems.Slices.{with_slice}
+use Rattle.proto_object.proofs.ProtoItems.Slicing.{part-set}
+use Rattle.proto_object.proofs.proto_items.slices.begin_set_slice.Goals as goal
+
+pub returns-in_ok-task-in-Some-clause-goes : goal.returns-in_ok-task-in-Some-clause-goes
+returns-in_ok-task-in-Some-clause-goes c = λ t r.
+    let a = c.args in
+    let slice = c.in_ok-slice-in-Some in
+    let old = slice.ensures.reads t r in
+    let w = plain t a.world.now in
+    let new = plain t c.new_slice.new.world in
+    let Made : ℤ → ℤ → Type 0 = λ i j. (go : PlainWorld → PyObjectRef → Said) → with_slice w i j go ≡ go new slice.slice in
+    let made : Made a.start a.stop = subst (λ i. Made i a.stop) (to_z-of_z c.ranges.start) (subst (Made _) (to_z-of_z c.ranges.stop) (slice.ensures.made t)) in
+    part-set t a.world.now c.new_slice.new.world a.o slice.slice a.start a.stop c.in-Some.entry c.in_ok-task-in-Some.task old made a.value (c.in-Some.ensures t old) (c.in_ok-task-in-Some.ensures.task t r)

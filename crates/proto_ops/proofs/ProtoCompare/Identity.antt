@@ -1,0 +1,11 @@
+-- Whether two objects are one is not asked.
+use Rattle.std.proofs.Common.{◌≡◌, true, false, cond, Ok, ap}
+use Rattle.std.specs.Prelude.{eqb}
+use Rattle.py_node.specs.declared.refs.PyObjectRef.{PyObjectRef}
+use Rattle.plain_machine.specs.Plain.{PlainWorld, AsTruth, DoBoolEq, DoIdEq, ToCompare, Told}
+use Rattle.plain_machine.specs.Row.{ask, end}
+use Rattle.proto_ops.specs.ProtoCompare.Say.{compare_job_say}
+
+pub others-ask : (u : PlainWorld) (a b : PyObjectRef) (more : Told) → eqb a.0 b.0 ≡ false → compare_job_say u (DoIdEq a b) more ≡ ask u (ToCompare (DoBoolEq a b)) (end u) more
+unfolding compare_job_say
+others-ask u a b more e = ap (λ c. cond c (end u (Ok (AsTruth true))) (ask u (ToCompare (DoBoolEq a b)) (end u)) more) e

@@ -1,0 +1,15 @@
+use Rattle.std.proofs.Common.{◌≡◌, [], ◌∷◌, false, refl, arith}
+use Rattle.std.specs.Prelude.{eqb}
+use Rattle.plain_machine.specs.Plain.{Answered}
+use Rattle.class_world.specs.Reading.{plain}
+use Rattle.proto_ops.specs.ProtoCompare.Say.{compare_job_say}
+use Rattle.proto_ops.proofs.ProtoCompare.Identity.{others-ask}
+use Rattle.proto_ops.proofs.proto_compare.truths.id_eq.Goals as goal
+
+pub returns-else-a-b-clause-goes : goal.returns-else-a-b-clause-goes
+unfolding compare_job_say
+returns-else-a-b-clause-goes c = λ w t r.
+    let a = c.args.a in
+    let b = c.args.b in
+    let e : eqb a.0 b.0 ≡ false = grind arith in
+    (r, rw (others-ask (plain t w) a b [] e) (refl, refl, record { says = λ v s more. others-ask v a b (Answered s ∷ more) e }))

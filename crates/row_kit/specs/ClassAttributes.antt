@@ -1,0 +1,15 @@
+-- The names of attributes as new texts, with their values.
+use Rattle.std.specs.Prelude.{[], ◌∷◌, ◌++◌, Option, Some, None}
+use Rattle.plain_machine.specs.Plain.{AText, PlainWorld, Bindings}
+use Rattle.plain_machine.specs.World.{with_node, next_node}
+use Rattle.plain_machine.specs.Known.{the_str}
+use Rattle.plain_machine.specs.Dicts.{Entries}
+
+-- a new text for each name, in order, with its value
+abbrev pub keyed : PlainWorld → Entries → Bindings → PlainWorld × Entries
+keyed w es [] = (w, es)
+keyed w es (b ∷ bs) = keyed (with_node w the_str (AText b.0)) (es ++ (next_node w the_str, b.1) ∷ []) bs
+
+abbrev pub or_no_attributes : Option Bindings → Bindings
+or_no_attributes None = []
+or_no_attributes (Some attrs) = attrs

@@ -1,0 +1,48 @@
+-- What natives take of classes, descriptors and properties.
+use Rattle.std.specs.Prelude.{ℕ, cond, eqb, List, Option, Some, None, [], ◌∷◌}
+use Rattle.py_node.specs.declared.refs.PyObjectRef.{PyObjectRef}
+use Rattle.py_node.specs.declared.built_in.BuiltIn.{BuiltIn}
+use Rattle.py_node.specs.declared.raised.Cause.TheVariants.{UnsafeNew, ArgCount, SelfType}
+use Rattle.py_node.specs.BuiltIns.{place_of}
+use Rattle.plain_machine.specs.Plain.{PlainWorld, Said, Ends, Datum, AProperty, Bindings}
+use Rattle.plain_machine.specs.Objects.{nearest_built_in, class_number}
+use Rattle.plain_machine.specs.Row.{fault}
+use Rattle.py_node.specs.declared.payload.PyProperty.{PyProperty}
+use Rattle.py_node.specs.declared.raised.Cause.{Cause}
+use Rattle.plain_machine.specs.World.{datum_at}
+use Rattle.plain_machine.specs.Takes.{with_one}
+
+abbrev pub safe_for : PlainWorld → ℕ → Option ℕ → Said → Said
+safe_for w b None go = Ends w (fault UnsafeNew)
+safe_for w b (Some c) go = cond (eqb c b) go (Ends w (fault UnsafeNew))
+
+-- goes on with what is there, or else there is a fault
+abbrev pub there_or : {A : Type 0} → PlainWorld → Cause → Option A → (A → Said) → Said
+there_or w cause None go = Ends w (fault cause)
+there_or w cause (Some a) go = go a
+
+-- what is read of an object must be there: else the object is of another kind
+abbrev pub needed : {A : Type 0} → PlainWorld → Option A → (A → Said) → Said
+needed w o go = there_or w SelfType o go
+
+-- there must be an object, of which this can be read
+abbrev pub with_own : {A : Type 0} → (Option Datum → Option A) → PlainWorld → List PyObjectRef → (PyObjectRef → A → Said) → Said
+with_own read w [] go = Ends w (fault ArgCount)
+with_own read w (o ∷ args) go = needed w (read (datum_at w o)) (go o)
+
+-- a class
+abbrev pub with_class : PlainWorld → List PyObjectRef → (ℕ → Said) → Said
+with_class w args go = with_own class_number w args (λ o c. go c)
+
+-- a class whose objects are those of this built-in class. Other arguments count for nothing
+abbrev pub with_heir : PlainWorld → BuiltIn → List PyObjectRef → (ℕ → Said) → Said
+with_heir w b args go = with_class w args (λ c. safe_for w (place_of b) (nearest_built_in w.classes c) (go c))
+
+-- a class, alone
+abbrev pub with_lone_class : PlainWorld → List PyObjectRef → Bindings → (ℕ → Said) → Said
+with_lone_class w args kw go = with_class w args (λ c. with_one w args kw (λ o. go c))
+
+-- the parts of a property
+abbrev pub property_in : Option Datum → Option PyProperty
+property_in (Some (AProperty p)) = Some p
+property_in _ = None

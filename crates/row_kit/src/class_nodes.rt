@@ -1,0 +1,26 @@
+//! The objects that stand for classes.
+
+ghost use Rattle.std.specs.Prelude.{◌≡◌, ℕ, map, IfOk};
+ghost use Rattle.class_model.specs.Order.{Includes};
+ghost use Rattle.class_table.specs.Keys.{numbers};
+ghost use Rattle.plain_machine.specs.World.{ref};
+ghost use Rattle.class_world.specs.Sound.{AreNodes, IsClass, Holds};
+
+use class_world::World;
+use py_node::{OutOfMemory, PyObjectRef, PyTypeRef};
+
+/// The objects that stand for some classes, in order.
+pub fn class_nodes(
+    world: &World,
+    classes: &[PyTypeRef],
+) -> Result<Vec<PyObjectRef>, OutOfMemory>
+    requires { (c : ℕ) → Includes (numbers classes.now) c → Holds world.now (IsClass c) }
+    ensures items { IfOk result (λ v. v.items ≡ map ref (numbers classes.now)) }
+    ensures holds { IfOk result (λ v. Holds world.now (AreNodes v.items)) }
+{
+    let mut nodes = Vec::new(world.alloc());
+    for class in classes {
+        nodes.push(world.class_node(*class))?;
+    }
+    Ok(nodes)
+}

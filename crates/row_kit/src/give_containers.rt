@@ -1,0 +1,105 @@
+//! New tuples and lists, a list with other items, and the keys of a dict with their values as pairs.
+
+ghost use Rattle.std.specs.Prelude.{IfOk, Err, ◌≡◌, [], ◌∷◌, OnOk};
+ghost use Rattle.py_node.specs.declared.built_in.BuiltIn.TheVariants.{List};
+ghost use Rattle.class_world.specs.Claims.{of_ended};
+ghost use Rattle.class_world.specs.Sound.{AllHold, AreNodes, Grows, Holding, Holds, IsNode};
+ghost use Rattle.class_world.specs.Rows.{EndsAs, LeavesEnd};
+ghost use Rattle.row_kit.specs.GiveContainers.{ends_none, list_changed, list_made, tuple_made, pairs_made};
+ghost use Rattle.plain_machine.specs.Known.{the_tuple};
+ghost use Rattle.plain_machine.specs.Plain.{ATuple};
+ghost use Rattle.plain_machine.specs.World.{next_node, with_node};
+ghost use Rattle.class_world.specs.Reading.{Reading, Reads, plain};
+ghost use Rattle.row_kit.specs.TakeContainers.{entries_at};
+
+use class_world::{Fixed, World};
+use class_world::args::both;
+use class_world::limits::is_within_limit;
+use crate::entries::copy_entries;
+use crate::give::new_object;
+use crate::take_containers::entries;
+use py_node::{Answer, BuiltIn, Cause, OutOfMemory, Payload, PyObjectRef, Raised};
+use py_node::task::Args;
+
+/// Ends with None.
+pub fn ends_none(world: &World) -> Result<Answer, Raised>
+    ensures ends { EndsAs (λ t u. ends_none u) world.now world.now result }
+    ensures holds { AllHold world.now (of_ended result) }
+{
+    Ok(Answer::Value(world.fixed(Fixed::None)))
+}
+
+/// Ends with a new tuple.
+#[tactic(auto, unfolding(py_node::specs::BuiltIns::place_of))]
+pub fn new_tuple(world: &mut World, items: Args) -> Result<Result<Answer, Raised>, OutOfMemory>
+    requires { Holds world.old (AreNodes items.items) }
+    ensures ends { IfOk result (λ r. EndsAs (λ t u. tuple_made u items.items) world.old world.new r) }
+    ensures safe { LeavesEnd world.old world.new result }
+{
+    new_object(world, BuiltIn::Tuple, Payload::Tuple(items))
+}
+
+/// Ends with a new list.
+#[tactic(auto, unfolding(py_node::specs::BuiltIns::place_of))]
+pub fn new_list(world: &mut World, items: Args) -> Result<Result<Answer, Raised>, OutOfMemory>
+    requires { Holds world.old (AreNodes items.items) }
+    ensures ends { IfOk result (λ r. EndsAs (λ t u. list_made u items.items) world.old world.new r) }
+    ensures safe { LeavesEnd world.old world.new result }
+{
+    new_object(world, BuiltIn::List, Payload::List(items))
+}
+
+/// Gives a list other items, and ends with None, unless they are too many.
+pub fn change_list(world: &mut World, list: PyObjectRef, items: Args) -> Result<Answer, Raised>
+    requires list { Holds world.old (IsNode list) }
+    requires holding { Holds world.old (Holding list List) }
+    requires items { Holds world.old (AreNodes items.items) }
+    ensures ends { EndsAs (λ t u. list_changed u list items.items) world.old world.new result }
+    ensures grows { Grows world.old world.new }
+    ensures holds { AllHold world.new (of_ended result) }
+{
+    if !is_within_limit(items.len()) {
+        return Err(Raised::new(Cause::TooLong));
+    }
+    world.set_payload(list, Payload::List(items));
+    ends_none(world)
+}
+
+/// A new tuple for each key of a dict with its value, and then a new list of these.
+pub fn new_pairs(
+    world: &mut World,
+    dict: PyObjectRef,
+) -> Result<Result<Answer, Raised>, OutOfMemory>
+    requires { Holds world.old (IsNode dict) }
+    ensures ends { IfOk result (λ r. EndsAs (λ t u. pairs_made u [] (entries_at u dict)) world.old world.new r) }
+    ensures safe { LeavesEnd world.old world.new result }
+{
+    let entries = copy_entries(world.alloc(), entries(world, dict))?;
+    let mut pairs = Vec::new(world.alloc());
+    for entry in &entries {
+        let pair = new_pair(world, entry.0, entry.1)?;
+        pairs.push(pair)?;
+    }
+    new_list(world, pairs)
+}
+
+// A new tuple of a key and its value.
+#[tactic(auto, unfolding(py_node::specs::BuiltIns::place_of))]
+fn new_pair(
+    world: &mut World,
+    key: PyObjectRef,
+    value: PyObjectRef,
+) -> Result<PyObjectRef, OutOfMemory>
+    requires key { Holds world.old (IsNode key) }
+    requires value { Holds world.old (IsNode value) }
+    ensures made { OnOk result ((t : Reading) → plain t world.new ≡
+        with_node (plain t world.old) the_tuple (ATuple (key ∷ value ∷ []))) }
+    ensures number { IfOk result (λ r. (t : Reading) → r ≡ next_node (plain t world.old) the_tuple) }
+    ensures reads { (t : Reading) → Reads t world.new → Reads t world.old }
+    ensures grows { Grows world.old world.new }
+    ensures node { IfOk result (λ r. Holds world.new (IsNode r)) }
+{
+    let items = both(world.alloc(), key, value)?;
+    let class = world.built_in(BuiltIn::Tuple);
+    world.make_node(class, Payload::Tuple(items))
+}

@@ -1,0 +1,9 @@
+use Rattle.std.proofs.Common.{◌≡◌, drop}
+use Rattle.serde_json.specs.View.{items_view}
+use Rattle.py_node.specs.Tree.{texts_of}
+use Rattle.script_text.specs.JsonText.Texts.{texts_in}
+use Rattle.script_text.proofs.JsonText.Lists.{onto}
+use Rattle.script_text.proofs.json_text.texts.read_texts.Given as goal
+
+abbrev pub invariant-loop-item : goal.invariant-loop-item
+invariant-loop-item l = texts_in (items_view l.items) ≡ onto (texts_of l.found.items) (texts_in (items_view (drop l.item-index l.items)))

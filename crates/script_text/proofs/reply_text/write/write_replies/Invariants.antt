@@ -1,0 +1,7 @@
+use Rattle.std.proofs.Common.{◌≡◌, take, map}
+use Rattle.py_node.specs.Replies.{reply_of}
+use Rattle.plain_machine.specs.Lines.{replies_text}
+use Rattle.script_text.proofs.reply_text.write.write_replies.Given as goal
+
+abbrev pub invariant-loop-reply : goal.invariant-loop-reply
+invariant-loop-reply l = l.out.items ≡ replies_text (map reply_of (take l.reply-index l.replies))

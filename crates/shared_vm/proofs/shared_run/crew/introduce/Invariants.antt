@@ -1,0 +1,11 @@
+use Rattle.std.proofs.Common.{◌≡◌, length}
+use Rattle.shared_vm.specs.SharedRun.Crew.{AllReady}
+use Rattle.shared_vm.specs.SharedRun.Mix.{session_trees}
+use Rattle.shared_vm.proofs.shared_run.crew.introduce.Given as goal
+
+abbrev pub invariant-loop-seat : goal.invariant-loop-seat
+invariant-loop-seat l = record {
+  same : l.first ≡ l.initial.first;
+  len : length l.crew.items ≡ length l.yielded;
+  ready : AllReady l.vm.id l.initial.first.seen (session_trees l.fn.sessions.items) l.crew.items;
+}
