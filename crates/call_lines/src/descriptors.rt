@@ -2,8 +2,8 @@
 
 use crate::definitions::upper;
 use crate::payloads::{told_node, told_payload};
-use native_defs::accessors::{PyClassMethod, PyMethodDescriptor, PyStaticMethod};
 use class_world::{Fixed, World};
+use native_defs::accessors::{PyClassMethod, PyMethodDescriptor, PyStaticMethod};
 use native_defs::{PyMemberDef, new_member};
 use py_node::{
     BuiltIn, MemberGetter, MemberKind, MemberSetter, NativeEntry, OutOfMemory, StrNative,

@@ -11,12 +11,14 @@ ghost use Rattle.plain_machine.specs.Known.{the_type};
 ghost use Rattle.class_make.specs.Rows.{Begins, Resumes, Makes, of_class_kept};
 ghost use Rattle.py_node.specs.declared.task.ClassTask.TheVariants as class_task;
 
-use class_world::World;
 use crate::ClassKept;
 use crate::bases::by_bases;
 use crate::namespace::{Entries, dict_at, text_at, tuple_at};
-use py_node::{Answer, BuiltIn, Cause, Kind, OutOfMemory, PyObjectRef, PyStrInterned, PyTypeRef, Raised, Step};
+use class_world::World;
 use py_node::task::{Args, Keywords};
+use py_node::{
+    Answer, BuiltIn, Cause, Kind, OutOfMemory, PyObjectRef, PyStrInterned, PyTypeRef, Raised, Step,
+};
 use row_kit::questions::has_null;
 
 /// Three arguments.

@@ -12,9 +12,12 @@ ghost use Rattle.plain_machine.specs.Plain.{Said, Ends};
 ghost use Rattle.py_node.specs.declared.refs.PyObjectRef.{PyObjectRef as Object};
 ghost use Rattle.class_world.specs.Claims.{of_ended};
 
-use class_world::{Fixed, World};
 use class_world::takes::two;
-use py_node::{Answer, BuiltIn, Cause, OutOfMemory, Payload, PyDict, PyObjectRef, PyStrInterned, PyTypeRef, Raised, TypeNative};
+use class_world::{Fixed, World};
+use py_node::{
+    Answer, BuiltIn, Cause, OutOfMemory, Payload, PyDict, PyObjectRef, PyStrInterned, PyTypeRef,
+    Raised, TypeNative,
+};
 use row_kit::class_attributes::key_all;
 use row_kit::class_names::{in_module, limited_text, module_of, qualname};
 use row_kit::class_nodes::class_nodes;

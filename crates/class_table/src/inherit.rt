@@ -13,9 +13,9 @@ ghost use Rattle.class_table.specs.Refused.{refusal, WithMemory, cause_of, is_ba
 ghost use Rattle.class_table.specs.Inherit.{is_under, better_of, next_best, best_along, number_found, number_best, Follows};
 
 use crate::fault::{ClassFault, merge_fault};
+use crate::mro_merge::laws::resolve_mro;
 use crate::place::{find, find_place, stored_at};
 use crate::stored_classes::StoredClasses;
-use crate::mro_merge::laws::resolve_mro;
 use py_node::{Cause, OutOfMemory, PyTypeFlags, PyTypeRef};
 use std::alloc::Global;
 

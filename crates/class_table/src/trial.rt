@@ -15,13 +15,13 @@ ghost use Rattle.class_table.specs.Trial.{changed, bases_under, trial_at, IsTria
 
 use crate::add::line;
 use crate::descendants::Ranked;
+use crate::mro_merge::MroFault;
+use crate::mro_merge::laws::resolve_mro;
 use crate::place::place;
 use crate::steps::Steps;
 use crate::stored_classes::StoredClasses;
 use crate::stored_ref::StoredRef;
 use crate::trial_map::Trials;
-use crate::mro_merge::MroFault;
-use crate::mro_merge::laws::resolve_mro;
 use py_node::{Cause, OutOfMemory, PyTypeRef};
 use std::alloc::Global;
 use std::sync::ledger::Ledger;

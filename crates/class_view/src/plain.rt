@@ -3,8 +3,8 @@
 ghost use Rattle.std.specs.Prelude.{◌≡◌};
 
 use crate::pane::{Failed, Pane};
-use class_table::class_log::Replica;
 use class_table::ClassTable;
+use class_table::class_log::Replica;
 
 /// A pane over one replica, whose classes it lends. It never fails.
 #[derive(Drop)]

@@ -15,7 +15,9 @@ ghost use Rattle.plain_machine.specs.Objects.{with_datum};
 use crate::definer::put_parts;
 use crate::places::empty_places;
 use crate::world::World;
-use py_node::{BuiltIn, Node, OutOfMemory, Payload, PyDict, PyMembers, PyObjectRef, PyProperty, PyTypeRef};
+use py_node::{
+    BuiltIn, Node, OutOfMemory, Payload, PyDict, PyMembers, PyObjectRef, PyProperty, PyTypeRef,
+};
 
 #[tactic(auto, unfolding(crate::specs::Reading::plain))]
 impl World {

@@ -21,8 +21,8 @@ ghost use Rattle.class_world.specs.Sound.{flags_at, is_marked_heap};
 
 use crate::attributes_of_built_ins::opening_nodes;
 use crate::scope::Scope;
-use class_table::class_log::{ClassChange, ClassLog};
 use class_table::ClassTable;
+use class_table::class_log::{ClassChange, ClassLog};
 use class_table::start::known_names;
 use py_node::{BodyCall, Form, Names, Node, OutOfMemory, PyAttributes};
 use std::alloc::Global;

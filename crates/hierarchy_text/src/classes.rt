@@ -8,8 +8,8 @@ ghost use Rattle.hierarchy_text.specs.Items.{texts, class_at};
 use crate::bases::read_bases;
 use crate::parts::class_parts;
 use indexmap::IndexSet;
-use script_text::json_text::Unread;
 use order_check::{Entry, Hierarchy};
+use script_text::json_text::Unread;
 use serde_json::Value;
 use std::alloc::{AllocError, Global};
 

@@ -7,8 +7,8 @@ ghost use Rattle.order_check.specs.Hierarchy.{IsInOrder};
 ghost use Rattle.hierarchy_text.specs.Spelled.{hierarchy_of, classes_in, classes_of, plain_class};
 
 use crate::classes::read_classes;
-use script_text::json_text::{ScriptError, ScriptFault, read_json};
 use order_check::Hierarchy;
+use script_text::json_text::{ScriptError, ScriptFault, read_json};
 use serde_json::Value;
 use std::alloc::Global;
 

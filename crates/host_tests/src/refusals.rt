@@ -4,9 +4,9 @@ ghost use Rattle.std.specs.Prelude.{◌≤◌, length};
 ghost use Rattle.class_world.specs.Sound.{AllHold, of_class_ref, of_each};
 
 use class_table::ClassFault;
-use class_world::{Fixed, World};
 use class_table::mro_merge::MroFault;
 use class_table::mro_merge::laws::linearise_mro;
+use class_world::{Fixed, World};
 use py_node::{BuiltIn, Cause, Known, OutOfMemory, PyAttributes, PyTypeFlags, PyTypeRef};
 use std::test::Fail;
 

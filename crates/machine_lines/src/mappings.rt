@@ -6,11 +6,11 @@ ghost use Rattle.class_world.specs.Sound.{AllHold, Holds, IsNode, of_node_ref};
 
 use crate::asking::{UNITS, done, object, shown};
 use class_world::args::alone;
-use vm_calls::protocols::{PyCallable, PyMapping, PyNumber, PySequence};
 use py_node::{PyObjectRef, PyResult};
 use std::alloc::Global;
 use table_lines::{NoValue, Table};
 use vm_calls::mapping::{ass_subscript, items, keys, length, length_opt, subscript, values};
+use vm_calls::protocols::{PyCallable, PyMapping, PyNumber, PySequence};
 use vm_calls::{callable, number};
 use vm_eval::{RunFault, VirtualMachine};
 

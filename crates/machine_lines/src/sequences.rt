@@ -5,9 +5,9 @@ ghost use Rattle.vm_eval.specs.Asks.{of_done};
 ghost use Rattle.class_world.specs.Sound.{AllHold, Holds, IsNode, of_node_ref};
 
 use crate::asking::{UNITS, done, object, shown};
-use vm_calls::protocols::PySequence;
 use py_node::{PyObjectRef, PyResult};
 use table_lines::{NoValue, Table};
+use vm_calls::protocols::PySequence;
 use vm_calls::sequence::{
     concat, contains, count, del_item, del_slice, extract, get_item, get_slice, index,
     inplace_concat, inplace_repeat, length, length_opt, list, repeat, set_item, set_slice, tuple,

@@ -16,11 +16,13 @@ ghost use Rattle.row_kit.specs.TakeContainers.{entries_at, with_lone, with_own, 
 ghost use Rattle.native_containers.specs.Take.{with_default, with_dict_and_key, with_key};
 ghost use Rattle.row_kit.specs.declared.take_containers.Kind.TheVariants as kind;
 
-use class_world::World;
 use crate::init::{init, update_from};
 use crate::keys::has_room;
 use crate::take::{dict_and_key, key_refusal, with_default};
-use py_node::{Answer, BuiltIn, Cause, DictNative, OutOfMemory, Payload, PyObjectRef, PyStrInterned, Raised};
+use class_world::World;
+use py_node::{
+    Answer, BuiltIn, Cause, DictNative, OutOfMemory, Payload, PyObjectRef, PyStrInterned, Raised,
+};
 use row_kit::entries::{keys_of, values_of};
 use row_kit::give::new_iterator;
 use row_kit::give_containers::{ends_none, new_list, new_pairs};

@@ -11,10 +11,10 @@ ghost use Rattle.native_containers.specs.Say.{dict_filled, dict_updated, names_s
 ghost use Rattle.row_kit.specs.TakeContainers.{with_own};
 ghost use Rattle.row_kit.specs.declared.take_containers.Kind.TheVariants as kind;
 
-use class_world::World;
-use class_world::limits::has_place;
 use crate::entries::with_entries;
 use crate::made::change_dict;
+use class_world::World;
+use class_world::limits::has_place;
 use py_node::{Answer, Cause, OutOfMemory, PyObjectRef, PyStrInterned, Raised};
 use row_kit::give_containers::ends_none;
 use row_kit::take_containers::{Kind, kind_refusal, own};

@@ -10,9 +10,9 @@ ghost use Rattle.native_containers.specs.Say.{list_say, with_joined};
 ghost use Rattle.row_kit.specs.TakeContainers.{items_at, with_own_and};
 ghost use Rattle.row_kit.specs.declared.take_containers.Kind.TheVariants as kind;
 
+use crate::sequence::{iter, joined, length};
 use class_world::World;
 use class_world::limits::is_within_limit;
-use crate::sequence::{iter, joined, length};
 use py_node::{Answer, Cause, ListNative, OutOfMemory, PyObjectRef, PyStrInterned, Raised};
 use row_kit::give_containers::{ends_none, new_list};
 use row_kit::take_containers::{Kind, items, own_and};

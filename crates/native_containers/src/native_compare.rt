@@ -14,13 +14,13 @@ mod sequences;
 mod turn;
 pub mod way;
 
-use class_world::World;
 use crate::native_compare::dicts::dicts;
 use crate::native_compare::sequences::sequences;
 use crate::native_compare::turn::{ask_next, ended_by};
 use crate::native_compare::way::Way;
-use py_node::{Answer, BuiltIn, NativeEntry, OutOfMemory, Raised, Step};
+use class_world::World;
 use py_node::task::{Args, Keywords};
+use py_node::{Answer, BuiltIn, NativeEntry, OutOfMemory, Raised, Step};
 use row_kit::take_containers::Kind;
 
 /// What a comparison keeps while it waits for what two items answer.

@@ -13,8 +13,8 @@ ghost use Rattle.row_kit.specs.TakeContainers.{items_at, with_lone};
 
 use class_world::World;
 use class_world::limits::is_within_limit;
-use py_node::{Answer, Cause, OutOfMemory, PyObjectRef, PyStrInterned, Raised};
 use py_node::task::Args;
+use py_node::{Answer, Cause, OutOfMemory, PyObjectRef, PyStrInterned, Raised};
 use row_kit::give::new_iterator;
 use row_kit::take_containers::{Kind, is_of, items, lone, own_and};
 use std::alloc::Global;

@@ -8,8 +8,8 @@ ghost use Rattle.class_world.specs.Reading.{Reading, bindings, plain};
 ghost use Rattle.class_world.specs.Sound.{AreNodes, CanBeKeys, Holding, Holds, IsNode};
 ghost use Rattle.native_containers.specs.Take.{with_default, with_dict_and_key, with_key};
 
-use class_world::{Fixed, World};
 use class_world::takes::{three, two};
+use class_world::{Fixed, World};
 use py_node::{Cause, PyObjectRef, PyStrInterned, Raised};
 use row_kit::take_containers::{Kind, own_and};
 

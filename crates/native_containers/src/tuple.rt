@@ -8,8 +8,8 @@ ghost use Rattle.row_kit.specs.GiveContainers.{tuple_made};
 ghost use Rattle.native_containers.specs.Say.{tuple_say, with_joined};
 ghost use Rattle.row_kit.specs.declared.take_containers.Kind.TheVariants as kind;
 
-use class_world::World;
 use crate::sequence::{iter, joined, length};
+use class_world::World;
 use py_node::{Answer, Cause, OutOfMemory, PyObjectRef, PyStrInterned, Raised, TupleNative};
 use row_kit::give_containers::new_tuple;
 use row_kit::take_containers::Kind;

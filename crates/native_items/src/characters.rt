@@ -15,11 +15,13 @@ ghost use Rattle.native_items.specs.Items.{character_at, char_rest, chars_at};
 ghost use Rattle.native_items.specs.Places.{part};
 ghost use Rattle.native_items.specs.Rows.{Enters, of_item_kept};
 
-use class_world::{Fixed, World};
 use crate::ItemKept;
 use crate::places::{bounds, place_at, slice_of};
-use py_node::{Answer, Cause, OutOfMemory, PyObjectRef, PySlice, PyStrInterned, Raised, Step, Task};
+use class_world::{Fixed, World};
 use py_node::protocol::ProtocolTask;
+use py_node::{
+    Answer, Cause, OutOfMemory, PyObjectRef, PySlice, PyStrInterned, Raised, Step, Task,
+};
 use row_kit::give::new_text;
 use row_kit::take_texts::{text_and, text_length, text_of};
 use std::alloc::Global;

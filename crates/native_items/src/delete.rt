@@ -14,14 +14,14 @@ ghost use Rattle.native_items.specs.Items.{del_item, del_rest, placed};
 ghost use Rattle.native_items.specs.Places.{place_at};
 ghost use Rattle.native_items.specs.Rows.{Does, Enters, items_stood, of_item_kept, of_stood};
 
-use class_world::World;
-use class_world::limits::is_within_limit;
 use crate::ItemKept;
 use crate::places::{place_at, replace_part, slice_of};
 use crate::stood::stood;
-use py_node::{Answer, Cause, OutOfMemory, PyObjectRef, PyStrInterned, Raised, Step, Task};
+use class_world::World;
+use class_world::limits::is_within_limit;
 use py_node::protocol::ProtocolTask;
 use py_node::task::Args;
+use py_node::{Answer, Cause, OutOfMemory, PyObjectRef, PyStrInterned, Raised, Step, Task};
 use row_kit::give_containers::{change_list, ends_none};
 use row_kit::take_containers::{Kind, items, own_and};
 

@@ -12,14 +12,16 @@ ghost use Rattle.row_kit.specs.TakeContainers.{items_at};
 ghost use Rattle.native_items.specs.Items.{extend, extend_rest, list_extended};
 ghost use Rattle.native_items.specs.Rows.{Does, Enters, items_stood, of_item_kept, of_stood};
 
-use class_world::World;
-use class_world::limits::is_within_limit;
 use crate::ItemKept;
 use crate::stood::stood;
-use row_kit::proto_base::is_plain;
-use py_node::{Answer, Cause, OutOfMemory, Payload, PyObjectRef, PyStrInterned, Raised, Step, Task};
+use class_world::World;
+use class_world::limits::is_within_limit;
 use py_node::protocol::ProtocolTask;
 use py_node::task::Args;
+use py_node::{
+    Answer, Cause, OutOfMemory, Payload, PyObjectRef, PyStrInterned, Raised, Step, Task,
+};
+use row_kit::proto_base::is_plain;
 use row_kit::take_containers::{Kind, items, own_and};
 
 /// A list gets the items of an iteration after its own, and is the answer.

@@ -8,13 +8,13 @@ ghost use Rattle.class_world.specs.Sound.{AllHold, AreNodes, Holds, IsNode};
 ghost use Rattle.native_items.specs.Items.{get_item, item_got};
 ghost use Rattle.native_items.specs.Rows.{Does, Enters, getter_of, items_stood, kind_of, made_as, of_item_kept, of_stood};
 
-use class_world::World;
 use crate::ItemKept;
 use crate::places::{part, place_at, slice_of};
 use crate::stood::{standing, stood};
-use py_node::{Answer, Cause, OutOfMemory, PyObjectRef, PyStrInterned, Raised, Step, Task};
+use class_world::World;
 use py_node::protocol::ProtocolTask;
 use py_node::task::Args;
+use py_node::{Answer, Cause, OutOfMemory, PyObjectRef, PyStrInterned, Raised, Step, Task};
 use row_kit::give_containers::{new_list, new_tuple};
 use row_kit::take_containers::{Kind, items, own_and};
 

@@ -18,10 +18,13 @@ ghost use Rattle.class_world.specs.Sound.{AllHold, AreNodes, Grows, Holding, Hol
 ghost use Rattle.native_items.specs.Iterators.{found_in, is_end, item_found, iterator_in, next_by, next_in, next_place, next_rest, with_place};
 ghost use Rattle.native_items.specs.Rows.{Does, Enters, of_found, of_item_kept};
 
+use crate::ItemKept;
 use class_world::World;
 use class_world::args::alone;
-use crate::ItemKept;
-use py_node::{Answer, AttributeTask, BuiltIn, Cause, Kind as FaultKind, Known, OutOfMemory, Payload, PyObjectRef, PyStrInterned, Raised, SequenceIterator, Step, Task};
+use py_node::{
+    Answer, AttributeTask, BuiltIn, Cause, Kind as FaultKind, Known, OutOfMemory, Payload,
+    PyObjectRef, PyStrInterned, Raised, SequenceIterator, Step, Task,
+};
 use row_kit::take_containers::{Kind, lone};
 
 /// What an object has at a place: an item, a character, or nothing; or it must be asked.

@@ -11,8 +11,8 @@ ghost use Rattle.native_items.specs.Places.{bound_at, bound_of, part, place_at, 
 
 use class_world::World;
 use class_world::limits::is_within_limit;
-use py_node::{Answer, Cause, OutOfMemory, Payload, PyObjectRef, PySlice, Raised};
 use py_node::task::Args;
+use py_node::{Answer, Cause, OutOfMemory, Payload, PyObjectRef, PySlice, Raised};
 use row_kit::give_containers::ends_none;
 use row_kit::take_containers::items;
 use std::alloc::Global;

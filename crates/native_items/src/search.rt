@@ -7,12 +7,12 @@ ghost use Rattle.native_items.specs.declared.ItemKept.TheVariants.{Searching};
 ghost use Rattle.native_items.specs.Items.{look_for};
 ghost use Rattle.native_items.specs.Rows.{Does, Enters, Resumes, next_asked, of_item_kept, searcher_of};
 
-use class_world::World;
-use class_world::args::copy_args;
 use crate::ItemKept;
 use crate::get::{Sequence, kind_of};
-use py_node::{Answer, CompareTask, OutOfMemory, PyObjectRef, PyStrInterned, Raised, Step, Task};
+use class_world::World;
+use class_world::args::copy_args;
 use py_node::task::Args;
+use py_node::{Answer, CompareTask, OutOfMemory, PyObjectRef, PyStrInterned, Raised, Step, Task};
 use row_kit::take_containers::{items, own_and};
 
 /// Whether an item is an object, or equal to it.

@@ -14,16 +14,16 @@ ghost use Rattle.native_items.specs.Items.{part_set, placed, set_item, set_rest}
 ghost use Rattle.native_items.specs.Places.{place_at, slice_at};
 ghost use Rattle.native_items.specs.Rows.{Does, Enters, items_stood, of_item_kept, of_stood};
 
-use class_world::World;
-use class_world::limits::is_within_limit;
 use crate::ItemKept;
 use crate::places::{place_at, put_part, replace_part, slice_of};
 use crate::stood::stood;
-use row_kit::proto_base::is_plain;
-use py_node::{Answer, Cause, OutOfMemory, PyObjectRef, PyStrInterned, Raised, Step, Task};
+use class_world::World;
+use class_world::limits::is_within_limit;
 use py_node::protocol::ProtocolTask;
 use py_node::task::Args;
+use py_node::{Answer, Cause, OutOfMemory, PyObjectRef, PyStrInterned, Raised, Step, Task};
 use row_kit::give_containers::{change_list, ends_none};
+use row_kit::proto_base::is_plain;
 use row_kit::take_containers::{Kind, items, own_and_two};
 
 /// An item of a list is set, or a part of it to the items of an iteration.

@@ -8,8 +8,8 @@ ghost use Rattle.native_items.specs.Rows.{items_stood, of_stood, stood_told};
 
 use class_world::World;
 use class_world::args::copy_args;
-use py_node::{OutOfMemory, PyObjectRef};
 use py_node::task::Args;
+use py_node::{OutOfMemory, PyObjectRef};
 use row_kit::take_containers::items;
 
 /// The items of an object as they stand now, unless nothing of a script runs before they are read again.

@@ -11,7 +11,10 @@ ghost use Rattle.class_world.specs.Sound.{Grows, IsClass, IsName, IsNode, Holds}
 ghost use Rattle.native_objects.specs.Attributes.{annotations, class_dict};
 
 use class_world::World;
-use py_node::{Answer, BuiltIn, Cause, Known, OutOfMemory, Payload, PyDict, PyObjectRef, PyStrInterned, PyTypeRef, Raised};
+use py_node::{
+    Answer, BuiltIn, Cause, Known, OutOfMemory, Payload, PyDict, PyObjectRef, PyStrInterned,
+    PyTypeRef, Raised,
+};
 use row_kit::class_attributes::key_all;
 use row_kit::give::new_sized;
 

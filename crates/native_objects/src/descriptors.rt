@@ -8,10 +8,13 @@ ghost use Rattle.class_world.specs.Rows.{EndsAs, LeavesEnd};
 ghost use Rattle.class_world.specs.Sound.{AllHold, AreNodes, Grows, IsClass, IsName, Holds, of_option, of_start};
 ghost use Rattle.native_objects.specs.Descriptors.{callable_say, descriptor_native_say, super_say, wrapper_say, method_repr, member_repr, method_text, member_text, bound_text, super_repr, super_text, static_init};
 
-use class_world::{Fixed, World};
-use class_world::takes::{one, two};
 use crate::take::{own_member, own_method, own_static, own_super};
-use py_node::{Answer, CallableNative, Cause, DescriptorNative, OutOfMemory, Payload, PyObjectRef, PyStrInterned, PySuper, PyTypeRef, Raised, SuperNative, WrapperNative};
+use class_world::takes::{one, two};
+use class_world::{Fixed, World};
+use py_node::{
+    Answer, CallableNative, Cause, DescriptorNative, OutOfMemory, Payload, PyObjectRef,
+    PyStrInterned, PySuper, PyTypeRef, Raised, SuperNative, WrapperNative,
+};
 use row_kit::class_names::limited_text;
 use std::alloc::Global;
 

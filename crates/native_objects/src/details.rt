@@ -12,9 +12,12 @@ ghost use Rattle.native_objects.specs.DetailParts.{of_part, read_part};
 ghost use Rattle.row_kit.specs.TakeClasses.{with_own};
 ghost use Rattle.row_kit.specs.OfSignatures.Signature.{signature_of};
 
-use class_world::{Fixed, World};
 use class_world::takes::one;
-use py_node::{Answer, BuiltIn, Cause, Detail, OutOfMemory, Payload, PyObjectRef, PyProperty, PySlice, PyStrInterned, PySuper, PyTypeRef, Raised};
+use class_world::{Fixed, World};
+use py_node::{
+    Answer, BuiltIn, Cause, Detail, OutOfMemory, Payload, PyObjectRef, PyProperty, PySlice,
+    PyStrInterned, PySuper, PyTypeRef, Raised,
+};
 use row_kit::class_names::limited_text;
 use row_kit::signatures::get_text_signature_from_internal_doc;
 

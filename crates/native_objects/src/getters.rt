@@ -12,10 +12,13 @@ ghost use Rattle.class_world.specs.Sound.{AllHold, AreNodes, IsClass, IsNode, Ho
 ghost use Rattle.native_objects.specs.Details.{or_none};
 ghost use Rattle.native_objects.specs.Getters.{class_read, dict_or_fault, getter_say};
 
-use class_world::{Fixed, World};
-use class_world::takes::one;
 use crate::attributes::{annotations, class_dict};
-use py_node::{Answer, BuiltIn, Cause, Known, OutOfMemory, Payload, Property, PyObjectRef, PyStrInterned, PyTypeRef, Raised};
+use class_world::takes::one;
+use class_world::{Fixed, World};
+use py_node::{
+    Answer, BuiltIn, Cause, Known, OutOfMemory, Payload, Property, PyObjectRef, PyStrInterned,
+    PyTypeRef, Raised,
+};
 use row_kit::class_names::{given, limited_text};
 use row_kit::class_nodes::class_nodes;
 use row_kit::give::{new_int, new_sized};

@@ -7,7 +7,9 @@ ghost use Rattle.class_world.specs.Sound.{AreNodes, Holds};
 ghost use Rattle.native_objects.specs.Makers.{maker_say};
 
 use class_world::World;
-use py_node::{Answer, BuiltIn, Cause, OutOfMemory, Payload, PyDict, PyObjectRef, PyProperty, PySuper, Raised};
+use py_node::{
+    Answer, BuiltIn, Cause, OutOfMemory, Payload, PyDict, PyObjectRef, PyProperty, PySuper, Raised,
+};
 use row_kit::take_classes::heir;
 
 /// A new object of the class that is the first argument: of a built-in class or of one that derives from it.

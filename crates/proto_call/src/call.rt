@@ -9,9 +9,9 @@ ghost use Rattle.proto_call.specs.Rows.{Begins, LeavesNone};
 use crate::CallKept;
 use crate::asked::special;
 use class_world::World;
-use row_kit::called::native_call;
 use py_node::task::{Args, Keywords};
 use py_node::{Cause, Known, OutOfMemory, PyObjectRef, SlotEntry, SlotId, Step};
+use row_kit::called::native_call;
 
 /// An object is called as its class's entry for calls says: by a native, or by the special method.
 pub(crate) fn begin_call(

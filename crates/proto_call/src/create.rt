@@ -15,12 +15,12 @@ use crate::CallKept;
 use class_world::World;
 use class_world::args::{copy_args, copy_keywords};
 use class_world::natives::native_task;
-use row_kit::called::bound;
 use py_node::task::{Args, Keywords};
 use py_node::{
     Answer, BuiltIn, CallTask, Cause, Known, OutOfMemory, PyObjectRef, PyStrInterned, PyTypeRef,
     SlotEntry, SlotId, Step, Task,
 };
+use row_kit::called::bound;
 use std::alloc::Global;
 
 /// The call of a class: first the object is made, of the same arguments.

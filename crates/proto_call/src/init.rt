@@ -10,9 +10,9 @@ use crate::CallKept;
 use crate::asked::special;
 use class_world::natives::native_task;
 use class_world::{Fixed, World};
-use row_kit::called::bound;
 use py_node::task::{Args, Keywords};
 use py_node::{Answer, Cause, Known, OutOfMemory, PyObjectRef, SlotEntry, SlotId, Step};
+use row_kit::called::bound;
 
 /// An object is initialised as its class's entry for that says, if there is one: by a native, or by the
 /// special method.

@@ -13,9 +13,9 @@ use crate::init::{begin_init, resume_init};
 use crate::object::{begin_object, native_end};
 use crate::texts::equal_given;
 use class_world::World;
-use row_kit::give::as_object;
 use py_node::task::{Args, Keywords};
 use py_node::{Answer, CallTask, OutOfMemory, PyObjectRef, PyTypeRef, Raised, Step};
+use row_kit::give::as_object;
 
 mod asked;
 mod body;

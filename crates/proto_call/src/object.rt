@@ -13,13 +13,16 @@ ghost use Rattle.proto_call.specs.Say.{object_by, object_new, object_init, objec
 ghost use Rattle.plain_machine.specs.Known.{the_object};
 ghost use Rattle.proto_call.specs.Rows.{Begins, Resumes, Closes, Does, OpensNone, LeavesNone};
 
-use class_world::{Fixed, World};
-use class_world::takes::{one, three, two};
 use crate::CallKept;
 use crate::object_natives::object_native;
 use crate::texts::{object_dir, object_format, object_ne, object_str};
-use py_node::{Answer, AttributeTask, BuiltIn, Cause, Known, ObjectNative, OutOfMemory, Payload, PyObjectRef, PySetterValue, PyStrInterned, Raised, Step, Task};
+use class_world::takes::{one, three, two};
+use class_world::{Fixed, World};
 use py_node::task::{Args, Keywords};
+use py_node::{
+    Answer, AttributeTask, BuiltIn, Cause, Known, ObjectNative, OutOfMemory, Payload, PyObjectRef,
+    PySetterValue, PyStrInterned, Raised, Step, Task,
+};
 
 /// A native of `object`.
 pub(crate) fn begin_object(

@@ -12,9 +12,11 @@ ghost use Rattle.class_world.specs.Claims.{of_ended};
 ghost use Rattle.class_world.specs.Held.{Held};
 ghost use Rattle.class_world.specs.Rows.{EndsAs, LeavesEnd};
 
-use class_world::{Fixed, World};
 use class_world::takes::{one, two};
-use py_node::{Answer, Cause, ObjectNative, OutOfMemory, PyObjectRef, PyStrInterned, PyTypeRef, Raised};
+use class_world::{Fixed, World};
+use py_node::{
+    Answer, Cause, ObjectNative, OutOfMemory, PyObjectRef, PyStrInterned, PyTypeRef, Raised,
+};
 use row_kit::class_names::{in_module, limited_text, module_of, qualname};
 use std::alloc::Global;
 

@@ -9,10 +9,13 @@ ghost use Rattle.plain_machine.specs.Row.{is_not_implemented};
 ghost use Rattle.proto_call.specs.Say.{object_dir, object_format, object_ne, object_str};
 ghost use Rattle.proto_call.specs.Rows.{Does, OpensNone, Resumes};
 
+use crate::CallKept;
 use class_world::World;
 use class_world::takes::{one, two};
-use crate::CallKept;
-use py_node::{Answer, Cause, CompareTask, ObjectTask, Payload, ProtocolTask, PyComparisonOp, PyObjectRef, PyStrInterned, Raised, Step, Task};
+use py_node::{
+    Answer, Cause, CompareTask, ObjectTask, Payload, ProtocolTask, PyComparisonOp, PyObjectRef,
+    PyStrInterned, Raised, Step, Task,
+};
 use row_kit::questions::is_not_implemented;
 
 // The text of an object is that by which it is represented.

@@ -19,16 +19,18 @@ use crate::native_calls::create::new_by_name;
 use crate::native_calls::mark::mark_by_name;
 use crate::native_calls::parts::{member_get_by_name, property_get_by_name};
 use crate::native_calls::set::{delete_by_name, set_by_name};
-use crate::native_calls::supers::{resume_super, super_attribute_by_name, super_get_by_name, super_init_by_name};
+use crate::native_calls::supers::{
+    resume_super, super_attribute_by_name, super_get_by_name, super_init_by_name,
+};
 use crate::native_calls::way::{Kind, Way, Wrapper, way_of};
 use crate::native_calls::wrap::{ask_for_doc, give_doc};
 use crate::native_calls::wrapped::part_of_wrapped;
 use class_world::{Fixed, World};
-use row_kit::give::as_object;
 use py_node::task::{Args, Keywords};
 use py_node::{
     Answer, Detail, NativeEntry, OutOfMemory, PyObjectRef, PyStrInterned, PyTypeRef, Raised, Step,
 };
+use row_kit::give::as_object;
 
 mod bind;
 mod call;

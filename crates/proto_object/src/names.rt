@@ -12,10 +12,10 @@ ghost use Rattle.row_kit.specs.ClassAttributes.{keyed};
 ghost use Rattle.proto_object.specs.Texts.{has_name, names_made, other_keys, own_keys};
 ghost use Rattle.proto_object.specs.Rows.{Begins, of_object_kept};
 
-use class_world::World;
 use crate::ObjectKept;
-use py_node::{Answer, BuiltIn, OutOfMemory, Payload, PyAttributes, PyObjectRef, Raised, Step};
+use class_world::World;
 use py_node::task::Args;
+use py_node::{Answer, BuiltIn, OutOfMemory, Payload, PyAttributes, PyObjectRef, Raised, Step};
 use row_kit::class_attributes::key_all;
 use row_kit::entries::keys_of;
 use row_kit::give::new_sized;

@@ -14,7 +14,9 @@ use crate::proto_iter::contain::{contains, contains_answered, native_answered};
 use crate::proto_iter::iteration::{
     begin_items, collect, get_iter, item_collected, iterator_given, next, next_given,
 };
-use crate::proto_iter::seek::{Search, Seeking, begin_search, equal_given, item_given, search_items};
+use crate::proto_iter::seek::{
+    Search, Seeking, begin_search, equal_given, item_given, search_items,
+};
 use class_world::World;
 use py_node::protocol::ProtocolTask;
 use py_node::{Answer, OutOfMemory, PyObjectRef, Raised, Step};

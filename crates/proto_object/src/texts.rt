@@ -12,14 +12,17 @@ ghost use Rattle.row_kit.specs.TakeTexts.{text_of};
 ghost use Rattle.proto_object.specs.Texts.{hash_entry, hash_rest, is_none, is_unspecified, text_only};
 ghost use Rattle.proto_object.specs.Rows.{Begins, of_object_kept};
 
-use class_world::{Fixed, World};
-use class_world::args::alone;
 use crate::ObjectKept;
 use crate::asked::{method, special};
-use row_kit::proto_base::{entered, is_exactly};
-use py_node::{Answer, BuiltIn, Cause, Known, OutOfMemory, Payload, PyObjectRef, Raised, SlotEntry, SlotId, Step, Task};
+use class_world::args::alone;
+use class_world::{Fixed, World};
 use py_node::protocol::ObjectTask;
+use py_node::{
+    Answer, BuiltIn, Cause, Known, OutOfMemory, Payload, PyObjectRef, Raised, SlotEntry, SlotId,
+    Step, Task,
+};
 use row_kit::int_values::number_hash;
+use row_kit::proto_base::{entered, is_exactly};
 
 /// The hash of an object, by its class's entry. A class may say by None that its objects have none.
 pub(crate) fn begin_hash(world: &World, o: PyObjectRef) -> Result<Step<ObjectKept>, OutOfMemory>

@@ -14,15 +14,15 @@ ghost use Rattle.row_kit.specs.ProtoBase.Entered.{is_exactly};
 ghost use Rattle.proto_object.specs.Classes.{is_tuple, way_of};
 ghost use Rattle.proto_object.specs.Rows.{Begins, Resumes, of_object_kept, way_number};
 
-use class_world::World;
-use class_world::args::{alone, copy_args};
 use crate::ObjectKept;
 use crate::asked::{method, says, special};
 use crate::turns::{Turn, take_turn};
-use row_kit::proto_base::is_exactly;
-use py_node::{Answer, BuiltIn, Known, OutOfMemory, Payload, PyObjectRef, Raised, Step, Task};
+use class_world::World;
+use class_world::args::{alone, copy_args};
 use py_node::protocol::{ObjectTask, ProtocolTask};
 use py_node::task::Args;
+use py_node::{Answer, BuiltIn, Known, OutOfMemory, Payload, PyObjectRef, Raised, Step, Task};
+use row_kit::proto_base::is_exactly;
 use row_kit::take_containers::items;
 
 /// How a test by a class is done.

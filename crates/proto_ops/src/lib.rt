@@ -18,15 +18,24 @@ mod powers;
 pub mod proto_compare;
 mod repeats;
 
-use binary::{begin_binary, begin_binop1, begin_inplace, begin_inplace_op1, begin_unary, next_candidate, plain_operator};
+use crate::native_repeats::native_repeat;
+use binary::{
+    begin_binary, begin_binop1, begin_inplace, begin_inplace_op1, begin_unary, next_candidate,
+    plain_operator,
+};
 use class_world::World;
 use enter::{begin_enter, begin_enter_power};
 use int::begin_int;
 use joins::{begin_add, begin_concat, begin_inplace_add, begin_inplace_concat, inplace_join, join};
-use crate::native_repeats::native_repeat;
 use powers::{Tried, begin_inplace_power, begin_power, plain_power, power_last, power_next};
-use py_node::{Answer, Cause, OperatorTask, OutOfMemory, PyNumberBinaryOp, PyObjectRef, Raised, SlotEntry, Step};
-use repeats::{begin_inplace_mul, begin_inplace_repeat, begin_mul, begin_repeat, inplace_repeat_one, inplace_times, repeat_one, times};
+use py_node::{
+    Answer, Cause, OperatorTask, OutOfMemory, PyNumberBinaryOp, PyObjectRef, Raised, SlotEntry,
+    Step,
+};
+use repeats::{
+    begin_inplace_mul, begin_inplace_repeat, begin_mul, begin_repeat, inplace_repeat_one,
+    inplace_times, repeat_one, times,
+};
 use row_kit::questions::is_not_implemented;
 
 /// What is done where what was asked is not for its operands.

@@ -13,9 +13,9 @@ ghost use Rattle.proto_ops.specs.Sequences.{inplace_repeat_slot};
 ghost use Rattle.proto_ops.specs.Rows.{Begins, GoesOn, Resumes, of_operator_kept};
 
 use crate::joins::is_sequence;
+use crate::native_repeats::count_in;
 use crate::{OperatorKept, Otherwise};
 use class_world::World;
-use crate::native_repeats::count_in;
 use py_node::protocol::ProtocolTask;
 use py_node::{
     Answer, BuiltIn, Cause, OperatorTask, OutOfMemory, Payload, PyNumberBinaryOp, PyObjectRef,

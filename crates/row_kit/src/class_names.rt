@@ -9,9 +9,9 @@ ghost use Rattle.class_world.specs.Sound.{AllHold, IsClass, IsNode, Holds, of_no
 ghost use Rattle.row_kit.specs.Say.{in_length, text_made};
 ghost use Rattle.row_kit.specs.ClassNames.{builtins, given, in_module, is_getset, module_of, qualname, text_of, text_or};
 
+use crate::give::new_text;
 use class_world::World;
 use class_world::limits::is_within_limit;
-use crate::give::new_text;
 use py_node::{Answer, Cause, Known, OutOfMemory, Payload, PyObjectRef, PyTypeRef, Raised};
 use std::alloc::Global;
 

@@ -10,10 +10,7 @@ use class_world::World;
 use py_node::{OutOfMemory, PyObjectRef, PyTypeRef};
 
 /// The objects that stand for some classes, in order.
-pub fn class_nodes(
-    world: &World,
-    classes: &[PyTypeRef],
-) -> Result<Vec<PyObjectRef>, OutOfMemory>
+pub fn class_nodes(world: &World, classes: &[PyTypeRef]) -> Result<Vec<PyObjectRef>, OutOfMemory>
     requires { (c : ℕ) → Includes (numbers classes.now) c → Holds world.now (IsClass c) }
     ensures items { IfOk result (λ v. v.items ≡ map ref (numbers classes.now)) }
     ensures holds { IfOk result (λ v. Holds world.now (AreNodes v.items)) }

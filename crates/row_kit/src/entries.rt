@@ -4,8 +4,8 @@ ghost use Rattle.std.specs.Prelude.{◌≡◌, IfOk};
 ghost use Rattle.row_kit.specs.GiveContainers.{keys_of, values_of};
 
 use crate::take_containers::entries;
-use py_node::{OutOfMemory, PyObjectRef};
 use py_node::task::Args;
+use py_node::{OutOfMemory, PyObjectRef};
 use std::alloc::Global;
 
 /// Keys with their values.

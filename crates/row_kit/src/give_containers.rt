@@ -12,14 +12,14 @@ ghost use Rattle.plain_machine.specs.World.{next_node, with_node};
 ghost use Rattle.class_world.specs.Reading.{Reading, Reads, plain};
 ghost use Rattle.row_kit.specs.TakeContainers.{entries_at};
 
-use class_world::{Fixed, World};
-use class_world::args::both;
-use class_world::limits::is_within_limit;
 use crate::entries::copy_entries;
 use crate::give::new_object;
 use crate::take_containers::entries;
-use py_node::{Answer, BuiltIn, Cause, OutOfMemory, Payload, PyObjectRef, Raised};
+use class_world::args::both;
+use class_world::limits::is_within_limit;
+use class_world::{Fixed, World};
 use py_node::task::Args;
+use py_node::{Answer, BuiltIn, Cause, OutOfMemory, Payload, PyObjectRef, Raised};
 
 /// Ends with None.
 pub fn ends_none(world: &World) -> Result<Answer, Raised>

@@ -7,8 +7,8 @@ ghost use Rattle.class_world.specs.Sound.{Holds, IsNode};
 ghost use Rattle.plain_machine.specs.World.{class_at};
 ghost use Rattle.class_world.specs.Rows.{EndsAs, LeavesEnd};
 
-use class_world::{Fixed, World};
 use crate::give::new_int;
+use class_world::{Fixed, World};
 use py_node::{Answer, BuiltIn, OutOfMemory, PyObjectRef, Raised};
 
 /// The truth value that an object is, if it is one.

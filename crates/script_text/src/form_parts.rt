@@ -7,8 +7,10 @@ ghost use Rattle.script_text.specs.Forms.{array_of, attr_of, bind_of, body_of, c
 ghost use Rattle.script_text.specs.FormParts.{formed, parts_depth, parts_tree};
 
 use crate::form_words::{FormWord, read_form};
+use crate::json_text::items::{
+    Unread, next, no_more, one, three, three_and_rest, two, two_and_rest,
+};
 use crate::words::{Arity, read_word};
-use crate::json_text::items::{Unread, next, no_more, one, three, three_and_rest, two, two_and_rest};
 use py_node::Word;
 use serde_json::Value;
 

@@ -8,9 +8,9 @@ ghost use Rattle.script_text.specs.Forms.{all_differ, array_of, call, class, dif
 ghost use Rattle.script_text.specs.FormParts.{many_tree, parts_tree, single_tree};
 
 use crate::form_parts::{Many, Parts, Single, pair_items, parts_of};
-use crate::words::read_kind;
 use crate::json_text::Unread;
 use crate::json_text::texts::{read_text, read_texts};
+use crate::words::read_kind;
 use py_node::{CallParts, ClassParts, Constant, Expr, FuncParts, SetAttrParts};
 use serde_json::Value;
 use std::alloc::{AllocError, Global};

@@ -11,6 +11,6 @@ pub mod sessions;
 mod words;
 
 pub use crate::json_text::{ScriptError, ScriptFault};
-pub use read::read_script;
 pub use crate::reply_text::write::write_replies;
+pub use read::read_script;
 pub use sessions::read_sessions;

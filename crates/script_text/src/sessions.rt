@@ -9,8 +9,8 @@ ghost use Rattle.script_text.specs.Script.{command_trees};
 ghost use Rattle.script_text.specs.Sessions.{sessions_of, sessions_by, sessions_in, lists_in, lacks_command, any_empty, is_empty_array, session_trees};
 
 use crate::form_parts::list_items;
-use crate::read::read_each;
 use crate::json_text::{ScriptError, ScriptFault, Unread, read_json};
+use crate::read::read_each;
 use py_node::Command;
 use serde_json::Value;
 use std::alloc::Global;

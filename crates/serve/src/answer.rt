@@ -11,11 +11,11 @@ use crate::checking::check_text;
 use crate::script::script_text;
 use crate::sessions::sessions_text;
 use crate::status::Status;
-use script_text::json_text::ScriptFault;
 use outside::read_all::read_all;
 use outside::words::Question;
 use outside::write_all::write_all;
 use outside::{ReadEnd, Sink, Source};
+use script_text::json_text::ScriptFault;
 use std::sync::Wait;
 use std::thread::Threads;
 

@@ -8,11 +8,11 @@ ghost use Rattle.script_text.specs.declared.json_text.error.ScriptError.{ScriptE
 ghost use Rattle.serve.specs.Headline.{IsReportOf};
 
 use hierarchy_text::read_hierarchy;
-use script_text::json_text::ScriptFault;
+use hierarchy_text::report_text::write_report;
 use order_check::{Hierarchy, Report, check, check_par};
 use outside::words::Pace;
 use py_node::OutOfMemory;
-use hierarchy_text::report_text::write_report;
+use script_text::json_text::ScriptFault;
 use std::thread::Threads;
 
 /// The report of the hierarchy that bytes spell.

@@ -6,8 +6,8 @@ ghost use Rattle.script_text.specs.declared.json_text.error.ScriptError.{ScriptE
 ghost use Rattle.serve.specs.Headline.{IsTextOf, run_text};
 ghost use Rattle.vm_eval.specs.Runs.{trees_in};
 
-use script_text::json_text::ScriptFault;
 use py_node::{Command, OutOfMemory};
+use script_text::json_text::ScriptFault;
 use script_text::{read_script, write_replies};
 use std::alloc::Global;
 use vm_eval::VirtualMachine;

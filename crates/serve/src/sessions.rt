@@ -6,12 +6,12 @@ ghost use Rattle.script_text.specs.Sessions.{sessions_of, session_trees};
 ghost use Rattle.script_text.specs.declared.json_text.error.ScriptError.{ScriptError as Refusal};
 ghost use Rattle.serve.specs.Headline.{IsMixOf, IsMixText};
 
-use script_text::json_text::ScriptFault;
 use py_node::{Command, OutOfMemory};
+use script_text::json_text::ScriptFault;
 use script_text::read_sessions;
 use seat_lock::MOST_TURNS;
-use shared_vm::shared_run::{share_run, write_journal};
 use shared_vm::OpenGate;
+use shared_vm::shared_run::{share_run, write_journal};
 use std::sync::Wait;
 use std::thread::Threads;
 

@@ -17,8 +17,8 @@ ghost use Rattle.vm_eval.specs.Makers.{Makes};
 ghost use Rattle.vm_eval.specs.State.{MarkedAs, MarkedBy};
 
 use crate::machine::VirtualMachine;
-use native_defs::accessors::{PyClassMethod, PyMethodDescriptor, PyStaticMethod};
 use class_table::ClassFault;
+use native_defs::accessors::{PyClassMethod, PyMethodDescriptor, PyStaticMethod};
 use native_defs::{PyMemberDef, PyMethodDef, extend_methods, new_member};
 use py_node::{OutOfMemory, PyObjectRef, PyTypeRef};
 

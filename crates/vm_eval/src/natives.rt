@@ -15,11 +15,11 @@ ghost use Rattle.vm_eval.specs.OfNatives.Rows.{Begins, Resumes, kept_among, of_n
 use crate::natives::family::{Family, family_of};
 use crate::natives::plain::plain_native;
 use class_world::World;
-use proto_descr::native_calls::NativeKept;
 use native_containers::native_compare::ComparedKept;
-use proto_descr::native_details::DetailKept;
 use native_items::ItemKept;
 use native_items::native_parts::PartsKept;
+use proto_descr::native_calls::NativeKept;
+use proto_descr::native_details::DetailKept;
 use proto_ops::native_repeats::RepeatKept;
 use py_node::task::{Args, Keywords};
 use py_node::{Answer, NativeEntry, OutOfMemory, Raised, Step};

@@ -19,20 +19,20 @@ ghost use Rattle.vm_eval.specs.Say.{Begins, Resumes, step_among, of_kept, bodies
 ghost use Rattle.vm_eval.specs.Stack.{Answers, Reaches, Keeps, RunsAbove, AsDeep, EndsDeep, turns_left, of_turn, of_end};
 
 use crate::look_ahead;
+use crate::natives::NativesKept;
 use crate::protocols::{Branch, branch_of};
 use class_make::ClassKept;
 use class_world::World;
 use eval_forms::EvalKept;
-use crate::natives::NativesKept;
 use proto_attr::AttributeKept;
 use proto_call::CallKept;
-use proto_ops::proto_compare::CompareKept;
 use proto_descr::DescriptorKept;
+use proto_object::ObjectKept;
 use proto_object::proto_items::ItemsKept;
 use proto_object::proto_iter::IterKept;
 use proto_object::proto_number::NumberKept;
-use proto_object::ObjectKept;
 use proto_ops::OperatorKept;
+use proto_ops::proto_compare::CompareKept;
 use py_node::protocol::ProtocolTask;
 use py_node::{Answer, Cause, OutOfMemory, Raised, Step, Task};
 

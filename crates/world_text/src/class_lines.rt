@@ -17,7 +17,9 @@ use class_table::ClassTable;
 use class_world::World;
 use py_node::slots::slots;
 use py_node::{OutOfMemory, PyTypeRef, SlotEntry, SlotId, Sort};
-use script_text::reply_text::class::{push_class_head, push_class_member, push_end, push_slot, push_slots_head};
+use script_text::reply_text::class::{
+    push_class_head, push_class_member, push_end, push_slot, push_slots_head,
+};
 use std::alloc::Global;
 
 /// The lines of the classes that scripts made in a world, in the order in which they were made: of each the names along

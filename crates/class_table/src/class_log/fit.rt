@@ -7,8 +7,8 @@ ghost use Rattle.class_table.specs.ClassLog.Change.{change_of, made_of};
 ghost use Rattle.class_table.specs.ClassLog.Shown.{is_of_script};
 ghost use Rattle.class_table.specs.ClassLog.Refused.{CanBeMade, IsFit, IsOfItsKind};
 
-use crate::class_log::change::ClassChange;
 use crate::ClassTable;
+use crate::class_log::change::ClassChange;
 use py_node::{PyAttributes, PyStrInterned, PyTypeFlags, PyTypeRef};
 
 // Whether some numbers are all those of classes.

@@ -9,12 +9,12 @@ ghost use Rattle.row_kit.specs.GiveContainers.{keys_of};
 ghost use Rattle.native_containers.specs.NativeCompare.Containers.{dicts_by, dicts_equal, values_under};
 ghost use Rattle.native_containers.specs.NativeCompare.Rows.{Compares, of_compared_kept};
 
-use class_world::{Fixed, World};
 use crate::native_compare::ComparedKept;
 use crate::native_compare::sequences::both;
 use crate::native_compare::turn::compare;
-use py_node::{Answer, CompareNative, OutOfMemory, PyObjectRef, PyStrInterned, Step};
+use class_world::{Fixed, World};
 use py_node::task::Args;
+use py_node::{Answer, CompareNative, OutOfMemory, PyObjectRef, PyStrInterned, Step};
 use row_kit::entries::values_of;
 use row_kit::take_containers::{Kind, entries};
 

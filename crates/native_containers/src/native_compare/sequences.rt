@@ -9,10 +9,10 @@ ghost use Rattle.class_world.specs.Sound.{AllHold, AreNodes, Holds, IsNode};
 ghost use Rattle.native_containers.specs.NativeCompare.Containers.{sequences_by, with_both};
 ghost use Rattle.native_containers.specs.NativeCompare.Rows.{Compares, of_compared_kept};
 
-use class_world::{Fixed, World};
-use class_world::args::copy_args;
 use crate::native_compare::ComparedKept;
 use crate::native_compare::turn::compare;
+use class_world::args::copy_args;
+use class_world::{Fixed, World};
 use py_node::{Answer, CompareNative, OutOfMemory, PyObjectRef, PyStrInterned, Raised, Step};
 use row_kit::take_containers::{Kind, is_of, items, own_and};
 

@@ -7,8 +7,8 @@ ghost use Rattle.class_world.specs.Sound.{AllHold, Grows, Holds, IsClass, IsName
 ghost use Rattle.native_defs.specs.Definitions.{as_method, definition_of};
 ghost use Rattle.plain_machine.specs.Plain.{AMethodDescriptor};
 
-use class_world::World;
 use crate::PyMethodDef;
+use class_world::World;
 use py_node::{
     MethodDescriptor, NativeEntry, OutOfMemory, Payload, PyMethodFlags, PyStrInterned, PyTypeRef,
 };

@@ -8,11 +8,11 @@ ghost use Rattle.class_world.specs.Sound.{AllHold, AreNodes, Holds};
 ghost use Rattle.native_items.specs.NativeParts.Rows.{IsNoNumber, Resumes, Starts, Takes, left_to_hash, of_parts_kept};
 ghost use Rattle.native_items.specs.NativeParts.Texts.{hash_row, hashed_on};
 
-use class_world::World;
 use crate::native_parts::PartsKept;
 use crate::native_parts::take::{Container, lone, part_at, parts_of};
-use py_node::{Answer, ObjectTask, OutOfMemory, PyObjectRef, PyStrInterned, Raised, Step, Task};
+use class_world::World;
 use py_node::task::Args;
+use py_node::{Answer, ObjectTask, OutOfMemory, PyObjectRef, PyStrInterned, Raised, Step, Task};
 use row_kit::int_values::number_hash;
 
 /// The items of a tuple, how many of them were asked for their hashes, and the hash of those that answered.

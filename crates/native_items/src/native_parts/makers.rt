@@ -10,12 +10,15 @@ ghost use Rattle.class_world.specs.Sound.{AllHold, AreNodes, Grows, Holding, Hol
 ghost use Rattle.native_items.specs.NativeParts.Makers.{list_filled};
 ghost use Rattle.native_items.specs.NativeParts.Rows.{Resumes, Starts, of_parts_kept};
 
-use class_world::{Fixed, World};
 use crate::native_parts::PartsKept;
 use crate::native_parts::take::{one_at_most, own_list, text_at};
-use py_node::{Answer, BuiltIn, ObjectTask, OutOfMemory, Payload, PyObjectRef, PyStrInterned, PyTypeRef, Raised, Step, Task};
+use class_world::{Fixed, World};
 use py_node::protocol::ProtocolTask;
 use py_node::task::Args;
+use py_node::{
+    Answer, BuiltIn, ObjectTask, OutOfMemory, Payload, PyObjectRef, PyStrInterned, PyTypeRef,
+    Raised, Step, Task,
+};
 use row_kit::take_classes::heir;
 
 /// A new text is that of an object, or empty.

@@ -7,11 +7,14 @@ ghost use Rattle.class_world.specs.Claims.{of_step, Leaves};
 ghost use Rattle.class_world.specs.Sound.{AllHold, AreNodes, Holds, IsClass, IsNode, IsOf};
 ghost use Rattle.native_items.specs.NativeParts.Rows.{Resumes, Starts, of_parts_kept};
 
-use class_world::World;
 use crate::native_parts::PartsKept;
 use crate::native_parts::take::one_at_most;
-use py_node::{Answer, BuiltIn, Cause, OutOfMemory, Payload, PyObjectRef, PyStrInterned, PyTypeRef, Raised, Step, Task};
+use class_world::World;
 use py_node::protocol::ProtocolTask;
+use py_node::{
+    Answer, BuiltIn, Cause, OutOfMemory, Payload, PyObjectRef, PyStrInterned, PyTypeRef, Raised,
+    Step, Task,
+};
 use row_kit::take_classes::heir;
 
 /// A new whole number is that of an object, or 0.

@@ -13,11 +13,11 @@ use crate::native_parts::PartsKept;
 use crate::native_parts::take::{Container, lone, part_at, parts_of, text_at};
 use class_world::World;
 use class_world::limits::{MOST_ITEMS, is_within_limit};
-use row_kit::give::new_text;
 use py_node::task::Args;
 use py_node::{
     Answer, Cause, ObjectTask, OutOfMemory, PyObjectRef, PyStrInterned, Raised, Step, Task,
 };
+use row_kit::give::new_text;
 
 /// The parts of a container, how many of them were asked for their texts, and the texts that were answered.
 #[derive(Drop)]

@@ -17,10 +17,10 @@ use crate::native_parts::take::text_at;
 use class_world::World;
 use class_world::limits::is_within_limit;
 use class_world::takes::one;
-use row_kit::give::new_text;
 use py_node::{
     Answer, Cause, ObjectTask, OutOfMemory, Payload, PyObjectRef, PyStrInterned, Raised, Step, Task,
 };
+use row_kit::give::new_text;
 
 /// A class method or a static method.
 #[derive(Clone, Copy)]

@@ -18,12 +18,12 @@ ghost use Rattle.proto_descr.specs.NativeCalls.Say.{function_get_by_name, native
 
 use crate::native_calls::way::Kind;
 use crate::native_calls::{NativeKept, passed};
-use class_world::World;
-use class_world::takes::{one, two};
 use crate::{
     bind_class_method, bind_function, bind_getset, bind_native, class_for, get_of,
     static_method_get,
 };
+use class_world::World;
+use class_world::takes::{one, two};
 use py_node::{
     Answer, Cause, NativeEntry, OutOfMemory, Payload, PyObjectRef, PyStrInterned, Raised, Step,
 };

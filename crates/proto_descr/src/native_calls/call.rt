@@ -10,9 +10,9 @@ ghost use Rattle.proto_descr.specs.NativeCalls.Say.{call_by_name, called_task, i
 
 use class_world::World;
 use class_world::args::copy_args;
-use row_kit::called::native_call;
 use py_node::task::{Args, Keywords};
 use py_node::{CallableNative, Cause, NativeEntry, OutOfMemory, Payload, PyObjectRef, Step, Task};
+use row_kit::called::native_call;
 
 /// The first argument is called with those after it, by a native that is for its kind.
 pub(crate) fn call_by_name(

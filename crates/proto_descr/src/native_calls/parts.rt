@@ -9,8 +9,8 @@ ghost use Rattle.proto_descr.specs.NativeCalls.Say.{member_get_by_name, property
 
 use crate::native_calls::bind::bound;
 use crate::native_calls::way::Kind;
-use class_world::World;
 use crate::{member_get, property_get};
+use class_world::World;
 use py_node::{OutOfMemory, PyObjectRef, PyStrInterned, Step};
 
 /// What a member gives of an object.

@@ -9,9 +9,9 @@ ghost use Rattle.proto_descr.specs.NativeCalls.Say.{delete_so, kind_of, set_as, 
 
 use crate::native_calls::bind::is_of_kind;
 use crate::native_calls::way::{Kind, Setting};
+use crate::{getset_set, member_set, property_set};
 use class_world::World;
 use class_world::takes::{one, two};
-use crate::{getset_set, member_set, property_set};
 use py_node::{Cause, OutOfMemory, PyObjectRef, PySetterValue, PyStrInterned, Step};
 
 /// What an object stands for is set in another one.

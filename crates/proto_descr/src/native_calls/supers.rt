@@ -12,10 +12,10 @@ ghost use Rattle.proto_descr.specs.NativeCalls.Say.{super_attribute_by_name, sup
 use crate::native_calls::NativeKept;
 use crate::native_calls::bind::{bound, is_of_kind};
 use crate::native_calls::way::Kind;
+use crate::{bind_super, unbound_super};
 use class_world::World;
 use class_world::args::copy_args;
 use class_world::takes::one;
-use crate::{bind_super, unbound_super};
 use py_node::{
     Answer, Cause, DescriptorTask, NativeEntry, OutOfMemory, PyObjectRef, PyStrInterned, PyTypeRef,
     Raised, Step, Task,

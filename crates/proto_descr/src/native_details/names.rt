@@ -16,11 +16,14 @@ ghost use Rattle.proto_descr.specs.NativeDetails.Rows.{Does, Resumes, of_detail_
 ghost use Rattle.row_kit.specs.Say.{in_length};
 ghost use Rattle.proto_descr.specs.NativeDetails.Say.{dotted, kept_name, member_name, named_by};
 
-use class_world::{Fixed, World};
+use crate::native_details::DetailKept;
 use class_world::limits::is_within_limit;
 use class_world::takes::one;
-use crate::native_details::DetailKept;
-use py_node::{Answer, AttributeTask, Cause, Detail, Kind, Known, MemberDescriptor, OutOfMemory, Payload, PyObjectRef, PyStrInterned, Raised, Step, Task};
+use class_world::{Fixed, World};
+use py_node::{
+    Answer, AttributeTask, Cause, Detail, Kind, Known, MemberDescriptor, OutOfMemory, Payload,
+    PyObjectRef, PyStrInterned, Raised, Step, Task,
+};
 use row_kit::class_names::limited_text;
 use row_kit::give::new_text;
 

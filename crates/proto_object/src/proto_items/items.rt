@@ -13,12 +13,12 @@ ghost use Rattle.proto_object.specs.ProtoItems.Rows.{Begins, Resumes, of_items_k
 use crate::proto_items::ItemsKept;
 use class_world::World;
 use class_world::args::alone;
-use row_kit::proto_base::entered;
 use py_node::protocol::ProtocolTask;
 use py_node::{
     Answer, AttributeTask, BuiltIn, CallTask, Cause, DictNative, Kind, Known, ListNative,
     NativeEntry, OutOfMemory, PyObjectRef, Raised, SlotEntry, SlotId, Step, Task,
 };
+use row_kit::proto_base::entered;
 
 /// An item is read as from a mapping, or else by a whole number as from a sequence. A class may say what it gives for a
 /// key.

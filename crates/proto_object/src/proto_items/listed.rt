@@ -7,14 +7,14 @@ ghost use Rattle.class_world.specs.Claims.{of_ended, of_step, Leaves};
 ghost use Rattle.class_world.specs.Sound.{AllHold, AreNodes, Holds, IsNode};
 ghost use Rattle.proto_object.specs.ProtoItems.Rows.{IsNoItem, Resumes, item_answer, of_items_kept};
 
+use crate::proto_items::ItemsKept;
 use class_world::World;
 use class_world::limits::is_within_limit;
-use crate::proto_items::ItemsKept;
-use row_kit::proto_base::is_exactly;
-use py_node::{Answer, BuiltIn, Cause, OutOfMemory, PyObjectRef, Raised, Step, Task};
 use py_node::protocol::ProtocolTask;
 use py_node::task::Args;
+use py_node::{Answer, BuiltIn, Cause, OutOfMemory, PyObjectRef, Raised, Step, Task};
 use row_kit::give_containers::new_list;
+use row_kit::proto_base::is_exactly;
 
 /// A list that the method gave is the answer. Else its items are asked.
 pub(crate) fn listed(world: &World, given: PyObjectRef) -> Step<ItemsKept>

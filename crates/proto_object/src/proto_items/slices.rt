@@ -14,9 +14,9 @@ ghost use Rattle.proto_object.specs.ProtoItems.Rows.{Begins, of_items_kept};
 use crate::proto_items::ItemsKept;
 use crate::proto_items::items::deleted;
 use class_world::World;
-use row_kit::proto_base::entered;
 use py_node::payload::PySlice;
 use py_node::{BuiltIn, Cause, Known, OutOfMemory, Payload, PyObjectRef, SlotId, Step};
+use row_kit::proto_base::entered;
 
 /// The part of a sequence from a number to another one is the item of a slice of both.
 pub(crate) fn begin_get_slice(

@@ -11,12 +11,12 @@ ghost use Rattle.class_world.specs.Reading.{Reading, Reads, task_of};
 ghost use Rattle.class_world.specs.Sound.{AllHold, Holds, IsNode};
 ghost use Rattle.proto_object.specs.ProtoItems.Rows.{Begins, Resumes, of_items_kept};
 
-use class_world::World;
 use crate::proto_items::ItemsKept;
-use row_kit::proto_base::is_exactly;
+use class_world::World;
 use py_node::{AttributeTask, BuiltIn, Known, OutOfMemory, PyMethod, PyObjectRef, Step, Task};
 use row_kit::entries::{keys_of, values_of};
 use row_kit::give_containers::{new_list, new_pairs};
+use row_kit::proto_base::is_exactly;
 use row_kit::take_containers::entries;
 
 /// The keys of a mapping.

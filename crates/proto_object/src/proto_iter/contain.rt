@@ -7,13 +7,13 @@ ghost use Rattle.class_world.specs.Claims.{of_step, Leaves};
 ghost use Rattle.class_world.specs.Sound.{AllHold, Holds, IsNode};
 ghost use Rattle.proto_object.specs.ProtoIter.Rows.{Begins, Resumes, of_iter_kept};
 
-use class_world::World;
 use crate::proto_iter::IterKept;
 use crate::proto_iter::seek::{Search, begin_search};
-use row_kit::proto_base::entered;
-use py_node::{Answer, Known, OutOfMemory, PyObjectRef, SlotEntry, SlotId, Step, Task};
+use class_world::World;
 use py_node::protocol::ProtocolTask;
+use py_node::{Answer, Known, OutOfMemory, PyObjectRef, SlotEntry, SlotId, Step, Task};
 use row_kit::int_values::truth_of;
+use row_kit::proto_base::entered;
 
 /// A native of the object's class says it, or its special method. Without both it is a search.
 pub(crate) fn contains(

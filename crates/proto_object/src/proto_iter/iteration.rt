@@ -7,14 +7,14 @@ ghost use Rattle.class_world.specs.Claims.{of_ended, of_step, Leaves};
 ghost use Rattle.class_world.specs.Sound.{AllHold, AreNodes, Holds, IsNode};
 ghost use Rattle.proto_object.specs.ProtoIter.Rows.{Begins, IsItem, IsNoItem, Resumes, of_iter_kept};
 
+use crate::proto_iter::IterKept;
 use class_world::World;
 use class_world::args::copy_args;
 use class_world::limits::is_within_limit;
-use crate::proto_iter::IterKept;
-use row_kit::proto_base::{entered, is_plain};
-use py_node::{Answer, Cause, Kind, Known, OutOfMemory, PyObjectRef, Raised, SlotId, Step, Task};
 use py_node::protocol::ProtocolTask;
+use py_node::{Answer, Cause, Kind, Known, OutOfMemory, PyObjectRef, Raised, SlotId, Step, Task};
 use row_kit::give::new_iterator;
+use row_kit::proto_base::{entered, is_plain};
 use row_kit::take_containers::items;
 
 /// An iteration begins as the object's class says, or else it goes over the object's items by their places.

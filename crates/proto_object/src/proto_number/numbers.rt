@@ -14,12 +14,12 @@ ghost use Rattle.class_world.specs.Sound.{AllHold, Holds, IsNode};
 ghost use Rattle.proto_object.specs.ProtoNumber.Numbers.{has_index, truncated_by, whole_by};
 ghost use Rattle.proto_object.specs.ProtoNumber.Rows.{Begins, Starts, Resumes, of_number_kept};
 
-use class_world::World;
 use crate::proto_number::NumberKept;
 use crate::proto_number::asked::{method, native_of, special};
 use crate::proto_number::texts::text_number;
-use py_node::{Answer, Cause, Known, OutOfMemory, PyObjectRef, SlotEntry, SlotId, Step, Task};
+use class_world::World;
 use py_node::protocol::ProtocolTask;
+use py_node::{Answer, Cause, Known, OutOfMemory, PyObjectRef, SlotEntry, SlotId, Step, Task};
 use row_kit::int_values::{as_int, is_int};
 
 /// An index: a number is one, of another class than `int` as a new one. Others have a special method for it.

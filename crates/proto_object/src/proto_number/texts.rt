@@ -9,8 +9,8 @@ ghost use Rattle.class_world.specs.Sound.{Holds, IsNode};
 ghost use Rattle.proto_object.specs.ProtoNumber.Numbers.{is_numeral, spelled, text_number, without_sign};
 
 use class_world::World;
-use row_kit::give::new_int;
 use py_node::{Answer, Cause, OutOfMemory, Payload, PyObjectRef, Raised};
+use row_kit::give::new_int;
 
 /// The whole number that a text spells, as a new one. Other objects spell none.
 pub(crate) fn text_number(

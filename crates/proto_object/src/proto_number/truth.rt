@@ -12,11 +12,11 @@ ghost use Rattle.class_world.specs.Sound.{AllHold, Holds, IsNode};
 ghost use Rattle.proto_object.specs.ProtoNumber.Truth.{bool_at, truth_asked};
 ghost use Rattle.proto_object.specs.ProtoNumber.Rows.{Begins, Starts, Resumes, of_number_kept};
 
-use class_world::World;
 use crate::proto_number::NumberKept;
 use crate::proto_number::asked::{method, special};
-use py_node::{Answer, BuiltIn, Cause, Known, PyObjectRef, Step, Task};
+use class_world::World;
 use py_node::protocol::ProtocolTask;
+use py_node::{Answer, BuiltIn, Cause, Known, PyObjectRef, Step, Task};
 use row_kit::int_values::truth_of;
 
 /// The truth value of an object: one of the two fixed objects, or what its class says.

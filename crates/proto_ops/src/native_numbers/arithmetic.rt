@@ -8,15 +8,17 @@ ghost use Rattle.class_world.specs.Sound.{AllHold, AreNodes, Holds, IsNode};
 ghost use Rattle.class_world.specs.Rows.{EndsAs, LeavesEnd};
 ghost use Rattle.proto_ops.specs.NativeNumbers.Say.{arithmetic_by, arithmetic_say, with_operands, with_powers, divided, pair_made};
 
-use crate::native_numbers::reckon::{difference, floor_remainder, power, product, quotient, remainder};
+use crate::native_numbers::reckon::{
+    difference, floor_remainder, power, product, quotient, remainder,
+};
 use class_world::args::both;
 use class_world::takes::three;
 use class_world::{Fixed, World};
-use row_kit::give::new_int;
-use row_kit::take::{numbers, numbers_of};
 use py_node::{
     Answer, ArithmeticNative, BuiltIn, OutOfMemory, Payload, PyObjectRef, PyStrInterned, Raised,
 };
+use row_kit::give::new_int;
+use row_kit::take::{numbers, numbers_of};
 
 /// A native that reckons with two numbers.
 pub fn arithmetic_native(

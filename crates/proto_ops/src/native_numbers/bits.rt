@@ -7,9 +7,9 @@ ghost use Rattle.class_world.specs.Rows.{EndsAs, LeavesEnd};
 ghost use Rattle.proto_ops.specs.NativeNumbers.Say.{bits_by, bits_of, bits_say, truth_by};
 ghost use Rattle.row_kit.specs.IntValues.{truth_of};
 
+use crate::native_numbers::reckon::{left_shifted, right_shifted};
 use class_world::World;
 use class_world::takes::two;
-use crate::native_numbers::reckon::{left_shifted, right_shifted};
 use py_node::{Answer, BitNative, OutOfMemory, PyObjectRef, PyStrInterned, Raised};
 use row_kit::give::new_int;
 use row_kit::int_values::truth_of;

@@ -8,8 +8,8 @@ ghost use Rattle.class_world.specs.Rows.{EndsAs, LeavesEnd};
 ghost use Rattle.proto_ops.specs.NativeNumbers.Say.{compare_say, order_by};
 
 use class_world::{Fixed, World};
-use row_kit::take::number_and;
 use py_node::{Answer, Cause, CompareNative, PyObjectRef, PyStrInterned, Raised};
+use row_kit::take::number_and;
 
 /// A comparison of numbers, by name. Where the other object holds none, it answers NotImplemented.
 pub fn compare_native(

@@ -9,8 +9,8 @@ ghost use Rattle.proto_ops.specs.NativeNumbers.Say.{fixed_first, fixed_of, fixed
 
 use class_world::takes::one;
 use class_world::{Fixed, World};
-use row_kit::give::new_word;
 use py_node::{Answer, Cause, FixedNative, OutOfMemory, PyObjectRef, PyStrInterned, Raised};
+use row_kit::give::new_word;
 
 /// A native of None or NotImplemented.
 pub fn fixed_native(

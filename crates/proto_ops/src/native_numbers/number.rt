@@ -7,8 +7,8 @@ ghost use Rattle.class_world.specs.Rows.{EndsAs, LeavesEnd};
 ghost use Rattle.proto_ops.specs.NativeNumbers.Say.{number_by, number_say};
 ghost use Rattle.row_kit.specs.IntValues.{as_int};
 
-use class_world::World;
 use crate::native_numbers::reckon::{absolute, inverted, negated};
+use class_world::World;
 use py_node::{Answer, NumberNative, OutOfMemory, PyObjectRef, PyStrInterned, Raised};
 use row_kit::give::{new_int, new_text, new_word};
 use row_kit::int_values::{as_int, number_hash};

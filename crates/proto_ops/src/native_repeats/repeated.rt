@@ -14,10 +14,12 @@ ghost use Rattle.row_kit.specs.Repeats.{list_repeated, native_repeat, with_times
 ghost use Rattle.proto_ops.specs.NativeRepeats.Rows.{of_place};
 ghost use Rattle.proto_ops.specs.NativeRepeats.Say.{ended_with, repeat_stood};
 
-use class_world::World;
 use crate::native_repeats::count::times_within;
-use py_node::{Answer, Cause, ListNative, NativeEntry, OutOfMemory, Payload, PyObjectRef, Raised, StrNative};
+use class_world::World;
 use py_node::task::Args;
+use py_node::{
+    Answer, Cause, ListNative, NativeEntry, OutOfMemory, Payload, PyObjectRef, Raised, StrNative,
+};
 use row_kit::give::new_text;
 use row_kit::give_containers::{new_list, new_tuple};
 use std::alloc::Global;

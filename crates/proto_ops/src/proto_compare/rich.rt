@@ -11,12 +11,15 @@ ghost use Rattle.proto_ops.specs.ProtoCompare.Comparisons.{swapped};
 ghost use Rattle.proto_ops.specs.ProtoCompare.Say.{built_in_native, is_heir, native_for, object_native};
 ghost use Rattle.proto_ops.specs.ProtoCompare.Rows.{Begins, Resumes, of_compare_kept};
 
+use crate::proto_compare::CompareKept;
+use crate::proto_compare::comparisons::{method_name, swapped};
 use class_world::World;
 use class_world::args::{alone, both};
 use class_world::natives::native_task;
-use crate::proto_compare::CompareKept;
-use crate::proto_compare::comparisons::{method_name, swapped};
-use py_node::{Answer, AttributeTask, Cause, CompareNative, CompareTask, NativeEntry, ObjectNative, OutOfMemory, PyComparisonOp, PyObjectRef, SlotEntry, SlotId, Step, Task};
+use py_node::{
+    Answer, AttributeTask, Cause, CompareNative, CompareTask, NativeEntry, ObjectNative,
+    OutOfMemory, PyComparisonOp, PyObjectRef, SlotEntry, SlotId, Step, Task,
+};
 use row_kit::questions::is_not_implemented;
 
 // The left operand is asked first, unless the class of the right one derives from its class.

@@ -7,9 +7,9 @@ ghost use Rattle.shared_vm.specs.Work.{MayPerform};
 ghost use Rattle.shared_vm.specs.SharedRun.Crew.{AllReady, Each, Worked};
 ghost use Rattle.shared_vm.specs.SharedRun.Mix.{session_trees};
 
+use crate::{Gate, Seat, SharedVm, perform};
 use py_node::{Command, OutOfMemory};
 use seat_lock::MOST_TURNS;
-use crate::{Gate, Seat, SharedVm, perform};
 use std::alloc::Global;
 use std::mem;
 use std::sync::Wait;

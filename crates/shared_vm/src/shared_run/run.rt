@@ -11,9 +11,9 @@ ghost use Rattle.shared_vm.specs.SharedRun.Crew.{AllDid, Each};
 ghost use Rattle.shared_vm.specs.SharedRun.Mix.{Mix, session_trees};
 
 use crate::shared_run::crew::{Worker, introduce, work_all};
+use crate::{Closed, Gate, Seat, SharedVm, perform};
 use py_node::{Command, OutOfMemory};
 use seat_lock::MOST_TURNS;
-use crate::{Closed, Gate, Seat, SharedVm, perform};
 use std::alloc::Global;
 use std::sync::Wait;
 use std::thread::Threads;

@@ -7,9 +7,9 @@ ghost use Rattle.shared_vm.specs.Book.{IsReplay};
 ghost use Rattle.shared_vm.specs.Journal.{plain_journal, plain_entry};
 ghost use Rattle.shared_vm.specs.SharedRun.JournalText.{entry_lines, entries_text, journal_text};
 
+use crate::{Closed, Entry};
 use py_node::OutOfMemory;
 use script_text::reply_text::write::write_replies;
-use crate::{Closed, Entry};
 use std::alloc::Global;
 use std::slice;
 use world_text::write_classes;

@@ -9,9 +9,9 @@ ghost use Rattle.class_world.specs.Reading.{Reading, Reads, plain};
 ghost use Rattle.class_world.specs.Sound.{IsNode, Holds};
 ghost use Rattle.vm_calls.specs.OfProtocols.Views.{HasMappingSlots};
 
+use crate::slot_tables::PyMappingMethods;
 use class_world::World;
 use py_node::{Cause, PyObjectRef, Raised, SlotId};
-use crate::slot_tables::PyMappingMethods;
 
 /// An object, with a table of the slots of mappings: that of its class, or one that it was given.
 #[derive(Clone, Copy)]

@@ -5,9 +5,9 @@ ghost use Rattle.class_world.specs.Reading.{Reading, Reads, plain};
 ghost use Rattle.class_world.specs.Sound.{IsNode, Holds};
 ghost use Rattle.vm_calls.specs.OfProtocols.Views.{HasNumberSlots};
 
+use crate::slot_tables::PyNumberSlots;
 use class_world::World;
 use py_node::{PyObjectRef, SlotId};
-use crate::slot_tables::PyNumberSlots;
 
 /// An object, with a table of the slots of numbers: that of its class, or one that it was given.
 #[derive(Clone, Copy)]

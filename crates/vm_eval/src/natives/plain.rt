@@ -8,13 +8,15 @@ ghost use Rattle.class_world.specs.Rows.{EndsAs, LeavesEnd};
 ghost use Rattle.vm_eval.specs.OfNatives.Say.{native_by};
 
 use class_world::World;
+use native_containers::native_texts::{compare_text, text_native};
 use native_containers::{dict_native, iterator_native, list_native, tuple_native};
-use proto_ops::native_numbers::{arithmetic_native, bits_native, compare_native, fixed_native, number_native};
 use native_objects::{
     callable_native, descriptor_native, getter_native, getter_of_native, maker_native,
     property_native, setter_native, setter_of_native, super_native, wrapper_native,
 };
-use native_containers::native_texts::{compare_text, text_native};
+use proto_ops::native_numbers::{
+    arithmetic_native, bits_native, compare_native, fixed_native, number_native,
+};
 use py_node::{
     Answer, BuiltIn, Cause, NativeEntry, OutOfMemory, PyObjectRef, PyStrInterned, Raised,
 };
