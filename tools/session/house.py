@@ -41,21 +41,29 @@ class Step:
 STEPS = {
     "views": Step("vm_calls", ["slot_tables", "protocols"]),
     "laws": Step("vm_calls", ["attribute_laws", "answer_kinds"]),
-    "reports": Step("hierarchy_text", ["report_text"]),
-    "shared": Step("shared_vm", ["shared_run"]),
-    "definitions": Step("native_defs", ["accessors"]),
+    "hierarchies": Step("order_check", ["class_orders", "hierarchy_text", "report_text"]),
+    "shared": Step("shared_vm", ["shared_run", "viewed_vm"]),
     "kit": Step("row_kit", ["proto_base", "signatures"], "what rows and natives share: arguments that they take, objects that they give, what they ask"),
     "operators": Step("proto_ops", ["proto_compare", "native_numbers", "native_repeats"], after=["kit"]),
-    "items": Step("native_items", ["native_parts"], after=["kit"]),
     "objects": Step("proto_object", ["proto_number", "proto_items", "proto_iter"], after=["kit"]),
-    "descriptors": Step("proto_descr", ["native_calls", "native_details"], after=["kit"]),
-    "containers": Step("native_containers", ["native_texts", "native_compare"], after=["kit"]),
+    "attributes": Step("proto_attr", ["proto_descr", "native_calls", "native_details", "native_objects", "native_defs", "accessors"], after=["kit"]),
+    "calls": Step("proto_call", ["eval_forms", "class_make"], after=["kit"]),
+    "containers": Step("native_containers", ["native_texts", "native_compare", "native_items", "native_parts"], after=["kit"]),
     "natives": Step("vm_eval", ["natives"], after=["kit"]),
     "script": Step("script_text", ["json_text", "reply_text"]),
     "table": Step("class_table", ["mro_merge", "class_log"]),
+    "lines": Step("table_lines", ["call_lines", "machine_lines"]),
 }
 
 
+# Crates of rows and natives that are one for the kit: what only they share stays with them. Each other one is by itself.
+GROUPS = {
+    "proto_ops": ["proto_compare", "native_numbers", "native_repeats"],
+    "proto_object": ["proto_number", "proto_items", "proto_iter"],
+    "proto_descr": ["native_calls", "native_details"],
+    "native_containers": ["native_texts", "native_compare"],
+    "native_items": ["native_parts"],
+}
 # The crate that becomes the kit: its modules stand at the kit's root.
 FIRST = "native_base"
 

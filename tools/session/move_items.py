@@ -3,10 +3,10 @@
 
     move_items.py TOP        says what the step `kit` of house.py would move, and changes nothing
 
-A group is one crate or several that a later step makes one (house.STEPS). An item is a function, a type, a definition or
-a lemma. What crates of another group name is moved, with all that it rests on in the groups' crates: to the crate of the
-only group that needs it, or else to the kit. A proof follows its function, and each import its item; a name that is asked
-for from elsewhere becomes public. So that afterwards no group stands on another one.
+A group is one crate or several (house.GROUPS). An item is a function, a type, a definition or a lemma. What crates of
+another group name is moved, with all that it rests on in the groups' crates: to the crate of the only group that needs it,
+or else to the kit. A proof follows its function, and each import its item; a name that is asked for from elsewhere becomes
+public. So that afterwards no group stands on another one.
 """
 
 from __future__ import annotations
@@ -380,14 +380,13 @@ def paths_of(head: str, word: str) -> list[tuple[str, str]]:
 
 
 def groups_of(tree: Tree) -> dict[str, str]:
-    """The groups: of each crate of rows or natives the crate that later steps make of it. The kit's own crates are no group."""
-    from house import FIRST, STEPS
+    """The groups: of each crate of rows or natives the one that its group is named by. The kit's own crates are no group."""
+    from house import FIRST, GROUPS, STEPS
 
     kit = {*STEPS["kit"].sources, KIT, FIRST}
     found = {it: it for it in tree.names if re.match(r"(proto|native)_|class_make$|eval_forms$", it) and it not in ("native_defs", *kit)}
-    for name, step in STEPS.items():
-        if "kit" in step.after and name != "natives":
-            found.update({it: step.target for it in (*step.sources, step.target) if it in found})
+    for name, others in GROUPS.items():
+        found.update({it: name for it in others if it in found})
     return found
 
 

@@ -30,9 +30,9 @@ SENTENCES = {
         ),
         ("docs/DECISIONS.md", "numbers, iterations and items are one group of three crates.", "numbers, iterations and items are one group of three modules of `proto_object`."),
     ],
-    "descriptors": [
-        ("docs/PROVED.md", "or one of the six crates that follow.", "or one of the six modules and crates that follow."),
-        ("docs/DECISIONS.md", "each family is a crate of its own, with rows of its own,", "each family is a crate or a module of its own, with rows of its own,"),
+    "attributes": [
+        ("docs/PROVED.md", "or one of the six crates that follow.", "or one of the six modules that follow."),
+        ("docs/DECISIONS.md", "each family is a crate of its own, with rows of its own,", "each family is a module of its own, with rows of its own,"),
     ],
     "script": [
         (

@@ -10,7 +10,7 @@ use Rattle.shared_vm.specs.declared.entry.Receipt.{Receipt}
 use Rattle.shared_vm.specs.declared.entry.ExecFault.{ExecFault}
 use Rattle.shared_vm.specs.declared.entry.ExecFault.TheVariants.{OutOfMemory, Failed}
 use Rattle.shared_vm.specs.Turns.{Makes, Leaves, Executed, Named}
-use Rattle.viewed_vm.specs.Published.{Published}
+use Rattle.shared_vm.specs.ViewedVm.Published.{Published}
 
 -- a seat that made a turn
 made_free : (id : TableId) (old new : Known Entry) (before : List (Turn Entry)) (t : Turn Entry) → IsFree id old → Makes old new before t → IsFree id new

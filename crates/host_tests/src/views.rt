@@ -8,8 +8,8 @@ use class_view::{ClassReader, RuledPane, Told};
 use class_world::Fixed;
 use py_node::{Command, PyStrInterned, PyTypeRef};
 use seat_lock::MOST_TURNS;
+use shared_vm::viewed_vm::{ViewedSeat, ViewedVm};
 use std::sync::Wait;
-use viewed_vm::{ViewedSeat, ViewedVm};
 
 // More numbers than the machine has classes.
 const NUMBERS: u64 = 2_000;

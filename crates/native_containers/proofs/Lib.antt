@@ -6,3 +6,5 @@ pub mod Changed
 pub mod Filled
 pub mod NativeTexts
 pub mod NativeCompare
+pub mod NativeItems
+pub mod NativeParts

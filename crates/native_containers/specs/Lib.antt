@@ -2,3 +2,5 @@ pub mod Take
 pub mod Say
 pub mod NativeTexts
 pub mod NativeCompare
+pub mod NativeItems
+pub mod NativeParts

@@ -9,6 +9,8 @@ mod keys;
 mod list;
 pub mod made;
 pub mod native_compare;
+pub mod native_items;
+pub mod native_parts;
 pub mod native_texts;
 mod sequence;
 pub mod take;

@@ -24,3 +24,6 @@ pub mod Keyed
 pub mod Ranking
 pub mod WellFounded
 pub mod Finding
+pub mod ClassOrders
+pub mod HierarchyText
+pub mod ReportText

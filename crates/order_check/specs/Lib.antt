@@ -9,3 +9,6 @@ pub mod Report
 pub mod Known
 pub mod WellFormed
 pub mod Told
+pub mod ClassOrders
+pub mod HierarchyText
+pub mod ReportText

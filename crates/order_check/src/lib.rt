@@ -3,9 +3,11 @@
 
 pub mod accepting;
 pub mod checking;
+pub mod class_orders;
 pub mod cycles;
 mod forms;
 pub mod hierarchy;
+pub mod hierarchy_text;
 mod known;
 mod least;
 mod led;
@@ -17,6 +19,7 @@ mod pairs;
 mod place;
 mod ranks;
 pub mod report;
+pub mod report_text;
 mod told;
 mod walk;
 pub mod wellformed;

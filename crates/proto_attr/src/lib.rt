@@ -12,6 +12,7 @@ ghost use Rattle.class_world.specs.Sound.{AllHold};
 ghost use Rattle.class_world.specs.Claims.{of_attribute_task, of_ended, Leaves};
 ghost use Rattle.proto_attr.specs.Rows.{Begins, Resumes, of_attribute_kept};
 
+pub mod accessors;
 mod binding;
 mod class_get;
 pub mod find;
@@ -20,7 +21,12 @@ mod get_attr;
 pub mod laws;
 mod load;
 mod named;
+pub mod native_calls;
+pub mod native_defs;
+pub mod native_details;
+pub mod native_objects;
 mod object_set;
+pub mod proto_descr;
 mod setting;
 mod special;
 

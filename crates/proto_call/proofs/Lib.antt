@@ -2,3 +2,5 @@ pub mod Decide
 pub mod Filling
 pub mod Entered
 pub mod Unequal
+pub mod EvalForms
+pub mod ClassMake

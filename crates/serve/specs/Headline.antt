@@ -10,8 +10,8 @@ use Rattle.script_text.specs.declared.json_text.error.ScriptError.{ScriptError a
 use Rattle.plain_machine.specs.Answer.{Run, plain_run}
 use Rattle.plain_machine.specs.ClassText.{classes_text}
 use Rattle.plain_machine.specs.Start.{start}
-use Rattle.hierarchy_text.specs.Spelled.{PlainClass, hierarchy_of}
-use Rattle.hierarchy_text.specs.ReportText.PlainReport.{plain_report}
+use Rattle.order_check.specs.HierarchyText.Spelled.{PlainClass, hierarchy_of}
+use Rattle.order_check.specs.ReportText.PlainReport.{plain_report}
 use Rattle.vm_eval.specs.Say.{say}
 use Rattle.shared_vm.specs.Journal.{PlainEntry, Legal}
 use Rattle.shared_vm.specs.SharedRun.Mix.{Mix}

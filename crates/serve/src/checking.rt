@@ -3,12 +3,12 @@
 ghost use Rattle.std.specs.Prelude.{◌≡◌, IfOk, Err};
 ghost use Rattle.order_check.specs.Hierarchy.{AreKeyed};
 ghost use Rattle.order_check.specs.Report.{IsReport, AreFound};
-ghost use Rattle.hierarchy_text.specs.Spelled.{hierarchy_of};
+ghost use Rattle.order_check.specs.HierarchyText.Spelled.{hierarchy_of};
 ghost use Rattle.script_text.specs.declared.json_text.error.ScriptError.{ScriptError as Refusal};
 ghost use Rattle.serve.specs.Headline.{IsReportOf};
 
-use hierarchy_text::read_hierarchy;
-use hierarchy_text::report_text::write_report;
+use order_check::hierarchy_text::read_hierarchy;
+use order_check::report_text::write_report;
 use order_check::{Hierarchy, Report, check, check_par};
 use outside::words::Pace;
 use py_node::OutOfMemory;

@@ -3,3 +3,4 @@ mod Steps
 pub mod Histories
 mod Working
 pub mod SharedRun
+pub mod ViewedVm

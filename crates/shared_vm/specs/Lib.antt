@@ -3,3 +3,4 @@ pub mod Book
 pub mod Turns
 pub mod Work
 pub mod SharedRun
+pub mod ViewedVm

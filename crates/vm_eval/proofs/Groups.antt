@@ -10,16 +10,16 @@ use Rattle.plain_machine.specs.Rows.{Pending, Alike, fresh, given}
 use Rattle.class_world.specs.declared.world.World.{World}
 use Rattle.class_world.specs.Reading.{Reading, plain, ended_of}
 use Rattle.class_world.specs.Rows.{Steps, Goes}
-use Rattle.eval_forms.specs.Say.{eval_say}
-use Rattle.eval_forms.specs.Rows.{eval_stands}
+use Rattle.proto_call.specs.EvalForms.Say.{eval_say}
+use Rattle.proto_call.specs.EvalForms.Rows.{eval_stands}
 use Rattle.proto_attr.specs.Say.{attribute_say}
 use Rattle.proto_attr.specs.Rows.{attribute_stands}
-use Rattle.proto_descr.specs.Say.{descriptor_say}
-use Rattle.proto_descr.specs.Rows.{descriptor_stands}
+use Rattle.proto_attr.specs.ProtoDescr.Say.{descriptor_say}
+use Rattle.proto_attr.specs.ProtoDescr.Rows.{descriptor_stands}
 use Rattle.proto_call.specs.Say.{call_job_say}
 use Rattle.proto_call.specs.Rows.{call_stands}
-use Rattle.class_make.specs.Say.{class_job_say}
-use Rattle.class_make.specs.Rows.{class_stands}
+use Rattle.proto_call.specs.ClassMake.Say.{class_job_say}
+use Rattle.proto_call.specs.ClassMake.Rows.{class_stands}
 use Rattle.proto_ops.specs.Say.{operator_say}
 use Rattle.proto_ops.specs.Rows.{operator_stands}
 use Rattle.proto_ops.specs.ProtoCompare.Say.{compare_job_say}

@@ -12,16 +12,16 @@ use Rattle.class_world.specs.declared.world.World.{World}
 use Rattle.class_world.specs.Reading.{Reading, task_of, ended_of}
 use Rattle.class_world.specs.Rows.{Goes}
 use Rattle.class_world.specs.Sound.{Claim}
-use Rattle.eval_forms.specs.Say.{eval_say}
-use Rattle.eval_forms.specs.Rows.{eval_stands, of_eval_kept}
+use Rattle.proto_call.specs.EvalForms.Say.{eval_say}
+use Rattle.proto_call.specs.EvalForms.Rows.{eval_stands, of_eval_kept}
 use Rattle.proto_attr.specs.Say.{attribute_say}
 use Rattle.proto_attr.specs.Rows.{attribute_stands, of_attribute_kept}
-use Rattle.proto_descr.specs.Rows.{descriptor_stands, of_descriptor_kept}
+use Rattle.proto_attr.specs.ProtoDescr.Rows.{descriptor_stands, of_descriptor_kept}
 use Rattle.proto_call.specs.Say.{call_job_say}
 use Rattle.proto_call.specs.Rows.{call_stands, of_call_kept, bodies_of}
-use Rattle.class_make.specs.Say.{class_job_say}
-use Rattle.class_make.specs.Rows.{class_stands, of_class_kept}
-use Rattle.proto_descr.specs.Say.{descriptor_say}
+use Rattle.proto_call.specs.ClassMake.Say.{class_job_say}
+use Rattle.proto_call.specs.ClassMake.Rows.{class_stands, of_class_kept}
+use Rattle.proto_attr.specs.ProtoDescr.Say.{descriptor_say}
 use Rattle.vm_eval.specs.OfNatives.Say.{NativeJob, native_job_say}
 use Rattle.proto_ops.specs.Say.{operator_say}
 use Rattle.proto_ops.specs.Rows.{operator_stands, of_operator_kept}

@@ -11,15 +11,15 @@ ghost use Rattle.plain_machine.specs.Sound.{read_offset, set_offset};
 ghost use Rattle.plain_machine.specs.World.{next_node, with_node};
 ghost use Rattle.class_world.specs.Reading.{Reading, Reads, plain, spelled, spelled_option};
 ghost use Rattle.class_world.specs.Sound.{AllHold, Grows, Holding, Holds, IsClass, IsName, IsNode, IsOffset, of_option, of_name_ref};
-ghost use Rattle.native_defs.specs.Definitions.{definition_of, as_function, as_method, as_bound_method, with_method};
-ghost use Rattle.native_defs.specs.Members.{as_member, member_of};
+ghost use Rattle.proto_attr.specs.NativeDefs.Definitions.{definition_of, as_function, as_method, as_bound_method, with_method};
+ghost use Rattle.proto_attr.specs.NativeDefs.Members.{as_member, member_of};
 ghost use Rattle.vm_eval.specs.Makers.{Makes};
 ghost use Rattle.vm_eval.specs.State.{MarkedAs, MarkedBy};
 
 use crate::machine::VirtualMachine;
 use class_table::ClassFault;
-use native_defs::accessors::{PyClassMethod, PyMethodDescriptor, PyStaticMethod};
-use native_defs::{PyMemberDef, PyMethodDef, extend_methods, new_member};
+use proto_attr::accessors::{PyClassMethod, PyMethodDescriptor, PyStaticMethod};
+use proto_attr::native_defs::{PyMemberDef, PyMethodDef, extend_methods, new_member};
 use py_node::{OutOfMemory, PyObjectRef, PyTypeRef};
 
 impl VirtualMachine {

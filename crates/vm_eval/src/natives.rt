@@ -4,11 +4,11 @@
 ghost use Rattle.std.specs.Prelude.{◌≡◌, IfOk};
 ghost use Rattle.class_world.specs.Claims.{of_args, of_ended, of_step, Leaves};
 ghost use Rattle.class_world.specs.Sound.{AllHold};
-ghost use Rattle.proto_descr.specs.NativeCalls.Asks.{of_native_kept};
+ghost use Rattle.proto_attr.specs.NativeCalls.Asks.{of_native_kept};
 ghost use Rattle.native_containers.specs.NativeCompare.Rows.{of_compared_kept};
-ghost use Rattle.proto_descr.specs.NativeDetails.Rows.{of_detail_kept};
-ghost use Rattle.native_items.specs.Rows.{of_item_kept};
-ghost use Rattle.native_items.specs.NativeParts.Rows.{of_parts_kept};
+ghost use Rattle.proto_attr.specs.NativeDetails.Rows.{of_detail_kept};
+ghost use Rattle.native_containers.specs.NativeItems.Rows.{of_item_kept};
+ghost use Rattle.native_containers.specs.NativeParts.Rows.{of_parts_kept};
 ghost use Rattle.proto_ops.specs.NativeRepeats.Rows.{of_repeat_kept};
 ghost use Rattle.vm_eval.specs.OfNatives.Rows.{Begins, Resumes, kept_among, of_natives_kept};
 
@@ -16,10 +16,10 @@ use crate::natives::family::{Family, family_of};
 use crate::natives::plain::plain_native;
 use class_world::World;
 use native_containers::native_compare::ComparedKept;
-use native_items::ItemKept;
-use native_items::native_parts::PartsKept;
-use proto_descr::native_calls::NativeKept;
-use proto_descr::native_details::DetailKept;
+use native_containers::native_items::ItemKept;
+use native_containers::native_parts::PartsKept;
+use proto_attr::native_calls::NativeKept;
+use proto_attr::native_details::DetailKept;
 use proto_ops::native_repeats::RepeatKept;
 use py_node::task::{Args, Keywords};
 use py_node::{Answer, NativeEntry, OutOfMemory, Raised, Step};
@@ -51,11 +51,11 @@ pub fn begin(
 {
     match family_of(entry) {
         Family::Items => {
-            let step = native_items::begin(world, entry, args, kw)?;
+            let step = native_containers::native_items::begin(world, entry, args, kw)?;
             Ok(of_items(step))
         }
         Family::Parts => {
-            let step = native_items::native_parts::begin(world, entry, args, kw)?;
+            let step = native_containers::native_parts::begin(world, entry, args, kw)?;
             Ok(of_parts(step))
         }
         Family::Comparisons => {
@@ -67,11 +67,11 @@ pub fn begin(
             Ok(of_repeats(step))
         }
         Family::Details => {
-            let step = proto_descr::native_details::begin(world, entry, args, kw)?;
+            let step = proto_attr::native_details::begin(world, entry, args, kw)?;
             Ok(of_details(step))
         }
         Family::Calls => {
-            let step = proto_descr::native_calls::begin(world, entry, args, kw)?;
+            let step = proto_attr::native_calls::begin(world, entry, args, kw)?;
             Ok(of_calls(step))
         }
         Family::Plain => {
@@ -94,11 +94,11 @@ pub fn resume(
 {
     match kept {
         NativesKept::ForItems(kept) => {
-            let step = native_items::resume(world, kept, answer)?;
+            let step = native_containers::native_items::resume(world, kept, answer)?;
             Ok(of_items(step))
         }
         NativesKept::ForParts(kept) => {
-            let step = native_items::native_parts::resume(world, kept, answer)?;
+            let step = native_containers::native_parts::resume(world, kept, answer)?;
             Ok(of_parts(step))
         }
         NativesKept::ForComparisons(kept) => {
@@ -110,11 +110,11 @@ pub fn resume(
             Ok(of_repeats(step))
         }
         NativesKept::ForDetails(kept) => {
-            let step = proto_descr::native_details::resume(world, kept, answer)?;
+            let step = proto_attr::native_details::resume(world, kept, answer)?;
             Ok(of_details(step))
         }
         NativesKept::ForCalls(kept) => {
-            let step = proto_descr::native_calls::resume(world, kept, answer)?;
+            let step = proto_attr::native_calls::resume(world, kept, answer)?;
             Ok(of_calls(step))
         }
     }

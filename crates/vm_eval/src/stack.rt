@@ -3,11 +3,11 @@
 ghost use Rattle.std.specs.Prelude.{◌≡◌, ◌<◌, ◌≤◌, ℕ, [], ◌∷◌, ◌++◌, IfOk, OnErr, OnOk, vec_capacity};
 ghost use Rattle.class_world.specs.Sound.{AllHold, Lasts, of_each};
 ghost use Rattle.class_world.specs.Claims.{of_task, of_protocol_task, of_ended, of_step, left_open, LeavesOpen};
-ghost use Rattle.eval_forms.specs.Rows.{of_eval_kept};
+ghost use Rattle.proto_call.specs.EvalForms.Rows.{of_eval_kept};
 ghost use Rattle.proto_attr.specs.Rows.{of_attribute_kept};
-ghost use Rattle.proto_descr.specs.Rows.{of_descriptor_kept};
+ghost use Rattle.proto_attr.specs.ProtoDescr.Rows.{of_descriptor_kept};
 ghost use Rattle.proto_call.specs.Rows.{of_call_kept, bodies_of};
-ghost use Rattle.class_make.specs.Rows.{of_class_kept};
+ghost use Rattle.proto_call.specs.ClassMake.Rows.{of_class_kept};
 ghost use Rattle.proto_ops.specs.Rows.{of_operator_kept};
 ghost use Rattle.proto_ops.specs.ProtoCompare.Rows.{of_compare_kept};
 ghost use Rattle.proto_object.specs.ProtoNumber.Rows.{of_number_kept};
@@ -21,12 +21,12 @@ ghost use Rattle.vm_eval.specs.Stack.{Answers, Reaches, Keeps, RunsAbove, AsDeep
 use crate::look_ahead;
 use crate::natives::NativesKept;
 use crate::protocols::{Branch, branch_of};
-use class_make::ClassKept;
 use class_world::World;
-use eval_forms::EvalKept;
 use proto_attr::AttributeKept;
+use proto_attr::proto_descr::DescriptorKept;
 use proto_call::CallKept;
-use proto_descr::DescriptorKept;
+use proto_call::class_make::ClassKept;
+use proto_call::eval_forms::EvalKept;
 use proto_object::ObjectKept;
 use proto_object::proto_items::ItemsKept;
 use proto_object::proto_iter::IterKept;
@@ -71,7 +71,7 @@ fn begin(world: &mut World, task: Task) -> Result<Step<Kept>, OutOfMemory>
 {
     match task {
         Task::Eval(task) => {
-            let step = eval_forms::begin(world, task)?;
+            let step = proto_call::eval_forms::begin(world, task)?;
             Ok(of_eval(step))
         }
         Task::Attribute(task) => {
@@ -79,7 +79,7 @@ fn begin(world: &mut World, task: Task) -> Result<Step<Kept>, OutOfMemory>
             Ok(of_attribute(step))
         }
         Task::Descriptor(task) => {
-            let step = proto_descr::begin(world, task)?;
+            let step = proto_attr::proto_descr::begin(world, task)?;
             Ok(of_descriptor(step))
         }
         Task::Call(task) => {
@@ -87,7 +87,7 @@ fn begin(world: &mut World, task: Task) -> Result<Step<Kept>, OutOfMemory>
             Ok(of_call(step))
         }
         Task::Class(task) => {
-            let step = class_make::begin(world, task)?;
+            let step = proto_call::class_make::begin(world, task)?;
             Ok(of_class(step))
         }
         Task::Operator(task) => {
@@ -145,7 +145,7 @@ fn resume(
 {
     match kept {
         Kept::ForEval(kept) => {
-            let step = eval_forms::resume(world, kept, answer)?;
+            let step = proto_call::eval_forms::resume(world, kept, answer)?;
             Ok(of_eval(step))
         }
         Kept::ForAttribute(kept) => {
@@ -153,7 +153,7 @@ fn resume(
             Ok(of_attribute(step))
         }
         Kept::ForDescriptor(kept) => {
-            let step = proto_descr::resume(world, kept, answer)?;
+            let step = proto_attr::proto_descr::resume(world, kept, answer)?;
             Ok(of_descriptor(step))
         }
         Kept::ForCall(kept) => {
@@ -161,7 +161,7 @@ fn resume(
             Ok(of_call(step))
         }
         Kept::ForClass(kept) => {
-            let step = class_make::resume(world, kept, answer)?;
+            let step = proto_call::class_make::resume(world, kept, answer)?;
             Ok(of_class(step))
         }
         Kept::ForOperator(kept) => {

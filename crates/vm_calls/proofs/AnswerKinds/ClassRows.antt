@@ -8,7 +8,7 @@ use Rattle.py_node.specs.declared.entry.TypeNative.{TypeNative}
 use Rattle.py_node.specs.declared.entry.TypeNative.TheVariants as type
 use Rattle.py_node.specs.declared.known.Known.TheVariants as known
 use Rattle.class_table.specs.Refused.{refused_layout}
-use Rattle.class_make.specs.Say.{one_of as one_argument, dict_of as dict_in, is_class as is_of_class, hook as class_hook, with_self as with_type, Entries, text_of, namespace, Space, completed, dicted, name_hook, bind_hook, bind_hooks, call_hook, unless_raised, call_hooks, without_metaclass, init_subclass, own_values, tell, whole_class, refusal, made_unless, with_slots, with_names, by_slots, made, with_namespace, on_layout, on_bases, winner, by_winner, classes_of, by_classes, by_bases, tuple_of, by_parts, from_three, three_of, by_one, no_class, make_class_say, type_new_of, type_new, class_in, called_with, type_call, type_by, class_job_say}
+use Rattle.proto_call.specs.ClassMake.Say.{one_of as one_argument, dict_of as dict_in, is_class as is_of_class, hook as class_hook, with_self as with_type, Entries, text_of, namespace, Space, completed, dicted, name_hook, bind_hook, bind_hooks, call_hook, unless_raised, call_hooks, without_metaclass, init_subclass, own_values, tell, whole_class, refusal, made_unless, with_slots, with_names, by_slots, made, with_namespace, on_layout, on_bases, winner, by_winner, classes_of, by_classes, by_bases, tuple_of, by_parts, from_three, three_of, by_one, no_class, make_class_say, type_new_of, type_new, class_in, called_with, type_call, type_by, class_job_say}
 use Rattle.py_node.specs.Attributes.{value_of}
 use Rattle.vm_calls.specs.AnswerKinds.Kinds as kinds
 use Rattle.vm_calls.proofs.AnswerKinds.Base.{Family, GoesOn, Kinded, ended, Says, ends, asks, at_once, stepped, goes-on, started, read_objects_once, read_names_once, on-value, on-done, started_so, either-fits}

@@ -25,10 +25,10 @@ use Rattle.vm_calls.specs.AnswerKinds.Kinds as kinds
 use Rattle.vm_calls.specs.AnswerKinds.Kinds.{Kind, kind_of_native, kind_of_descriptor, kind_of}
 use Rattle.vm_calls.proofs.AnswerKinds.Base.{So, Fits, within, wider, GoesOn, Kinded, ended, Says, ends, asks, at_once, having_read, stepped, started, passed, on-value, on-done, ended-by, whatever, started_so, either-fits, native-asked, native-given, is_given, IsGiven, given, for_given, named-row, named-end}
 use Rattle.vm_calls.proofs.AnswerKinds.Said.{either}
-use Rattle.proto_descr.specs.Say.{is_object_none, class_of_option, function_get, bound_native, object_get, class_get, static_get, native_get, getset_get, class_for, class_method_get, class_method_by, static_method_get, descr_get_by, start_with, descr_get_rest, descr_get_say, set_by_method, getset_set, descr_set_by, descr_set_say, super_get_say, super_init_rest, super_init_say, super_check_say, descriptor_say}
-use Rattle.proto_descr.specs.Members.{or_empty, read_member, member_get, takes, set_member, member_set}
-use Rattle.proto_descr.specs.Properties.{call_part, property_get, set_part, property_set}
-use Rattle.proto_descr.specs.Supers.{is_none, told_start, starting, check_class, super_check, super_get, super_bound, found_after, looked_up, super_attribute, set_super, super_started, Parts, super_parts, init_by, super_init}
+use Rattle.proto_attr.specs.ProtoDescr.Say.{is_object_none, class_of_option, function_get, bound_native, object_get, class_get, static_get, native_get, getset_get, class_for, class_method_get, class_method_by, static_method_get, descr_get_by, start_with, descr_get_rest, descr_get_say, set_by_method, getset_set, descr_set_by, descr_set_say, super_get_say, super_init_rest, super_init_say, super_check_say, descriptor_say}
+use Rattle.proto_attr.specs.ProtoDescr.Members.{or_empty, read_member, member_get, takes, set_member, member_set}
+use Rattle.proto_attr.specs.ProtoDescr.Properties.{call_part, property_get, set_part, property_set}
+use Rattle.proto_attr.specs.ProtoDescr.Supers.{is_none, told_start, starting, check_class, super_check, super_get, super_bound, found_after, looked_up, super_attribute, set_super, super_started, Parts, super_parts, init_by, super_init}
 use Rattle.plain_machine.specs.Plain.{Datum, AMethodDescriptor, AGetSet, AClassMethod, AStaticMethod, AMember, AProperty, ASuper, PlainWorld, DescriptorJob, DoDescrGet, DoDescrSet, DoSuperGet, DoSuperInit, DoSuperCheck, AsValue, AsStart, Ended, ReadObjects, Told, Said, Asks, Ends}
 use Rattle.plain_machine.specs.World.{is_text, datum_at, class_at, slot_at, bound}
 use Rattle.plain_machine.specs.Objects.{type_object, class_number, derives, is_instance, for_objects, for_classes}

@@ -24,9 +24,9 @@ use Rattle.class_model.specs.Class.{class_at as class_numbered, bases_of, lin}
 use Rattle.class_table.specs.Rebase.{refused_class, refused_rebase}
 use Rattle.row_kit.specs.OfSignatures.Signature.{signature_of}
 use Rattle.row_kit.specs.Say.{in_length}
-use Rattle.native_objects.specs.Takes.{method_in, member_in, super_in, static_in}
+use Rattle.proto_attr.specs.NativeObjects.Takes.{method_in, member_in, super_in, static_in}
 use Rattle.row_kit.specs.TakeClasses.{property_in}
-use Rattle.native_objects.specs.Descriptors.{property_part as property_with_part, method_text, member_text, callable_say, descriptor_native_say, super_text, super_say, changed, wrapper_say, placed, with_parts, without_none, may_name, with_all_parts, property_made, bare, part_set, property_say}
+use Rattle.proto_attr.specs.NativeObjects.Descriptors.{property_part as property_with_part, method_text, member_text, callable_say, descriptor_native_say, super_text, super_say, changed, wrapper_say, placed, with_parts, without_none, may_name, with_all_parts, property_made, bare, part_set, property_say}
 use Rattle.row_kit.specs.ClassNames.{text_of as name_of, given, builtins, or_nothing}
 use Rattle.py_node.specs.declared.known.Known.TheVariants as known
 use Rattle.vm_calls.specs.AnswerKinds.Kinds as kinds
@@ -36,12 +36,12 @@ use Rattle.vm_calls.proofs.AnswerKinds.Said.{either, takes-one, takes-two, takes
 use Rattle.vm_calls.proofs.AnswerKinds.Gives.{object-given, sized-given, int-given, text-given}
 use Rattle.vm_calls.proofs.AnswerKinds.Own.{there-or, takes-own, takes-lone-class, takes-one-or-two, takes-class-and-given, takes-heir}
 use Rattle.vm_calls.proofs.AnswerKinds.Objects.{dict-given}
-use Rattle.native_objects.specs.Details.{Part, NamePart, DottedPart, WholePart, ClassPart, ObjectPart, SignaturePart, LaterPart, part_of, dotted_text, whole_text, signature_given, part_given, getter_of_say}
-use Rattle.native_objects.specs.Getters.{given_or, tuple_made, or_zero, class_read, dict_or_fault, own_dict, getter_say}
-use Rattle.native_objects.specs.Setters.{unless_refused, renamed, set_annotations, classes_in, rebased, set_bases, set_class_dict, with_heap_value, set_name, set_qualname, class_written, reclassed, set_class, is_dict, redicted, set_dict, setter_say}
-use Rattle.native_objects.specs.DetailSetters.{with_doc, set_of_property, setter_of_say}
-use Rattle.native_objects.specs.Makers.{maker_say}
-use Rattle.native_objects.specs.Attributes.{class_dict, given_annotations, annotations}
+use Rattle.proto_attr.specs.NativeObjects.Details.{Part, NamePart, DottedPart, WholePart, ClassPart, ObjectPart, SignaturePart, LaterPart, part_of, dotted_text, whole_text, signature_given, part_given, getter_of_say}
+use Rattle.proto_attr.specs.NativeObjects.Getters.{given_or, tuple_made, or_zero, class_read, dict_or_fault, own_dict, getter_say}
+use Rattle.proto_attr.specs.NativeObjects.Setters.{unless_refused, renamed, set_annotations, classes_in, rebased, set_bases, set_class_dict, with_heap_value, set_name, set_qualname, class_written, reclassed, set_class, is_dict, redicted, set_dict, setter_say}
+use Rattle.proto_attr.specs.NativeObjects.DetailSetters.{with_doc, set_of_property, setter_of_say}
+use Rattle.proto_attr.specs.NativeObjects.Makers.{maker_say}
+use Rattle.proto_attr.specs.NativeObjects.Attributes.{class_dict, given_annotations, annotations}
 use Rattle.row_kit.specs.Questions.{has_null}
 use Rattle.plain_machine.specs.Plain.{Datum, ATuple, AList, ADict, AStaticMethod, AProperty, ASuper, Bindings, PlainWorld, Told, Said}
 use Rattle.plain_machine.specs.World.{ref, datum_at, class_at}

@@ -8,15 +8,15 @@ use Rattle.py_node.specs.declared.expr.Word.TheVariants as word
 use Rattle.py_node.specs.declared.expr.SequenceWord.TheVariants as sequence
 use Rattle.py_node.specs.declared.expr.ObjectWord.TheVariants as object
 use Rattle.py_node.specs.declared.task.PyNumberBinaryOp.TheVariants as op
-use Rattle.eval_forms.specs.declared.outcome.Outcome.{Outcome}
-use Rattle.eval_forms.specs.declared.outcome.Outcome.TheVariants as outcome
-use Rattle.eval_forms.specs.declared.manner.Manner.{Manner}
-use Rattle.eval_forms.specs.declared.manner.Manner.TheVariants as manner
-use Rattle.eval_forms.specs.declared.bounds.Counted.{Counted}
-use Rattle.eval_forms.specs.declared.bounds.Counted.TheVariants as counted
-use Rattle.eval_forms.specs.declared.bounds.Part.{Part}
-use Rattle.eval_forms.specs.declared.bounds.Part.TheVariants as part
-use Rattle.eval_forms.specs.Words.{is_of as same_of, on_objects as on_collected, made as made_of, asked as word_asked, one_of as lone, index_by as number_by}
+use Rattle.proto_call.specs.declared.eval_forms.outcome.Outcome.{Outcome}
+use Rattle.proto_call.specs.declared.eval_forms.outcome.Outcome.TheVariants as outcome
+use Rattle.proto_call.specs.declared.eval_forms.manner.Manner.{Manner}
+use Rattle.proto_call.specs.declared.eval_forms.manner.Manner.TheVariants as manner
+use Rattle.proto_call.specs.declared.eval_forms.bounds.Counted.{Counted}
+use Rattle.proto_call.specs.declared.eval_forms.bounds.Counted.TheVariants as counted
+use Rattle.proto_call.specs.declared.eval_forms.bounds.Part.{Part}
+use Rattle.proto_call.specs.declared.eval_forms.bounds.Part.TheVariants as part
+use Rattle.proto_call.specs.EvalForms.Words.{is_of as same_of, on_objects as on_collected, made as made_of, asked as word_asked, one_of as lone, index_by as number_by}
 use Rattle.py_node.specs.Tree.{Text, Tree, TAttr, TConst, TName, TBind, TTuple, TList, TDict, TFunc, TSetAttr, TDelAttr, TCall, TOp, TIf, TSeq, TRaise, TClass, KeyedTrees, no_keyed, Trees, Entries, Literal, LNone, LFalse, LTrue, LInt, LText, list_of, entry_trees}
 use Rattle.py_node.specs.Tree.{keyed as keyed_tree}
 use Rattle.vm_calls.specs.AnswerKinds.Kinds as kinds
@@ -24,8 +24,8 @@ use Rattle.vm_calls.specs.AnswerKinds.Kinds.{Kind, kind_of}
 use Rattle.vm_calls.proofs.AnswerKinds.Base.{So, Fits, within, Kinded, ended, Says, ends, asks, at_once, never, started, asking, finished, passed, on-value, on-truth, on-number, on-done, ended-by}
 use Rattle.vm_calls.proofs.AnswerKinds.Said.{either, takes-text}
 use Rattle.vm_calls.proofs.AnswerKinds.Guards.{guarded, make-row, limited-row}
-use Rattle.eval_forms.specs.Say.{const_say, built_in_named, named_say, name_say, bind_say, Pairs, tested, evaluate_pairs, make_dict, dict_say, change_attr, set_attr_say, del_attr_say, attr_say, entry_names, unrepeated, on_keywords, given_say, arguments_say, invoke_say, on_method, callee_say, called_say, class_by, class_within, class_say, branch_say, if_say, last_or_none, operand_trees, own_say, eval_say}
-use Rattle.eval_forms.specs.Words.{unless_exhausted, manner_of, of_one, of_two, of_three, task_for, with_index, counted_task, counted_outcome, counted_by, counted_say, part_task, part_outcome, part_stop, part_start, part_say, slice_say, set_slice_say, del_slice_say, type_of, callable_of, format_of, has_attr_of, by_manner}
+use Rattle.proto_call.specs.EvalForms.Say.{const_say, built_in_named, named_say, name_say, bind_say, Pairs, tested, evaluate_pairs, make_dict, dict_say, change_attr, set_attr_say, del_attr_say, attr_say, entry_names, unrepeated, on_keywords, given_say, arguments_say, invoke_say, on_method, callee_say, called_say, class_by, class_within, class_say, branch_say, if_say, last_or_none, operand_trees, own_say, eval_say}
+use Rattle.proto_call.specs.EvalForms.Words.{unless_exhausted, manner_of, of_one, of_two, of_three, task_for, with_index, counted_task, counted_outcome, counted_by, counted_say, part_task, part_outcome, part_stop, part_start, part_say, slice_say, set_slice_say, del_slice_say, type_of, callable_of, format_of, has_attr_of, by_manner}
 use Rattle.plain_machine.specs.Plain.{Datum, ANumber, AText, ATuple, AList, ADict, AFunction, Bindings, PlainWorld, EvalJob, DoEval, DoGetAttr, DoSetAttr, DoHasAttr, DoLoadMethod, DoInvoke, DoCall, DoIsTrue, DoIndex, DoFormat, PlainTask, ToEval, ToAttribute, ToCall, ToProtocol, ToObject, AsValue, AsObjects, AsExhausted, AsFunction, AsAttribute, Ended, Said}
 use Rattle.plain_machine.specs.World.{datum_at, number_of, slot_at, with_node, with_binding, or_else_var, variable}
 use Rattle.plain_machine.specs.Objects.{type_object}

@@ -18,12 +18,12 @@ use Rattle.py_node.specs.declared.entry.WrapperNative.TheVariants as wrapper
 use Rattle.py_node.specs.declared.entry.NativeEntry.{NativeEntry}
 use Rattle.py_node.specs.declared.entry.NativeEntry.TheVariants.{OfObject, OfType, OfInt, OfCallable, OfFixed, OfNumber, OfArithmetic, OfBits, OfStr, OfTuple, OfList, OfDict, OfDescriptor, OfProperty, OfWrapper, OfSuper, OfIterator, Compare, Getter, Setter, GetterOf, SetterOf, NewOf, NewWrapper}
 use Rattle.row_kit.specs.declared.take_containers.Kind.TheVariants as kind
-use Rattle.native_items.specs.declared.native_parts.take.Container.TheVariants as shown
-use Rattle.native_items.specs.declared.native_parts.wrapped.Wrapper.TheVariants as wraps
+use Rattle.native_containers.specs.declared.native_parts.take.Container.TheVariants as shown
+use Rattle.native_containers.specs.declared.native_parts.wrapped.Wrapper.TheVariants as wraps
 use Rattle.proto_ops.specs.declared.native_repeats.kind.Repeated.TheVariants as repeated
-use Rattle.proto_descr.specs.declared.native_calls.way.Kind.TheVariants as bound
-use Rattle.proto_descr.specs.declared.native_calls.way.Setting.TheVariants as setting
-use Rattle.proto_descr.specs.declared.native_calls.way.Wrapper.TheVariants as wrapping
+use Rattle.proto_attr.specs.declared.native_calls.way.Kind.TheVariants as bound
+use Rattle.proto_attr.specs.declared.native_calls.way.Setting.TheVariants as setting
+use Rattle.proto_attr.specs.declared.native_calls.way.Wrapper.TheVariants as wrapping
 use Rattle.vm_eval.specs.OfNatives.Say.{NativeJob, native_say, native_job_say, native_by}
 use Rattle.py_node.specs.declared.entry.StrNative.{StrNative}
 use Rattle.py_node.specs.declared.entry.TupleNative.{TupleNative}

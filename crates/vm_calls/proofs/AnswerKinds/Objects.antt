@@ -15,9 +15,9 @@ use Rattle.vm_calls.proofs.AnswerKinds.Gives.{object-given, sized-given, text-gi
 use Rattle.vm_calls.proofs.AnswerKinds.Own.{there-or, takes-class, takes-lone-class, takes-class-and}
 use Rattle.proto_call.specs.ObjectNatives.{repr_of, object_subclass_hook, object_native_say, object_text}
 use Rattle.row_kit.specs.ClassNames.{or_nothing}
-use Rattle.class_make.specs.TypeNatives.{type_native_say, keys_made, class_text}
+use Rattle.proto_call.specs.ClassMake.TypeNatives.{type_native_say, keys_made, class_text}
 use Rattle.row_kit.specs.ClassAttributes.{keyed, or_no_attributes}
-use Rattle.native_objects.specs.Attributes.{dict_made}
+use Rattle.proto_attr.specs.NativeObjects.Attributes.{dict_made}
 use Rattle.plain_machine.specs.Plain.{AList, ADict, Bindings, PlainWorld, Told}
 use Rattle.plain_machine.specs.World.{is_text, ref, datum_at, class_at}
 use Rattle.plain_machine.specs.Objects.{class_number}

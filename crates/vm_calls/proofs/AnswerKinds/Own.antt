@@ -8,8 +8,8 @@ use Rattle.vm_calls.specs.AnswerKinds.Kinds.{Kind}
 use Rattle.vm_calls.proofs.AnswerKinds.Base.{Says, ends}
 use Rattle.vm_calls.proofs.AnswerKinds.Said.{either, no-keywords, takes-one, takes-two}
 use Rattle.row_kit.specs.TakeClasses.{there_or, with_own, with_class, with_lone_class, safe_for, with_heir}
-use Rattle.class_make.specs.TypeNatives.{with_class_and}
-use Rattle.native_objects.specs.Takes.{with_one_or_two, with_class_and_given}
+use Rattle.proto_call.specs.ClassMake.TypeNatives.{with_class_and}
+use Rattle.proto_attr.specs.NativeObjects.Takes.{with_one_or_two, with_class_and_given}
 use Rattle.plain_machine.specs.Plain.{Datum, Bindings, PlainWorld, Told, Said}
 use Rattle.plain_machine.specs.World.{datum_at}
 use Rattle.plain_machine.specs.Objects.{class_number, nearest_built_in}

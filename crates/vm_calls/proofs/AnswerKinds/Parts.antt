@@ -13,8 +13,8 @@ use Rattle.py_node.specs.declared.known.Known.TheVariants as known
 use Rattle.row_kit.specs.TakeContainers.{is_of as is_container, items_at, with_own_and}
 use Rattle.row_kit.specs.declared.take_containers.Kind.{Kind as Container}
 use Rattle.row_kit.specs.declared.take_containers.Kind.TheVariants as kind
-use Rattle.native_items.specs.declared.native_parts.take.Container.{Container as Shown}
-use Rattle.native_items.specs.declared.native_parts.wrapped.Wrapper.{Wrapper}
+use Rattle.native_containers.specs.declared.native_parts.take.Container.{Container as Shown}
+use Rattle.native_containers.specs.declared.native_parts.wrapped.Wrapper.{Wrapper}
 use Rattle.native_containers.specs.declared.native_compare.way.Way.{Way}
 use Rattle.native_containers.specs.declared.native_compare.way.Way.TheVariants as way
 use Rattle.native_containers.specs.declared.native_compare.way.Turns.{Turns}
@@ -23,9 +23,9 @@ use Rattle.proto_ops.specs.declared.native_repeats.kind.Repeated.{Repeated}
 use Rattle.row_kit.specs.Say.{in_length, object_made}
 use Rattle.row_kit.specs.Repeats.{on_count, sequence_for, list_repeated}
 use Rattle.row_kit.specs.TakeClasses.{with_own, property_in, there_or}
-use Rattle.native_items.specs.NativeParts.Texts.{kind_of as shown_kind, parts_at, hash_task, repr_task, hashed_on, hash_row, tuple_hash, text_at, texts_at, container_text, text_ends, text_row, container_repr, wrapped_in, wrapper_text, wrapper_ends, wrapper_by, wrapper_repr}
+use Rattle.native_containers.specs.NativeParts.Texts.{kind_of as shown_kind, parts_at, hash_task, repr_task, hashed_on, hash_row, tuple_hash, text_at, texts_at, container_text, text_ends, text_row, container_repr, wrapped_in, wrapper_text, wrapper_ends, wrapper_by, wrapper_repr}
 use Rattle.native_containers.specs.NativeCompare.Containers.{answered as way_answered, in_turn as pairs_in_turn, asked as way_asked, ends_with, decided_or, turns_of, by_turns, items_compared, with_items, both_read, with_same, with_both, sequences_by, sequences_say, values_compared, dicts_equal, dict_compared, dicts_by, dicts_say}
-use Rattle.proto_descr.specs.NativeDetails.Say.{with_name as named_datum, or_false, abstract_of, listed, getter_at, setter_at, or_not_abstract, joined, abstract_by, is_abstract, property_abstract, name_known, kept_name, member_name, dotted, named_so, named_by, name_given, name_rest, member_qualname}
+use Rattle.proto_attr.specs.NativeDetails.Say.{with_name as named_datum, or_false, abstract_of, listed, getter_at, setter_at, or_not_abstract, joined, abstract_by, is_abstract, property_abstract, name_known, kept_name, member_name, dotted, named_so, named_by, name_given, name_rest, member_qualname}
 use Rattle.vm_calls.specs.AnswerKinds.Kinds as kinds
 use Rattle.vm_calls.specs.AnswerKinds.Kinds.{Kind, kind_of}
 use Rattle.vm_calls.proofs.AnswerKinds.Base.{Fits, within, wider, Family, GoesOn, Kinded, ended, Says, ends, asks, at_once, never, stepped, goes-on, started, asking, finished, passed, one_of, read_objects_once, on-value, on-truth, on-maybe, either-fits}
@@ -36,8 +36,8 @@ use Rattle.vm_calls.proofs.AnswerKinds.Entries.{on-objects, each-value, each-num
 use Rattle.vm_calls.proofs.AnswerKinds.Containers.{container-taken}
 use Rattle.vm_calls.proofs.AnswerKinds.Operators.{count-said, times-said, list-said, native-repeated}
 use Rattle.vm_calls.proofs.AnswerKinds.Sequences.{tested-row, one-taken}
-use Rattle.native_items.specs.NativeParts.Makers.{with_one_at_most, first, str_new_by, str_made, str_rest, str_new, tuple_new_by, tuple_rest, tuple_new, list_filled, list_init_by, list_rest, list_init}
-use Rattle.native_items.specs.NativeParts.Numbers.{int_new, int_of_class, int_made_of, int_rest, int_new_say, bool_new, bool_new_say}
+use Rattle.native_containers.specs.NativeParts.Makers.{with_one_at_most, first, str_new_by, str_made, str_rest, str_new, tuple_new_by, tuple_rest, tuple_new, list_filled, list_init_by, list_rest, list_init}
+use Rattle.native_containers.specs.NativeParts.Numbers.{int_new, int_of_class, int_made_of, int_rest, int_new_say, bool_new, bool_new_say}
 use Rattle.proto_ops.specs.NativeRepeats.Say.{entry_of, repeat_of, repeat_by_name, list_stood, repeat_stood, repeat_rest, repeat_by_kind}
 use Rattle.row_kit.specs.Asking.{as_said, argument, with_read}
 use Rattle.row_kit.specs.ProtoBase.Each.{number}

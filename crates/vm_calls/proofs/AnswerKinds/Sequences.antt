@@ -7,11 +7,11 @@ use Rattle.py_node.specs.declared.payload.SequenceIterator.{SequenceIterator}
 use Rattle.row_kit.specs.TakeContainers.{is_of as is_container, items_at, with_lone, with_own_and, with_own_and_two}
 use Rattle.row_kit.specs.declared.take_containers.Kind.{Kind as Container}
 use Rattle.row_kit.specs.declared.take_containers.Kind.TheVariants as kind
-use Rattle.native_items.specs.declared.next.Found.{Found}
-use Rattle.native_items.specs.declared.next.Found.TheVariants as seen
-use Rattle.native_items.specs.Items.{placed as at_index, answered as when_answered, at_place, stood, as_stood, is_number, item_ends, item_asked, item_got, get_item, tuple_get_item, list_get_item, chars_at, char_asked, character_at, character_made, char_rest, str_get_item, set_asked, part_set, set_rest, set_item, list_set_item, del_asked, del_rest, del_item, list_del_item, is_among, look_for, contains, list_extended, extend_rest, extend, list_extend}
-use Rattle.native_items.specs.Places.{slice_at, part, place_at, put_part}
-use Rattle.native_items.specs.Iterators.{iterator_in, found_in, next_in, next_from, next_by, is_end, next_rest, next_item, iterator_next}
+use Rattle.native_containers.specs.declared.native_items.next.Found.{Found}
+use Rattle.native_containers.specs.declared.native_items.next.Found.TheVariants as seen
+use Rattle.native_containers.specs.NativeItems.Items.{placed as at_index, answered as when_answered, at_place, stood, as_stood, is_number, item_ends, item_asked, item_got, get_item, tuple_get_item, list_get_item, chars_at, char_asked, character_at, character_made, char_rest, str_get_item, set_asked, part_set, set_rest, set_item, list_set_item, del_asked, del_rest, del_item, list_del_item, is_among, look_for, contains, list_extended, extend_rest, extend, list_extend}
+use Rattle.native_containers.specs.NativeItems.Places.{slice_at, part, place_at, put_part}
+use Rattle.native_containers.specs.NativeItems.Iterators.{iterator_in, found_in, next_in, next_from, next_by, is_end, next_rest, next_item, iterator_next}
 use Rattle.std.specs.Str.{chars}
 use Rattle.std.specs.Prelude.{slice_get, slice_set}
 use Rattle.row_kit.specs.TakeTexts.{with_text_and, with_own_text}

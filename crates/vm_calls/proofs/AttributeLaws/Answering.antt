@@ -21,7 +21,7 @@ use Rattle.plain_machine.specs.Answer.{Over, Outcome, Out, carry, step, reach, c
 use Rattle.plain_machine.proofs.Follow.{reach-is}
 use Rattle.proto_attr.specs.Say.{attribute_say, get_by}
 use Rattle.proto_attr.proofs.Winning.{class-last}
-use Rattle.proto_descr.specs.Say.{descriptor_say, descr_get_by, function_get, native_get, object_get, bound_native, class_get, static_get, class_of_option}
+use Rattle.proto_attr.specs.ProtoDescr.Say.{descriptor_say, descr_get_by, function_get, native_get, object_get, bound_native, class_get, static_get, class_of_option}
 use Rattle.row_kit.specs.Called.{call_native}
 use Rattle.proto_call.specs.Say.{call_job_say, call_by, asked_of_native}
 use Rattle.vm_calls.specs.AttributeLaws.Methods.{GoesByRows, IsUsual, method_class, method_made, ReadIsAMethod, TargetIsFirst, MethodAsksIt, NativeIsAsked}

@@ -28,7 +28,7 @@ use Rattle.plain_machine.specs.World.{ref, class_at, datum_at, slot_at}
 use Rattle.plain_machine.specs.Objects.{class_has_flag, or_false, is_fast, is_for_objects, object_for, type_object, nearest_built_in}
 use Rattle.plain_machine.specs.Known.{the_none_type, the_method, the_builtin_method}
 use Rattle.plain_machine.specs.Sound.{IsSound, home, holds_as, held_by}
-use Rattle.proto_descr.specs.Say.{is_object_none}
+use Rattle.proto_attr.specs.ProtoDescr.Say.{is_object_none}
 use Rattle.vm_calls.specs.AttributeLaws.Methods.{IsUsual, IsBuiltIn, IsKnown, IsUnmarked, method_class, method_made}
 use Rattle.vm_calls.proofs.AttributeLaws.Standing.{with_flag, node-of, class-there, some-of, own-slot, marks-methods}
 

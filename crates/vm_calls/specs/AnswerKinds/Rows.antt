@@ -5,11 +5,11 @@ use Rattle.py_node.specs.declared.entry.NativeEntry.{NativeEntry}
 use Rattle.plain_machine.specs.Plain.{PlainWorld, PlainTask, PlainAnswer, Bindings, EvalJob, AttributeJob, DescriptorJob, CallJob, ClassJob, OperatorJob, CompareJob, ProtocolJob, ObjectJob, DoIsTrue, DoIndex, DoWhole, DoLength, DoHint, DoGetIter, DoNext, DoCollect, DoContains, DoCount, DoFind, ToEval, ToAttribute, ToDescriptor, ToCall, ToClass, ToOperator, ToCompare, ToProtocol, ToObject, ToNative, Told, Saying}
 use Rattle.plain_machine.specs.Row.{Row}
 use Rattle.plain_machine.specs.Answer.{answer, Out, Over}
-use Rattle.eval_forms.specs.Say.{eval_say}
+use Rattle.proto_call.specs.EvalForms.Say.{eval_say}
 use Rattle.proto_attr.specs.Say.{attribute_say}
-use Rattle.proto_descr.specs.Say.{descriptor_say}
+use Rattle.proto_attr.specs.ProtoDescr.Say.{descriptor_say}
 use Rattle.proto_call.specs.Say.{call_job_say}
-use Rattle.class_make.specs.Say.{class_job_say}
+use Rattle.proto_call.specs.ClassMake.Say.{class_job_say}
 use Rattle.proto_ops.specs.Say.{operator_say}
 use Rattle.proto_ops.specs.ProtoCompare.Say.{compare_job_say}
 use Rattle.proto_object.specs.ProtoNumber.Say.{number_job_say}

@@ -16,7 +16,7 @@ use Rattle.plain_machine.specs.Sound.{IsSound}
 use Rattle.plain_machine.specs.Answer.{answer, Out, Over}
 use Rattle.class_world.specs.Sound.{flags_at, is_marked_heap}
 use Rattle.proto_attr.specs.Say.{attribute_say}
-use Rattle.proto_descr.specs.Say.{descriptor_say}
+use Rattle.proto_attr.specs.ProtoDescr.Say.{descriptor_say}
 use Rattle.proto_call.specs.Say.{call_job_say}
 
 -- tasks of attributes and of descriptors go by their rows

@@ -13,21 +13,21 @@ use Rattle.plain_machine.specs.Rows.{Pending, Alike, fresh, given}
 use Rattle.class_world.specs.declared.world.World.{World}
 use Rattle.class_world.specs.Reading.{Reading, Reads, bindings, plain, ended_of}
 use Rattle.class_world.specs.Rows.{EndsAs, Steps, Goes}
-use Rattle.proto_descr.specs.declared.native_calls.NativeKept.{NativeKept}
-use Rattle.proto_descr.specs.declared.native_calls.NativeKept.TheVariants as calls
-use Rattle.proto_descr.specs.declared.native_calls.way.Wrapper.TheVariants.{Class, Static}
-use Rattle.proto_descr.specs.NativeCalls.Say.{asking_job_say}
-use Rattle.proto_descr.specs.NativeCalls.Asks.{asking_stands}
-use Rattle.native_items.specs.declared.ItemKept.{ItemKept}
-use Rattle.native_items.specs.declared.ItemKept.TheVariants as items
-use Rattle.native_items.specs.Say.{item_job_say}
-use Rattle.native_items.specs.Rows.{item_stands}
-use Rattle.native_items.specs.declared.native_parts.PartsKept.{PartsKept}
-use Rattle.native_items.specs.declared.native_parts.PartsKept.TheVariants as parts
-use Rattle.native_items.specs.declared.native_parts.take.Container.TheVariants as container
-use Rattle.native_items.specs.declared.native_parts.wrapped.Wrapper.TheVariants as wrapper
-use Rattle.native_items.specs.NativeParts.Say.{parts_job_say}
-use Rattle.native_items.specs.NativeParts.Rows.{parts_stands}
+use Rattle.proto_attr.specs.declared.native_calls.NativeKept.{NativeKept}
+use Rattle.proto_attr.specs.declared.native_calls.NativeKept.TheVariants as calls
+use Rattle.proto_attr.specs.declared.native_calls.way.Wrapper.TheVariants.{Class, Static}
+use Rattle.proto_attr.specs.NativeCalls.Say.{asking_job_say}
+use Rattle.proto_attr.specs.NativeCalls.Asks.{asking_stands}
+use Rattle.native_containers.specs.declared.native_items.ItemKept.{ItemKept}
+use Rattle.native_containers.specs.declared.native_items.ItemKept.TheVariants as items
+use Rattle.native_containers.specs.NativeItems.Say.{item_job_say}
+use Rattle.native_containers.specs.NativeItems.Rows.{item_stands}
+use Rattle.native_containers.specs.declared.native_parts.PartsKept.{PartsKept}
+use Rattle.native_containers.specs.declared.native_parts.PartsKept.TheVariants as parts
+use Rattle.native_containers.specs.declared.native_parts.take.Container.TheVariants as container
+use Rattle.native_containers.specs.declared.native_parts.wrapped.Wrapper.TheVariants as wrapper
+use Rattle.native_containers.specs.NativeParts.Say.{parts_job_say}
+use Rattle.native_containers.specs.NativeParts.Rows.{parts_stands}
 use Rattle.native_containers.specs.declared.native_compare.ComparedKept.{ComparedKept}
 use Rattle.native_containers.specs.NativeCompare.Say.{compared_job_say}
 use Rattle.native_containers.specs.NativeCompare.Rows.{compared_stands}
@@ -36,10 +36,10 @@ use Rattle.proto_ops.specs.declared.native_repeats.kind.Repeated.{Repeated}
 use Rattle.proto_ops.specs.declared.native_repeats.kind.Repeated.TheVariants as repeated
 use Rattle.proto_ops.specs.NativeRepeats.Say.{entry_of, repeat_job_say}
 use Rattle.proto_ops.specs.NativeRepeats.Rows.{repeat_stands}
-use Rattle.proto_descr.specs.declared.native_details.DetailKept.{DetailKept}
-use Rattle.proto_descr.specs.declared.native_details.DetailKept.TheVariants as details
-use Rattle.proto_descr.specs.NativeDetails.Say.{detail_job_say}
-use Rattle.proto_descr.specs.NativeDetails.Rows.{detail_stands}
+use Rattle.proto_attr.specs.declared.native_details.DetailKept.{DetailKept}
+use Rattle.proto_attr.specs.declared.native_details.DetailKept.TheVariants as details
+use Rattle.proto_attr.specs.NativeDetails.Say.{detail_job_say}
+use Rattle.proto_attr.specs.NativeDetails.Rows.{detail_stands}
 use Rattle.vm_eval.specs.declared.natives.family.Family.{Family}
 use Rattle.vm_eval.specs.declared.natives.family.Family.TheVariants as family
 use Rattle.vm_eval.specs.declared.natives.NativesKept.{NativesKept}

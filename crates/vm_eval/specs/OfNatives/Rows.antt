@@ -14,12 +14,12 @@ use Rattle.class_world.specs.declared.world.World.{World}
 use Rattle.class_world.specs.Reading.{Reading, bindings, ended_of}
 use Rattle.class_world.specs.Rows.{Goes}
 use Rattle.class_world.specs.Sound.{Claim}
-use Rattle.proto_descr.specs.NativeCalls.Asks.{asking_stands, of_native_kept}
-use Rattle.native_items.specs.Rows.{item_stands, of_item_kept}
-use Rattle.native_items.specs.NativeParts.Rows.{parts_stands, of_parts_kept}
+use Rattle.proto_attr.specs.NativeCalls.Asks.{asking_stands, of_native_kept}
+use Rattle.native_containers.specs.NativeItems.Rows.{item_stands, of_item_kept}
+use Rattle.native_containers.specs.NativeParts.Rows.{parts_stands, of_parts_kept}
 use Rattle.native_containers.specs.NativeCompare.Rows.{compared_stands, of_compared_kept}
 use Rattle.proto_ops.specs.NativeRepeats.Rows.{repeat_stands, of_repeat_kept}
-use Rattle.proto_descr.specs.NativeDetails.Rows.{detail_stands, of_detail_kept}
+use Rattle.proto_attr.specs.NativeDetails.Rows.{detail_stands, of_detail_kept}
 use Rattle.vm_eval.specs.declared.natives.NativesKept.{NativesKept}
 use Rattle.vm_eval.specs.declared.natives.NativesKept.TheVariants.{ForItems, ForParts, ForComparisons, ForRepeats, ForDetails, ForCalls}
 use Rattle.vm_eval.specs.OfNatives.Say.{NativeJob, native_job_say}

@@ -4,10 +4,10 @@ ghost use Rattle.std.specs.Prelude.{◌≡◌};
 ghost use Rattle.vm_eval.specs.OfNatives.Say.{family_of};
 
 use native_containers::native_compare::compares_items;
-use native_items::asks_for_items;
-use native_items::native_parts::asks_for_parts;
-use proto_descr::native_calls::asks;
-use proto_descr::native_details::asks_for_details;
+use native_containers::native_items::asks_for_items;
+use native_containers::native_parts::asks_for_parts;
+use proto_attr::native_calls::asks;
+use proto_attr::native_details::asks_for_details;
 use proto_ops::native_repeats::repeats;
 use py_node::NativeEntry;
 

@@ -10,7 +10,7 @@ ghost use Rattle.vm_eval.specs.OfNatives.Say.{native_by};
 use class_world::World;
 use native_containers::native_texts::{compare_text, text_native};
 use native_containers::{dict_native, iterator_native, list_native, tuple_native};
-use native_objects::{
+use proto_attr::native_objects::{
     callable_native, descriptor_native, getter_native, getter_of_native, maker_native,
     property_native, setter_native, setter_of_native, super_native, wrapper_native,
 };

@@ -1,5 +1,0 @@
-pub mod Errors
-pub mod Keys
-pub mod ClassesAfter
-pub mod InOrder
-pub mod ReportText

@@ -1,0 +1,17 @@
+use Rattle.std.proofs.Common.{◌∙◌, [], ◌∷◌, ap}
+use Rattle.py_node.specs.declared.known.Known.TheVariants.{GetItem}
+use Rattle.py_node.specs.Known.{known_text}
+use Rattle.plain_machine.specs.Known.{the_int}
+use Rattle.plain_machine.specs.Plain.{DoSpecial, ToAttribute}
+use Rattle.plain_machine.specs.World.{next_node}
+use Rattle.class_world.specs.Reading.{bindings, plain}
+use Rattle.native_containers.proofs.native_items.next.ask_item.Goals as goal
+
+pub returns-clause-task : goal.returns-clause-task
+returns-clause-task c = λ t q.
+    let o = c.args.object in
+    let kw = c.new-kw.result.items in
+    ap (λ x. ToAttribute (DoSpecial o x c.in_ok-args.args.items (bindings t kw))) (c.known-name.ensures.spelled t q)
+    ∙ ap (λ rs. ToAttribute (DoSpecial o (known_text GetItem) rs (bindings t kw))) c.in_ok-args.ensures.items
+    ∙ ap (λ r. ToAttribute (DoSpecial o (known_text GetItem) (r ∷ []) (bindings t kw))) (c.in_ok-number.ensures.number t)
+    ∙ ap (λ k. ToAttribute (DoSpecial o (known_text GetItem) (next_node (plain t c.args.world.now) the_int ∷ []) (bindings t k))) c.new-kw.ensures.items

@@ -1,0 +1,16 @@
+use Rattle.std.proofs.Common.{◌≡◌, ◌∙◌, ap, sym, subst, Ok, false}
+use Rattle.std.specs.Prelude.{slice_get}
+use Rattle.py_node.specs.declared.task.Answer.TheVariants.{Truth}
+use Rattle.native_containers.specs.declared.native_items.ItemKept.TheVariants.{Searching}
+use Rattle.native_containers.specs.NativeItems.Rows.{Resumes, next_asked}
+use Rattle.native_containers.proofs.NativeItems.Searches.{search-goes}
+use Rattle.native_containers.proofs.native_items.search.searched.Goals as goal
+
+pub returns-in-Ok-Truth-false-clause-goes : goal.returns-in-Ok-Truth-false-clause-goes
+returns-in-Ok-Truth-false-clause-goes c =
+    let a = c.args in
+    let p = c.in-Ok-Truth-false in
+    let truth : p.field-0 ≡ Truth p.field-0-0 = rw p.is at p.field-0-is in
+    let none : p.field-0-0 ≡ false = sym p.field-0-0-is ∙ p.field-0-0-test in
+    let is : a.answer ≡ Ok (Truth false) = p.is ∙ ap Ok (truth ∙ ap Truth none) in
+    rw c.next_asked.ensures.step (subst (λ r. Resumes (Searching a.needle a.items a.next) r a.world.now a.world.now (next_asked a.needle a.items a.next (slice_get a.items.items a.next))) (sym is) (search-goes a.needle a.items a.next a.world.now))

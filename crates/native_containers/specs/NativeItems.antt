@@ -1,0 +1,5 @@
+pub mod Places
+pub mod Items
+pub mod Iterators
+pub mod Say
+pub mod Rows

@@ -1,6 +1,0 @@
-pub mod Places
-pub mod Items
-pub mod Iterators
-pub mod Say
-pub mod Rows
-pub mod NativeParts

@@ -1,0 +1,4 @@
+pub mod Errors
+pub mod Keys
+pub mod ClassesAfter
+pub mod InOrder

@@ -1,0 +1,6 @@
+use Rattle.std.proofs.Common.{◌≡◌, take, map}
+use Rattle.order_check.specs.ClassOrders.Shown.{shown, class_shown}
+use Rattle.order_check.proofs.class_orders.hierarchy_of.Given as goal
+
+abbrev pub invariant-loop-place : goal.invariant-loop-place
+invariant-loop-place l = map shown l.entries.items ≡ take l.place (map class_shown l.table)

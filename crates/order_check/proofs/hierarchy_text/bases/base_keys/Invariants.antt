@@ -1,0 +1,9 @@
+use Rattle.std.proofs.Common.{◌≡◌, drop}
+use Rattle.serde_json.specs.View.{items_view}
+use Rattle.script_text.proofs.JsonText.Lists.{onto}
+use Rattle.order_check.specs.HierarchyText.Items.{texts, base_keys}
+use Rattle.order_check.proofs.hierarchy_text.bases.base_keys.Given as goal
+
+abbrev pub invariant-loop-item : goal.invariant-loop-item
+invariant-loop-item l =
+    base_keys (texts l.names.keys) (items_view l.items) ≡ onto l.keys.items (base_keys (texts l.names.keys) (items_view (drop l.item-index l.items)))

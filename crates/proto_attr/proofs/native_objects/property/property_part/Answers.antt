@@ -1,0 +1,12 @@
+use Rattle.std.proofs.Common.{subst, sym, ap, ◌∙◌}
+use Rattle.class_world.specs.Sound.{AllHold, of_property}
+use Rattle.proto_attr.specs.NativeObjects.Descriptors.{part_set}
+use Rattle.proto_attr.proofs.NativeObjects.Parts.{set-holds}
+use Rattle.proto_attr.proofs.native_objects.property.property_part.Goals as goal
+
+pub make_node-requires-clause-payload : goal.make_node-requires-clause-payload
+make_node-requires-clause-payload c =
+    let w = c.args.world.now in
+    let native = c.args.native in
+    let part = c.in-Ok-two.part in
+    subst (λ p. AllHold w (of_property p)) (sym (c.with_other-parts.ensures ∙ ap (λ p. part_set native p part) c.bare.ensures)) (set-holds w native c.in-Ok.own.1 part c.in-Ok.ensures.parts (c.in-Ok-two.ensures.second w c.requires))

@@ -1,0 +1,26 @@
+use Rattle.std.proofs.Common.{ap, ◌≡◌, true, refl, sym, subst, ◌∙◌}
+use Rattle.std.specs.Prelude.{option_and_then}
+use Rattle.class_model.specs.Class.{along, is_class, lin}
+use Rattle.plain_machine.specs.World.{is_text}
+use Rattle.class_world.specs.Reading.{plain, spelled}
+use Rattle.class_world.specs.Sound.{Holds}
+use Rattle.class_world.proofs.OfClasses.{line-seen}
+use Rattle.proto_attr.specs.ProtoDescr.Supers.{after}
+use Rattle.proto_attr.proofs.ProtoDescr.Lines.{line-classes}
+use Rattle.proto_attr.proofs.proto_descr.super_get.find_after.Goals as goal
+
+pub mro-requires : goal.mro-requires
+unfolding Holds
+mro-requires c = subst (λ ks. is_class ks c.args.start.0 ≡ true) (sym c.classes.ensures.same) c.requires.0
+
+pub find_in-requires : goal.find_in-requires
+unfolding Holds
+find_in-requires c =
+    let line = ap (λ ks. lin ks c.args.start.0) (sym c.classes.ensures.same) ∙ c.mro.ensures.line in
+    line-classes c.args.world.now.classes c.args.start.0 c.mro.result.now line
+
+pub returns-clause-found : goal.returns-clause-found
+returns-clause-found c = λ t q.
+    let now = c.args.world.now in
+    let line = ap (λ ks. lin ks c.args.start.0) (sym c.classes.ensures.same) ∙ c.mro.ensures.line in
+    ap (option_and_then (λ ds. along (λ y. is_text y (spelled t c.args.name)) (plain t now).classes (after c.args.class.0 ds))) (line-seen now now refl t c.args.start.0 ∙ line) ∙ c.find_in.ensures.found t q

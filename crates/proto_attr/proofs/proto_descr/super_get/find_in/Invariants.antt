@@ -1,0 +1,11 @@
+use Rattle.std.proofs.Common.{◌≡◌, drop}
+use Rattle.class_model.specs.Class.{along}
+use Rattle.class_table.specs.Keys.{numbers}
+use Rattle.plain_machine.specs.World.{is_text}
+use Rattle.class_world.specs.Reading.{Reading, Reads, plain, spelled}
+use Rattle.proto_attr.specs.ProtoDescr.Supers.{after}
+use Rattle.proto_attr.specs.ProtoDescr.Rows.{remaining}
+use Rattle.proto_attr.proofs.proto_descr.super_get.find_in.Given as goal
+
+abbrev pub invariant-loop-member : goal.invariant-loop-member
+invariant-loop-member l = (t : Reading) → Reads t l.world → along (λ y. is_text y (spelled t l.name)) (plain t l.world).classes (remaining l.past l.class.0 (numbers (drop l.member-index l.line))) ≡ along (λ y. is_text y (spelled t l.name)) (plain t l.world).classes (after l.class.0 (numbers l.line))

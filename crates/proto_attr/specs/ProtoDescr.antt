@@ -1,0 +1,5 @@
+pub mod Members
+pub mod Properties
+pub mod Supers
+pub mod Say
+pub mod Rows

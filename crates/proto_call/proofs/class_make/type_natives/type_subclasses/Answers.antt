@@ -1,0 +1,42 @@
+use Rattle.std.proofs.Common.{sym, ap, subst, ◌∙◌}
+use Rattle.py_node.specs.BuiltIns.{place_of}
+use Rattle.py_node.specs.declared.payload.Payload.TheVariants as payload
+use Rattle.class_model.specs.Class.{subclasses}
+use Rattle.class_model.specs.Order.{Includes}
+use Rattle.class_table.specs.Keys.{numbers}
+use Rattle.plain_machine.specs.Known.{the_list}
+use Rattle.plain_machine.specs.Plain.{AList}
+use Rattle.class_world.specs.Sound.{Holds}
+use Rattle.class_world.specs.Reading.{plain, bindings, datum}
+use Rattle.row_kit.specs.Say.{sized_made}
+use Rattle.proto_call.specs.ClassMake.TypeNatives.{classes_made, type_subclasses}
+use Rattle.row_kit.proofs.ObjectsEnded.{ends-after}
+use Rattle.proto_call.proofs.ClassMake.OfTypeNatives.{subclass-there, subclasses-seen}
+use Rattle.proto_call.proofs.class_make.type_natives.type_subclasses.Goals as goal
+
+pub subclasses-requires : goal.subclasses-requires
+unfolding Holds
+subclasses-requires c = rw c.classes.ensures.same c.in-Ok.ensures.class
+
+pub class_nodes-requires : goal.class_nodes-requires
+unfolding Holds
+class_nodes-requires c = λ x i.
+    let same = rw c.classes.ensures.same at c.subclasses.ensures in
+    subclass-there c.args.world.now.classes c.in-Ok.class.0 x (subst (λ cs. Includes cs x) same i)
+
+pub returns-in-Err-clause-ends : goal.returns-in-Err-clause-ends
+returns-in-Err-clause-ends c = λ t r.
+    let u = plain t c.args.world.now in
+    (r, c.in-Err.ensures.refused t (λ k. classes_made u (subclasses u.classes k)))
+
+pub returns-in_ok-nodes-in-Ok-clause-ends : goal.returns-in_ok-nodes-in-Ok-clause-ends
+unfolding place_of
+returns-in_ok-nodes-in-Ok-clause-ends c =
+    let w = c.args.world.now in
+    let nodes = c.in_ok-nodes-in-Ok.nodes in
+    let same = rw c.classes.ensures.same at c.subclasses.ensures in
+    ends-after (λ t u. type_subclasses u c.args.args.now (bindings t c.args.kw.now)) (λ t u. sized_made u the_list (datum t (payload.List nodes))) w c.new_sized.new.world c.new_sized.result (λ t r.
+    let u = plain t w in
+    c.in-Ok.ensures.given t (λ k. classes_made u (subclasses u.classes k))
+    ∙ ap (classes_made u) (subclasses-seen t w c.in-Ok.class.0 ∙ sym same)
+    ∙ ap (λ rs. sized_made u the_list (AList rs)) (sym c.in_ok-nodes-in-Ok.ensures.items)) c.new_sized.ensures.ends

@@ -1,0 +1,27 @@
+use Rattle.std.proofs.Common.{sym, ap, ◌∙◌, rules}
+use Rattle.std.specs.Int.{w64}
+use Rattle.std.specs.Int.RustNames.{FitsSigned}
+use Rattle.std.proofs.lemmas.Int.{to_z-of_z}
+use Rattle.plain_machine.specs.Row.{pass, value}
+use Rattle.class_world.specs.Reading.{plain, ended_of}
+use Rattle.proto_call.specs.declared.eval_forms.EvalKept.TheVariants.{Stop}
+use Rattle.proto_call.specs.EvalForms.Words.{part_task, with_index}
+use Rattle.proto_call.proofs.EvalForms.Counting.{asks-then, stop-stands}
+use Rattle.proto_call.proofs.eval_forms.bounds.with_stop.Goals as goal
+
+pub returns-in-Ok-number_in-clause-goes : goal.returns-in-Ok-number_in-clause-goes
+returns-in-Ok-number_in-clause-goes c =
+    let w = c.args.world.now in
+    let p = c.args.part in
+    let o = c.args.object in
+    let i = c.args.start in
+    let s = ended_of c.args.answer in
+    let first = c.in-Ok.first in
+    let here : FitsSigned w64 c.in-Ok.first = search rules in
+    let there : FitsSigned w64 c.in-Ok-number_in.last = search rules in
+    let task = simp to_z-of_z at c.part_task.ensures.task in
+    asks-then (Stop p o i) c.args.answer w c.part_task.result c.part_outcome.result (λ t u. with_index u (value i) (λ a. with_index u s (λ b. pass u (part_task p o a b))))
+    (λ t u more. rw c.part_outcome.ensures (stop-stands t p o i u s more))
+    (λ t. c.in-Ok.ensures.given t (λ a. with_index (plain t w) s (λ b. pass (plain t w) (part_task p o a b)))
+    ∙ c.in-Ok-number_in.ensures.given t (λ b. pass (plain t w) (part_task p o first b))
+    ∙ ap (pass (plain t w)) (sym (task t)))

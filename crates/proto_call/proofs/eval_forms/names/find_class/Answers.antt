@@ -1,0 +1,13 @@
+use Rattle.std.proofs.Common.{ap, option_map, ◌∙◌}
+use Rattle.std.specs.List.{find}
+use Rattle.std.specs.Str.{bytes_eq}
+use Rattle.proto_call.specs.EvalForms.Say.{class_named}
+use Rattle.proto_call.proofs.EvalForms.Found.{find-map}
+use Rattle.proto_call.proofs.eval_forms.names.find_class.Goals as goal
+
+pub returns : goal.returns
+unfolding class_named
+returns c =
+    c.class_in.ensures
+    ∙ find-map (λ row. (row.0.now, row.1)) (λ row. bytes_eq c.args.text.now row.0) (λ row. row.1) c.all_class_names.result.now
+    ∙ ap (λ rows. option_map (λ row. row.1) (find (λ row. bytes_eq c.args.text.now row.0) rows)) c.all_class_names.ensures

@@ -1,7 +1,0 @@
-use Rattle.proto_descr.proofs.NativeCalls.Steps.{super-resumes}
-use Rattle.proto_descr.proofs.native_calls.supers.resume_super.Goals as goal
-
-pub returns-clause-goes : goal.returns-clause-goes
-returns-clause-goes c =
-    let a = c.args in
-    super-resumes a.class a.object a.answer a.world.now c.bind_super.new.world c.in_ok-ended.ended c.in_ok-ended.ensures.goes
