@@ -146,6 +146,8 @@ def with_crates(tree: Tree, text: str, moves: Moves, about: str) -> str:
     if moves.target not in {row_name(it) for it in rows}:
         first = next((number for number, it in enumerate(rows) if row_name(it).startswith(f"{moves.target}::")), len(rows))
         rows.insert(first, f"| `{moves.target}` | {about} | |")
+    if about:
+        rows = [re.sub(r"^(\| `\w+` \|)[^|]*\|", lambda found: f"{found[1]} {about} |", it) if row_name(it) == moves.target else it for it in rows]
     rows = in_order(tree, rows)
     return named(tree, text[: table.start()], moves) + table[1] + "\n".join(rows) + "\n" + named(tree, text[table.end() :], moves)
 

@@ -26,7 +26,7 @@ from tree import Tree
 
 @dataclass
 class Step:
-    """What is merged into which crate, and what that crate is then, as documents say it."""
+    """What is merged into which crate, and what that crate is then, as documents say it: up to a semicolon of the whole crate."""
 
     target: str
     sources: list[str]
@@ -41,18 +41,48 @@ class Step:
 STEPS = {
     "views": Step("vm_calls", ["slot_tables", "protocols"]),
     "laws": Step("vm_calls", ["attribute_laws", "answer_kinds"]),
-    "hierarchies": Step("order_check", ["class_orders", "hierarchy_text", "report_text"]),
+    "hierarchies": Step(
+        "order_check",
+        ["class_orders", "hierarchy_text", "report_text"],
+        "hierarchies of classes by themselves; at its root the orders of all classes, one after another or level by level in several threads, "
+        "cycles where there is none, and the test of such a report",
+    ),
     "shared": Step("shared_vm", ["shared_run", "viewed_vm"]),
     "kit": Step("row_kit", ["proto_base", "signatures"], "what rows and natives share: arguments that they take, objects that they give, what they ask"),
-    "operators": Step("proto_ops", ["proto_compare", "native_numbers", "native_repeats"], after=["kit"]),
-    "objects": Step("proto_object", ["proto_number", "proto_items", "proto_iter"], after=["kit"]),
-    "attributes": Step("proto_attr", ["proto_descr", "native_calls", "native_details", "native_objects", "native_defs", "accessors"], after=["kit"]),
-    "calls": Step("proto_call", ["eval_forms", "class_make"], after=["kit"]),
-    "containers": Step("native_containers", ["native_texts", "native_compare", "native_items", "native_parts"], after=["kit"]),
+    "operators": Step(
+        "proto_ops",
+        ["proto_compare", "native_numbers", "native_repeats"],
+        "operators, comparisons and numbers; at its root the rows of operators, and the sum of `int`",
+        ["kit"],
+    ),
+    "objects": Step(
+        "proto_object",
+        ["proto_number", "proto_items", "proto_iter"],
+        "what all objects can do; at its root the rows of hashes, texts, names of attributes, and tests of classes",
+        ["kit"],
+    ),
+    "attributes": Step(
+        "proto_attr",
+        ["proto_descr", "native_calls", "native_details", "native_objects", "native_defs", "accessors"],
+        "attributes, and what gives and takes them; at its root the rows of attributes, special methods and binding",
+        ["kit"],
+    ),
+    "calls": Step(
+        "proto_call",
+        ["eval_forms", "class_make"],
+        "how expressions and calls are evaluated, and classes made; at its root the rows of calls, bodies, making and initialising, and natives of `object`",
+        ["kit"],
+    ),
+    "containers": Step(
+        "native_containers",
+        ["native_texts", "native_compare", "native_items", "native_parts"],
+        "the natives of texts, tuples, lists, dicts and iterators; at its root those that end at once, but of texts",
+        ["kit"],
+    ),
     "natives": Step("vm_eval", ["natives"], after=["kit"]),
     "script": Step("script_text", ["json_text", "reply_text"]),
     "table": Step("class_table", ["mro_merge", "class_log"]),
-    "lines": Step("table_lines", ["call_lines", "machine_lines"]),
+    "lines": Step("table_lines", ["call_lines", "machine_lines"], "the lines of both tables of calls; at its root what they share"),
 }
 
 
@@ -103,7 +133,7 @@ def do(top: str, name: str) -> list[str]:
         docs_names.rename(tree, FIRST, step.target, step.about)
         moved = move_items.kit(Tree(top))
         tree = Tree(top)
-    moves = merge_crates.merge(tree, step.target, step.modules(), step.about[:1].upper() + step.about[1:] + ".")
+    moves = merge_crates.merge(tree, step.target, step.modules(), step.about)
     for it in merge_crates.left_over(tree, moves):
         print(f"  left: {it}")
     docs_names.follow(tree, moves, step.about)

@@ -14,6 +14,7 @@ import os
 import re
 import shutil
 import sys
+import textwrap
 
 from tree import ANTT, CODE, Moves, Tree, files, read, write
 
@@ -42,8 +43,18 @@ def rewrite(tree: Tree, moves: Moves) -> None:
             text = moves.antt(was := read(path))
             if path.endswith(CODE):
                 text = moves.code(text, entry.name, entry.below)
+                if entry.name != moves.target and entry.name not in moves.modules:
+                    text = in_comments(text, moves)
             if text != was:
                 write(path, text)
+
+
+def in_comments(text: str, moves: Moves) -> str:
+    """Comments of other crates that name a source: where it has a name that no module or call has beside it."""
+    names = "|".join(it for it in moves.modules if "_" in it)
+    if not names:
+        return text
+    return re.sub(r"(?m)^ *//.*$", lambda row: re.sub(rf"`({names})`", lambda it: f"`{moves.target}::{moves.modules[it[1]]}`", row[0]), text)
 
 
 def open_modules(text: str) -> str:
@@ -78,9 +89,9 @@ def add_lines(tree: Tree, moves: Moves, about: str) -> None:
     lib = f"{root}/src/lib.rt"
     lines = [f"pub mod {it};" for it in moves.modules.values()]
     if not os.path.isfile(lib):
-        write(lib, f"//! {about}\n#![tactic(auto)]\n\n" + "\n".join(sorted(lines)) + "\n")
+        write(lib, f"{head_of(about)}#![tactic(auto)]\n\n" + "\n".join(sorted(lines)) + "\n")
         return
-    rows = read(lib).rstrip("\n").split("\n")
+    rows = with_head(read(lib), about).rstrip("\n").split("\n")
     at = [number for number, it in enumerate(rows) if re.match(r"(pub )?mod \w+;$", it)]
     if at:
         block = sorted([*(rows[it] for it in at), *lines], key=lambda it: it.split("mod ")[1])
@@ -92,6 +103,26 @@ def add_lines(tree: Tree, moves: Moves, about: str) -> None:
                     any(re.match(r"///?(?!/|!)|pub (fn|enum|struct|type|const)|fn |enum |struct |#\[", row) for row in rows[:number])), default=-1)
         rows[head + 1:head + 1] = ["", *sorted(lines)]
     write(lib, "\n".join(rows) + "\n")
+
+
+def comment(text: str) -> str:
+    """A paragraph at the head of a file of code."""
+    return "".join(f"//! {it}\n" for it in textwrap.wrap(text, 116))
+
+
+def head_of(about: str) -> str:
+    """What a crate is, up to a semicolon, as the comment at its root."""
+    first = about.partition(";")[0]
+    return comment(f"{first[:1].upper()}{first[1:]}.")
+
+
+def with_head(text: str, about: str) -> str:
+    """The root of a crate that gets modules: what the whole crate is, and then what its root was said to be."""
+    said = re.match(r"(//! .*\n)+", text)
+    if not about or not said or text.startswith(head_of(about)):
+        return text
+    of_root = " ".join(it[4:] for it in said[0].splitlines())
+    return f"{head_of(about)}//!\n{comment(f'At the root: {of_root[:1].lower()}{of_root[1:]}')}{text[said.end():]}"
 
 
 def join_lines(tree: Tree, moves: Moves) -> None:
@@ -243,7 +274,7 @@ def main(words: list[str]) -> int:
         return 2
     tree = Tree(words[0])
     modules = {it.partition("=")[0]: it.partition("=")[2] or it for it in words[2:]}
-    moves = merge(tree, words[1], modules, "Several subjects, each a module.")
+    moves = merge(tree, words[1], modules, "" if words[1] in tree.names else "several subjects, each a module")
     for it in left_over(tree, moves):
         print(it)
     chain = tree.chain()

@@ -1,4 +1,4 @@
-//! Writes a table of calls with their values, of the world and what stands below it (`call_lines`).
+//! Writes a table of calls with their values, of the world and what stands below it (`table_lines::call_lines`).
 #![tactic(auto)]
 
 use std::io;

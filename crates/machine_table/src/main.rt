@@ -1,4 +1,4 @@
-//! Writes a table of calls with their values, of the machine (`machine_lines`) and of what the program does.
+//! Writes a table of calls with their values, of the machine (`table_lines::machine_lines`) and of what the program does.
 #![tactic(auto)]
 
 mod programs;

@@ -1,4 +1,6 @@
-//! The natives of tuples, lists, dicts and iterators that ask no task.
+//! The natives of texts, tuples, lists, dicts and iterators.
+//!
+//! At the root: the natives of tuples, lists, dicts and iterators that ask no task.
 #![tactic(auto, using(class_world::proofs::Items::item_holds))]
 
 mod dict;

@@ -1,4 +1,6 @@
-//! Orders of classes, and the cycles that stand against them.
+//! Hierarchies of classes by themselves.
+//!
+//! At the root: orders of classes, and the cycles that stand against them.
 #![tactic(auto)]
 
 pub mod accepting;

@@ -1,5 +1,6 @@
-//! The rows of attributes and special methods, each a small automaton: `begin` and
-//! `resume`.
+//! Attributes, and what gives and takes them.
+//!
+//! At the root: the rows of attributes and special methods, each a small automaton: `begin` and `resume`.
 #![tactic(auto, unfolding(crate::specs::Say::attribute_say))]
 
 ghost use Rattle.std.specs.Prelude.{◌≡◌, Some, IfOk};

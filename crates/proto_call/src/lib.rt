@@ -1,4 +1,6 @@
-//! The rows of calls, each a small automaton: `begin` and `resume`.
+//! How expressions and calls are evaluated, and classes made.
+//!
+//! At the root: the rows of calls, each a small automaton: `begin` and `resume`.
 #![tactic(auto, unfolding(crate::specs::Say::call_job_say))]
 
 ghost use Rattle.std.specs.Prelude.{IfOk};

@@ -1,5 +1,8 @@
-//! The rows of what all objects can do, each a small automaton: `begin` and `resume`. They tell an object's hash, its
-//! texts and the names of its attributes, and whether an object or a class counts as being of a class.
+//! What all objects can do.
+//!
+//! At the root: the rows of what all objects can do, each a small automaton: `begin` and `resume`. They tell an
+//! object's hash, its texts and the names of its attributes, and whether an object or a class counts as being of a
+//! class.
 #![tactic(auto, unfolding(crate::specs::Say::object_job_say))]
 
 ghost use Rattle.std.specs.Prelude.{◌≡◌, IfOk};

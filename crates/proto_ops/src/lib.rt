@@ -1,4 +1,6 @@
-//! The rows of operators, each a small automaton: `begin` and `resume`.
+//! Operators, comparisons and numbers.
+//!
+//! At the root: the rows of operators, each a small automaton: `begin` and `resume`.
 #![tactic(auto, unfolding(crate::specs::Say::operator_say))]
 
 ghost use Rattle.std.specs.Prelude.{◌≡◌, IfOk};

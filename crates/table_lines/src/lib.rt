@@ -1,4 +1,6 @@
-//! What tables of calls share: their lines, and the short lists that classes are made of.
+//! The lines of both tables of calls.
+//!
+//! At the root: what tables of calls share: their lines, and the short lists that classes are made of.
 #![tactic(auto)]
 
 pub mod call_lines;
