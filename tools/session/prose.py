@@ -37,8 +37,8 @@ SENTENCES = {
     "script": [
         (
             "docs/DECISIONS.md",
-            "and two crates above it, `script_text` and `hierarchy_text`, none of which needs a class or an object.",
-            "and by what stands on that, the rest of `script_text` and `hierarchy_text`, none of which needs a class or an object.",
+            "and two crates above it, `script_text` and `order_check::hierarchy_text`, none of which needs a class or an object.",
+            "and by what stands on that, the rest of `script_text` and `order_check::hierarchy_text`, none of which needs a class or an object.",
         ),
     ],
     "words": [
