@@ -86,14 +86,6 @@ STEPS = {
 }
 
 
-# Crates of rows and natives that are one for the kit: what only they share stays with them. Each other one is by itself.
-GROUPS = {
-    "proto_ops": ["proto_compare", "native_numbers", "native_repeats"],
-    "proto_object": ["proto_number", "proto_items", "proto_iter"],
-    "proto_descr": ["native_calls", "native_details"],
-    "native_containers": ["native_texts", "native_compare"],
-    "native_items": ["native_parts"],
-}
 # The crate that becomes the kit: its modules stand at the kit's root.
 FIRST = "native_base"
 

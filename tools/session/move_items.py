@@ -3,10 +3,10 @@
 
     move_items.py TOP        says what the step `kit` of house.py would move, and changes nothing
 
-A group is one crate or several (house.GROUPS). An item is a function, a type, a definition or a lemma. What crates of
-another group name is moved, with all that it rests on in the groups' crates: to the crate of the only group that needs it,
-or else to the kit. A proof follows its function, and each import its item; a name that is asked for from elsewhere becomes
-public. So that afterwards no group stands on another one.
+A group is one crate or several that a later step makes one (house.STEPS). An item is a function, a type, a definition or
+a lemma. What crates of another group name is moved, with all that it rests on in the groups' crates: to the only crate
+that needs it, if it has a module for that (ALONE), or else to the kit. A proof follows its function, and each import its
+item; a name that is asked for from elsewhere becomes public. So that afterwards no group stands on another one.
 """
 
 from __future__ import annotations
@@ -63,11 +63,11 @@ ALONE = {
 }
 # What new modules say of themselves, by the module's name; else it is what the files said that their items come from.
 ABOUT = {
-    "take_containers": "What natives take of tuples, lists, dicts and iterators: one of a kind, alone or with arguments.",
-    "give_containers": "New tuples and lists, a list with other items, and the keys of a dict with their values as pairs.",
+    "take_containers": "Tuples, lists, dicts and iterators: whether an object is one, and what it holds.",
+    "give_containers": "New tuples and lists, and the keys of a dict with their values as pairs.",
     "entries": "The entries of dicts, apart and again.",
-    "TakeContainers": "What natives take of tuples, lists, dicts and iterators.",
-    "GiveContainers": "New tuples and lists, a list with other items, and the keys and values of dicts.",
+    "TakeContainers": "Tuples, lists, dicts and iterators: whether an object is one, and what it holds.",
+    "GiveContainers": "New tuples and lists, and the keys and values of dicts.",
     "int_values": "Whole numbers as ints, their hashes, and the truth value that an object is.",
     "IntValues": "Whole numbers as ints, their hashes, and the truth value that an object is.",
     "class_attributes": "The names of attributes as new texts, with their values.",
@@ -80,7 +80,7 @@ ABOUT = {
     "questions": "What rows ask of one object or one text: whether it is NotImplemented, and whether it has a null.",
     "Questions": "What rows ask of one text: whether it has a null.",
     "take_texts": "What a native takes of a text: alone, or with one argument; and how many characters it has.",
-    "TakeTexts": "What a native takes of a text, and how many characters it has.",
+    "TakeTexts": "The text that an object holds.",
     "type_natives": "The natives of `type` that ask no task.",
     "TypeNatives": "The natives of `type` that ask no task.",
     "object_natives": "The natives of `object` that ask no task.",
@@ -380,13 +380,14 @@ def paths_of(head: str, word: str) -> list[tuple[str, str]]:
 
 
 def groups_of(tree: Tree) -> dict[str, str]:
-    """The groups: of each crate of rows or natives the one that its group is named by. The kit's own crates are no group."""
-    from house import FIRST, GROUPS, STEPS
+    """The groups: of each crate of rows or natives the crate that later steps make of it. The kit's own crates are no group."""
+    from house import FIRST, STEPS
 
     kit = {*STEPS["kit"].sources, KIT, FIRST}
     found = {it: it for it in tree.names if re.match(r"(proto|native)_|class_make$|eval_forms$", it) and it not in ("native_defs", *kit)}
-    for name, others in GROUPS.items():
-        found.update({it: name for it in others if it in found})
+    for name, step in STEPS.items():
+        if "kit" in step.after and name != "natives":
+            found.update({it: step.target for it in (*step.sources, step.target) if it in found})
     return found
 
 
@@ -447,13 +448,15 @@ def plan_of(tree: Tree) -> Plan:
     rests = {it: items.rests_on(it) for it in items.all()}
     users: dict[Node, set[str]] = defaultdict(set)
 
-    def spread(node: Node, group: str) -> None:
+    crates: dict[Node, set[str]] = defaultdict(set)
+
+    def spread(node: Node, by: str, users: dict[Node, set[str]] = users) -> None:
         todo = [node]
         while todo:
             it = todo.pop()
-            if group not in users[it]:
-                users[it].add(group)
-                todo += [one for one in rests.get(it, ()) if one not in users or group not in users[one]]
+            if by not in users[it]:
+                users[it].add(by)
+                todo += [one for one in rests.get(it, ()) if one not in users or by not in users[one]]
 
     # (each item is of its own group unless it is only there for another one)
     asked: dict[Node, set[str]] = defaultdict(set)
@@ -462,6 +465,7 @@ def plan_of(tree: Tree) -> Plan:
             for node in nodes:
                 if groups[node[0]] != groups[crate] and not is_answer(node[1]):
                     asked[items.first(node)].add(groups[crate])
+                    spread(items.first(node), crate, crates)
     for node, by in asked.items():
         for group in by:
             spread(node, group)
@@ -485,7 +489,8 @@ def plan_of(tree: Tree) -> Plan:
                         spread(items.first(node), groups[node[0]])
     plan = Plan(items, groups)
     for node in moving:
-        by = users[node]
+        # (of a group with several crates only one may need it)
+        by = crates[node] if len(users[node]) == 1 else users[node]
         plan.homes[node] = next(iter(by)) if len(by) == 1 else KIT
     # (a few items are no natives by themselves)
     for node, home in plan.homes.items():

@@ -1,12 +1,23 @@
 -- What is said where a list or a dict changes, by what its new contents are.
-use Rattle.std.proofs.Common.{◌≡◌, fold, Result, Ok, Err, sym, ◌∙◌}
-use Rattle.std.specs.Prelude.{IfErr}
+use Rattle.std.proofs.Common.{◌≡◌, true, false, cond, List, length, fold, Result, Ok, Err, sym, ap, ◌∙◌}
+use Rattle.std.specs.Prelude.{nat_le, IfErr}
 use Rattle.py_node.specs.declared.refs.PyObjectRef.{PyObjectRef}
+use Rattle.py_node.specs.declared.raised.Cause.TheVariants.{TooLong}
 use Rattle.plain_machine.specs.Dicts.{Entries, with_entry}
-use Rattle.plain_machine.specs.Plain.{PlainWorld, Said}
+use Rattle.plain_machine.specs.Plain.{PlainWorld, Said, Ends}
+use Rattle.plain_machine.specs.Row.{most_items, fault}
 use Rattle.row_kit.specs.declared.take_containers.Kind.TheVariants as kind
-use Rattle.native_containers.specs.Say.{dict_changed, dict_updated}
-use Rattle.row_kit.specs.TakeContainers.{entries_at, with_kind}
+use Rattle.native_containers.specs.Say.{unless_long, dict_changed, dict_updated}
+use Rattle.row_kit.specs.TakeContainers.{entries_at}
+use Rattle.native_containers.specs.Take.{with_kind}
+
+-- a container is not too long, or it is
+module _ {A : Type 0} (w : PlainWorld) (xs : List A) (go : Said) where
+  pub short : nat_le (length xs) most_items ≡ true → unless_long w xs go ≡ go
+  short h = ap (λ b. cond b go (Ends w (fault TooLong))) h
+
+  pub long : nat_le (length xs) most_items ≡ false → unless_long w xs go ≡ Ends w (fault TooLong)
+  long h = ap (λ b. cond b go (Ends w (fault TooLong))) h
 
 -- the entries of another dict, seen from a world that says the same
 pub update-says : (w u : PlainWorld) (d o : PyObjectRef) (new : Entries) (go : PlainWorld → Said) → u ≡ w → new ≡ fold (with_entry w) (entries_at w d) (entries_at w o) → ((s : Said) → with_kind kind.Dict w o s ≡ s) → dict_updated w d o go ≡ dict_changed u d new go

@@ -13,8 +13,7 @@ use Rattle.class_world.specs.Reading.{Reading, bindings}
 use Rattle.class_world.specs.Sound.{IsName, IsNode, Holds, AllHold, of_binding, of_each}
 use Rattle.class_world.proofs.Claims.{each-get}
 use Rattle.class_world.proofs.DictEntries.{get-below}
-use Rattle.row_kit.specs.GiveContainers.{ends_none}
-use Rattle.native_containers.specs.Say.{names_set}
+use Rattle.native_containers.specs.Say.{ends_none, names_set}
 use Rattle.row_kit.proofs.ContainersLoops.{next}
 
 -- a pair more

@@ -7,8 +7,7 @@ use Rattle.py_node.specs.Attributes.{value_of}
 use Rattle.plain_machine.specs.Dicts.{Entries, is_like, put_under, with_entries, with_entry, with_value_for, without_value_for}
 use Rattle.plain_machine.specs.Plain.{PlainWorld, Ends}
 use Rattle.plain_machine.specs.Row.{fault}
-use Rattle.row_kit.specs.GiveContainers.{ends_none}
-use Rattle.native_containers.specs.Say.{key_taken, value_under}
+use Rattle.native_containers.specs.Say.{ends_none, key_taken, value_under}
 use Rattle.row_kit.specs.TakeContainers.{entries_at}
 
 module _ (w : PlainWorld) (d k : PyObjectRef) where

@@ -1,4 +1,5 @@
 pub mod Take
+pub mod Asking
 pub mod Say
 pub mod NativeTexts
 pub mod NativeCompare

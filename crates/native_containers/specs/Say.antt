@@ -1,5 +1,5 @@
 -- What the natives of tuples, lists, dicts and iterators say that ask no task.
-use Rattle.std.specs.Prelude.{pos, cond, is_some, length, fold, List, [], ◌∷◌, ◌++◌, Option, Some, None}
+use Rattle.std.specs.Prelude.{pos, cond, nat_le, is_some, length, fold, List, [], ◌∷◌, ◌++◌, Option, Some, None}
 use Rattle.py_node.specs.declared.refs.PyObjectRef.{PyObjectRef}
 use Rattle.py_node.specs.declared.raised.Cause.TheVariants.{ArgCount, ConcatType, MissingKey, TooLong}
 use Rattle.py_node.specs.declared.entry.TupleNative.{TupleNative}
@@ -13,15 +13,20 @@ use Rattle.py_node.specs.declared.entry.IteratorNative.TheVariants as iterator
 use Rattle.py_node.specs.Attributes.{value_of}
 use Rattle.plain_machine.specs.Dicts.{Entries, has_place, is_like, with_entry, with_entries, with_value_in, without_value_for}
 use Rattle.plain_machine.specs.Known.{the_list}
+use Rattle.plain_machine.specs.Objects.{with_datum}
 use Rattle.plain_machine.specs.Plain.{AList, PlainWorld, Bindings, Ended, Said, Ends}
-use Rattle.plain_machine.specs.Row.{value, truth, fault, elsewhere}
+use Rattle.plain_machine.specs.Row.{value, none, truth, most_items, fault, elsewhere}
 use Rattle.plain_machine.specs.World.{datum_at, with_node, next_node}
 use Rattle.row_kit.specs.Say.{number_told, iterator_made}
 use Rattle.row_kit.specs.declared.take_containers.Kind.{Kind}
 use Rattle.row_kit.specs.declared.take_containers.Kind.TheVariants as kind
-use Rattle.row_kit.specs.TakeContainers.{is_of, items_at, entries_at, with_kind, with_own, with_lone, with_own_and, with_own_and_two}
-use Rattle.native_containers.specs.Take.{with_key, with_dict_and_key, with_default}
-use Rattle.row_kit.specs.GiveContainers.{unless_long, tuple_made, list_made, list_changed, ends_none, keys_of, values_of, pairs_made}
+use Rattle.row_kit.specs.TakeContainers.{is_of, items_at, entries_at}
+use Rattle.native_containers.specs.Take.{with_kind, with_own, with_lone, with_own_and, with_own_and_two, with_key, with_dict_and_key, with_default}
+use Rattle.row_kit.specs.GiveContainers.{tuple_made, list_made, keys_of, values_of, pairs_made}
+
+-- a container of more items than most would be too long
+abbrev pub unless_long : {A : Type 0} → PlainWorld → List A → Said → Said
+unless_long w xs go = cond (nat_le (length xs) most_items) go (Ends w (fault TooLong))
 
 -- how many there are
 abbrev pub counted : {A : Type 0} → PlainWorld → List A → Said
@@ -44,6 +49,10 @@ tuple_say w tuple.Iter args kw = with_lone kind.Tuple w args kw (iterator_made w
 tuple_say w tuple.Add args kw = with_joined kind.Tuple w args kw (tuple_made w)
 tuple_say w _ args kw = Ends w elsewhere
 
+-- a list with other items
+abbrev pub list_changed : PlainWorld → PyObjectRef → List PyObjectRef → Said
+list_changed w o rs = unless_long w rs (Ends (with_datum w o (AList rs)) (value none))
+
 abbrev pub list_say : PlainWorld → ListNative → List PyObjectRef → Bindings → Said
 list_say w list.Length args kw = with_lone kind.List w args kw (λ o. counted w (items_at w o))
 list_say w list.Iter args kw = with_lone kind.List w args kw (iterator_made w)
@@ -65,6 +74,9 @@ given_or w None other = Ends w other
 -- a dict with other entries
 abbrev pub dict_changed : PlainWorld → PyObjectRef → Entries → (PlainWorld → Said) → Said
 dict_changed w d es go = unless_long w es (go (with_entries w d es))
+
+abbrev pub ends_none : PlainWorld → Said
+ends_none w = Ends w (value none)
 
 -- the key that is there is taken out, with its value
 abbrev pub key_taken : PlainWorld → PyObjectRef → PyObjectRef → Option PyObjectRef → Said

@@ -1,13 +1,36 @@
 -- What the natives of containers take: an object of their kind, and arguments.
-use Rattle.std.specs.Prelude.{cond, is_some, ◌==◌, length, List}
+use Rattle.std.specs.Prelude.{cond, is_some, ◌==◌, length, List, [], ◌∷◌}
 use Rattle.py_node.specs.declared.refs.PyObjectRef.{PyObjectRef}
-use Rattle.py_node.specs.declared.raised.Cause.TheVariants.{KeyType}
+use Rattle.py_node.specs.declared.raised.Cause.TheVariants.{ArgCount, SelfType, KeyType}
 use Rattle.plain_machine.specs.Plain.{PlainWorld, Bindings, Said, Ends}
 use Rattle.plain_machine.specs.Row.{none, fault}
 use Rattle.plain_machine.specs.Sound.{key_at}
-use Rattle.plain_machine.specs.Takes.{with_two, with_three}
+use Rattle.plain_machine.specs.Takes.{with_one, with_two, with_three}
+use Rattle.plain_machine.specs.World.{datum_at}
+use Rattle.row_kit.specs.declared.take_containers.Kind.{Kind}
 use Rattle.row_kit.specs.declared.take_containers.Kind.TheVariants as kind
-use Rattle.row_kit.specs.TakeContainers.{with_own_and}
+use Rattle.row_kit.specs.TakeContainers.{is_of}
+
+-- an argument that must be of a kind
+abbrev pub with_kind : Kind → PlainWorld → PyObjectRef → Said → Said
+with_kind k w o go = cond (is_of k (datum_at w o)) go (Ends w (fault SelfType))
+
+-- there must be an object, and it must be of the kind
+abbrev pub with_own : Kind → PlainWorld → List PyObjectRef → (PyObjectRef → Said) → Said
+with_own k w [] go = Ends w (fault ArgCount)
+with_own k w (o ∷ args) go = with_kind k w o (go o)
+
+-- an object of the kind, alone
+abbrev pub with_lone : Kind → PlainWorld → List PyObjectRef → Bindings → (PyObjectRef → Said) → Said
+with_lone k w args kw go = with_own k w args (λ o. with_one w args kw (λ a. go o))
+
+-- an object of the kind and one argument
+abbrev pub with_own_and : Kind → PlainWorld → List PyObjectRef → Bindings → (PyObjectRef → PyObjectRef → Said) → Said
+with_own_and k w args kw go = with_own k w args (λ o. with_two w args kw (λ a b. go o b))
+
+-- an object of the kind and two arguments
+abbrev pub with_own_and_two : Kind → PlainWorld → List PyObjectRef → Bindings → (PyObjectRef → PyObjectRef → PyObjectRef → Said) → Said
+with_own_and_two k w args kw go = with_own k w args (λ o. with_three w args kw (λ a b c. go o b c))
 
 -- a key of a dict is a number or a text
 abbrev pub with_key : PlainWorld → PyObjectRef → Said → Said

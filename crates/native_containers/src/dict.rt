@@ -10,23 +10,24 @@ ghost use Rattle.class_world.specs.Claims.{of_args, of_ended};
 ghost use Rattle.class_world.specs.Reading.{Reading, bindings};
 ghost use Rattle.class_world.specs.Sound.{AllHold, AreNodes, Grows, Holding, Holds, IsNode};
 ghost use Rattle.class_world.specs.Rows.{EndsAs, LeavesEnd};
-ghost use Rattle.native_containers.specs.Say.{counted, dict_changed, dict_say, dict_updated, given_or, key_taken, list_iterated, value_under};
-ghost use Rattle.row_kit.specs.GiveContainers.{ends_none, keys_of, list_made, pairs_made, values_of};
-ghost use Rattle.row_kit.specs.TakeContainers.{entries_at, with_lone, with_own, with_own_and, with_own_and_two};
-ghost use Rattle.native_containers.specs.Take.{with_default, with_dict_and_key, with_key};
+ghost use Rattle.native_containers.specs.Say.{counted, dict_changed, dict_say, dict_updated, ends_none, given_or, key_taken, list_iterated, value_under};
+ghost use Rattle.row_kit.specs.GiveContainers.{keys_of, list_made, pairs_made, values_of};
+ghost use Rattle.row_kit.specs.TakeContainers.{entries_at};
+ghost use Rattle.native_containers.specs.Take.{with_default, with_dict_and_key, with_key, with_lone, with_own, with_own_and, with_own_and_two};
 ghost use Rattle.row_kit.specs.declared.take_containers.Kind.TheVariants as kind;
 
 use crate::init::{init, update_from};
 use crate::keys::has_room;
-use crate::take::{dict_and_key, key_refusal, with_default};
+use crate::made::ends_none;
+use crate::take::{dict_and_key, key_refusal, lone, own, own_and, own_and_two, with_default};
 use class_world::World;
 use py_node::{
     Answer, BuiltIn, Cause, DictNative, OutOfMemory, Payload, PyObjectRef, PyStrInterned, Raised,
 };
 use row_kit::entries::{keys_of, values_of};
 use row_kit::give::new_iterator;
-use row_kit::give_containers::{ends_none, new_list, new_pairs};
-use row_kit::take_containers::{Kind, entries, lone, own, own_and, own_and_two};
+use row_kit::give_containers::{new_list, new_pairs};
+use row_kit::take_containers::{Kind, entries};
 
 /// A native of dicts.
 pub fn dict_native(

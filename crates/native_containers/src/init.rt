@@ -8,16 +8,16 @@ ghost use Rattle.class_world.specs.Reading.{Reading, Reads, bindings, plain};
 ghost use Rattle.class_world.specs.Sound.{AllHold, Grows, Holding, Holds, IsName, IsNode, of_binding, of_each};
 ghost use Rattle.class_world.specs.Rows.{EndsAs, LeavesEnd};
 ghost use Rattle.native_containers.specs.Say.{dict_filled, dict_updated, names_set};
-ghost use Rattle.row_kit.specs.TakeContainers.{with_own};
+ghost use Rattle.native_containers.specs.Take.{with_own};
 ghost use Rattle.row_kit.specs.declared.take_containers.Kind.TheVariants as kind;
 
 use crate::entries::with_entries;
-use crate::made::change_dict;
+use crate::made::{change_dict, ends_none};
+use crate::take::{kind_refusal, own};
 use class_world::World;
 use class_world::limits::has_place;
 use py_node::{Answer, Cause, OutOfMemory, PyObjectRef, PyStrInterned, Raised};
-use row_kit::give_containers::ends_none;
-use row_kit::take_containers::{Kind, kind_refusal, own};
+use row_kit::take_containers::Kind;
 
 /// Sets the entries of another dict, if there is one, and then keywords, in a dict.
 pub(crate) fn init(

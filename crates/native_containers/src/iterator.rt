@@ -7,9 +7,10 @@ ghost use Rattle.class_world.specs.Sound.{AllHold, AreNodes, Holds};
 ghost use Rattle.class_world.specs.Rows.{EndsAs};
 ghost use Rattle.native_containers.specs.Say.{iterator_say};
 
+use crate::take::lone;
 use class_world::World;
 use py_node::{Answer, Cause, IteratorNative, PyObjectRef, PyStrInterned, Raised};
-use row_kit::take_containers::{Kind, lone};
+use row_kit::take_containers::Kind;
 
 /// A native of iterators.
 pub fn iterator_native(

@@ -5,17 +5,20 @@ ghost use Rattle.py_node.specs.declared.built_in.BuiltIn.TheVariants.{List};
 ghost use Rattle.class_world.specs.Reading.{Reading, bindings};
 ghost use Rattle.class_world.specs.Sound.{AreNodes, Holding, Holds, IsNode};
 ghost use Rattle.class_world.specs.Rows.{EndsAs, LeavesEnd};
-ghost use Rattle.row_kit.specs.GiveContainers.{list_changed, list_made};
-ghost use Rattle.native_containers.specs.Say.{list_say, with_joined};
-ghost use Rattle.row_kit.specs.TakeContainers.{items_at, with_own_and};
+ghost use Rattle.native_containers.specs.Say.{list_changed, list_say, with_joined};
+ghost use Rattle.row_kit.specs.GiveContainers.{list_made};
+ghost use Rattle.row_kit.specs.TakeContainers.{items_at};
+ghost use Rattle.native_containers.specs.Take.{with_own_and};
 ghost use Rattle.row_kit.specs.declared.take_containers.Kind.TheVariants as kind;
 
+use crate::made::ends_none;
 use crate::sequence::{iter, joined, length};
+use crate::take::own_and;
 use class_world::World;
 use class_world::limits::is_within_limit;
 use py_node::{Answer, Cause, ListNative, OutOfMemory, PyObjectRef, PyStrInterned, Raised};
-use row_kit::give_containers::{ends_none, new_list};
-use row_kit::take_containers::{Kind, items, own_and};
+use row_kit::give_containers::new_list;
+use row_kit::take_containers::{Kind, items};
 
 /// A native of lists.
 pub fn list_native(

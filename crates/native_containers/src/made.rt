@@ -1,16 +1,43 @@
 //! New tuples and lists, and lists and dicts that change.
 
 ghost use Rattle.std.specs.Prelude.{◌≡◌, IfErr, IfOk, Err};
-ghost use Rattle.py_node.specs.declared.built_in.BuiltIn.TheVariants.{Dict};
+ghost use Rattle.py_node.specs.declared.built_in.BuiltIn.TheVariants.{Dict, List};
 ghost use Rattle.plain_machine.specs.Plain.{PlainWorld, Said, Ends};
+ghost use Rattle.class_world.specs.Claims.{of_ended};
 ghost use Rattle.class_world.specs.Keyed.{of_keyed};
 ghost use Rattle.class_world.specs.Reading.{Reading, Reads, plain};
-ghost use Rattle.class_world.specs.Sound.{AllHold, Grows, Holding, Holds, IsNode};
-ghost use Rattle.native_containers.specs.Say.{dict_changed};
+ghost use Rattle.class_world.specs.Sound.{AllHold, AreNodes, Grows, Holding, Holds, IsNode};
+ghost use Rattle.class_world.specs.Rows.{EndsAs};
+ghost use Rattle.native_containers.specs.Say.{dict_changed, ends_none, list_changed};
 
-use class_world::World;
 use class_world::limits::is_within_limit;
-use py_node::{Cause, Payload, PyDict, PyObjectRef, Raised};
+use class_world::{Fixed, World};
+use py_node::task::Args;
+use py_node::{Answer, Cause, Payload, PyDict, PyObjectRef, Raised};
+
+/// Ends with None.
+pub fn ends_none(world: &World) -> Result<Answer, Raised>
+    ensures ends { EndsAs (λ t u. ends_none u) world.now world.now result }
+    ensures holds { AllHold world.now (of_ended result) }
+{
+    Ok(Answer::Value(world.fixed(Fixed::None)))
+}
+
+/// Gives a list other items, and ends with None, unless they are too many.
+pub fn change_list(world: &mut World, list: PyObjectRef, items: Args) -> Result<Answer, Raised>
+    requires list { Holds world.old (IsNode list) }
+    requires holding { Holds world.old (Holding list List) }
+    requires items { Holds world.old (AreNodes items.items) }
+    ensures ends { EndsAs (λ t u. list_changed u list items.items) world.old world.new result }
+    ensures grows { Grows world.old world.new }
+    ensures holds { AllHold world.new (of_ended result) }
+{
+    if !is_within_limit(items.len()) {
+        return Err(Raised::new(Cause::TooLong));
+    }
+    world.set_payload(list, Payload::List(items));
+    ends_none(world)
+}
 
 /// Gives a dict other entries, unless they are too many. Then the dict stays as it is.
 pub(crate) fn change_dict(

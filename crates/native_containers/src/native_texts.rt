@@ -7,4 +7,5 @@ pub mod take;
 mod text;
 
 pub use compare::compare_text;
+pub use of_bytes::text_length;
 pub use text::text_native;

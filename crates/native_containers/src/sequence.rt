@@ -9,14 +9,16 @@ ghost use Rattle.class_world.specs.Sound.{AllHold, AreNodes, Holds};
 ghost use Rattle.class_world.specs.Rows.{EndsAs, LeavesEnd};
 ghost use Rattle.row_kit.specs.Say.{iterator_made};
 ghost use Rattle.native_containers.specs.Say.{counted, with_joined};
-ghost use Rattle.row_kit.specs.TakeContainers.{items_at, with_lone};
+ghost use Rattle.row_kit.specs.TakeContainers.{items_at};
+ghost use Rattle.native_containers.specs.Take.{with_lone};
 
+use crate::take::{lone, own_and};
 use class_world::World;
 use class_world::limits::is_within_limit;
 use py_node::task::Args;
 use py_node::{Answer, Cause, OutOfMemory, PyObjectRef, PyStrInterned, Raised};
 use row_kit::give::new_iterator;
-use row_kit::take_containers::{Kind, is_of, items, lone, own_and};
+use row_kit::take_containers::{Kind, is_of, items};
 use std::alloc::Global;
 
 /// How many items a tuple or a list has.

@@ -5,7 +5,6 @@ pub mod ObjectsEnded
 pub mod ObjectsKeyed
 pub mod ObjectsListed
 pub mod ObjectsNamed
-pub mod ContainersChanged
 pub mod ContainersEnds
 pub mod ContainersLoops
 pub mod ContainersPayloads

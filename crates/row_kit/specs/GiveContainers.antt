@@ -1,31 +1,17 @@
--- New tuples and lists, a list with other items, and the keys and values of dicts.
-use Rattle.std.specs.Prelude.{cond, nat_le, length, map, List, [], ◌∷◌, ◌++◌}
+-- New tuples and lists, and the keys and values of dicts.
+use Rattle.std.specs.Prelude.{map, List, [], ◌∷◌, ◌++◌}
 use Rattle.py_node.specs.declared.refs.PyObjectRef.{PyObjectRef}
-use Rattle.py_node.specs.declared.raised.Cause.TheVariants.{TooLong}
 use Rattle.plain_machine.specs.Dicts.{Entries}
 use Rattle.plain_machine.specs.Known.{the_tuple, the_list}
-use Rattle.plain_machine.specs.Objects.{with_datum}
-use Rattle.plain_machine.specs.Plain.{ATuple, AList, PlainWorld, Said, Ends}
-use Rattle.plain_machine.specs.Row.{value, none, most_items, fault}
+use Rattle.plain_machine.specs.Plain.{ATuple, AList, PlainWorld, Said}
 use Rattle.plain_machine.specs.World.{with_node, next_node}
 use Rattle.row_kit.specs.Say.{object_made}
-
--- a container of more items than most would be too long
-abbrev pub unless_long : {A : Type 0} → PlainWorld → List A → Said → Said
-unless_long w xs go = cond (nat_le (length xs) most_items) go (Ends w (fault TooLong))
 
 abbrev pub tuple_made : PlainWorld → List PyObjectRef → Said
 tuple_made w rs = object_made w the_tuple (ATuple rs)
 
 abbrev pub list_made : PlainWorld → List PyObjectRef → Said
 list_made w rs = object_made w the_list (AList rs)
-
--- a list with other items
-abbrev pub list_changed : PlainWorld → PyObjectRef → List PyObjectRef → Said
-list_changed w o rs = unless_long w rs (Ends (with_datum w o (AList rs)) (value none))
-
-abbrev pub ends_none : PlainWorld → Said
-ends_none w = Ends w (value none)
 
 abbrev pub keys_of : Entries → List PyObjectRef
 keys_of es = map (λ e. e.0) es

@@ -4,10 +4,9 @@ use Rattle.py_node.specs.declared.refs.PyObjectRef.{PyObjectRef}
 use Rattle.py_node.specs.declared.built_in.BuiltIn.{BuiltIn}
 use Rattle.py_node.specs.declared.raised.Cause.TheVariants.{UnsafeNew, ArgCount, SelfType}
 use Rattle.py_node.specs.BuiltIns.{place_of}
-use Rattle.plain_machine.specs.Plain.{PlainWorld, Said, Ends, Datum, AProperty, Bindings}
+use Rattle.plain_machine.specs.Plain.{PlainWorld, Said, Ends, Datum, Bindings}
 use Rattle.plain_machine.specs.Objects.{nearest_built_in, class_number}
 use Rattle.plain_machine.specs.Row.{fault}
-use Rattle.py_node.specs.declared.payload.PyProperty.{PyProperty}
 use Rattle.py_node.specs.declared.raised.Cause.{Cause}
 use Rattle.plain_machine.specs.World.{datum_at}
 use Rattle.plain_machine.specs.Takes.{with_one}
@@ -41,8 +40,3 @@ with_heir w b args go = with_class w args (λ c. safe_for w (place_of b) (neares
 -- a class, alone
 abbrev pub with_lone_class : PlainWorld → List PyObjectRef → Bindings → (ℕ → Said) → Said
 with_lone_class w args kw go = with_class w args (λ c. with_one w args kw (λ o. go c))
-
--- the parts of a property
-abbrev pub property_in : Option Datum → Option PyProperty
-property_in (Some (AProperty p)) = Some p
-property_in _ = None

@@ -1,11 +1,10 @@
-//! New tuples and lists, a list with other items, and the keys of a dict with their values as pairs.
+//! New tuples and lists, and the keys of a dict with their values as pairs.
 
-ghost use Rattle.std.specs.Prelude.{IfOk, Err, ◌≡◌, [], ◌∷◌, OnOk};
+ghost use Rattle.std.specs.Prelude.{IfOk, ◌≡◌, [], ◌∷◌, OnOk};
 ghost use Rattle.py_node.specs.declared.built_in.BuiltIn.TheVariants.{List};
-ghost use Rattle.class_world.specs.Claims.{of_ended};
-ghost use Rattle.class_world.specs.Sound.{AllHold, AreNodes, Grows, Holding, Holds, IsNode};
+ghost use Rattle.class_world.specs.Sound.{AreNodes, Holds, Grows, IsNode};
 ghost use Rattle.class_world.specs.Rows.{EndsAs, LeavesEnd};
-ghost use Rattle.row_kit.specs.GiveContainers.{ends_none, list_changed, list_made, tuple_made, pairs_made};
+ghost use Rattle.row_kit.specs.GiveContainers.{list_made, tuple_made, pairs_made};
 ghost use Rattle.plain_machine.specs.Known.{the_tuple};
 ghost use Rattle.plain_machine.specs.Plain.{ATuple};
 ghost use Rattle.plain_machine.specs.World.{next_node, with_node};
@@ -15,19 +14,10 @@ ghost use Rattle.row_kit.specs.TakeContainers.{entries_at};
 use crate::entries::copy_entries;
 use crate::give::new_object;
 use crate::take_containers::entries;
+use class_world::World;
 use class_world::args::both;
-use class_world::limits::is_within_limit;
-use class_world::{Fixed, World};
 use py_node::task::Args;
-use py_node::{Answer, BuiltIn, Cause, OutOfMemory, Payload, PyObjectRef, Raised};
-
-/// Ends with None.
-pub fn ends_none(world: &World) -> Result<Answer, Raised>
-    ensures ends { EndsAs (λ t u. ends_none u) world.now world.now result }
-    ensures holds { AllHold world.now (of_ended result) }
-{
-    Ok(Answer::Value(world.fixed(Fixed::None)))
-}
+use py_node::{Answer, BuiltIn, OutOfMemory, Payload, PyObjectRef, Raised};
 
 /// Ends with a new tuple.
 #[tactic(auto, unfolding(py_node::specs::BuiltIns::place_of))]
@@ -47,22 +37,6 @@ pub fn new_list(world: &mut World, items: Args) -> Result<Result<Answer, Raised>
     ensures safe { LeavesEnd world.old world.new result }
 {
     new_object(world, BuiltIn::List, Payload::List(items))
-}
-
-/// Gives a list other items, and ends with None, unless they are too many.
-pub fn change_list(world: &mut World, list: PyObjectRef, items: Args) -> Result<Answer, Raised>
-    requires list { Holds world.old (IsNode list) }
-    requires holding { Holds world.old (Holding list List) }
-    requires items { Holds world.old (AreNodes items.items) }
-    ensures ends { EndsAs (λ t u. list_changed u list items.items) world.old world.new result }
-    ensures grows { Grows world.old world.new }
-    ensures holds { AllHold world.new (of_ended result) }
-{
-    if !is_within_limit(items.len()) {
-        return Err(Raised::new(Cause::TooLong));
-    }
-    world.set_payload(list, Payload::List(items));
-    ends_none(world)
 }
 
 /// A new tuple for each key of a dict with its value, and then a new list of these.

@@ -15,4 +15,3 @@ pub mod signatures;
 pub mod take;
 pub mod take_classes;
 pub mod take_containers;
-pub mod take_texts;

@@ -7,7 +7,8 @@ use Rattle.plain_machine.specs.Row.{fault}
 use Rattle.plain_machine.specs.Takes.{with_one, with_two, with_three}
 use Rattle.plain_machine.specs.World.{datum_at}
 use Rattle.row_kit.specs.declared.take_containers.Kind.{Kind}
-use Rattle.row_kit.specs.TakeContainers.{is_of, with_lone, with_own_and, with_own_and_two}
+use Rattle.row_kit.specs.TakeContainers.{is_of}
+use Rattle.native_containers.specs.Take.{with_lone, with_own_and, with_own_and_two}
 
 -- ends with what was taken
 abbrev told : PlainWorld → List PyObjectRef → Said

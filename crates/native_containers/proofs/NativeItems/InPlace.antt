@@ -11,9 +11,9 @@ use Rattle.plain_machine.specs.Row.{most_items}
 use Rattle.class_world.specs.declared.world.World.{World}
 use Rattle.class_world.specs.Reading.{Reading, Reads, plain}
 use Rattle.class_world.specs.Rows.{EndsAs}
-use Rattle.row_kit.specs.GiveContainers.{list_changed, unless_long}
+use Rattle.native_containers.specs.Say.{list_changed, unless_long}
 use Rattle.row_kit.specs.TakeContainers.{items_at}
-use Rattle.row_kit.proofs.ContainersChanged.{short}
+use Rattle.native_containers.proofs.Changed.{short}
 use Rattle.row_kit.proofs.ContainersEnds.{then-ends}
 use Rattle.native_containers.specs.NativeItems.Items.{placed}
 use Rattle.native_containers.specs.NativeItems.Places.{place_at}

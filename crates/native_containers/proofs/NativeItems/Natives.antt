@@ -3,7 +3,7 @@ use Rattle.std.proofs.Common.{◌≡◌, [], List, ap, sym}
 use Rattle.py_node.specs.declared.refs.PyObjectRef.{PyObjectRef}
 use Rattle.plain_machine.specs.Plain.{PlainWorld, Bindings, ToNative}
 use Rattle.row_kit.specs.declared.take_containers.Kind.{Kind}
-use Rattle.row_kit.specs.TakeContainers.{with_own_and}
+use Rattle.native_containers.specs.Take.{with_own_and}
 use Rattle.native_containers.specs.declared.native_items.get.Sequence.{Sequence}
 use Rattle.native_containers.specs.declared.native_items.get.Sequence.TheVariants as sequence
 use Rattle.native_containers.specs.NativeItems.Items.{get_item, look_for}

@@ -16,7 +16,7 @@ use Rattle.class_world.specs.declared.world.World.{World}
 use Rattle.class_world.specs.Reading.{Reading, Reads, bindings, plain, task_of, ended_of}
 use Rattle.class_world.specs.Rows.{EndsAs, Steps}
 use Rattle.row_kit.specs.declared.take_containers.Kind.{Kind}
-use Rattle.row_kit.specs.TakeContainers.{with_lone, with_own_and, with_own_and_two}
+use Rattle.native_containers.specs.Take.{with_lone, with_own_and, with_own_and_two}
 use Rattle.native_containers.specs.declared.native_items.ItemKept.{ItemKept}
 use Rattle.native_containers.specs.NativeItems.Rows.{Does, Enters, Resumes, item_stands}
 use Rattle.native_containers.specs.NativeItems.Say.{item_job_say}

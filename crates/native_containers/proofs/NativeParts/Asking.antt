@@ -17,7 +17,7 @@ use Rattle.plain_machine.specs.Row.{Row, end, none, noting, on_value}
 use Rattle.class_world.specs.declared.world.World.{World}
 use Rattle.class_world.specs.Reading.{Reading, bindings, plain, ended_of}
 use Rattle.class_world.specs.Rows.{EndsAs}
-use Rattle.row_kit.specs.TakeContainers.{with_lone}
+use Rattle.native_containers.specs.Take.{with_lone}
 use Rattle.row_kit.specs.Asking.{as_said}
 use Rattle.row_kit.specs.ProtoBase.Each.{each_value}
 use Rattle.native_containers.specs.declared.native_parts.PartsKept.TheVariants.{Texts}

@@ -19,7 +19,7 @@ use Rattle.plain_machine.specs.Row.{Row, end, noting, on_number}
 use Rattle.class_world.specs.declared.world.World.{World}
 use Rattle.class_world.specs.Reading.{Reading, bindings, plain, ended_of}
 use Rattle.row_kit.specs.declared.take_containers.Kind.TheVariants as kind
-use Rattle.row_kit.specs.TakeContainers.{with_lone}
+use Rattle.native_containers.specs.Take.{with_lone}
 use Rattle.row_kit.specs.IntValues.{number_hash}
 use Rattle.native_containers.specs.declared.native_parts.PartsKept.{PartsKept}
 use Rattle.native_containers.specs.declared.native_parts.PartsKept.TheVariants.{Hashes}

@@ -8,7 +8,8 @@ use Rattle.plain_machine.specs.World.{datum_at}
 use Rattle.plain_machine.specs.Row.{Row, ask, end, value, truth, not_implemented, elsewhere, on_truth, on_maybe, read_objects}
 use Rattle.row_kit.specs.declared.take_containers.Kind.{Kind}
 use Rattle.row_kit.specs.declared.take_containers.Kind.TheVariants as kind
-use Rattle.row_kit.specs.TakeContainers.{is_of, items_at, entries_at, with_own_and}
+use Rattle.row_kit.specs.TakeContainers.{is_of, items_at, entries_at}
+use Rattle.native_containers.specs.Take.{with_own_and}
 use Rattle.row_kit.specs.GiveContainers.{keys_of, values_of}
 use Rattle.native_containers.specs.Say.{value_under}
 use Rattle.native_containers.specs.declared.native_compare.way.Way.{Way}

@@ -13,12 +13,15 @@ use Rattle.row_kit.specs.Say.{text_made}
 use Rattle.row_kit.specs.declared.take_containers.Kind.{Kind}
 use Rattle.row_kit.specs.declared.take_containers.Kind.TheVariants as kind
 use Rattle.row_kit.specs.TakeContainers.{items_at}
-use Rattle.row_kit.specs.GiveContainers.{unless_long, tuple_made, list_made, list_changed}
-use Rattle.row_kit.specs.TakeTexts.{text_of, or_no_text, with_text_and}
+use Rattle.native_containers.specs.Say.{unless_long, list_changed}
+use Rattle.row_kit.specs.GiveContainers.{tuple_made, list_made}
+use Rattle.row_kit.specs.TakeTexts.{text_of}
+use Rattle.native_containers.specs.NativeTexts.Say.{or_no_text, with_text_and}
 use Rattle.row_kit.specs.ProtoBase.Each.{on_objects, any_of}
 use Rattle.row_kit.specs.ProtoBase.Entered.{is_plain}
 use Rattle.native_containers.specs.NativeItems.Places.{part, place_at, put_part, slice_at}
-use Rattle.row_kit.specs.Asking.{as_said, argument, taking_two, taking_three}
+use Rattle.row_kit.specs.Asking.{as_said, argument}
+use Rattle.native_containers.specs.Asking.{taking_two, taking_three}
 
 -- goes on with the place among so many items that an object leads to
 abbrev pub placed : PlainWorld → Option ℕ → (ℕ → Said) → Said

@@ -15,7 +15,7 @@ use Rattle.plain_machine.specs.Plain.{Datum, AnIterator, ANumber, AText, ATuple,
 use Rattle.plain_machine.specs.Row.{Row, start, pass, end, value, fault}
 use Rattle.plain_machine.specs.World.{datum_at, with_node, next_node}
 use Rattle.row_kit.specs.declared.take_containers.Kind.TheVariants as kind
-use Rattle.row_kit.specs.Asking.{taking_one}
+use Rattle.native_containers.specs.Asking.{taking_one}
 use Rattle.native_containers.specs.declared.native_items.next.Found.{Found}
 use Rattle.native_containers.specs.declared.native_items.next.Found.TheVariants.{Nothing, Item, Character, Unknown}
 

@@ -10,7 +10,7 @@ use Rattle.plain_machine.specs.Row.{Row, value, none, fault, on_value}
 use Rattle.plain_machine.specs.Takes.{without_keywords}
 use Rattle.row_kit.specs.Say.{object_made}
 use Rattle.row_kit.specs.declared.take_containers.Kind.TheVariants as kind
-use Rattle.row_kit.specs.TakeContainers.{with_own}
+use Rattle.native_containers.specs.Take.{with_own}
 use Rattle.row_kit.specs.TakeClasses.{with_heir}
 use Rattle.row_kit.specs.ProtoBase.Each.{on_objects}
 use Rattle.row_kit.specs.Asking.{argument, as_said, with_read}

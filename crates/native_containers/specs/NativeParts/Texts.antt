@@ -13,9 +13,11 @@ use Rattle.row_kit.specs.declared.take_containers.Kind.{Kind}
 use Rattle.row_kit.specs.declared.take_containers.Kind.TheVariants as kind
 use Rattle.row_kit.specs.IntValues.{number_hash}
 use Rattle.row_kit.specs.TakeClasses.{with_own}
-use Rattle.row_kit.specs.TakeTexts.{text_of, or_no_text}
+use Rattle.row_kit.specs.TakeTexts.{text_of}
+use Rattle.native_containers.specs.NativeTexts.Say.{or_no_text}
 use Rattle.row_kit.specs.ProtoBase.Each.{number, each_value, each_number}
-use Rattle.row_kit.specs.Asking.{as_said, taking_one}
+use Rattle.row_kit.specs.Asking.{as_said}
+use Rattle.native_containers.specs.Asking.{taking_one}
 use Rattle.native_containers.specs.declared.native_parts.take.Container.{Container}
 use Rattle.native_containers.specs.declared.native_parts.take.Container.TheVariants as container
 use Rattle.native_containers.specs.declared.native_parts.wrapped.Wrapper.{Wrapper}

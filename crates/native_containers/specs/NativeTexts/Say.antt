@@ -1,12 +1,12 @@
 -- What the natives of texts say that ask no task.
-use Rattle.std.specs.Prelude.{ℕ, Bool, false, cond, eqb, List, ◌++◌, Option, Some, None, Ok}
+use Rattle.std.specs.Prelude.{ℕ, Bool, false, cond, eqb, List, [], ◌∷◌, ◌++◌, Option, Some, None, Ok}
 use Rattle.std.specs.declared.cmp.Ordering.{Ordering}
 use Rattle.std.specs.Ordering.{nat_cmp, is_eq, is_ne, is_lt, is_le, is_ge, is_gt}
 use Rattle.std.specs.Cmp.Lexicographic.{slice_cmp}
 use Rattle.std.specs.Int.{w64, cast_signed}
 use Rattle.std.specs.Str.{str_to_ascii_uppercase}
 use Rattle.py_node.specs.declared.refs.PyObjectRef.{PyObjectRef}
-use Rattle.py_node.specs.declared.raised.Cause.TheVariants.{ConcatType, ContainsType}
+use Rattle.py_node.specs.declared.raised.Cause.TheVariants.{ArgCount, ConcatType, ContainsType}
 use Rattle.py_node.specs.declared.entry.CompareNative.{CompareNative}
 use Rattle.py_node.specs.declared.entry.CompareNative.TheVariants as compare
 use Rattle.py_node.specs.declared.entry.StrNative.{StrNative}
@@ -16,14 +16,28 @@ use Rattle.plain_machine.specs.Plain.{PlainWorld, Bindings, Said, Ends}
 use Rattle.plain_machine.specs.World.{class_at, datum_at}
 use Rattle.plain_machine.specs.Known.{the_str}
 use Rattle.plain_machine.specs.Row.{value, truth, not_implemented, fault, elsewhere}
-use Rattle.plain_machine.specs.Takes.{with_one}
+use Rattle.plain_machine.specs.Takes.{with_one, with_two, with_text}
 use Rattle.row_kit.specs.Say.{in_length, number_told, text_made, iterator_made}
-use Rattle.row_kit.specs.TakeTexts.{text_length, text_of, with_own_text, with_text_and}
-use Rattle.native_containers.specs.NativeTexts.Texts.{text_hash, repr_text, stands_in}
+use Rattle.native_containers.specs.NativeTexts.Texts.{text_length, text_hash, repr_text, stands_in}
+use Rattle.row_kit.specs.TakeTexts.{text_of}
+
+-- the text that is there, or an empty one
+abbrev pub or_no_text : Option Text → Text
+or_no_text None = []
+or_no_text (Some x) = x
+
+-- there must be an object, and it must hold a text
+abbrev pub with_own_text : PlainWorld → List PyObjectRef → (Text → Said) → Said
+with_own_text w [] go = Ends w (fault ArgCount)
+with_own_text w (o ∷ args) go = with_text w o go
 
 -- an object that holds a text, alone
 abbrev pub with_lone_text : PlainWorld → List PyObjectRef → Bindings → (PyObjectRef → Text → Said) → Said
 with_lone_text w args kw go = with_own_text w args (λ x. with_one w args kw (λ o. go o x))
+
+-- a text and one argument
+abbrev pub with_text_and : PlainWorld → List PyObjectRef → Bindings → (Text → PyObjectRef → Said) → Said
+with_text_and w args kw go = with_own_text w args (λ x. with_two w args kw (λ o a. go x a))
 
 -- natives of one text
 

@@ -1,8 +1,13 @@
 -- What natives make of texts.
-use Rattle.std.specs.Prelude.{ℕ, ℤ, bit_xor, ◌*◌, ◌%◌, ◌^◌, Bool, eqb, ◌==◌, ◌||◌, if◌then◌else◌, fold, [], ◌∷◌, ◌++◌}
+use Rattle.std.specs.Prelude.{ℕ, ℤ, bit_xor, ◌*◌, ◌%◌, ◌^◌, Bool, cond, eqb, ◌==◌, ◌||◌, if◌then◌else◌, length, fold, List, [], ◌∷◌, ◌++◌}
 use Rattle.std.specs.Int.{w64, cast_signed}
 use Rattle.std.specs.List.{flat_map, starts_with}
+use Rattle.std.specs.Str.{chars}
 use Rattle.py_node.specs.Tree.{Text}
+
+-- how many characters it has
+abbrev pub text_length : Text → ℕ
+text_length x = length (chars x)
 
 -- one byte more is in a hash of 64 bits
 abbrev pub hashed_on : ℕ → ℕ → ℕ

@@ -11,10 +11,11 @@ ghost use Rattle.native_containers.specs.NativeCompare.Rows.{Compares, of_compar
 
 use crate::native_compare::ComparedKept;
 use crate::native_compare::turn::compare;
+use crate::take::own_and;
 use class_world::args::copy_args;
 use class_world::{Fixed, World};
 use py_node::{Answer, CompareNative, OutOfMemory, PyObjectRef, PyStrInterned, Raised, Step};
-use row_kit::take_containers::{Kind, is_of, items, own_and};
+use row_kit::take_containers::{Kind, is_of, items};
 
 /// Two tuples or two lists are compared.
 pub(crate) fn sequences(

@@ -10,20 +10,22 @@ ghost use Rattle.class_world.specs.Rows.{EndsAs, LeavesEnd};
 ghost use Rattle.class_world.specs.Reading.{Reading, ended_of, plain};
 ghost use Rattle.class_world.specs.Sound.{AllHold, AreNodes, Holds, IsNode, of_node_ref, of_option};
 ghost use Rattle.row_kit.specs.Asking.{argument};
-ghost use Rattle.row_kit.specs.TakeTexts.{or_no_text, text_of};
+ghost use Rattle.native_containers.specs.NativeTexts.Say.{or_no_text};
+ghost use Rattle.row_kit.specs.TakeTexts.{text_of};
 ghost use Rattle.native_containers.specs.NativeItems.Items.{character_at, char_rest, chars_at};
 ghost use Rattle.native_containers.specs.NativeItems.Places.{part};
 ghost use Rattle.native_containers.specs.NativeItems.Rows.{Enters, of_item_kept};
 
 use crate::native_items::ItemKept;
 use crate::native_items::places::{bounds, place_at, slice_of};
+use crate::native_texts::take::{text_and, text_of};
+use crate::native_texts::text_length;
 use class_world::{Fixed, World};
 use py_node::protocol::ProtocolTask;
 use py_node::{
     Answer, Cause, OutOfMemory, PyObjectRef, PySlice, PyStrInterned, Raised, Step, Task,
 };
 use row_kit::give::new_text;
-use row_kit::take_texts::{text_and, text_length, text_of};
 use std::alloc::Global;
 
 /// A character, or a part, of a text as a new text.

@@ -8,22 +8,23 @@ ghost use Rattle.class_world.specs.Claims.{of_ended, Leaves};
 ghost use Rattle.class_world.specs.Reading.{ended_of};
 ghost use Rattle.class_world.specs.Rows.{EndsAs, LeavesEnd};
 ghost use Rattle.class_world.specs.Sound.{AllHold, AreNodes, Grows, Holding, Holds, IsNode};
-ghost use Rattle.row_kit.specs.GiveContainers.{list_changed};
+ghost use Rattle.native_containers.specs.Say.{list_changed};
 ghost use Rattle.row_kit.specs.TakeContainers.{items_at};
 ghost use Rattle.native_containers.specs.NativeItems.Items.{del_item, del_rest, placed};
 ghost use Rattle.native_containers.specs.NativeItems.Places.{place_at};
 ghost use Rattle.native_containers.specs.NativeItems.Rows.{Does, Enters, items_stood, of_item_kept, of_stood};
 
+use crate::made::{change_list, ends_none};
 use crate::native_items::ItemKept;
 use crate::native_items::places::{place_at, replace_part, slice_of};
 use crate::native_items::stood::stood;
+use crate::take::own_and;
 use class_world::World;
 use class_world::limits::is_within_limit;
 use py_node::protocol::ProtocolTask;
 use py_node::task::Args;
 use py_node::{Answer, Cause, OutOfMemory, PyObjectRef, PyStrInterned, Raised, Step, Task};
-use row_kit::give_containers::{change_list, ends_none};
-use row_kit::take_containers::{Kind, items, own_and};
+use row_kit::take_containers::{Kind, items};
 
 /// An item of a list is taken out, or a part of it.
 pub(crate) fn delete_item(

@@ -14,6 +14,7 @@ ghost use Rattle.native_containers.specs.NativeItems.Rows.{Does, Enters, items_s
 
 use crate::native_items::ItemKept;
 use crate::native_items::stood::stood;
+use crate::take::own_and;
 use class_world::World;
 use class_world::limits::is_within_limit;
 use py_node::protocol::ProtocolTask;
@@ -22,7 +23,7 @@ use py_node::{
     Answer, Cause, OutOfMemory, Payload, PyObjectRef, PyStrInterned, Raised, Step, Task,
 };
 use row_kit::proto_base::is_plain;
-use row_kit::take_containers::{Kind, items, own_and};
+use row_kit::take_containers::{Kind, items};
 
 /// A list gets the items of an iteration after its own, and is the answer.
 pub(crate) fn extend_list(

@@ -11,12 +11,13 @@ ghost use Rattle.native_containers.specs.NativeItems.Rows.{Does, Enters, getter_
 use crate::native_items::ItemKept;
 use crate::native_items::places::{part, place_at, slice_of};
 use crate::native_items::stood::{standing, stood};
+use crate::take::own_and;
 use class_world::World;
 use py_node::protocol::ProtocolTask;
 use py_node::task::Args;
 use py_node::{Answer, Cause, OutOfMemory, PyObjectRef, PyStrInterned, Raised, Step, Task};
 use row_kit::give_containers::{new_list, new_tuple};
-use row_kit::take_containers::{Kind, items, own_and};
+use row_kit::take_containers::{Kind, items};
 
 /// What has its items by their places.
 #[derive(Clone, Copy)]

@@ -19,13 +19,14 @@ ghost use Rattle.native_containers.specs.NativeItems.Iterators.{found_in, is_end
 ghost use Rattle.native_containers.specs.NativeItems.Rows.{Does, Enters, of_found, of_item_kept};
 
 use crate::native_items::ItemKept;
+use crate::take::lone;
 use class_world::World;
 use class_world::args::alone;
 use py_node::{
     Answer, AttributeTask, BuiltIn, Cause, Kind as FaultKind, Known, OutOfMemory, Payload,
     PyObjectRef, PyStrInterned, Raised, SequenceIterator, Step, Task,
 };
-use row_kit::take_containers::{Kind, lone};
+use row_kit::take_containers::Kind;
 
 /// What an object has at a place: an item, a character, or nothing; or it must be asked.
 #[derive(Clone, Copy)]

@@ -5,15 +5,15 @@ ghost use Rattle.py_node.specs.declared.built_in.BuiltIn.TheVariants.{List};
 ghost use Rattle.class_world.specs.Reading.{Reading, plain};
 ghost use Rattle.class_world.specs.Rows.{EndsAs, LeavesEnd};
 ghost use Rattle.class_world.specs.Sound.{AllHold, AreNodes, Holding, Holds, IsNode, of_node_ref, of_option};
-ghost use Rattle.row_kit.specs.GiveContainers.{list_changed};
+ghost use Rattle.native_containers.specs.Say.{list_changed};
 ghost use Rattle.row_kit.specs.TakeContainers.{items_at};
 ghost use Rattle.native_containers.specs.NativeItems.Places.{bound_at, bound_of, part, place_at, place_of, put_between, put_part, slice_at};
 
+use crate::made::ends_none;
 use class_world::World;
 use class_world::limits::is_within_limit;
 use py_node::task::Args;
 use py_node::{Answer, Cause, OutOfMemory, Payload, PyObjectRef, PySlice, Raised};
-use row_kit::give_containers::ends_none;
 use row_kit::take_containers::items;
 use std::alloc::Global;
 

@@ -9,11 +9,12 @@ ghost use Rattle.native_containers.specs.NativeItems.Rows.{Does, Enters, Resumes
 
 use crate::native_items::ItemKept;
 use crate::native_items::get::{Sequence, kind_of};
+use crate::take::own_and;
 use class_world::World;
 use class_world::args::copy_args;
 use py_node::task::Args;
 use py_node::{Answer, CompareTask, OutOfMemory, PyObjectRef, PyStrInterned, Raised, Step, Task};
-use row_kit::take_containers::{items, own_and};
+use row_kit::take_containers::items;
 
 /// Whether an item is an object, or equal to it.
 pub(crate) fn contains(

@@ -8,7 +8,8 @@ ghost use Rattle.py_node.specs.declared.refs.PyObjectRef.{PyObjectRef as Object}
 ghost use Rattle.class_world.specs.Held.{Held};
 ghost use Rattle.class_world.specs.Reading.{Reading, bindings, plain};
 ghost use Rattle.class_world.specs.Sound.{AreNodes, Holding, Holds, IsNode};
-ghost use Rattle.row_kit.specs.TakeContainers.{is_of, with_lone, with_own};
+ghost use Rattle.row_kit.specs.TakeContainers.{is_of};
+ghost use Rattle.native_containers.specs.Take.{with_lone, with_own};
 ghost use Rattle.row_kit.specs.declared.take_containers.Kind.TheVariants as kind;
 ghost use Rattle.native_containers.specs.NativeParts.Makers.{with_one_at_most};
 ghost use Rattle.native_containers.specs.NativeParts.Rows.{chosen};

@@ -7,9 +7,9 @@ ghost use Rattle.class_world.specs.Sound.{AllHold, AreNodes, Holds};
 ghost use Rattle.class_world.specs.Rows.{EndsAs};
 ghost use Rattle.native_containers.specs.NativeTexts.Say.{compare_text_say, order_by};
 
+use crate::native_texts::take::{text_and, text_of};
 use class_world::{Fixed, World};
 use py_node::{Answer, Cause, CompareNative, PyObjectRef, PyStrInterned, Raised};
-use row_kit::take_texts::{text_and, text_of};
 use std::cmp::Ordering;
 
 /// A comparison of texts, by name. Where the other object holds none, it answers NotImplemented.

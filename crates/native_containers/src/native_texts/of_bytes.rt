@@ -2,10 +2,17 @@
 
 ghost use Rattle.std.specs.Prelude.{◌≡◌, ◌++◌, OnOk, IfOk, string_bytes};
 ghost use Rattle.std.specs.Str.{IsUtf8};
-ghost use Rattle.native_containers.specs.NativeTexts.Texts.{hash_of, text_hash, repr_byte, repr_text, stands_in};
+ghost use Rattle.native_containers.specs.NativeTexts.Texts.{text_length, hash_of, text_hash, repr_byte, repr_text, stands_in};
 
 use py_node::OutOfMemory;
 use std::alloc::Global;
+
+/// How many characters a text has.
+pub fn text_length(text: &str) -> usize
+    ensures { result ≡ text_length text.now }
+{
+    text.chars().count()
+}
 
 /// The hash of a text.
 pub(crate) fn text_hash(text: &str) -> i64

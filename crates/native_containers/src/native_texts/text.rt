@@ -8,13 +8,12 @@ ghost use Rattle.class_world.specs.Rows.{EndsAs, LeavesEnd};
 ghost use Rattle.plain_machine.specs.World.{class_at};
 ghost use Rattle.native_containers.specs.NativeTexts.Say.{is_str, str_add, str_contains, str_hash, str_iter, str_len, str_repr, str_str, str_upper, text_say};
 
-use crate::native_texts::of_bytes::{repr_text, stands_in, text_hash};
-use crate::native_texts::take::lone_text;
+use crate::native_texts::of_bytes::{repr_text, stands_in, text_hash, text_length};
+use crate::native_texts::take::{lone_text, text_and, text_of};
 use class_world::World;
 use py_node::{Answer, BuiltIn, Cause, OutOfMemory, PyObjectRef, PyStrInterned, Raised, StrNative};
 use row_kit::class_names::limited_text;
 use row_kit::give::{new_iterator, new_text};
-use row_kit::take_texts::{text_and, text_length, text_of};
 
 /// A native of texts. Those that ask a task are not done here.
 pub fn text_native(

@@ -18,7 +18,8 @@ use Rattle.plain_machine.specs.Takes.{with_one}
 use Rattle.plain_machine.specs.World.{datum_at}
 use Rattle.row_kit.specs.Say.{in_length, text_made}
 use Rattle.row_kit.specs.Asking.{argument, tested_first, with_read}
-use Rattle.row_kit.specs.TakeClasses.{property_in, with_own}
+use Rattle.proto_attr.specs.NativeObjects.Takes.{property_in}
+use Rattle.row_kit.specs.TakeClasses.{with_own}
 
 -- whether a native is one of these
 abbrev pub asks_for_details : NativeEntry → Bool

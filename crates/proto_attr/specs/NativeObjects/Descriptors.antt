@@ -22,8 +22,8 @@ use Rattle.plain_machine.specs.ClassText.{name_at}
 use Rattle.plain_machine.specs.Row.{value, none, fault, elsewhere}
 use Rattle.plain_machine.specs.Takes.{with_one, with_two, with_three, without_keywords}
 use Rattle.row_kit.specs.Say.{in_length, object_made, text_made}
-use Rattle.row_kit.specs.TakeClasses.{with_own, property_in}
-use Rattle.proto_attr.specs.NativeObjects.Takes.{method_in, member_in, static_in, super_in}
+use Rattle.row_kit.specs.TakeClasses.{with_own}
+use Rattle.proto_attr.specs.NativeObjects.Takes.{method_in, member_in, property_in, static_in, super_in}
 
 -- texts of what a class has
 

@@ -10,8 +10,8 @@ use Rattle.plain_machine.specs.Plain.{AProperty, PlainWorld, Bindings, Said, End
 use Rattle.plain_machine.specs.Objects.{with_datum}
 use Rattle.plain_machine.specs.Row.{value, none, elsewhere}
 use Rattle.proto_attr.specs.NativeObjects.Setters.{with_given}
-use Rattle.row_kit.specs.TakeClasses.{property_in, with_own}
-use Rattle.proto_attr.specs.NativeObjects.Takes.{with_one_or_two}
+use Rattle.proto_attr.specs.NativeObjects.Takes.{property_in, with_one_or_two}
+use Rattle.row_kit.specs.TakeClasses.{with_own}
 
 -- a property gets another text for readers, which may be any object
 abbrev pub with_doc : PlainWorld → PyObjectRef → PyProperty → PyObjectRef → Said

@@ -1,9 +1,10 @@
 -- What the natives of objects, classes and descriptors take.
 use Rattle.std.specs.Prelude.{ℕ, List, [], ◌∷◌, Option, Some, None}
 use Rattle.py_node.specs.declared.refs.PyObjectRef.{PyObjectRef}
+use Rattle.py_node.specs.declared.payload.PyProperty.{PyProperty}
 use Rattle.py_node.specs.declared.raised.Cause.TheVariants.{ArgCount}
 use Rattle.py_node.specs.Tree.{Text}
-use Rattle.plain_machine.specs.Plain.{Datum, AMember, AMethodDescriptor, AStaticMethod, ASuper, PlainWorld, Bindings, Said, Ends}
+use Rattle.plain_machine.specs.Plain.{Datum, AMember, AMethodDescriptor, AProperty, AStaticMethod, ASuper, PlainWorld, Bindings, Said, Ends}
 use Rattle.plain_machine.specs.Row.{fault}
 use Rattle.plain_machine.specs.Takes.{without_keywords}
 use Rattle.row_kit.specs.TakeClasses.{with_class}
@@ -27,6 +28,11 @@ method_in _ = None
 abbrev pub member_in : Option Datum → Option (ℕ × Text)
 member_in (Some (AMember c x kind get set qualname doc)) = Some (c, x)
 member_in _ = None
+
+-- the parts of a property
+abbrev pub property_in : Option Datum → Option PyProperty
+property_in (Some (AProperty p)) = Some p
+property_in _ = None
 
 -- the callable that a static method wraps
 abbrev pub static_in : Option Datum → Option PyObjectRef

@@ -9,8 +9,8 @@ ghost use Rattle.py_node.specs.declared.refs.PyObjectRef.{PyObjectRef as Object}
 ghost use Rattle.class_world.specs.Held.{Held};
 ghost use Rattle.class_world.specs.Reading.{Reading, bindings, plain, spelled};
 ghost use Rattle.class_world.specs.Sound.{AllHold, AreNodes, Holding, Holds, IsClass, IsName, IsNode, of_option, of_property, of_start};
-ghost use Rattle.proto_attr.specs.NativeObjects.Takes.{with_class_and_given, with_one_or_two, method_in, member_in, static_in, super_in};
-ghost use Rattle.row_kit.specs.TakeClasses.{with_own, property_in};
+ghost use Rattle.proto_attr.specs.NativeObjects.Takes.{with_class_and_given, with_one_or_two, method_in, member_in, property_in, static_in, super_in};
+ghost use Rattle.row_kit.specs.TakeClasses.{with_own};
 
 use class_world::World;
 use class_world::takes::{one, two};

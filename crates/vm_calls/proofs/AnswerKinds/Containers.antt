@@ -13,15 +13,15 @@ use Rattle.py_node.specs.declared.entry.IteratorNative.TheVariants as iterator
 use Rattle.py_node.specs.declared.entry.NativeEntry.TheVariants.{OfTuple, OfList, OfDict}
 use Rattle.row_kit.specs.declared.take_containers.Kind.{Kind as Container}
 use Rattle.row_kit.specs.declared.take_containers.Kind.TheVariants as kind
-use Rattle.native_containers.specs.Say.{given_or as value_or, with_like, with_joined, tuple_say, list_say, value_under, dict_changed, key_taken, dict_updated, names_set, dict_filled, dict_say, iterator_say}
-use Rattle.row_kit.specs.TakeContainers.{with_own as with_container, is_of as is_container, items_at, entries_at, with_kind, with_lone, with_own_and, with_own_and_two}
+use Rattle.native_containers.specs.Say.{given_or as value_or, unless_long, with_like, with_joined, tuple_say, list_changed, list_say, value_under, dict_changed, ends_none, key_taken, dict_updated, names_set, dict_filled, dict_say, iterator_say}
+use Rattle.native_containers.specs.Take.{with_own as with_container, with_kind, with_lone, with_own_and, with_own_and_two, with_key, with_dict_and_key, with_default}
+use Rattle.row_kit.specs.TakeContainers.{is_of as is_container, items_at, entries_at}
 use Rattle.vm_calls.specs.AnswerKinds.Kinds as kinds
 use Rattle.vm_calls.specs.AnswerKinds.Kinds.{Kind, kind_of_native}
 use Rattle.vm_calls.proofs.AnswerKinds.Base.{Fits, Says, ends}
 use Rattle.vm_calls.proofs.AnswerKinds.Said.{either, takes-one, takes-two, takes-three}
 use Rattle.vm_calls.proofs.AnswerKinds.Gives.{object-given, iterator-given}
-use Rattle.row_kit.specs.GiveContainers.{unless_long, list_changed, ends_none, keys_of, values_of, pairs_made}
-use Rattle.native_containers.specs.Take.{with_key, with_dict_and_key, with_default}
+use Rattle.row_kit.specs.GiveContainers.{keys_of, values_of, pairs_made}
 use Rattle.plain_machine.specs.Plain.{ATuple, AList, Bindings, PlainWorld, Ended, Told, Said}
 use Rattle.plain_machine.specs.World.{datum_at, with_node, next_node}
 use Rattle.plain_machine.specs.Known.{the_tuple, the_list}

@@ -24,8 +24,7 @@ use Rattle.class_model.specs.Class.{class_at as class_numbered, bases_of, lin}
 use Rattle.class_table.specs.Rebase.{refused_class, refused_rebase}
 use Rattle.row_kit.specs.OfSignatures.Signature.{signature_of}
 use Rattle.row_kit.specs.Say.{in_length}
-use Rattle.proto_attr.specs.NativeObjects.Takes.{method_in, member_in, super_in, static_in}
-use Rattle.row_kit.specs.TakeClasses.{property_in}
+use Rattle.proto_attr.specs.NativeObjects.Takes.{method_in, member_in, super_in, static_in, property_in}
 use Rattle.proto_attr.specs.NativeObjects.Descriptors.{property_part as property_with_part, method_text, member_text, callable_say, descriptor_native_say, super_text, super_say, changed, wrapper_say, placed, with_parts, without_none, may_name, with_all_parts, property_made, bare, part_set, property_say}
 use Rattle.row_kit.specs.ClassNames.{text_of as name_of, given, builtins, or_nothing}
 use Rattle.py_node.specs.declared.known.Known.TheVariants as known

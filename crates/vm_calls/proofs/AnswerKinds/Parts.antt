@@ -10,7 +10,7 @@ use Rattle.py_node.specs.declared.entry.CompareNative.{CompareNative}
 use Rattle.py_node.specs.declared.entry.CompareNative.TheVariants as compare
 use Rattle.py_node.specs.declared.task.PyNumberBinaryOp.TheVariants.{Or}
 use Rattle.py_node.specs.declared.known.Known.TheVariants as known
-use Rattle.row_kit.specs.TakeContainers.{is_of as is_container, items_at, with_own_and}
+use Rattle.row_kit.specs.TakeContainers.{is_of as is_container, items_at}
 use Rattle.row_kit.specs.declared.take_containers.Kind.{Kind as Container}
 use Rattle.row_kit.specs.declared.take_containers.Kind.TheVariants as kind
 use Rattle.native_containers.specs.declared.native_parts.take.Container.{Container as Shown}
@@ -22,7 +22,8 @@ use Rattle.native_containers.specs.declared.native_compare.way.Turns.TheVariants
 use Rattle.proto_ops.specs.declared.native_repeats.kind.Repeated.{Repeated}
 use Rattle.row_kit.specs.Say.{in_length, object_made}
 use Rattle.row_kit.specs.Repeats.{on_count, sequence_for, list_repeated}
-use Rattle.row_kit.specs.TakeClasses.{with_own, property_in, there_or}
+use Rattle.row_kit.specs.TakeClasses.{with_own, there_or}
+use Rattle.proto_attr.specs.NativeObjects.Takes.{property_in}
 use Rattle.native_containers.specs.NativeParts.Texts.{kind_of as shown_kind, parts_at, hash_task, repr_task, hashed_on, hash_row, tuple_hash, text_at, texts_at, container_text, text_ends, text_row, container_repr, wrapped_in, wrapper_text, wrapper_ends, wrapper_by, wrapper_repr}
 use Rattle.native_containers.specs.NativeCompare.Containers.{answered as way_answered, in_turn as pairs_in_turn, asked as way_asked, ends_with, decided_or, turns_of, by_turns, items_compared, with_items, both_read, with_same, with_both, sequences_by, sequences_say, values_compared, dicts_equal, dict_compared, dicts_by, dicts_say}
 use Rattle.proto_attr.specs.NativeDetails.Say.{with_name as named_datum, or_false, abstract_of, listed, getter_at, setter_at, or_not_abstract, joined, abstract_by, is_abstract, property_abstract, name_known, kept_name, member_name, dotted, named_so, named_by, name_given, name_rest, member_qualname}
@@ -40,6 +41,7 @@ use Rattle.native_containers.specs.NativeParts.Makers.{with_one_at_most, first, 
 use Rattle.native_containers.specs.NativeParts.Numbers.{int_new, int_of_class, int_made_of, int_rest, int_new_say, bool_new, bool_new_say}
 use Rattle.proto_ops.specs.NativeRepeats.Say.{entry_of, repeat_of, repeat_by_name, list_stood, repeat_stood, repeat_rest, repeat_by_kind}
 use Rattle.row_kit.specs.Asking.{as_said, argument, with_read}
+use Rattle.native_containers.specs.Take.{with_own_and}
 use Rattle.row_kit.specs.ProtoBase.Each.{number}
 use Rattle.plain_machine.specs.Plain.{Datum, ANumber, AText, ATuple, AList, AMember, AProperty, Bindings, PlainWorld, DoGetAttr, DoBinary, DoIdEq, DoSeqLt, DoSeqGt, ToAttribute, ToOperator, ToCompare, AsValue, Ended, ReadObjects, Told, Said, Asks, Ends}
 use Rattle.plain_machine.specs.World.{datum_at, number_of}

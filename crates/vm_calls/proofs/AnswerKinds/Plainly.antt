@@ -22,8 +22,8 @@ use Rattle.row_kit.specs.Say.{in_length, int_made, numbers_of}
 use Rattle.std.specs.Fmt.{signed_decimal}
 use Rattle.std.specs.Str.{str_to_ascii_uppercase}
 use Rattle.py_node.specs.BuiltIns.{fixed_none, fixed_not_implemented}
-use Rattle.native_containers.specs.NativeTexts.Say.{compared as texts_compared, contains_by as text_contains, add_by, text_say, compare_text_say, with_lone_text, is_str}
-use Rattle.row_kit.specs.TakeTexts.{text_of as text_in, with_own_text, with_text_and}
+use Rattle.native_containers.specs.NativeTexts.Say.{compared as texts_compared, contains_by as text_contains, add_by, text_say, compare_text_say, with_own_text, with_lone_text, with_text_and, is_str}
+use Rattle.row_kit.specs.TakeTexts.{text_of as text_in}
 use Rattle.vm_calls.specs.AnswerKinds.Kinds as kinds
 use Rattle.vm_calls.specs.AnswerKinds.Kinds.{Kind, kind_of_native}
 use Rattle.vm_calls.proofs.AnswerKinds.Base.{Fits, Says, ends, never}

@@ -4,7 +4,7 @@ use Rattle.py_node.specs.declared.refs.PyObjectRef.{PyObjectRef}
 use Rattle.py_node.specs.declared.raised.Cause.TheVariants.{IterEnd, SelfType}
 use Rattle.py_node.specs.declared.payload.PySlice.{PySlice}
 use Rattle.py_node.specs.declared.payload.SequenceIterator.{SequenceIterator}
-use Rattle.row_kit.specs.TakeContainers.{is_of as is_container, items_at, with_lone, with_own_and, with_own_and_two}
+use Rattle.row_kit.specs.TakeContainers.{is_of as is_container, items_at}
 use Rattle.row_kit.specs.declared.take_containers.Kind.{Kind as Container}
 use Rattle.row_kit.specs.declared.take_containers.Kind.TheVariants as kind
 use Rattle.native_containers.specs.declared.native_items.next.Found.{Found}
@@ -14,7 +14,7 @@ use Rattle.native_containers.specs.NativeItems.Places.{slice_at, part, place_at,
 use Rattle.native_containers.specs.NativeItems.Iterators.{iterator_in, found_in, next_in, next_from, next_by, is_end, next_rest, next_item, iterator_next}
 use Rattle.std.specs.Str.{chars}
 use Rattle.std.specs.Prelude.{slice_get, slice_set}
-use Rattle.row_kit.specs.TakeTexts.{with_text_and, with_own_text}
+use Rattle.native_containers.specs.NativeTexts.Say.{with_text_and, with_own_text}
 use Rattle.vm_calls.specs.AnswerKinds.Kinds as kinds
 use Rattle.vm_calls.specs.AnswerKinds.Kinds.{Kind, kind_of}
 use Rattle.vm_calls.proofs.AnswerKinds.Base.{So, Fits, within, wider, Family, GoesOn, Kinded, ended, Says, ends, asks, at_once, never, stepped, goes-on, started, finished, read_objects_once, on-value, either-fits}
@@ -22,8 +22,11 @@ use Rattle.vm_calls.proofs.AnswerKinds.Said.{either, takes-two, takes-text}
 use Rattle.vm_calls.proofs.AnswerKinds.Gives.{object-given, text-given}
 use Rattle.vm_calls.proofs.AnswerKinds.Entries.{on-objects, any-row}
 use Rattle.vm_calls.proofs.AnswerKinds.Containers.{unless-long, list-changed}
-use Rattle.row_kit.specs.Asking.{as_said, argument, tested_first, taking_one, taking_two, taking_three}
-use Rattle.row_kit.specs.GiveContainers.{tuple_made, list_made, list_changed}
+use Rattle.row_kit.specs.Asking.{as_said, argument, tested_first}
+use Rattle.native_containers.specs.Asking.{taking_one, taking_two, taking_three}
+use Rattle.native_containers.specs.Take.{with_lone, with_own_and, with_own_and_two}
+use Rattle.row_kit.specs.GiveContainers.{tuple_made, list_made}
+use Rattle.native_containers.specs.Say.{list_changed}
 use Rattle.row_kit.specs.ProtoBase.Entered.{is_plain}
 use Rattle.plain_machine.specs.Plain.{ATuple, AList, Bindings, PlainWorld, DoIdEq, DoIndex, DoCollect, PlainTask, ToCompare, ToProtocol, AsValue, AsObjects, Ended, ReadObjects, Told, Said, Asks, Ends}
 use Rattle.plain_machine.specs.World.{datum_at}

@@ -2,9 +2,9 @@ use Rattle.std.proofs.Common.{Err, sym, ap, ◌∙◌}
 use Rattle.plain_machine.specs.Dicts.{with_entries, with_entry}
 use Rattle.plain_machine.specs.Plain.{Ends}
 use Rattle.class_world.specs.Reading.{plain}
-use Rattle.row_kit.specs.GiveContainers.{ends_none}
+use Rattle.native_containers.specs.Say.{ends_none}
 use Rattle.row_kit.specs.TakeContainers.{entries_at}
-use Rattle.row_kit.proofs.ContainersChanged.{long, short}
+use Rattle.native_containers.proofs.Changed.{long, short}
 use Rattle.native_containers.proofs.dict.put.Goals as goal
 
 pub returns-then-not-has_room-clause-ends : goal.returns-then-not-has_room-clause-ends

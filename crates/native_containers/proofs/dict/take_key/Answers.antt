@@ -4,7 +4,7 @@ use Rattle.plain_machine.specs.Plain.{Ends}
 use Rattle.plain_machine.specs.Row.{fault}
 use Rattle.class_world.specs.Held.{Held}
 use Rattle.class_world.specs.Reading.{plain}
-use Rattle.row_kit.specs.GiveContainers.{ends_none}
+use Rattle.native_containers.specs.Say.{ends_none}
 use Rattle.native_containers.proofs.Under.{not-taken, taken}
 use Rattle.native_containers.proofs.dict.take_key.Goals as goal
 

@@ -9,7 +9,7 @@ use Rattle.class_world.specs.Reading.{plain}
 use Rattle.class_world.specs.Sound.{AreNodes, Holds}
 use Rattle.class_world.proofs.Claims.{no-nodes}
 use Rattle.native_containers.specs.declared.native_items.ItemKept.TheVariants.{Deleting}
-use Rattle.row_kit.specs.GiveContainers.{list_changed}
+use Rattle.native_containers.specs.Say.{list_changed}
 use Rattle.row_kit.specs.TakeContainers.{items_at}
 use Rattle.native_containers.specs.NativeItems.Items.{del_asked, del_item}
 use Rattle.native_containers.specs.NativeItems.Places.{put_part}

@@ -2,7 +2,7 @@ use Rattle.std.proofs.Common.{◌-◌, length, sym, ◌∙◌}
 use Rattle.std.specs.List.{remove}
 use Rattle.plain_machine.specs.Row.{none, value}
 use Rattle.class_world.specs.Reading.{plain}
-use Rattle.row_kit.specs.GiveContainers.{list_changed}
+use Rattle.native_containers.specs.Say.{list_changed}
 use Rattle.row_kit.specs.TakeContainers.{items_at}
 use Rattle.native_containers.specs.NativeItems.Items.{placed}
 use Rattle.native_containers.specs.NativeItems.Places.{place_at}

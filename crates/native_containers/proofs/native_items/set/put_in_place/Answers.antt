@@ -3,7 +3,7 @@ use Rattle.std.proofs.lemmas.List.{length-set}
 use Rattle.std.specs.Prelude.{slice_set}
 use Rattle.plain_machine.specs.Row.{none, value}
 use Rattle.class_world.specs.Reading.{plain}
-use Rattle.row_kit.specs.GiveContainers.{list_changed}
+use Rattle.native_containers.specs.Say.{list_changed}
 use Rattle.row_kit.specs.TakeContainers.{items_at}
 use Rattle.native_containers.specs.NativeItems.Items.{placed}
 use Rattle.native_containers.specs.NativeItems.Places.{place_at}

@@ -1,7 +1,7 @@
 use Rattle.std.proofs.Common.{◌≡◌, ℕ, length, sym, ap, ◌∙◌}
 use Rattle.std.specs.Str.{chars}
 use Rattle.std.proofs.lemmas.Str.{Chars-Drains, encodes-chars}
-use Rattle.row_kit.proofs.take_texts.text_length.Goals as goal
+use Rattle.native_containers.proofs.native_texts.of_bytes.text_length.Goals as goal
 
 pub returns : goal.returns
 returns c =
