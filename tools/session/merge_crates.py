@@ -185,7 +185,7 @@ def follow_benches(tree: Tree, moves: Moves, old: list[str]) -> None:
         if "NEEDS" not in was:
             continue
         rows = []
-        for row in moves.code(was, "", old).split("\n"):
+        for row in moves.paths(was, "", old).split("\n"):
             if re.match(r"NEEDS = |.*\{NAME\}: ", row):
                 row = renamed_list(row, moves)
             rows.append(row)

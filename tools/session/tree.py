@@ -8,6 +8,8 @@ from collections.abc import Iterator
 from dataclasses import dataclass, field
 
 CODE, ANTT = ".rt", ".antt"
+# What has quotes in a text of code: a comment, a character, a text.
+LITERAL = r"""//[^\n]*|'(?:\\.|[^'\\\n])'|"(?:\\.|[^"\\])*\""""
 
 
 def read(path: str) -> str:
@@ -154,7 +156,21 @@ class Moves:
     def code(self, text: str, crate: str, below: list[str]) -> str:
         """Paths of code: `S::X` is `T::m::X`, in the target itself `crate::m::X`; `crate::X` of a source is `crate::m::X`.
 
-        A crate names only what it stands on, so that a module of its own may have the name of another crate."""
+        A crate names only what it stands on, so that a module of its own may have the name of another crate. What a
+        program says stays as it is: no text in quotes follows."""
+        parts: list[str] = []
+
+        def kept(found: re.Match[str]) -> str:
+            if not found[0].startswith('"'):
+                return found[0]
+            parts.append(found[0])
+            return f'"\0{len(parts) - 1}"'
+
+        text = self.paths(re.sub(LITERAL, kept, text), crate, below)
+        return re.sub(r'"\0(\d+)"', lambda it: parts[int(it[1])], text)
+
+    def paths(self, text: str, crate: str, below: list[str]) -> str:
+        """The same of a text in which what stands in quotes follows too."""
         inside = crate == self.target or crate in self.modules
         own = self.modules.get(crate)
         root = "crate" if inside else self.target

@@ -44,7 +44,7 @@ fn put_made(table: &mut Table, world: &mut World, def: &PyMethodDef) {
     table.put_text("PyMethodDef::build_bound_method", bound_method(world, def));
     table.put_text("PyMethodDef::build_classmethod", class_method(world, def));
     table.put_text("PyMethodDef::build_staticmethod", static_method(world, def));
-    table.put_text("proto_attr::native_defs::extend_methods", extended(world));
+    table.put_text("native_defs::extend_methods", extended(world));
 }
 
 /// A definition of `str.upper`.

@@ -21,7 +21,7 @@ pub fn put(table: &mut Table, world: &mut World, alloc: Global) {
     table.put_text("PyClassMethod::new_ref", class_method(world));
     table.put_text("PyStaticMethod::new_ref", static_method(world));
     table.put("PyMemberDef::new_const", defined(alloc));
-    table.put_text("proto_attr::native_defs::new_member", member(world));
+    table.put_text("native_defs::new_member", member(world));
 }
 
 fn method(world: &mut World) -> Result<String, NoValue> {

@@ -13,8 +13,8 @@ const FIRST: PyTypeRef = PyTypeRef(1);
 const SECOND: PyTypeRef = PyTypeRef(2);
 
 pub fn put(table: &mut Table, alloc: Global) {
-    table.put("class_table::mro_merge::linearise_mro", linearised(alloc));
-    table.put("class_table::mro_merge::resolve_mro", resolved(alloc));
+    table.put("mro_merge::linearise_mro", linearised(alloc));
+    table.put("mro_merge::resolve_mro", resolved(alloc));
 }
 
 // Two branches over one root.

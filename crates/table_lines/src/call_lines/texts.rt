@@ -18,16 +18,13 @@ pub fn put(table: &mut Table, alloc: Global) {
     table.put("script_text::read_script", script(alloc));
     table.put("script_text::read_sessions", sessions(alloc));
     table.put_bytes("script_text::write_replies", replies(alloc));
-    table.put_bytes(
-        "script_text::reply_text::push_class_lines",
-        class_lines(alloc),
-    );
+    table.put_bytes("reply_text::push_class_lines", class_lines(alloc));
     table.put_text(
-        "script_text::reply_text::escaped_string",
+        "reply_text::escaped_string",
         escaped_string(alloc, "a\n\"\\\u{1}\u{1f}é\r\u{7f}"),
     );
     table.put_text(
-        "script_text::reply_text::quoted_string",
+        "reply_text::quoted_string",
         quoted_string(alloc, "say \"é\""),
     );
     table.put_bytes("outside::read_all", bytes_in(alloc));

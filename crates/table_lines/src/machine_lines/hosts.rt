@@ -12,10 +12,7 @@ use vm_eval::{RunFault, VirtualMachine};
 pub fn put(table: &mut Table, vm: &mut VirtualMachine, alloc: Global) {
     table.put("vm_calls::new_int", number(vm));
     table.put("vm_calls::new_text", text(vm, alloc));
-    table.put(
-        "order_check::class_orders::hierarchy_of",
-        ordered(vm, alloc),
-    );
+    table.put("class_orders::hierarchy_of", ordered(vm, alloc));
     table.put("order_check::well_formed", formed(vm, alloc));
     table.put("Book::step", stepped(alloc));
     table.put("SharedVm::new", seats(alloc));
