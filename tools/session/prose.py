@@ -49,11 +49,13 @@ SENTENCES = {
         ),
     ],
 }
-CUT = "**A crate has what is read together**"
-CUT_ENTRY = f"""- {CUT}, each part as a module that could stand alone: a view and the calls on
-  it (`vm_calls`), a language and its texts, what natives of one kind ask and what they answer. Fewer crates are loaded
-  and linked, and a chain of them is shorter; a check of one takes longer, but after an edit only the functions that it
-  changes are proved again. A module keeps the name that it had as a crate.
+CUT = "**A crate is a subject, and has what is read together**"
+CUT_ENTRY = f"""- {CUT}, each part as a module that could stand alone: a view and the
+  calls on it (`vm_calls`), hierarchies as they are read, checked and told (`order_check`), attributes from the
+  definition of what gives them to its natives (`proto_attr`), a call and the body and the expressions that it leads to
+  (`proto_call`), the natives of a class whatever they ask (`native_containers`). Fewer crates are loaded and linked,
+  and a chain of them is shorter; a check of one takes longer, but after an edit only the functions that it changes are
+  proved again. A module keeps the name that it had as a crate.
 """
 
 
