@@ -43,6 +43,11 @@ SENTENCES = {
     ],
     "words": [
         (
+            "docs/ARCHITECTURE.md",
+            "the proofs of its functions are in `CRATE/proofs/module`.",
+            "the proofs of its functions are in `CRATE/proofs/module`. What its files import of other crates and of std comes by modules of words: `specs/Below` for definitions and contracts, `proofs/Below` for lemmas, which also has the crate's own definitions, and `proofs/Lemmas` for the proofs of functions, which also has its lemmas. A word that no file of the crate had is one more name there.",
+        ),
+        (
             "docs/DECISIONS.md",
             "- **No modules of words.** A module that passes on what many files import would have saved some 970 of 5,600 import lines (there are some 14,400 now), as a script that made such modules showed: names stay listed, since those of another module can't be passed on without naming each. A file's head then no longer says which subject a word is of, and a word that is renamed is renamed in one place more.",
             "- **Modules of words.** What the files of a crate import of others is passed on by one module for its definitions and contracts (`specs/Below`), one for its lemmas (`proofs/Below`) and one for its answers (`proofs/Lemmas`), made by a script (`tools/session/words.py`). Names stay listed, since those of another module can't be passed on without naming each. A file's head no longer says which subject a word is of; but what moves to another module is renamed in one line a crate, and two imports of three are gone.",
