@@ -86,6 +86,17 @@ ABOUT = {
     "object_natives": "The natives of `object` that ask no task.",
     "ObjectNatives": "The natives of `object` that ask no task.",
 }
+# What files say of themselves of whose items only some are left.
+LEFT = {
+    ("native_objects", "src/lib.rt"): (
+        "The natives of descriptors, properties and `super` that ask no task, what the getters and setters of built-in\n"
+        "//! classes read and set, and what makes objects."
+    ),
+    ("native_objects", "src/take.rt"): "What a native takes: one or two arguments, a class and what is given for it, or an object of a kind.",
+    ("native_containers", "src/made.rt"): "Lists and dicts that change.",
+    ("native_containers", "src/entries.rt"): "Dicts with the entries of others.",
+    ("native_containers", "specs/Asking.antt"): "What natives of containers take that ask tasks: it is tested before the first, and not again.",
+}
 RT_ITEM = re.compile(r"(?:pub(?:\([^)]*\))? )?(?:const )?(?:unsafe )?(fn|struct|enum|type|const|trait|static) (\w+)")
 
 
@@ -1104,6 +1115,9 @@ def kit(tree: Tree) -> Move:
     """Moves what groups share. Gives what was moved, for the documents."""
     move = Move(tree, plan_of(tree))
     move.run()
+    for (crate, path), said in LEFT.items():
+        if os.path.isfile(file := f"{tree.crates}/{crate}/{path}"):
+            write(file, re.sub(r"\A(//!|--) .*\n", lambda it: f"{it[1]} {said}\n", read(file)))
     return move
 
 

@@ -12,6 +12,16 @@ from tree import Tree, read, write
 SENTENCES = {
     "kit": [
         (
+            "docs/ARCHITECTURE.md",
+            "| the natives of `object` and `type`, of descriptors, properties and `super`, the getters and setters, and what makes their objects | `object_native`, `getter_native`, `setter_native` |",
+            "| the natives of descriptors, properties and `super`, the getters and setters, and what makes objects of built-in classes | `descriptor_native`, `getter_native`, `setter_native` |",
+        ),
+        (
+            "docs/PROVED.md",
+            "`object` and `type`, descriptors, properties and `super`, the getters and setters, and what makes their objects.",
+            "Descriptors, properties and `super`, the getters and setters, and what makes objects of built-in classes.",
+        ),
+        (
             "docs/DECISIONS.md",
             "What takes arguments apart and what makes objects, though, stands with the natives that had it first, so that most crates of rows and natives stand on another such crate (`crates.txt`).",
             "What takes arguments apart, what makes objects and what asks a slot's entry stands below all of them (`row_kit`), so that no crate of rows or natives stands on another one.",

@@ -1,4 +1,4 @@
--- How natives are written that ask tasks: what they take is tested before the first, and not again.
+-- What natives of containers take that ask tasks: it is tested before the first, and not again.
 use Rattle.std.specs.Prelude.{List, []}
 use Rattle.py_node.specs.declared.refs.PyObjectRef.{PyObjectRef}
 use Rattle.plain_machine.specs.Plain.{PlainWorld, Bindings}

@@ -1,4 +1,4 @@
-//! The entries of dicts: their keys and values, and dicts with the entries of others.
+//! Dicts with the entries of others.
 
 ghost use Rattle.std.specs.Prelude.{◌≡◌, fold, IfOk};
 ghost use Rattle.plain_machine.specs.Dicts.{with_entry};

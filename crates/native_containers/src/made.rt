@@ -1,4 +1,4 @@
-//! New tuples and lists, and lists and dicts that change.
+//! Lists and dicts that change.
 
 ghost use Rattle.std.specs.Prelude.{◌≡◌, IfErr, IfOk, Err};
 ghost use Rattle.py_node.specs.declared.built_in.BuiltIn.TheVariants.{Dict, List};

@@ -1,4 +1,5 @@
-//! The natives of `object` and `type`, of descriptors and of `super` that ask no task, and what makes objects.
+//! The natives of descriptors, properties and `super` that ask no task, what the getters and setters of built-in
+//! classes read and set, and what makes objects.
 #![tactic(auto, using(class_world::proofs::Items::item_holds))]
 
 mod attributes;

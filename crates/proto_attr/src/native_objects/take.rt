@@ -1,4 +1,4 @@
-//! What a native takes: a class, alone or with one argument, or an object of a kind.
+//! What a native takes: one or two arguments, a class and what is given for it, or an object of a kind.
 
 ghost use Rattle.std.specs.Prelude.{◌≡◌, ◌∷◌, ℕ, Option, Err, IfErr, IfOk, IfSome, option_map};
 ghost use Rattle.py_node.specs.Tree.{Text};
