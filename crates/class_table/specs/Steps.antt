@@ -1,5 +1,5 @@
 -- What is counted of a change of bases.
-use Rattle.std.specs.Prelude.{ℕ, ◌+◌, ◌≤◌}
+use Rattle.class_table.specs.Below.{ℕ, ◌+◌, ◌≤◌}
 
 pub record Counts : Type 0 where
   pub merges : ℕ

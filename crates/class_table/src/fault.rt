@@ -1,6 +1,6 @@
 //! Why a class could not be made or changed.
 
-ghost use Rattle.std.specs.Prelude.{◌≡◌};
+ghost use Rattle.class_table.specs.Below.{◌≡◌};
 ghost use Rattle.class_table.specs.Inherit.{fault_of};
 
 use crate::mro_merge::MroFault;

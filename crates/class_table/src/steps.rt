@@ -1,6 +1,6 @@
 //! What a change of bases costs, counted without bytes.
 
-ghost use Rattle.std.specs.Prelude.{◌≡◌, ◌+◌, ◌≤◌};
+ghost use Rattle.class_table.specs.Below.{◌≡◌, ◌+◌, ◌≤◌};
 
 use std::marker::Model;
 use std::sync::ledger::{Blank, Book, Ledger, Share};

@@ -1,6 +1,6 @@
 //! A pane over one replica. It never fails.
 
-ghost use Rattle.std.specs.Prelude.{◌≡◌};
+ghost use Rattle.class_view.specs.Below.{◌≡◌};
 
 use crate::pane::{Failed, Pane};
 use class_table::ClassTable;

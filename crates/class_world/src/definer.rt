@@ -1,6 +1,6 @@
 //! The class that defines a function, and the parts of a property.
 
-ghost use Rattle.std.specs.Prelude.{◌≡◌};
+ghost use Rattle.class_world.specs.Below.{◌≡◌};
 ghost use Rattle.class_world.specs.Defined.{defined_function, defined_payload, defined_node, with_parts};
 
 use py_node::{Function, Node, Payload, PyProperty, PyTypeRef};

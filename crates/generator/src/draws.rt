@@ -1,6 +1,6 @@
 //! Numbers that look random, each of which follows from the seed.
 
-ghost use Rattle.std.specs.Prelude.{◌≡◌, ◌<◌};
+ghost use Rattle.generator.specs.Below.{◌≡◌, ◌<◌};
 ghost use Rattle.generator.specs.Draws.{next, drawn};
 
 use std::marker::Model;

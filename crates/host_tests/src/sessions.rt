@@ -1,6 +1,6 @@
 //! Sessions of callers who share a machine: that they run at once.
 
-ghost use Rattle.std.specs.Prelude.{◌<◌};
+ghost use Rattle.host_tests.specs.Below.{◌<◌};
 
 use script_text::read_sessions;
 use shared_vm::shared_run::share_run;

@@ -1,6 +1,6 @@
 //! The words, the greatest length, and failures in mid-stream.
 
-ghost use Rattle.std.specs.Prelude.{◌<◌};
+ghost use Rattle.host_tests.specs.Below.{◌<◌};
 
 use outside::read_all::{LIMIT, read_all};
 use outside::words::{Job, Question, job_of};

@@ -1,6 +1,6 @@
 //! Where the class with a key stands.
 
-ghost use Rattle.std.specs.Prelude.{◌≡◌, ◌<◌};
+ghost use Rattle.order_check.specs.Below.{◌≡◌, ◌<◌};
 ghost use Rattle.order_check.specs.Hierarchy.{AreKeyed, name_in};
 ghost use Rattle.order_check.specs.Known.{IsPlaceOf};
 

@@ -1,6 +1,6 @@
 //! The slots of a class, the natives that fill them, and what a slot can hold.
 
-ghost use Rattle.std.specs.Prelude.{◌≡◌};
+ghost use Rattle.py_node.specs.Below.{◌≡◌};
 ghost use Rattle.py_node.specs.Natives.{is_same_native, is_same_entry};
 
 use crate::built_in::BuiltIn;

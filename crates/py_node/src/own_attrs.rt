@@ -1,6 +1,6 @@
 //! The own attributes of the built-in classes, in the order in which a new machine gets them.
 
-ghost use Rattle.std.specs.Prelude.{◌≡◌};
+ghost use Rattle.py_node.specs.Below.{◌≡◌};
 ghost use Rattle.py_node.specs.OwnAttrs.{own_attrs as the_own_attrs};
 
 use crate::attr::Attr::{ClassMethod, Method, New, ReadOnly, Settable};

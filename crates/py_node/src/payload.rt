@@ -1,6 +1,6 @@
 //! What the nodes of the machine hold.
 
-ghost use Rattle.std.specs.Prelude.{◌≡◌};
+ghost use Rattle.py_node.specs.Below.{◌≡◌};
 ghost use Rattle.py_node.specs.Members.{kind_number};
 
 use crate::dict::PyDict;

@@ -1,5 +1,5 @@
 //! The value under the lock.
-ghost use Rattle.std.specs.Prelude.{◌≡◌, [], ◌∷◌, ◌++◌, ◌⊎◌};
+ghost use Rattle.seat_example.specs.Below.{◌≡◌, [], ◌∷◌, ◌++◌, ◌⊎◌};
 
 use seat_lock::Turns;
 

@@ -1,5 +1,5 @@
 //! A caller's seat.
-ghost use Rattle.std.specs.Prelude.{◌≡◌, ◌≤◌, length};
+ghost use Rattle.seat_lock.specs.Below.{◌≡◌, ◌≤◌, length};
 
 use crate::board::Place;
 use crate::history::Turns;

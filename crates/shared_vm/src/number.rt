@@ -1,6 +1,6 @@
 //! How a seat's entries are numbered.
 
-ghost use Rattle.std.specs.Prelude.{◌≡◌};
+ghost use Rattle.shared_vm.specs.Below.{◌≡◌};
 ghost use Rattle.shared_vm.specs.Journal.{Legal, count_of, plain_journal};
 
 use crate::entry::Entry;

@@ -1,6 +1,6 @@
 //! The machine's mark: a call that finds no memory sets it, and no other answer does.
 
-ghost use Rattle.std.specs.Prelude.{◌≡◌};
+ghost use Rattle.vm_eval.specs.Below.{◌≡◌};
 ghost use Rattle.vm_eval.specs.State.{MarkedAs, MarkedBy};
 
 use crate::machine::VirtualMachine;

@@ -1,8 +1,7 @@
 //! How two sequences of items are compared, by how many items they have.
 
-ghost use Rattle.std.specs.Prelude.{◌≡◌};
+ghost use Rattle.native_containers.specs.Below.{◌≡◌, compare_job};
 ghost use Rattle.native_containers.specs.NativeCompare.Containers.{asked, turns_of};
-ghost use Rattle.class_world.specs.Reading.{compare_job};
 
 use py_node::{CompareNative, CompareTask, PyObjectRef};
 

@@ -1,6 +1,6 @@
 //! What each native does that asks.
 
-ghost use Rattle.std.specs.Prelude.{◌≡◌};
+ghost use Rattle.proto_attr.specs.Below.{◌≡◌};
 ghost use Rattle.proto_attr.specs.NativeCalls.Parts.{reads_wrapped};
 ghost use Rattle.proto_attr.specs.NativeCalls.Say.{asks, way_of};
 

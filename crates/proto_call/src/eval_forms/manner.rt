@@ -1,6 +1,6 @@
 //! How each word of an operation is done.
 
-ghost use Rattle.std.specs.Prelude.{◌≡◌};
+ghost use Rattle.proto_call.specs.Below.{◌≡◌};
 ghost use Rattle.proto_call.specs.EvalForms.Words.{manner_of, object_manner, sequence_manner};
 
 use crate::eval_forms::bounds::Counted;

@@ -1,6 +1,6 @@
 //! The natives that repeat by name.
 
-ghost use Rattle.std.specs.Prelude.{◌≡◌};
+ghost use Rattle.proto_ops.specs.Below.{◌≡◌};
 ghost use Rattle.proto_ops.specs.NativeRepeats.Say.{entry_of, kind_of};
 
 use py_node::{ListNative, NativeEntry, StrNative, TupleNative};

@@ -1,5 +1,5 @@
 -- How long a list is not.
-use Rattle.std.specs.Prelude.{◌≡◌, ◌⊎◌, List, [], ◌∷◌}
+use Rattle.script_text.specs.Below.{◌≡◌, ◌⊎◌, List, [], ◌∷◌}
 
 -- it has another length than one
 abbrev pub IsNotOne : {A : Type 0} → List A → Type 0

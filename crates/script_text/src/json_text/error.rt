@@ -1,6 +1,6 @@
 //! Why a text was not read.
 
-ghost use Rattle.std.specs.Prelude.{◌≡◌};
+ghost use Rattle.script_text.specs.Below.{◌≡◌};
 ghost use Rattle.script_text.specs.JsonText.Json.{error_word};
 
 use crate::json_text::items::Unread;

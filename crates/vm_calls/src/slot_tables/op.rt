@@ -1,6 +1,6 @@
 //! The operators of two and of three operands by which tables of number slots are asked, in place or not.
 
-ghost use Rattle.std.specs.Prelude.{◌≡◌};
+ghost use Rattle.vm_calls.specs.Below.{◌≡◌};
 ghost use Rattle.vm_calls.specs.SlotTables.Numbers.{operator_of, is_in_place, left_slot_of, right_slot_of, left_power, right_power};
 
 use py_node::{PyNumberBinaryOp as Operator, SlotId};

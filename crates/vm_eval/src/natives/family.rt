@@ -1,6 +1,6 @@
 //! The families of natives, by what they ask.
 
-ghost use Rattle.std.specs.Prelude.{◌≡◌};
+ghost use Rattle.vm_eval.specs.Below.{◌≡◌};
 ghost use Rattle.vm_eval.specs.OfNatives.Say.{family_of};
 
 use native_containers::native_compare::compares_items;

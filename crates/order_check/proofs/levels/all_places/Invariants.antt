@@ -1,4 +1,4 @@
-use Rattle.std.proofs.Common.{◌<◌, All}
+use Rattle.order_check.proofs.Below.{◌<◌, All}
 use Rattle.order_check.proofs.levels.all_places.Given as goal
 
 abbrev pub invariant-loop-place : goal.invariant-loop-place

@@ -1,6 +1,4 @@
-use Rattle.std.proofs.Common.{arith, subst, sym}
-use Rattle.class_world.specs.Sound.{AreNames, Holds}
-use Rattle.proto_attr.proofs.ProtoDescr.Names.{name_holds}
+use Rattle.proto_attr.proofs.Lemmas.{arith, subst, sym, AreNames, Holds, name_holds}
 use Rattle.proto_attr.proofs.proto_descr.super_init.parts_of_body.Goals as goal
 
 pub local-requires : goal.local-requires

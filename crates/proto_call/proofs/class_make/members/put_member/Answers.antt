@@ -1,6 +1,4 @@
-use Rattle.py_node.specs.BuiltIns.{place_of}
-use Rattle.class_world.specs.Reading.{plain, spelled}
-use Rattle.proto_call.proofs.ClassMake.Descriptors.{member-put}
+use Rattle.proto_call.proofs.Lemmas.{place_of, plain, spelled, member-put}
 use Rattle.proto_call.proofs.class_make.members.put_member.Goals as goal
 
 pub returns-in-Ok-clause-set : goal.returns-in-Ok-clause-set

@@ -1,4 +1,4 @@
-use Rattle.std.proofs.Common.{◌≡◌, ◌++◌, drop}
+use Rattle.proto_call.proofs.Below.{◌≡◌, ◌++◌, drop}
 use Rattle.proto_call.proofs.eval_forms.keywords.list_of.Given as goal
 
 abbrev pub invariant-loop-i : goal.invariant-loop-i

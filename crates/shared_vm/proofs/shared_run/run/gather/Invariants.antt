@@ -1,5 +1,4 @@
-use Rattle.std.proofs.Common.{◌≡◌, ◌∷◌, map, false}
-use Rattle.std.specs.List.{All}
+use Rattle.shared_vm.proofs.Below.{◌≡◌, ◌∷◌, map, false, All}
 use Rattle.shared_vm.proofs.shared_run.run.gather.Given as goal
 
 abbrev pub invariant-loop-worker : goal.invariant-loop-worker

@@ -1,0 +1,12 @@
+-- The words that the answers of this crate are written in: its lemmas and definitions, and those of crates below.
+pub use Rattle.class_table.specs.ClassLog.Change.{Change, change_of}
+pub use Rattle.class_view.proofs.Alike.{changes-further, further, whole-part}
+pub use Rattle.class_view.proofs.Feeding.{added_last, fed-more, gives, grows, settles}
+pub use Rattle.class_view.proofs.Keeping.{admits, begins_self, fold_adds, forks, merges, rises}
+pub use Rattle.class_view.proofs.Looking.{looked}
+pub use Rattle.class_view.specs.Posted.{posted}
+pub use Rattle.class_view.specs.declared.rule.View.{View}
+pub use Rattle.left_right.specs.Sides.{view}
+pub use Rattle.py_node.specs.declared.refs.PyObjectRef.{PyObjectRef}
+pub use Rattle.py_node.specs.declared.refs.PyStrInterned.{PyStrInterned}
+pub use Rattle.std.proofs.Common.{List, Some, ap, arith, drop, length, rules, sym, true, ◌++◌, ◌<◌, ◌∙◌, ◌≡◌, ◌≤◌}

@@ -1,0 +1,5 @@
+-- The words that the answers of this crate are written in: its lemmas and definitions, and those of crates below.
+pub use Rattle.seat_example.proofs.Names.{may_still, one_more, popped}
+pub use Rattle.seat_example.specs.Signed.{MaySign}
+pub use Rattle.seat_example.specs.declared.sign.TheConstants.{ROUNDS}
+pub use Rattle.std.proofs.Common.{Some, refl}

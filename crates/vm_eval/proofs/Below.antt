@@ -1,0 +1,91 @@
+-- The words that the lemmas of this crate are written in: its own definitions, and words and lemmas of crates below.
+pub use Rattle.class_world.specs.Claims.{of_step}
+pub use Rattle.class_world.specs.Held.{Held}
+pub use Rattle.class_world.specs.Reading.{Reading, Reads, bindings, ended_of, scope_of, task_of}
+unfoldable pub use Rattle.class_world.specs.Reading.{plain}
+pub use Rattle.class_world.specs.Rows.{EndsAs, Goes, Steps}
+pub use Rattle.class_world.specs.Sound.{AllHold, Grows, Lasts, of_each}
+pub use Rattle.class_world.specs.declared.world.World.{World}
+pub use Rattle.native_containers.specs.NativeCompare.Rows.{compared_stands}
+unfoldable pub use Rattle.native_containers.specs.NativeCompare.Say.{compared_job_say}
+pub use Rattle.native_containers.specs.NativeItems.Rows.{item_stands}
+unfoldable pub use Rattle.native_containers.specs.NativeItems.Say.{item_job_say}
+pub use Rattle.native_containers.specs.NativeParts.Rows.{parts_stands}
+unfoldable pub use Rattle.native_containers.specs.NativeParts.Say.{parts_job_say}
+pub use Rattle.native_containers.specs.declared.native_compare.ComparedKept.{ComparedKept}
+pub use Rattle.native_containers.specs.declared.native_items.ItemKept.{ItemKept}
+pub use Rattle.native_containers.specs.declared.native_parts.PartsKept.{PartsKept}
+pub use Rattle.plain_machine.proofs.Follow.{reach-alike, reach-is}
+pub use Rattle.plain_machine.specs.Answer.{NoUnits, Out, Outcome, Over, Run, answer, answering, asked, carry, plain_run, reach, replied, step}
+pub use Rattle.plain_machine.specs.Plain.{Answered, Asks, Bindings, DoEval, Ended, Ends, PlainTask, PlainWorld, ProtocolJob, Said, Saying, ToAttribute, ToCall, ToClass, ToCompare, ToDescriptor, ToEval, ToNative, ToObject, ToOperator, ToProtocol, Told}
+pub use Rattle.plain_machine.specs.Row.{Row, fault}
+pub use Rattle.plain_machine.specs.Rows.{Alike, Pending, fresh, given}
+pub use Rattle.plain_machine.specs.World.{without_calls}
+pub use Rattle.proto_attr.specs.NativeCalls.Asks.{asking_stands}
+unfoldable pub use Rattle.proto_attr.specs.NativeCalls.Say.{asking_job_say}
+pub use Rattle.proto_attr.specs.NativeDetails.Rows.{detail_stands}
+unfoldable pub use Rattle.proto_attr.specs.NativeDetails.Say.{detail_job_say}
+pub use Rattle.proto_attr.specs.ProtoDescr.Rows.{descriptor_stands}
+pub use Rattle.proto_attr.specs.ProtoDescr.Say.{descriptor_say}
+pub use Rattle.proto_attr.specs.Rows.{attribute_stands}
+pub use Rattle.proto_attr.specs.Say.{attribute_say}
+pub use Rattle.proto_attr.specs.declared.native_calls.NativeKept.{NativeKept}
+pub use Rattle.proto_attr.specs.declared.native_calls.way.Wrapper.TheVariants.{Class, Static}
+pub use Rattle.proto_attr.specs.declared.native_details.DetailKept.{DetailKept}
+pub use Rattle.proto_call.specs.ClassMake.Rows.{class_stands}
+pub use Rattle.proto_call.specs.ClassMake.Say.{class_job_say}
+pub use Rattle.proto_call.specs.EvalForms.Rows.{eval_stands}
+pub use Rattle.proto_call.specs.EvalForms.Say.{eval_say}
+pub use Rattle.proto_call.specs.Rows.{call_stands}
+pub use Rattle.proto_call.specs.Say.{call_job_say}
+pub use Rattle.proto_object.specs.ProtoItems.Rows.{items_stands}
+pub use Rattle.proto_object.specs.ProtoItems.Say.{items_job_say}
+pub use Rattle.proto_object.specs.ProtoIter.Rows.{iter_stands, search_job}
+pub use Rattle.proto_object.specs.ProtoIter.Say.{iter_job_say}
+pub use Rattle.proto_object.specs.ProtoNumber.Rows.{number_stands}
+pub use Rattle.proto_object.specs.ProtoNumber.Say.{number_job_say}
+pub use Rattle.proto_object.specs.Rows.{object_stands}
+pub use Rattle.proto_object.specs.Say.{object_job_say}
+pub use Rattle.proto_object.specs.declared.proto_items.ItemsKept.{ItemsKept}
+pub use Rattle.proto_object.specs.declared.proto_iter.IterKept.{IterKept}
+pub use Rattle.proto_object.specs.declared.proto_iter.seek.Search.{Search}
+pub use Rattle.proto_object.specs.declared.proto_number.NumberKept.{NumberKept}
+pub use Rattle.proto_object.specs.declared.proto_number.NumberKept.TheVariants.{AfterBool, AfterIndex, AfterIndexOf, AfterInt, AfterLen, AfterLength, AfterTruncate, Called, Expected, Measured, Pass}
+pub use Rattle.proto_ops.specs.NativeRepeats.Rows.{repeat_stands}
+pub use Rattle.proto_ops.specs.NativeRepeats.Say.{entry_of}
+unfoldable pub use Rattle.proto_ops.specs.NativeRepeats.Say.{repeat_job_say}
+pub use Rattle.proto_ops.specs.ProtoCompare.Rows.{compare_stands}
+pub use Rattle.proto_ops.specs.ProtoCompare.Say.{compare_job_say}
+pub use Rattle.proto_ops.specs.Rows.{operator_stands}
+pub use Rattle.proto_ops.specs.Say.{operator_say}
+pub use Rattle.proto_ops.specs.declared.native_repeats.RepeatKept.{RepeatKept}
+pub use Rattle.proto_ops.specs.declared.native_repeats.kind.Repeated.{Repeated}
+pub use Rattle.py_node.specs.Replies.{PlainReplyAnswer, Started, reply_of}
+pub use Rattle.py_node.specs.Tree.{Tree}
+pub use Rattle.py_node.specs.declared.entry.NativeEntry.{NativeEntry}
+pub use Rattle.py_node.specs.declared.raised.Cause.TheVariants.{DepthLimit}
+pub use Rattle.py_node.specs.declared.raised.Raised.{Raised}
+pub use Rattle.py_node.specs.declared.refs.PyObjectRef.{PyObjectRef}
+pub use Rattle.py_node.specs.declared.refs.PyStrInterned.{PyStrInterned}
+pub use Rattle.py_node.specs.declared.task.Answer.{Answer}
+pub use Rattle.py_node.specs.declared.task.Step.{Step}
+pub use Rattle.py_node.specs.declared.task.Step.TheVariants.{Ask, End}
+pub use Rattle.py_node.specs.declared.task.Task.{Task}
+pub use Rattle.std.proofs.Common.{List, Result, [], ap, arith, cond, drop, false, length, length-append, map, nat_lt, refl, subst, suc, sym, true, zero, zero-add, ℕ, ◌++◌, ◌+◌, ◌∙◌, ◌∷◌, ◌≡◌, ◌≤◌}
+pub use Rattle.std.proofs.lemmas.List.{length-map, map-append}
+pub use Rattle.std.specs.Prelude.{vec_capacity}
+pub use Rattle.vm_eval.specs.OfNatives.Rows.{as_job, job_of, kept_among, native_job, natives_stands}
+pub use Rattle.vm_eval.specs.OfNatives.Say.{NativeJob, by_family, family_of, native_by}
+unfoldable pub use Rattle.vm_eval.specs.OfNatives.Say.{native_job_say}
+pub use Rattle.vm_eval.specs.Runs.{Replied, before, trees_in}
+pub use Rattle.vm_eval.specs.Say.{Begins, Resumes, among, branch_of, by_branch, of_kept, step_among, to_native}
+unfoldable pub use Rattle.vm_eval.specs.Say.{say, stands}
+pub use Rattle.vm_eval.specs.Stack.{Answers, AsDeep, RunsAbove, coming, ending_of, finish, unwind}
+unfoldable pub use Rattle.vm_eval.specs.Stack.{state}
+pub use Rattle.vm_eval.specs.declared.natives.NativesKept.{NativesKept}
+pub use Rattle.vm_eval.specs.declared.natives.NativesKept.TheVariants.{ForCalls, ForComparisons, ForDetails, ForParts, ForRepeats}
+pub use Rattle.vm_eval.specs.declared.natives.family.Family.{Family}
+pub use Rattle.vm_eval.specs.declared.protocols.Branch.{Branch}
+pub use Rattle.vm_eval.specs.declared.stack.Kept.{Kept}
+pub use Rattle.vm_eval.specs.declared.stack.Kept.TheVariants.{ForAttribute, ForCall, ForClass, ForCompare, ForDescriptor, ForEval, ForItems, ForIteration, ForNative, ForNumber, ForObject, ForOperator}
+pub use Rattle.vm_eval.specs.declared.stack.Turn.TheVariants.{On}
