@@ -28,7 +28,7 @@ unfolding place_of
 returns-clause-ends c =
     let w = c.args.world.now in
     let mid = c.key_all.new.world in
-    let after = c.entries_from.new.world in
+    let after = c.entries_from.new.self in
     let k = c.args.class.0 in
     let entries = c.in_ok-entries.entries in
     let dict = c.in_ok-dict.dict in
@@ -46,5 +46,5 @@ returns-clause-ends c =
 pub returns-clause-safe : goal.returns-clause-safe
 returns-clause-safe c =
     let h = c.new_sized.ensures.safe in
-    let more = grows-on c.args.world.now c.key_all.new.world c.entries_from.new.world c.key_all.ensures.grows c.in_ok-dict.ensures.grows in
-    (grows-on c.args.world.now c.entries_from.new.world c.new_sized.new.world more h.0, h.1)
+    let more = grows-on c.args.world.now c.key_all.new.world c.entries_from.new.self c.key_all.ensures.grows c.in_ok-dict.ensures.grows in
+    (grows-on c.args.world.now c.entries_from.new.self c.new_sized.new.world more h.0, h.1)

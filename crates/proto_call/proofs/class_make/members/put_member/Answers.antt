@@ -1,9 +1,15 @@
+use Rattle.std.proofs.Common.{ap, ◌∙◌}
 use Rattle.py_node.specs.BuiltIns.{place_of}
-use Rattle.class_world.specs.Reading.{plain, spelled}
+use Rattle.py_node.specs.declared.payload.MemberDescriptor.{MemberDescriptor}
+use Rattle.plain_machine.specs.World.{with_node}
+use Rattle.class_world.specs.Reading.{member_datum, plain, spelled}
 use Rattle.proto_call.proofs.ClassMake.Descriptors.{member-put}
 use Rattle.proto_call.proofs.class_make.members.put_member.Goals as goal
 
 pub returns-in-Ok-clause-set : goal.returns-in-Ok-clause-set
 unfolding place_of
 returns-in-Ok-clause-set c = λ t.
-    member-put (plain t c.args.world.now) (plain t c.make_node.new.self) (plain t c.set_attr.new.self) c.args.class.0 c.args.place c.built_in-home.result.0 (spelled t c.args.name) c.in_ok-node.node (c.in_ok-node.ensures.made t) (c.in_ok-node.ensures.number t) c.built_in-home.ensures.place (c.in-Ok.ensures.set t)
+    let u = plain t c.args.world.now in
+    let home = c.built_in-home.result.0 in
+    let made = c.in_ok-node.ensures.made t ∙ ap (λ (m : MemberDescriptor). with_node u home (member_datum t m)) c.in_ok-boxed.ensures.ok in
+    member-put u (plain t c.make_node.new.self) (plain t c.set_attr.new.self) c.args.class.0 c.args.place home (spelled t c.args.name) c.in_ok-node.node made (c.in_ok-node.ensures.number t) c.built_in-home.ensures.place (c.in-Ok.ensures.set t)
